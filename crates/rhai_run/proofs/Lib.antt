@@ -1,0 +1,6 @@
+pub mod Names
+pub mod Moves
+pub mod Texts
+pub mod Steps
+pub mod Fitting
+pub mod Runs

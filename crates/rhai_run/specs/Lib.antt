@@ -1,0 +1,14 @@
+pub use Rattle.rhai_value.specs.Tree
+pub use Rattle.rhai_value.specs.Store
+pub use Rattle.rhai_value.specs.Walk
+pub use Rattle.rhai_value.specs.End
+pub use Rattle.rhai_value.specs.Relation
+pub mod State
+pub mod Reply
+pub mod Text
+pub mod Step
+pub mod Machine
+pub mod Fits
+pub mod Correspondence
+pub mod Stop
+pub mod Does

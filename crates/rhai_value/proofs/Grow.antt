@@ -1,0 +1,106 @@
+-- A renaming that grows with the stores.
+use Rattle.std.proofs.Common.{◌≡◌, ℕ, zero, suc, ◌+◌, ◌<◌, Bool, true, false, nat_eq, ◌||◌, ◌&&◌, List, [], ◌∷◌, ◌++◌, length, slice_get, refl, sym, ap, ap₂, ◌∙◌, arith, ◌⊎◌, inl, inr}
+use Rattle.std.proofs.lemmas.Bool.{or_cases}
+use Rattle.std.proofs.lemmas.Option.{slice_get_within}
+use Rattle.std.proofs.lemmas.Bool.Decides.{nat_tests}
+use Rattle.rhai_value.specs.declared.store.Cell.{Cell}
+use Rattle.rhai_value.specs.Tree.{Tree, node, Content, leaf, holder}
+use Rattle.rhai_value.specs.Store.{added}
+use Rattle.rhai_value.specs.Relation.{Renaming, paired, SameContent, Related, SameCells, IsOneToOne, new_pairs}
+use Rattle.rhai_value.proofs.Zips.{get_append, get_last}
+
+or_assoc : (a b c : Bool) → (a || b) || c ≡ a || (b || c)
+or_assoc true b c = refl
+or_assoc false b c = refl
+
+pub paired_append : (r q : Renaming) (c d : ℕ) → paired (r ++ q) c d ≡ (paired r c d || paired q c d)
+paired_append [] q c d = refl
+paired_append (p ∷ r) q c d = ap (λ b. (nat_eq p.0 c && nat_eq p.1 d) || b) (paired_append r q c d) ∙ sym (or_assoc (nat_eq p.0 c && nat_eq p.1 d) (paired r c d) (paired q c d))
+
+pub paired_more : (r q : Renaming) (c d : ℕ) → paired r c d ≡ true → paired (r ++ q) c d ≡ true
+paired_more r q c d e = paired_append r q c d ∙ ap (λ b. b || paired q c d) e
+
+content_more : (r q : Renaming) (c d : Content) → SameContent r c d → SameContent (r ++ q) c d
+content_more r q (leaf l) (leaf k) e = e
+content_more r q (holder c) (holder d) e = paired_more r q c d e
+content_more r q (leaf l) (holder d) e = absurd e
+content_more r q (holder c) (leaf k) e = absurd e
+
+pub related_more : (r q : Renaming) (t u : Tree) → Related r t u → Related (r ++ q) t u
+related_more r q (node c g m) (node d h n) e = (content_more r q c d e.0, e.1, e.2)
+
+abbrev pub one_pair : ℕ → ℕ → Renaming
+one_pair n m = (n, m) ∷ []
+
+both : (n m c d : ℕ) → ((nat_eq n c && nat_eq m d) || false) ≡ true → (n ≡ c) × (m ≡ d)
+both n m c d h = grind (arith, nat_tests)
+
+itself : (n m : ℕ) → ((nat_eq n n && nat_eq m m) || false) ≡ true
+itself n m = grind (arith, nat_tests)
+
+or_true : (a b : Bool) → b ≡ true → (a || b) ≡ true
+or_true true b e = refl
+or_true false b e = e
+
+same_self : (n m : ℕ) → nat_eq n n ≡ nat_eq m m
+same_self n m = grind (arith, nat_tests)
+
+apart : (n m : ℕ) → (n ≡ m → ⊥) → nat_eq n m ≡ false
+apart n m h = grind (arith, nat_tests)
+
+-- the cells of a pair are cells of the stores
+pub pair_within : (r : Renaming) (s z : List Cell) (c d : ℕ) → SameCells r s z → paired r c d ≡ true → (c < length s) × (d < length z)
+pair_within r s z c d cells h = let old = cells c d h in (slice_get_within s c old.0 old.2, slice_get_within z d old.1 old.3)
+
+old_new : (r : Renaming) (s z : List Cell) → SameCells r s z → (c d e f : ℕ) → paired r c d ≡ true → (length s ≡ e) × (length z ≡ f) → nat_eq c e ≡ nat_eq d f
+old_new r s z cells c d e f h k = let l = pair_within r s z c d cells h in apart c e (λ q. omega arith) ∙ sym (apart d f (λ q. omega arith))
+
+new_old : (r : Renaming) (s z : List Cell) → SameCells r s z → (c d e f : ℕ) → (length s ≡ c) × (length z ≡ d) → paired r e f ≡ true → nat_eq c e ≡ nat_eq d f
+new_old r s z cells c d e f k h = let l = pair_within r s z e f cells h in apart c e (λ q. omega arith) ∙ sym (apart d f (λ q. omega arith))
+
+-- what one more pair joins
+last_cases : (r : Renaming) (n m c d : ℕ) → paired (r ++ one_pair n m) c d ≡ true → (paired r c d ≡ true) ⊎ ((n ≡ c) × (m ≡ d))
+last_cases r n m c d e =
+    elim (or_cases (paired r c d) (paired (one_pair n m) c d) (sym (paired_append r (one_pair n m) c d) ∙ e)) [ inl h ↦ inl h | inr h ↦ inr (both n m c d h) ]
+
+pub new_last : (r : Renaming) (n m : ℕ) → paired (r ++ one_pair n m) n m ≡ true
+new_last r n m = paired_append r (one_pair n m) n m ∙ or_true (paired r n m) _ (itself n m)
+
+-- the pair of two new cells joins a renaming
+pub one_more : (r : Renaming) (s z : List Cell) → IsOneToOne r → SameCells r s z → IsOneToOne (r ++ one_pair (length s) (length z))
+one_more r s z one cells c d e f p q =
+    elim (last_cases r (length s) (length z) c d p) [
+      | inl h ↦ elim (last_cases r (length s) (length z) e f q) [
+        | inl k ↦ one c d e f h k
+        | inr k ↦ old_new r s z cells c d e f h k
+      ]
+      | inr h ↦ elim (last_cases r (length s) (length z) e f q) [
+        | inl k ↦ new_old r s z cells c d e f h k
+        | inr k ↦ ap₂ nat_eq (sym h.0) (sym k.0) ∙ same_self (length s) (length z) ∙ ap₂ nat_eq h.1 k.1
+      ]
+    ]
+
+pub same_added : (r : Renaming) (s z : List Cell) (x y : Tree) → SameCells r s z → Related r x y → SameCells (r ++ one_pair (length s) (length z)) (added s x) (added z y)
+same_added r s z x y cells h c d p =
+    let a : Cell = record { content = x; is_marked = false } in
+    let b : Cell = record { content = y; is_marked = false } in
+    elim (last_cases r (length s) (length z) c d p) [
+      | inl k ↦
+          let old = cells c d k in
+          (old.0, old.1, get_append s (a ∷ []) c old.0 old.2, get_append z (b ∷ []) d old.1 old.3, (old.4.0, related_more r (one_pair (length s) (length z)) old.0.content old.1.content old.4.1))
+      | inr k ↦
+          (a, b, ap (slice_get (added s x)) (sym k.0) ∙ get_last s a, ap (slice_get (added z y)) (sym k.1) ∙ get_last z b, (refl, related_more r (one_pair (length s) (length z)) x y h))
+    ]
+
+-- two stretches of new pairs are one
+pub pairs_join : (a b j k : ℕ) → new_pairs a b (j + k) ≡ new_pairs a b j ++ new_pairs (a + j) (b + j) k
+pairs_join a b zero k =
+    let e : 0 + k ≡ k = omega arith in
+    let f : a + 0 ≡ a = omega arith in
+    let g : b + 0 ≡ b = omega arith in
+    rw (e, f, g) refl
+pairs_join a b (suc j) k =
+    let e : suc j + k ≡ suc (j + k) = omega arith in
+    let f : a + suc j ≡ a + 1 + j = omega arith in
+    let g : b + suc j ≡ b + 1 + j = omega arith in
+    rw (e, f, g) (ap (λ ps. (a, b) ∷ ps) (pairs_join (a + 1) (b + 1) j k))

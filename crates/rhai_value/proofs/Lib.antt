@@ -1,0 +1,9 @@
+pub mod Chains
+pub mod Ends
+pub mod Grow
+pub mod Paths
+pub mod SameCells
+pub mod SameWalks
+pub mod Stores
+pub mod Walks
+pub mod Zips

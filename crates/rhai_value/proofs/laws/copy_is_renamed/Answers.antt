@@ -1,0 +1,5 @@
+use Rattle.rhai_value.proofs.SameCells.{same_copy}
+use Rattle.rhai_value.proofs.laws.copy_is_renamed.Goals as goal
+
+pub returns : goal.returns
+returns c = same_copy

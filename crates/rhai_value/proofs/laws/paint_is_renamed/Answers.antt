@@ -1,0 +1,5 @@
+use Rattle.rhai_value.proofs.SameCells.{same_paint}
+use Rattle.rhai_value.proofs.laws.paint_is_renamed.Goals as goal
+
+pub returns : goal.returns
+returns c = same_paint

@@ -1,0 +1,5 @@
+use Rattle.rhai_value.proofs.SameCells.{same_put}
+use Rattle.rhai_value.proofs.laws.put_is_renamed.Goals as goal
+
+pub returns : goal.returns
+returns c = same_put

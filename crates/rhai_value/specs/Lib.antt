@@ -1,0 +1,9 @@
+pub mod Tree
+pub mod Store
+pub mod View
+pub mod Walk
+pub mod End
+pub mod Names
+pub mod Seen
+pub mod Share
+pub mod Relation

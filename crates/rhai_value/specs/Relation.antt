@@ -1,0 +1,72 @@
+-- Values and stores that are equal up to the numbers of their cells.
+use Rattle.std.specs.Prelude.{◌≡◌, ◌<◌, ℕ, zero, suc, ◌+◌, Bool, true, false, nat_eq, ◌||◌, ◌&&◌, List, [], ◌∷◌, slice_get, Option, Some, None}
+use Rattle.rhai_value.specs.declared.store.Cell.{Cell}
+use Rattle.rhai_value.specs.Tree.{Tree, node, Content, leaf, holder}
+use Rattle.rhai_value.specs.End.{End, held, stuck, closed}
+
+-- pairs of a cell of one store and a cell of another
+abbrev pub Renaming : Type 0
+Renaming = List (ℕ × ℕ)
+
+-- whether the cells c and d are a pair of r
+abbrev pub paired : Renaming → ℕ → ℕ → Bool
+paired [] c d = false
+paired (p ∷ ps) c d = (nat_eq p.0 c && nat_eq p.1 d) || paired ps c d
+
+-- the same leaf, or holders of the cells of a pair
+abbrev pub SameContent : Renaming → Content → Content → Type 0
+SameContent r (leaf l) (leaf k) = l ≡ k
+SameContent r (holder c) (holder d) = paired r c d ≡ true
+SameContent r (leaf l) (holder d) = ⊥
+SameContent r (holder c) (leaf k) = ⊥
+
+-- the same constructors, tags, modes and contents, and holders of paired cells
+abbrev pub Related : Renaming → Tree → Tree → Type 0
+Related r (node c g m) (node d h n) = SameContent r c d × (g ≡ h) × (m ≡ n)
+
+-- both are none, or both are there and related
+abbrev pub Alike : {A B : Type 0} → (A → B → Type 0) → Option A → Option B → Type 0
+Alike R None None = Unit {0}
+Alike R (Some a) (Some b) = R a b
+Alike R None (Some b) = ⊥
+Alike R (Some a) None = ⊥
+
+-- no cell is in two pairs
+abbrev pub IsOneToOne : Renaming → Type 0
+IsOneToOne r = (c d e f : ℕ) → paired r c d ≡ true → paired r e f ≡ true → nat_eq c e ≡ nat_eq d f
+
+-- the same mark, and related contents
+abbrev pub SameCell : Renaming → Cell → Cell → Type 0
+SameCell r x y = (x.is_marked ≡ y.is_marked) × Related r x.content y.content
+
+-- Each pair of r is a cell of s and one of z, marked in both or in neither, with related contents.
+abbrev pub SameCells : Renaming → List Cell → List Cell → Type 0
+SameCells r s z = (c d : ℕ) → paired r c d ≡ true → (x : Cell) × (y : Cell) × (slice_get s c ≡ Some x) × (slice_get z d ≡ Some y) × SameCell r x y
+
+-- the pairs (a, b), (a + 1, b + 1) and so on, k of them
+abbrev pub new_pairs : ℕ → ℕ → ℕ → Renaming
+new_pairs a b zero = []
+new_pairs a b (suc k) = (a, b) ∷ new_pairs (a + 1) (b + 1) k
+
+-- each cell number in a value is below n
+abbrev pub ContentBelow : ℕ → Content → Type 0
+ContentBelow n (leaf l) = Unit {0}
+ContentBelow n (holder c) = c < n
+
+abbrev pub Below : ℕ → Tree → Type 0
+Below n (node c g m) = ContentBelow n c
+
+abbrev pub CellBelow : ℕ → Cell → Type 0
+CellBelow n x = Below n x.content
+
+-- two ends of the same kind, in paired cells or in none, with related values
+abbrev pub SameEnd : Renaming → End → End → Type 0
+SameEnd r (held p t) (held q u) = Alike (λ c d. paired r c d ≡ true) p q × Related r t u
+SameEnd r (stuck t) (stuck u) = Related r t u
+SameEnd r closed closed = Unit {0}
+SameEnd r (held p t) (stuck u) = ⊥
+SameEnd r (held p t) closed = ⊥
+SameEnd r (stuck t) (held q u) = ⊥
+SameEnd r (stuck t) closed = ⊥
+SameEnd r closed (held q u) = ⊥
+SameEnd r closed (stuck u) = ⊥

@@ -1,0 +1,50 @@
+//! Where a chain of holders ends.
+ghost use Rattle.std.specs.Prelude.{◌≡◌, [], option_copied};
+ghost use Rattle.rhai_value.specs.End.{end, held_in};
+ghost use Rattle.rhai_value.specs.Seen.{end_seen};
+
+use crate::dynamic::Dynamic;
+use crate::store::Store;
+
+/// Where a chain ends, and there what is held, and in which cell it stands, if in one.
+pub(crate) enum ChainEnd<'s> {
+    Held(Option<usize>, &'s Dynamic),
+    Stuck(&'s Dynamic),
+    Closed,
+}
+
+impl Dynamic {
+    /// Follows holders from cell to cell. A chain of more holders than there are cells passes one twice.
+    pub(crate) fn chain_end<'s>(&'s self, s: &'s Store) -> ChainEnd<'s>
+        ensures { end_seen result ≡ end s.now [] self.now }
+    {
+        let mut at = self;
+        let mut place = None;
+        let mut left = s.cells.len();
+        loop {
+            let Some(cell) = at.cell() else {
+                return ChainEnd::Held(place, at);
+            };
+            let Some(next) = s.read(cell) else {
+                return ChainEnd::Stuck(at);
+            };
+            if left == 0 {
+                return ChainEnd::Closed;
+            }
+            left -= 1;
+            place = Some(cell.index);
+            at = next;
+        }
+    }
+
+    /// The value where the chain of holders ends; `None` where the chain is stuck or closed. Takes no memory.
+    pub fn held<'s>(&'s self, s: &'s Store) -> Option<&'s Dynamic>
+        ensures { option_copied result ≡ held_in (end s.now [] self.now) }
+    {
+        match self.chain_end(s) {
+            ChainEnd::Held(_, value) => Some(value),
+            ChainEnd::Stuck(_) => None,
+            ChainEnd::Closed => None,
+        }
+    }
+}

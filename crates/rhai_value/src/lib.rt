@@ -1,0 +1,24 @@
+//! The values of a script: trees that may hold shared cells, and the store of these cells.
+#![tactic(auto)]
+
+mod access_mode;
+mod cell_ref;
+mod chain;
+mod constants;
+mod dynamic;
+pub mod laws;
+mod path;
+mod sharing;
+mod store;
+mod typed;
+mod union;
+
+pub use access_mode::AccessMode;
+pub use cell_ref::CellRef;
+pub use dynamic::Dynamic;
+pub use path::Path;
+pub use store::{Cell, Store};
+pub use union::{INT, Tag, Union};
+
+#[cfg(test)]
+mod tests;

@@ -1,14 +1,19 @@
-// A text that is never changed in place, and its reads.
-ghost use Rattle.std.specs.Prelude.{◌≡◌, ◌↔◌, [], length, IfOk, IsTrue, nat_eq};
+// A text that is never changed in place, its reads and its comparisons.
+ghost use Rattle.std.specs.Prelude.{◌≡◌, ◌↔◌, [], length, string_bytes, IfOk, IsTrue, Some, nat_eq, refl};
 ghost use Rattle.std.specs.Cmp.{partial_equiv_from_equiv};
-ghost use Rattle.std.specs.Cmp.Lexicographic.{pointwise, nat_list_eq_equiv};
+ghost use Rattle.std.specs.Cmp.Lexicographic.{bytes_decides, pointwise, slice_cmp, nat_list_eq_equiv, nat_list_cmp_total, texts_po, texts_ties};
+ghost use Rattle.std.specs.Hash as fed;
+ghost use Rattle.std.specs.Ordering.{nat_cmp};
 ghost use Rattle.std.specs.Str.{chars, encode_utf8_all};
+ghost use Rattle.std.proofs.Common.{ap};
 
 use std::alloc::{AllocError, Global};
+use std::cmp::Ordering;
+use std::hash::{Hash, Hasher};
 use std::marker::Model;
 use std::rc::RcStr;
 
-/// A text that is never changed in place. Contracts see it as the list of its characters.
+/// A text that is never changed in place: rhai's `ImmutableString`. Contracts see it as the list of its characters.
 ///
 /// It is one pointer wide, and its copies share their bytes.
 #[derive(Drop)]
@@ -27,7 +32,8 @@ impl Model for ImmutableString {
 }
 
 impl ImmutableString {
-    /// The text of a `&str`. It takes memory for the bytes and for a count of the copies.
+    /// The text of a `&str`, as rhai's `From<&str>`. It takes memory for the bytes and for a count of the copies, and
+    /// fails only where that is refused. The time is in the length of the text.
     pub fn from_str(alloc: Global, text: &str) -> Result<ImmutableString, AllocError>
         ensures characters { IfOk result (λ t. t ≡ chars text.now) }
         ensures bytes { IfOk result (λ t. encode_utf8_all t ≡ text.now) }
@@ -36,7 +42,15 @@ impl ImmutableString {
         Ok(ImmutableString { text })
     }
 
-    /// The text as a `&str`.
+    // The text of a `String`, whose bytes it keeps. It takes memory for a count of the copies.
+    pub(crate) fn from_string(text: String) -> Result<ImmutableString, AllocError>
+        ensures { IfOk result (λ t. t ≡ chars (string_bytes text)) }
+    {
+        let text = RcStr::from_string(text)?;
+        Ok(ImmutableString { text })
+    }
+
+    /// The text as a `&str`, at no cost.
     pub fn as_str(&self) -> &str
         ensures characters { chars result.now ≡ self.now }
         ensures bytes { result.now ≡ encode_utf8_all self.now }
@@ -44,7 +58,7 @@ impl ImmutableString {
         self.text.as_str()
     }
 
-    /// The length in UTF-8 bytes.
+    /// The length in UTF-8 bytes, at no cost.
     pub fn len(&self) -> usize
         ensures { result ≡ length (encode_utf8_all self.now) }
     {
@@ -58,13 +72,14 @@ impl ImmutableString {
         self.len() == 0
     }
 
-    /// The same text again. It shares the bytes, and takes no memory.
+    /// The same text again, as rhai's `clone`. It shares the bytes: it takes no memory, and a time that does not depend
+    /// on the length.
     pub fn copy(&self, alloc: Global) -> Result<ImmutableString, AllocError>
         ensures { IfOk result (λ t. t ≡ self.now) }
     {
         match self.text.clone() {
             Ok(text) => Ok(ImmutableString { text }),
-            // The count of the copies is at its limit.
+            // The count of the copies is at its limit, so this one gets bytes of its own.
             Err(_) => ImmutableString::from_str(alloc, self.as_str()),
         }
     }
@@ -85,4 +100,40 @@ impl PartialEq for ImmutableString {
 
 impl Eq for ImmutableString {
     ghost laws = { nat_list_eq_equiv };
+}
+
+impl PartialOrd for ImmutableString {
+    ghost partial_cmp = { λ a b. Some (slice_cmp nat_cmp a b) };
+
+    ghost laws = { texts_po };
+
+    fn partial_cmp(&self, other: &Self) -> Option<Ordering> {
+        Some(self.cmp(other))
+    }
+}
+
+/// Texts stand in the order of their characters, the first that differs deciding. That is the order of their bytes.
+impl Ord for ImmutableString {
+    ghost cmp = { slice_cmp nat_cmp };
+
+    ghost total = { nat_list_cmp_total };
+
+    ghost matches_partial_cmp = { λ a b. refl };
+
+    ghost matches_eq = { texts_ties };
+
+    fn cmp(&self, other: &Self) -> Ordering {
+        self.as_str().cmp(other.as_str())
+    }
+}
+
+/// A text hashes as the `&str` with its characters does.
+impl Hash for ImmutableString {
+    ghost hash_input = { λ text. fed.str (encode_utf8_all text) };
+
+    ghost respects_eq = { λ a b same. ap (λ text. fed.str (encode_utf8_all text)) ((bytes_decides a b).0 same) };
+
+    fn hash<H: Hasher>(&self, state: &mut H) {
+        self.as_str().hash(state);
+    }
 }

@@ -1,6 +1,21 @@
-//! The texts of script values: a text that is only ever replaced, the edits that make a new text of one, and how texts and characters are quoted in print.
+//! The texts of script values: a text that is never changed in place, the edits that make a new text of one, and how texts and
+//! characters stand in quotation marks. Beside them the operators, places, limits and errors that all of the value's operations share.
 #![tactic(auto)]
 
+mod edits;
+mod error;
 mod immutable_string;
+pub mod laws;
+mod limits;
+mod position;
+mod quote;
+#[cfg(test)]
+mod tests;
+mod token;
 
+pub use error::{ArithmeticFault, EvalAltResult, SizeKind};
 pub use immutable_string::ImmutableString;
+pub use limits::Limits;
+pub use position::Position;
+pub use quote::quoted_char_into;
+pub use token::Token;

@@ -1,0 +1,67 @@
+-- The characters of texts that are put together or cut.
+use Rattle.std.proofs.Common.{◌≡◌, ℕ, ◌+◌, ◌-◌, ◌≤◌, suc, List, [], ◌∷◌, ◌++◌, length, take, drop, set, sym, ◌∙◌, ap, subst, append_assoc, add-one, arith, length-append, length-drop}
+use Rattle.std.proofs.lemmas.List.{append-nil, take-append-drop, drop-drop, drop_all, set_split, take_at, drop_at}
+use Rattle.std.proofs.lemmas.Str.{chars-append, chars_from_encodes, cons_from_encodes, encodes-append, encodes-chars, length-le-encodes, IsUtf8-append, IsUtf8-take, IsCharBoundary-at_seam}
+use Rattle.std.specs.Char.{encode_utf8}
+use Rattle.std.specs.Str.{chars, encode_utf8_all, IsUtf8, IsCharBoundary}
+
+-- three texts that are pushed one after another
+pub chars-pushed_three : {start one two three : List ℕ} (xs ys zs : List ℕ) → start ≡ [] → one ≡ start ++ xs → two ≡ one ++ ys → three ≡ two ++ zs → IsUtf8 xs → IsUtf8 ys → chars three ≡ chars xs ++ (chars ys ++ chars zs)
+chars-pushed_three xs ys zs empty first second third u v =
+    ap chars (third ∙ ap (λ bs. bs ++ zs) (second ∙ ap (λ bs. bs ++ ys) (first ∙ ap (λ bs. bs ++ xs) empty)))
+    ∙ chars-append (xs ++ ys) zs (IsUtf8-append xs ys u v)
+    ∙ ap (λ cs. cs ++ chars zs) (chars-append xs ys u)
+    ∙ append_assoc (chars xs) (chars ys) (chars zs)
+
+-- one character on from what spells a text's characters from i on
+pub encodes-drop_next : (cs rest : List ℕ) (i c : ℕ) → encode_utf8_all (drop i cs) ≡ encode_utf8 c ++ rest → rest ≡ encode_utf8_all (drop (i + 1) cs)
+encodes-drop_next cs rest i c e =
+    let next = cons_from_encodes (drop i cs) rest c e in
+    sym next.2 ∙ ap encode_utf8_all (sym (ap (drop 1) next.1) ∙ drop-drop 1 i cs)
+
+-- where nothing is left from i on, nothing is left further on
+pub encodes-drop_past : (cs : List ℕ) (i n : ℕ) → length (encode_utf8_all (drop i cs)) ≡ 0 → i ≤ n → [] ≡ encode_utf8_all (drop n cs)
+encodes-drop_past cs i n e h =
+    ap encode_utf8_all (sym (drop_all n cs (omega (arith, length-drop i cs, length-le-encodes (drop i cs)))))
+
+-- a text that is cut where `back` begins, which spells its characters from `count` on
+module _ (text : List ℕ) (u : IsUtf8 text) (count : ℕ) (back : List ℕ) (ub : IsUtf8 back) (e : back ≡ encode_utf8_all (drop count (chars text))) where
+  both : text ≡ encode_utf8_all (take count (chars text)) ++ back
+  both =
+      sym (encodes-chars text u)
+      ∙ ap encode_utf8_all (sym (take-append-drop count (chars text)))
+      ∙ encodes-append (take count (chars text)) (drop count (chars text))
+      ∙ ap (λ bs. encode_utf8_all (take count (chars text)) ++ bs) (sym e)
+
+  pub length-le-cut : length back ≤ length text
+  length-le-cut = omega (arith, ap length both, length-append (encode_utf8_all (take count (chars text))) back)
+
+  seam : length (encode_utf8_all (take count (chars text))) ≡ length text - length back
+  seam = omega (arith, ap length both, length-append (encode_utf8_all (take count (chars text))) back)
+
+  pub IsCharBoundary-cut : IsCharBoundary text (length text - length back)
+  IsCharBoundary-cut = subst (IsCharBoundary text) seam (IsCharBoundary-at_seam text (encode_utf8_all (take count (chars text))) back both ub)
+
+  pub chars-front_cut : chars (take (length text - length back) text) ≡ take count (chars text)
+  chars-front_cut =
+      let front : take (length text - length back) text ≡ encode_utf8_all (take count (chars text)) =
+      ap (take (length text - length back)) both ∙ take_at (encode_utf8_all (take count (chars text))) back (length text - length back) seam
+      in
+      sym (chars_from_encodes (take count (chars text)) (take (length text - length back) text) (IsUtf8-take text (length text - length back) u IsCharBoundary-cut) (sym front))
+
+  pub drop-back_cut : drop (length text - length back) text ≡ encode_utf8_all (drop count (chars text))
+  drop-back_cut =
+      ap (drop (length text - length back)) both ∙ drop_at (encode_utf8_all (take count (chars text))) back (length text - length back) seam ∙ e
+
+  pub chars-back_cut : chars (drop (length text - length back) text) ≡ drop count (chars text)
+  chars-back_cut =
+      ap chars (drop-back_cut ∙ sym e) ∙ sym (chars_from_encodes (drop count (chars text)) back ub (sym e))
+
+-- the list with another character at i, where the rest from i on is known
+pub set-at_drop : (cs rest : List ℕ) (i c d : ℕ) → drop i cs ≡ c ∷ rest → set cs i d ≡ take i cs ++ (d ∷ rest)
+set-at_drop cs rest i c d e =
+    let next : drop (suc i) cs ≡ rest = sym (rw add-one at (drop-drop 1 i cs)) ∙ ap (drop 1) e in
+    set_split cs i d (omega (arith, ap length e, length-drop i cs)) ∙ ap (λ xs. take i cs ++ (d ∷ xs)) next
+
+pub chars-one : (bs : List ℕ) (c : ℕ) → IsUtf8 bs → bs ≡ encode_utf8 c → chars bs ≡ c ∷ []
+chars-one bs c u e = sym (chars_from_encodes (c ∷ []) bs u (append-nil (encode_utf8 c) ∙ sym e))

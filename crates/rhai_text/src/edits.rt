@@ -1,0 +1,155 @@
+// The edits: each makes a new text of one, and fails only where memory for that is refused.
+ghost use Rattle.std.specs.Prelude.{◌≡◌, ◌+◌, ◌++◌, if◌then◌else◌, IfOk, slice_set, take, drop};
+ghost use Rattle.std.specs.Str.{chars, encode_utf8_all};
+ghost use Rattle.rhai_text.specs.Text.{minus, minus_char, with_slice};
+
+use crate::immutable_string::ImmutableString;
+use std::alloc::{AllocError, Global};
+
+impl ImmutableString {
+    /// This text and then `text`: rhai's `+`. It goes over both once, and fails only where memory for the new text is
+    /// refused, as all edits do.
+    pub fn concat(&self, alloc: Global, text: &str) -> Result<ImmutableString, AllocError>
+        ensures { IfOk result (λ t. t ≡ self.now ++ chars text.now) }
+    {
+        joined(alloc, self.as_str(), text, "")
+    }
+
+    /// This text without the occurrences of `pattern`, which are found from left to right and don't overlap: rhai's `-`
+    /// of two texts. An empty pattern takes nothing away, and gives a copy that takes no memory. For a given pattern the
+    /// time is in the length of this text.
+    pub fn minus(&self, alloc: Global, pattern: &str) -> Result<ImmutableString, AllocError>
+        ensures { IfOk result (λ t. t ≡ minus self.now (chars pattern.now)) }
+    {
+        if pattern.is_empty() {
+            return self.copy(alloc);
+        }
+        let text = self.as_str().replace(alloc, pattern, "")?;
+        ImmutableString::from_string(text)
+    }
+
+    /// This text without any `character`: rhai's `-` of a text and a character. It goes over the text once, with room
+    /// for all of it from the start.
+    #[tactic(auto, using(std::proofs::lemmas::Grind::common_steps, crate::proofs::Spelled::spelled))]
+    pub fn minus_char(&self, alloc: Global, character: char) -> Result<ImmutableString, AllocError>
+        ensures { IfOk result (λ t. t ≡ minus_char self.now character) }
+    {
+        let mut text = String::with_capacity(alloc, self.len())?;
+        for c in self.as_str().chars() {
+            if c != character {
+                text.push(c)?;
+            }
+        }
+        ImmutableString::from_string(text)
+    }
+
+    /// This text with `character` in place of the one at `index`, counted in characters from 0, as rhai writes through
+    /// an index. Past the end it is a copy of this text. It goes over the text once.
+    pub fn with_char(
+        &self,
+        alloc: Global,
+        index: usize,
+        character: char,
+    ) -> Result<ImmutableString, AllocError>
+        ensures { IfOk result (λ t. t ≡ slice_set self.now index character) }
+    {
+        let text = self.as_str();
+        let (front, rest) = split_at_char(text, index);
+        let mut after = rest.chars();
+        match after.next() {
+            Some(_) => {}
+            None => return self.copy(alloc),
+        }
+        let mut buffer = [0; 4];
+        let encoded = character.encode_utf8(&mut buffer);
+        joined(alloc, front, encoded, after.as_str())
+    }
+
+    /// This text with `slice` in place of its characters from `start` to `end`, which is included unless `exclusive`, as
+    /// rhai writes through a range.
+    /// Places count characters from 0, and past the text they mean its end. Where `end` lies before `start`, the
+    /// characters between them stand twice, on both sides of `slice`. It goes over the text once, and over its front
+    /// again where `end` lies before `start`.
+    pub fn with_slice(
+        &self,
+        alloc: Global,
+        start: usize,
+        end: usize,
+        exclusive: bool,
+        slice: &str,
+    ) -> Result<ImmutableString, AllocError>
+        ensures { IfOk result (λ t. t ≡ with_slice self.now start end exclusive (chars slice.now)) }
+    {
+        let (front, back) = parts_around(self.as_str(), start, end, exclusive);
+        joined(alloc, front, slice, back)
+    }
+}
+
+// The three texts in a row.
+fn joined(
+    alloc: Global,
+    front: &str,
+    middle: &str,
+    back: &str,
+) -> Result<ImmutableString, AllocError>
+    ensures { IfOk result (λ t. t ≡ chars front.now ++ (chars middle.now ++ chars back.now)) }
+{
+    let capacity = front
+        .len()
+        .saturating_add(middle.len())
+        .saturating_add(back.len());
+    let mut text = String::with_capacity(alloc, capacity)?;
+    text.push_str(front)?;
+    text.push_str(middle)?;
+    text.push_str(back)?;
+    ImmutableString::from_string(text)
+}
+
+// The first `count` characters of the text, or all where it has fewer, and the rest.
+fn split_at_char(text: &str, count: usize) -> (&str, &str)
+    ensures front { chars result.0.now ≡ take count (chars text.now) }
+    ensures back { chars result.1.now ≡ drop count (chars text.now) }
+    ensures back_bytes { result.1.now ≡ encode_utf8_all (drop count (chars text.now)) }
+{
+    let back = skip_chars(text, count);
+    text.split_at(text.len() - back.len())
+}
+
+// What stands before `start`, and what stands from `end` on, or from after the character there unless `exclusive`.
+fn parts_around(text: &str, start: usize, end: usize, exclusive: bool) -> (&str, &str)
+    ensures front { chars result.0.now ≡ take start (chars text.now) }
+    ensures back { chars result.1.now ≡ drop (if exclusive then end else end + 1) (chars text.now) }
+{
+    let (front, rest) = split_at_char(text, start);
+    if start <= end {
+        (front, text_after(rest, end - start, exclusive))
+    } else {
+        (front, text_after(text, end, exclusive))
+    }
+}
+
+// The text from `end` on, or from after the character there unless `exclusive`.
+fn text_after(text: &str, end: usize, exclusive: bool) -> &str
+    ensures { chars result.now ≡ drop (if exclusive then end else end + 1) (chars text.now) }
+{
+    let from_end = skip_chars(text, end);
+    if exclusive {
+        from_end
+    } else {
+        skip_chars(from_end, 1)
+    }
+}
+
+// The text from after its first `count` characters on.
+fn skip_chars(text: &str, count: usize) -> &str
+    ensures { result.now ≡ encode_utf8_all (drop count (chars text.now)) }
+{
+    let mut rest = text.chars();
+    for _ in 0..count {
+        match rest.next() {
+            Some(_) => {}
+            None => return "",
+        }
+    }
+    rest.as_str()
+}

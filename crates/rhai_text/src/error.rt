@@ -1,0 +1,57 @@
+// What goes wrong when a script is evaluated.
+ghost use Rattle.std.specs.Prelude.{◌≡◌};
+ghost use Rattle.rhai_text.specs.declared.error.EvalAltResult.TheVariants.{ErrorMemory};
+
+use crate::position::Position;
+use std::alloc::AllocError;
+use thiserror::Error;
+
+/// Why an evaluation stopped, and at which place of the script.
+#[derive(Debug, Drop, Error)]
+pub enum EvalAltResult {
+    /// A value has the wrong type: the name of the type that is wanted, and of the one that is there.
+    #[error("data type mismatch: expected {0}, found {1}")]
+    ErrorMismatchDataType(&'static str, &'static str, Position),
+    /// A shared value is in use.
+    #[error("data race")]
+    ErrorDataRace(Position),
+    /// An arithmetic operation has no answer.
+    #[error("arithmetic fault: {0:?}")]
+    ErrorArithmetic(ArithmeticFault, Position),
+    /// A value would grow past its limit.
+    #[error("too large: {0:?}")]
+    ErrorDataTooLarge(SizeKind, Position),
+    /// Memory ran out.
+    #[error("out of memory")]
+    ErrorMemory(AllocError),
+}
+
+/// Why an arithmetic operation has no answer.
+#[derive(Clone, Copy, Debug, PartialEq, Eq)]
+pub enum ArithmeticFault {
+    /// The exact answer does not fit.
+    Overflow,
+    /// The divisor is 0.
+    DivisionByZero,
+    /// The exponent is below 0.
+    NegativePower,
+    /// The exponent is above 4294967295.
+    PowerTooLarge,
+}
+
+/// Which limit a value would grow past.
+#[derive(Clone, Copy, Debug, PartialEq, Eq)]
+pub enum SizeKind {
+    /// The bytes of a text.
+    Text,
+    /// The items of an array, or the bytes of a blob.
+    Items,
+}
+
+impl From<AllocError> for EvalAltResult {
+    ghost from_gives = { λ error result. result ≡ ErrorMemory error };
+
+    fn from(error: AllocError) -> EvalAltResult {
+        EvalAltResult::ErrorMemory(error)
+    }
+}

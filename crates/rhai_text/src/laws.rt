@@ -1,0 +1,34 @@
+//! Laws of the edits, each the contract of a function that does nothing.
+ghost use Rattle.std.specs.Prelude.{◌≡◌, ◌≢◌, ℕ, ◌+◌, ◌-◌, ◌<◌, Bool, true, false, min, List, [], ◌∷◌, ◌++◌, length, take, drop};
+ghost use Rattle.std.specs.Cmp.Lexicographic.{slice_cmp};
+ghost use Rattle.std.specs.Ordering.{nat_cmp};
+ghost use Rattle.std.specs.Str.{encode_utf8_all};
+ghost use Rattle.rhai_text.specs.Text.{minus, with_slice};
+
+/// Where a text begins with the pattern, `minus` goes on with what is left after it.
+pub fn minus_drops_the_pattern()
+    ensures { (pattern rest : List ℕ) → minus (pattern ++ rest) pattern ≡ minus rest pattern }
+{}
+
+/// Where a text doesn't begin with the pattern, its first character stays.
+pub fn minus_keeps_what_is_no_pattern()
+    ensures { (c : ℕ) (cs pattern : List ℕ) → ((rest : List ℕ) → c ∷ cs ≢ pattern ++ rest) → minus (c ∷ cs) pattern ≡ c ∷ minus cs pattern }
+{}
+
+/// Nothing is taken from the empty text, and the empty pattern takes nothing away.
+pub fn minus_of_nothing()
+    ensures pattern { (text : List ℕ) → minus text [] ≡ text }
+    ensures text { (pattern : List ℕ) → minus [] pattern ≡ [] }
+{}
+
+/// `with_slice` with the places cut to the text's length: an end that is included is at most the last character.
+pub fn slice_places_stop_at_the_end()
+    ensures exclusive { (text slice : List ℕ) (start end : ℕ) → with_slice text start end true slice ≡ take (min start (length text)) text ++ (slice ++ drop (min end (length text)) text) }
+    ensures inclusive { (text slice : List ℕ) (start end : ℕ) → 0 < length text → with_slice text start end false slice ≡ take (min start (length text)) text ++ (slice ++ drop (min end (length text - 1) + 1) text) }
+    ensures empty { (slice : List ℕ) (start end : ℕ) (exclusive : Bool) → with_slice [] start end exclusive slice ≡ slice }
+{}
+
+/// Texts stand in the same order by their UTF-8 bytes as by their characters.
+pub fn byte_order_is_character_order()
+    ensures { (a b : List ℕ) → slice_cmp nat_cmp (encode_utf8_all a) (encode_utf8_all b) ≡ slice_cmp nat_cmp a b }
+{}

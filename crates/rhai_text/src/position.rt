@@ -1,0 +1,35 @@
+// Places in a script.
+ghost use Rattle.std.specs.Prelude.{◌≡◌};
+
+/// A place in a script: a line, and a position on it. It is handed through, and nothing here depends on it.
+#[derive(Clone, Copy, Debug, PartialEq, Eq)]
+pub struct Position {
+    pub line: u16,
+    pub position: u16,
+}
+
+impl Position {
+    /// No place: line and position are 0.
+    pub const NONE: Position = Position {
+        line: 0,
+        position: 0,
+    };
+
+    pub fn new(line: u16, position: u16) -> Position
+        ensures { result ≡ record { line = line; position = position } }
+    {
+        Position { line, position }
+    }
+
+    pub fn line(self) -> u16
+        ensures { result ≡ self.line }
+    {
+        self.line
+    }
+
+    pub fn position(self) -> u16
+        ensures { result ≡ self.position }
+    {
+        self.position
+    }
+}

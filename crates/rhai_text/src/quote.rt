@@ -1,0 +1,88 @@
+// Texts and characters in quotation marks, with what does not print escaped.
+ghost use Rattle.std.specs.Prelude.{◌≡◌, ◌++◌, string_bytes, OnOk, OnErr};
+ghost use Rattle.std.specs.Char.Escape.{escape_unicode};
+ghost use Rattle.std.specs.Str.{chars, encode_utf8_all};
+ghost use Rattle.rhai_text.specs.Quote.{Extends, escaped, quoted, quoted_char, quoted_text};
+
+use crate::immutable_string::ImmutableString;
+use std::alloc::AllocError;
+
+impl ImmutableString {
+    /// Appends this text in double quotation marks, with `"`, the backslash and what does not print escaped, as `Debug`
+    /// of a text, but that all characters past U+007F stand as themselves. The time is in the length of the text. Where
+    /// memory is refused, `out` is as before.
+    pub fn quoted_into(&self, out: &mut String) -> Result<(), AllocError>
+        ensures characters { OnOk result (chars (string_bytes out.new) ≡ chars (string_bytes out.old) ++ quoted_text self.now) }
+        ensures bytes { OnOk result (string_bytes out.new ≡ string_bytes out.old ++ encode_utf8_all (quoted_text self.now)) }
+        ensures err { OnErr result (string_bytes out.new ≡ string_bytes out.old) }
+    {
+        append_quoted(self.as_str(), '"', out)
+    }
+}
+
+/// Appends a character in single quotation marks, with `'`, the backslash and what does not print escaped, as `Debug` of
+/// a character, but that all characters past U+007F stand as themselves. Where memory is refused, `out` is as before.
+pub fn quoted_char_into(character: char, out: &mut String) -> Result<(), AllocError>
+    ensures characters { OnOk result (chars (string_bytes out.new) ≡ chars (string_bytes out.old) ++ quoted_char character) }
+    ensures bytes { OnOk result (string_bytes out.new ≡ string_bytes out.old ++ encode_utf8_all (quoted_char character)) }
+    ensures err { OnErr result (string_bytes out.new ≡ string_bytes out.old) }
+{
+    let mut buffer = [0; 4];
+    append_quoted(character.encode_utf8(&mut buffer), '\'', out)
+}
+
+// Appends all of the quoted text or nothing.
+fn append_quoted(text: &str, quote: char, out: &mut String) -> Result<(), AllocError>
+    ensures characters { OnOk result (chars (string_bytes out.new) ≡ chars (string_bytes out.old) ++ quoted quote (chars text.now)) }
+    ensures bytes { OnOk result (string_bytes out.new ≡ string_bytes out.old ++ encode_utf8_all (quoted quote (chars text.now))) }
+    ensures err { OnErr result (string_bytes out.new ≡ string_bytes out.old) }
+{
+    let before = out.len();
+    match push_quoted(text, quote, out) {
+        Ok(()) => Ok(()),
+        Err(error) => {
+            out.truncate(before);
+            Err(error)
+        }
+    }
+}
+
+// The next three append what is asked, or some beginning of it where memory runs out.
+fn push_quoted(text: &str, quote: char, out: &mut String) -> Result<(), AllocError>
+    ensures ok { OnOk result (string_bytes out.new ≡ string_bytes out.old ++ encode_utf8_all (quoted quote (chars text.now))) }
+    ensures err { OnErr result (Extends (string_bytes out.old) (string_bytes out.new)) }
+{
+    out.push(quote)?;
+    for c in text.chars() {
+        push_escaped(c, quote, out)?;
+    }
+    out.push(quote)
+}
+
+fn push_escaped(c: char, quote: char, out: &mut String) -> Result<(), AllocError>
+    ensures ok { OnOk result (string_bytes out.new ≡ string_bytes out.old ++ encode_utf8_all (escaped quote c)) }
+    ensures err { OnErr result (Extends (string_bytes out.old) (string_bytes out.new)) }
+{
+    match c {
+        '\0' => out.push_str("\\0"),
+        '\t' => out.push_str("\\t"),
+        '\n' => out.push_str("\\n"),
+        '\r' => out.push_str("\\r"),
+        _ if c == '\\' || c == quote => {
+            out.push('\\')?;
+            out.push(c)
+        }
+        _ if c.is_ascii_control() => push_code(c, out),
+        _ => out.push(c),
+    }
+}
+
+fn push_code(c: char, out: &mut String) -> Result<(), AllocError>
+    ensures ok { OnOk result (string_bytes out.new ≡ string_bytes out.old ++ encode_utf8_all (escape_unicode c)) }
+    ensures err { OnErr result (Extends (string_bytes out.old) (string_bytes out.new)) }
+{
+    for escape in c.escape_unicode() {
+        out.push(escape)?;
+    }
+    Ok(())
+}

@@ -1,0 +1,68 @@
+// The operators of scripts.
+
+/// An operator: the twenty between two operands, and then the eleven that assign.
+#[derive(Clone, Copy, Debug, PartialEq, Eq)]
+pub enum Token {
+    /// `+`
+    Plus,
+    /// `-`
+    Minus,
+    /// `*`
+    Multiply,
+    /// `/`
+    Divide,
+    /// `%`
+    Modulo,
+    /// `**`
+    PowerOf,
+    /// `>>`
+    RightShift,
+    /// `<<`
+    LeftShift,
+    /// `&`
+    Ampersand,
+    /// `|`
+    Pipe,
+    /// `^`
+    XOr,
+    /// `==`
+    EqualsTo,
+    /// `!=`
+    NotEqualsTo,
+    /// `>`
+    GreaterThan,
+    /// `>=`
+    GreaterThanEqualsTo,
+    /// `<`
+    LessThan,
+    /// `<=`
+    LessThanEqualsTo,
+    /// `..`
+    ExclusiveRange,
+    /// `..=`
+    InclusiveRange,
+    /// `=`
+    Equals,
+    /// `+=`
+    PlusAssign,
+    /// `-=`
+    MinusAssign,
+    /// `*=`
+    MultiplyAssign,
+    /// `/=`
+    DivideAssign,
+    /// `%=`
+    ModuloAssign,
+    /// `**=`
+    PowerOfAssign,
+    /// `>>=`
+    RightShiftAssign,
+    /// `<<=`
+    LeftShiftAssign,
+    /// `&=`
+    AndAssign,
+    /// `|=`
+    OrAssign,
+    /// `^=`
+    XOrAssign,
+}

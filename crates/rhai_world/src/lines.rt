@@ -1,0 +1,155 @@
+//! A run over lines: each is answered as soon as it is complete.
+ghost use Rattle.std.specs.Prelude.{◌≡◌, ℕ, List, Option, [], ◌∷◌, ◌++◌, take, Some, OnOk, OnErr, IfErr, IfSome};
+ghost use Rattle.std.specs.Io.KnownBytes.{Appends};
+ghost use Rattle.rhai_run.specs.State.{State, empty_state};
+ghost use Rattle.rhai_world.specs.Output.{line_answer, line_state, output_from, output_of_first_from, output, output_of_first};
+ghost use Rattle.rhai_world.specs.Fed.{Feeds, StopsWithin, Completes};
+ghost use Rattle.rhai_world.specs.Faults.{IsNoWriteFault};
+
+use crate::line::command;
+use crate::print::{write_answer, write_bad_line};
+use rhai_run::{World, apply};
+use std::alloc::Global;
+use std::io;
+use std::io::{ErrorKind, Read, Write};
+use thiserror::Error;
+
+/// Why a run over lines stopped before the end of the input.
+#[derive(Debug, Drop, Error)]
+pub enum LinesFault {
+    /// The reader failed, or was read 2^64 - 1 times without an end.
+    #[error("the input can't be read")]
+    Read(io::Error),
+    /// The writer failed.
+    #[error("the answers can't be written")]
+    Write(io::Error),
+    /// Memory was refused.
+    #[error("out of memory")]
+    Memory,
+}
+
+/// Answers a line.
+fn answer_line<W: Write>(
+    alloc: Global,
+    world: &mut World,
+    line: &[u8],
+    writer: &mut W,
+) -> Result<(), LinesFault>
+    ensures state { OnOk result (world.new ≡ line_state world.old line.now) }
+    ensures answer { OnOk result (Appends (W.contents writer.old) (W.contents writer.new) (line_answer world.old line.now)) }
+    ensures fault { IfErr result (λ e. IsNoWriteFault e → W.contents writer.new ≡ W.contents writer.old) }
+{
+    let Ok(command) = command(alloc, line) else {
+        return Err(LinesFault::Memory);
+    };
+    let written = match command {
+        None => write_bad_line(writer),
+        Some(command) => match apply(world, &command) {
+            Ok(answer) => write_answer(&answer, writer),
+            Err(_) => return Err(LinesFault::Memory),
+        },
+    };
+    written.map_err(LinesFault::Write)
+}
+
+/// Takes bytes of the input: each line that they complete is answered, and what is left is kept for the next ones.
+fn feed<W: Write>(
+    alloc: Global,
+    world: &mut World,
+    partial: &mut Vec<u8>,
+    bytes: &[u8],
+    writer: &mut W,
+) -> Result<(), LinesFault>
+    ensures fed { OnOk result (Feeds bytes.now partial.old.items world.old (W.contents writer.old) partial.new.items world.new (W.contents writer.new)) }
+    ensures fault { IfErr result (λ e. IsNoWriteFault e → StopsWithin bytes.now partial.old.items world.old (W.contents writer.old) (W.contents writer.new)) }
+{
+    for byte in bytes {
+        if *byte == b'\n' {
+            answer_line(alloc, world, partial, writer)?;
+            partial.clear();
+        } else if partial.push(*byte).is_err() {
+            return Err(LinesFault::Memory);
+        }
+    }
+    Ok(())
+}
+
+/// Answers a last line that no line feed ends, if there is one.
+fn finish<W: Write>(
+    alloc: Global,
+    world: &mut World,
+    partial: &[u8],
+    writer: &mut W,
+) -> Result<(), LinesFault>
+    ensures done { OnOk result (Completes partial.now world.old (W.contents writer.old) (W.contents writer.new)) }
+    ensures fault { IfErr result (λ e. IsNoWriteFault e → W.contents writer.new ≡ W.contents writer.old) }
+{
+    if partial.is_empty() {
+        return Ok(());
+    }
+    answer_line(alloc, world, partial, writer)?;
+    writer.flush().map_err(LinesFault::Write)
+}
+
+/// Answers the lines of all that the reader gives.
+fn answer_input<R: Read, W: Write>(
+    alloc: Global,
+    world: &mut World,
+    reader: &mut R,
+    writer: &mut W,
+) -> Result<(), LinesFault>
+    ensures done { OnOk result (IfSome (R.remaining reader.old) (λ input. Appends (W.contents writer.old) (W.contents writer.new) (output_from world.old input))) }
+    ensures end { OnOk result (IfSome (R.remaining reader.old) (λ _. R.remaining reader.new ≡ Some [])) }
+    ensures fault { IfErr result (λ e. IsNoWriteFault e → IfSome (R.remaining reader.old) (λ input. (n : ℕ) × Appends (W.contents writer.old) (W.contents writer.new) (output_of_first_from world.old n input))) }
+{
+    let mut partial = Vec::new(alloc);
+    let mut buffer = [0; 4096];
+    for _turn in 0..u64::MAX {
+        let count = match reader.read(&mut buffer) {
+            Ok(count) => count,
+            Err(error) if error.kind() == ErrorKind::Interrupted => continue,
+            Err(error) => return Err(LinesFault::Read(error)),
+        };
+        if count == 0 {
+            return finish(alloc, world, &partial, writer);
+        }
+        let bytes = &buffer[..count];
+        feed(alloc, world, &mut partial, bytes, writer)?;
+        // The answers go out before a read that may wait.
+        if bytes.contains(&b'\n') {
+            writer.flush().map_err(LinesFault::Write)?;
+        }
+    }
+    Err(LinesFault::Read(io::Error::other("the input has no end")))
+}
+
+/// Reads lines until the end of the input, does on a new world the command that each says, and writes an answer for each: the
+/// README.md has both. Lines end with a line feed; the last one may end with the input.
+///
+/// A line is answered as soon as it is complete, and the writer is flushed before the next read. Memory is taken for the world and for
+/// the longest line. After a `Read` or `Memory` the first lines have their answers, each whole; after a `Write` the writer knows how much it took.
+pub fn run_lines<R: Read, W: Write>(
+    alloc: Global,
+    reader: &mut R,
+    writer: &mut W,
+) -> Result<(), LinesFault>
+    ensures done { OnOk result (IfSome (R.remaining reader.old) (λ input. Appends (W.contents writer.old) (W.contents writer.new) (output input))) }
+    ensures end { OnOk result (IfSome (R.remaining reader.old) (λ _. R.remaining reader.new ≡ Some [])) }
+    ensures fault { IfErr result (λ e. IsNoWriteFault e → IfSome (R.remaining reader.old) (λ input. (n : ℕ) × Appends (W.contents writer.old) (W.contents writer.new) (output_of_first n input))) }
+{
+    let mut world = World::new(alloc);
+    let outcome = answer_input(alloc, &mut world, reader, writer);
+    world.close();
+    outcome
+}
+
+/// The exit status of a run.
+pub fn status(outcome: &Result<(), LinesFault>) -> u8
+    ensures done { OnOk outcome.now (result ≡ 0) }
+    ensures fault { OnErr outcome.now (result ≡ 1) }
+{
+    match outcome {
+        Ok(()) => 0,
+        Err(_) => 1,
+    }
+}

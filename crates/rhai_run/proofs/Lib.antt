@@ -1,6 +1,5 @@
 pub mod Names
 pub mod Moves
-pub mod Texts
 pub mod Steps
 pub mod Fitting
 pub mod Runs

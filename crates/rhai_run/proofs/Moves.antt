@@ -7,7 +7,7 @@ use Rattle.rhai_value.specs.Tree.{Tree}
 use Rattle.rhai_value.specs.End.{end, int_held}
 use Rattle.rhai_value.specs.Names.{end_name}
 use Rattle.rhai_value.specs.Share.{shared_value, shared_store}
-use Rattle.rhai_run.specs.State.{State}
+use Rattle.rhai_run.specs.State.{State, with_cells}
 use Rattle.rhai_run.specs.Reply.{Reply, done, refused, mismatch}
 use Rattle.rhai_run.specs.Step.{Outcome, with_value, shared, write_int, int_written}
 
@@ -19,7 +19,7 @@ set_own (x ∷ ts) (suc i) t e = ap (λ ys. x ∷ ys) (set_own ts i t e)
 
 -- the world of a store and a hand
 abbrev pub world : State → List Cell → List Tree → State
-world w s ts = record { store = s; entries = w.entries; marks = w.marks; hand = ts }
+world w s ts = with_cells w s ts
 
 -- an outcome of a value that is there
 at_value : (w : State) (i : ℕ) (go : Tree → Outcome) (t : Tree) (a : Reply) (v : State) → slice_get w.hand i ≡ Some t → (a ≡ (go t).0) × (v ≡ (go t).1) → (a ≡ (with_value w i go).0) × (v ≡ (with_value w i go).1)

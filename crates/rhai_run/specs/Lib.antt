@@ -3,9 +3,9 @@ pub use Rattle.rhai_value.specs.Store
 pub use Rattle.rhai_value.specs.Walk
 pub use Rattle.rhai_value.specs.End
 pub use Rattle.rhai_value.specs.Relation
+pub use Rattle.rhai_show.specs.Text
 pub mod State
 pub mod Reply
-pub mod Text
 pub mod Step
 pub mod Machine
 pub mod Fits

@@ -12,6 +12,10 @@ pub enum Literal {
     Bool(bool),
     /// An integer.
     Int(INT),
+    /// A character.
+    Char(char),
+    /// A text.
+    Text(ImmutableString),
 }
 
 /// One command. Positions in the hand count from 0, and new values go to its end.
@@ -35,6 +39,8 @@ pub enum Command {
     Rewind(usize),
     /// Appends a copy of the value of the last entry of the name.
     Get(ImmutableString),
-    /// Answers the text of the value at the position.
+    /// Answers the text of the value at the position, as it is displayed.
     Show(usize),
+    /// Answers the text of the value at the position, as it is debugged.
+    Debug(usize),
 }

@@ -1,15 +1,15 @@
 //! What a world keeps, and what each command does to it.
 ghost use Rattle.std.specs.Prelude.{◌≡◌, IsOk};
 ghost use Rattle.rhai_run.specs.State.{empty_state};
-ghost use Rattle.rhai_run.specs.Step.{put, copied, dropped, shared, write_int, pushed, popped, rewound, got, shown, step, IsFree};
+ghost use Rattle.rhai_run.specs.Step.{put, copied, dropped, shared, write_int, pushed, popped, rewound, got, shown, debugged, step, IsFree};
 ghost use Rattle.rhai_run.specs.Does.{Does, Gives};
 
 use crate::answer::{Answer, Refusal};
 use crate::command::{Command, Literal};
 use crate::places::{push_in_room, replace_at};
 use crate::scope::{Entry, find};
-use crate::text::display_text;
-use rhai_text::ImmutableString;
+use rhai_show::{debug_text, display_text};
+use rhai_text::{ImmutableString, Limits};
 use rhai_value::{AccessMode, Dynamic, INT, Store};
 use std::alloc::{AllocError, Global};
 use std::marker::Model;
@@ -21,6 +21,7 @@ pub(crate) struct Desk {
     pub(crate) store: Store,
     entries: Vec<Entry>,
     pub(crate) hand: Vec<Dynamic>,
+    limits: Limits,
 }
 
 impl Model for Desk {
@@ -29,18 +30,19 @@ impl Model for Desk {
 
     ghost Value = { State };
 
-    ghost view = { λ d. record { store = d.store; entries = d.entries.items; marks = []; hand = d.hand.items } };
+    ghost view = { λ d. record { store = d.store; entries = d.entries.items; marks = []; hand = d.hand.items; limits = d.limits } };
 }
 
 impl Desk {
-    pub(crate) fn new(alloc: Global) -> Self
-        ensures { result ≡ empty_state }
+    pub(crate) fn new(alloc: Global, limits: Limits) -> Self
+        ensures { result ≡ empty_state limits }
     {
         Desk {
             alloc,
             store: Store::new(alloc),
             entries: Vec::new(alloc),
             hand: Vec::new(alloc),
+            limits,
         }
     }
 
@@ -60,6 +62,7 @@ impl Desk {
             Command::Rewind(n) => Ok(self.rewind(*n)),
             Command::Get(name) => self.get(name),
             Command::Show(i) => self.show(*i),
+            Command::Debug(i) => self.debug(*i),
         }
     }
 
@@ -70,6 +73,8 @@ impl Desk {
             Literal::Unit => Dynamic::UNIT,
             Literal::Bool(value) => Dynamic::from_bool(*value),
             Literal::Int(value) => Dynamic::from_int(*value),
+            Literal::Char(value) => Dynamic::from_char(*value),
+            Literal::Text(text) => Dynamic::from(text.copy(self.alloc)?),
         };
         self.hand.push(value)?;
         Ok(Answer::Done)
@@ -176,7 +181,16 @@ impl Desk {
     {
         match self.hand.get(i) {
             None => Ok(Answer::Refused(Refusal::NoValue)),
-            Some(value) => Ok(Answer::Text(display_text(self.alloc, &self.store, value)?)),
+            Some(value) => Ok(Answer::Text(display_text(self.alloc, value, &self.store)?)),
+        }
+    }
+
+    pub(crate) fn debug(&self, i: usize) -> Result<Answer, AllocError>
+        ensures { Does result self.now self.now (debugged self.now i) }
+    {
+        match self.hand.get(i) {
+            None => Ok(Answer::Refused(Refusal::NoValue)),
+            Some(value) => Ok(Answer::Text(debug_text(self.alloc, value, &self.store)?)),
         }
     }
 }

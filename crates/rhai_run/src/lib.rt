@@ -7,7 +7,6 @@ mod desk;
 pub mod laws;
 mod places;
 pub mod scope;
-mod text;
 pub mod world;
 
 pub use answer::{Answer, Refusal};

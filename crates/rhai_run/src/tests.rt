@@ -1,7 +1,9 @@
 use super::*;
-use rhai_text::ImmutableString;
+use rhai_text::{ImmutableString, Limits};
 use std::alloc::{AllocError, Global};
 use std::test::Fail;
+
+const UNLIMITED: Limits = Limits { text: 0, items: 0 };
 
 /// An answer as a short text: that of a value, or the name of the answer.
 fn told(answer: &Answer) -> &str {
@@ -36,7 +38,7 @@ fn answers(alloc: Global, world: &mut World, commands: &[Command]) -> Result<Str
 
 /// The same on a new world.
 fn answers_anew(alloc: Global, commands: &[Command]) -> Result<String, AllocError> {
-    let mut world = World::new(alloc);
+    let mut world = World::new(alloc, UNLIMITED);
     let line = answers(alloc, &mut world, commands);
     world.close();
     line
@@ -68,7 +70,7 @@ fn a_cell_that_nothing_reaches_changes_no_answer(rt: HostRuntime) -> Result<(), 
         Command::Drop,
     ]?;
     let commands = five(alloc)?;
-    let mut world = World::new(alloc);
+    let mut world = World::new(alloc, UNLIMITED);
     let made = answers(alloc, &mut world, &before);
     let line = answers(alloc, &mut world, &commands);
     let shared = world.hand().iter().all(|value| value.is_shared());
@@ -100,7 +102,7 @@ fn names_are_shadowed_and_rewound(rt: HostRuntime) -> Result<(), Fail> {
         Command::Pop,
         Command::Rewind(9),
     ]?;
-    let mut world = World::new(alloc);
+    let mut world = World::new(alloc, UNLIMITED);
     let line = answers(alloc, &mut world, &commands);
     world.close();
     assert_eq!(rt;
@@ -131,7 +133,7 @@ fn a_refusal_names_what_is_wrong(rt: HostRuntime) -> Result<(), Fail> {
         Command::WriteInt(0, 0),
         Command::Pop,
     ]?;
-    let mut world = World::new(alloc);
+    let mut world = World::new(alloc, UNLIMITED);
     let line = answers(alloc, &mut world, &commands);
     world.close();
     assert_eq!(rt;
@@ -161,7 +163,7 @@ fn a_copy_is_another_value(rt: HostRuntime) -> Result<(), Fail> {
 
 #[test]
 fn one_command_is_applied(rt: HostRuntime) -> Result<(), Fail> {
-    let mut world = World::new(rt.alloc());
+    let mut world = World::new(rt.alloc(), UNLIMITED);
     let put = apply(&mut world, &Command::Put(Literal::Bool(true)));
     let shared = apply(&mut world, &Command::Share(0));
     let name = world
@@ -172,5 +174,32 @@ fn one_command_is_applied(rt: HostRuntime) -> Result<(), Fail> {
     assert_eq!(rt; told(&put?), "ok");
     assert_eq!(rt; told(&shared?), "ok");
     assert_eq!(rt; name, Some("bool"));
+    Ok(())
+}
+
+#[test]
+fn texts_and_characters_are_shown(rt: HostRuntime) -> Result<(), Fail> {
+    let alloc = rt.alloc();
+    let commands = vec![in alloc;
+        Command::Put(Literal::Text(name(alloc, "a\"b\n\u{1}")?)),
+        Command::Debug(0),
+        Command::Put(Literal::Char('\'')),
+        Command::Debug(1),
+        Command::Show(1),
+        Command::Put(Literal::Text(name(alloc, "a")?)),
+        Command::Share(2),
+        Command::Show(2),
+        Command::Debug(2),
+        Command::WriteInt(1, 1),
+        Command::WriteInt(2, 1),
+        Command::Put(Literal::Unit),
+        Command::Debug(3),
+        Command::Debug(4),
+    ]?;
+    let line = answers_anew(alloc, &commands)?;
+    assert_eq!(rt;
+        line.as_str(),
+        "ok;\"a\\\"b\\n\\u{1}\";ok;'\\'';';ok;ok;a (shared);\"a\" (shared);char;string;ok;();NoValue;"
+    );
     Ok(())
 }

@@ -1,6 +1,7 @@
 pub mod Chains
 pub mod Ends
 pub mod Grow
+pub mod InStores
 pub mod Paths
 pub mod SameCells
 pub mod SameWalks

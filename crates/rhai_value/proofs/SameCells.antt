@@ -1,12 +1,12 @@
 -- Changes that keep values and stores the same up to the numbers of cells.
-use Rattle.std.proofs.Common.{◌≡◌, ℕ, zero, suc, ℤ, true, List, [], ◌∷◌, length, slice_get, Some, None, refl, sym, ap, ◌∙◌, eqb-true, eq-eqb, inl, inr}
+use Rattle.std.proofs.Common.{◌≡◌, ℕ, zero, suc, ℤ, true, List, [], ◌∷◌, length, slice_get, Option, Some, None, refl, sym, ap, ◌∙◌, eqb-true, eq-eqb, inl, inr}
 use Rattle.std.proofs.lemmas.Bool.{cases_eq}
 use Rattle.std.proofs.lemmas.Option.{none-some, same_Some}
 use Rattle.rhai_value.specs.declared.access_mode.AccessMode.{AccessMode}
 use Rattle.rhai_value.specs.declared.store.Cell.{Cell}
-use Rattle.rhai_value.specs.Tree.{Tree, node, Leaf, leaf, holder, copy, paint, int_of, leaf_int, with_int, leaf_with_int}
+use Rattle.rhai_value.specs.Tree.{Tree, node, Leaf, leaf, holder, copy, paint, part_of, with_leaf}
 use Rattle.rhai_value.specs.Store.{put, changed_at, is_marked_at, added}
-use Rattle.rhai_value.specs.End.{End, held, stuck, closed, int_held, value_after, store_after}
+use Rattle.rhai_value.specs.End.{End, held, stuck, closed, part_held, value_after, store_after}
 use Rattle.rhai_value.specs.Names.{tree_name, leaf_name, end_name}
 use Rattle.rhai_value.specs.Relation.{Renaming, paired, Related, IsOneToOne, SameCells, SameEnd}
 
@@ -24,14 +24,14 @@ by_trees r P leaves holders (node (holder c) g m) (node (holder d) h n) e = hold
 by_trees r P leaves holders (node (leaf l) g m) (node (holder d) h n) e = absurd e.0
 by_trees r P leaves holders (node (holder c) g m) (node (leaf k) h n) e = absurd e.0
 
-pub same_int : (r : Renaming) (t u : Tree) → Related r t u → int_of t ≡ int_of u
-same_int r = by_trees r (λ t u. int_of t ≡ int_of u) (λ l k g h m n e f i. ap leaf_int e) (λ c d g h m n e f i. refl)
+pub same_part : {A : Type 0} (r : Renaming) (part : Leaf → Option A) (t u : Tree) → Related r t u → part_of part t ≡ part_of part u
+same_part r part = by_trees r (λ t u. part_of part t ≡ part_of part u) (λ l k g h m n e f i. ap part e) (λ c d g h m n e f i. refl)
 
 pub same_name : (r : Renaming) (t u : Tree) → Related r t u → tree_name t ≡ tree_name u
 same_name r = by_trees r (λ t u. tree_name t ≡ tree_name u) (λ l k g h m n e f i. ap leaf_name e) (λ c d g h m n e f i. refl)
 
-pub same_with_int : (r : Renaming) (n : ℤ) (t u : Tree) → Related r t u → Related r (with_int n t) (with_int n u)
-same_with_int r n = by_trees r (λ t u. Related r (with_int n t) (with_int n u)) (λ l k g h m i e f j. (ap (leaf_with_int n) e, f, j)) (λ c d g h m i e f j. (e, f, j))
+pub same_with_leaf : (r : Renaming) (f : Leaf → Leaf) (t u : Tree) → Related r t u → Related r (with_leaf f t) (with_leaf f u)
+same_with_leaf r f = by_trees r (λ t u. Related r (with_leaf f t) (with_leaf f u)) (λ l k g h m i e j n. (ap f e, j, n)) (λ c d g h m i e j n. (e, j, n))
 
 -- a cell that is changed, and the others
 pub get_changed : (f : Cell → Cell) (s : List Cell) (c : ℕ) (x : Cell) → slice_get s c ≡ Some x → slice_get (changed_at f s c) c ≡ Some (f x)
@@ -85,8 +85,8 @@ by_ends r P own cell bars loops closed (held q u) h = absurd h
 by_ends r P own cell bars loops closed (stuck u) h = absurd h
 
 -- what is told of the same ends, and what becomes of values and stores that are written at them
-pub same_int_held : (r : Renaming) (e f : End) → SameEnd r e f → int_held e ≡ int_held f
-same_int_held r = by_ends r (λ e f. int_held e ≡ int_held f) (same_int r) (λ c d t u p. same_int r t u) (λ t u h. refl) refl
+pub same_part_held : {A : Type 0} (r : Renaming) (part : Leaf → Option A) (e f : End) → SameEnd r e f → part_held part e ≡ part_held part f
+same_part_held r part = by_ends r (λ e f. part_held part e ≡ part_held part f) (same_part r part) (λ c d t u p. same_part r part t u) (λ t u h. refl) refl
 
 pub same_end_name : (r : Renaming) (e f : End) → SameEnd r e f → end_name e ≡ end_name f
 same_end_name r = by_ends r (λ e f. end_name e ≡ end_name f) (same_name r) (λ c d t u p. same_name r t u) (λ t u h. refl) refl

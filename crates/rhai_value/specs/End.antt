@@ -1,7 +1,7 @@
 -- Where a chain of holders ends.
 use Rattle.std.specs.Prelude.{ℕ, ℤ, List, Option, Some, None, slice_get}
 use Rattle.rhai_value.specs.declared.store.Cell.{Cell}
-use Rattle.rhai_value.specs.Tree.{Tree, node, leaf, holder, int_of}
+use Rattle.rhai_value.specs.Tree.{Tree, node, Leaf, leaf, holder, part_of, leaf_int, leaf_char, leaf_text}
 use Rattle.rhai_value.specs.Store.{put}
 use Rattle.rhai_value.specs.Walk.{Visit, entered, barred, revisited, walk}
 
@@ -37,10 +37,20 @@ held_in (held place t) = Some t
 held_in (stuck t) = None
 held_in closed = None
 
+-- what the held value has, if it is a leaf
+abbrev pub part_held : {A : Type 0} → (Leaf → Option A) → End → Option A
+part_held part (held place t) = part_of part t
+part_held part (stuck t) = None
+part_held part closed = None
+
 abbrev pub int_held : End → Option ℤ
-int_held (held place t) = int_of t
-int_held (stuck t) = None
-int_held closed = None
+int_held e = part_held leaf_int e
+
+abbrev pub char_held : End → Option ℕ
+char_held e = part_held leaf_char e
+
+abbrev pub text_held : End → Option (List ℕ)
+text_held e = part_held leaf_text e
 
 -- a value, and a store, after f was applied to what is held where the chain from the value ends
 abbrev pub value_after : (Tree → Tree) → End → Tree → Tree

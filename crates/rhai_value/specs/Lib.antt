@@ -7,3 +7,4 @@ pub mod Names
 pub mod Seen
 pub mod Share
 pub mod Relation
+pub mod Writes

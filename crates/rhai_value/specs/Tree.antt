@@ -1,5 +1,5 @@
 -- What a value is: a tree, in which the number of a cell stands for what is shared.
-use Rattle.std.specs.Prelude.{ℕ, ℤ, pos, Bool, Option, Some, None}
+use Rattle.std.specs.Prelude.{ℕ, ℤ, pos, Bool, Option, Some, None, List}
 use Rattle.rhai_value.specs.declared.access_mode.AccessMode.{AccessMode}
 use Rattle.rhai_value.specs.declared.access_mode.AccessMode.TheVariants.{ReadWrite}
 
@@ -8,6 +8,8 @@ pub data Leaf : Type 0 where
   unit : Leaf
   bool : Bool → Leaf
   int : ℤ → Leaf
+  char : ℕ → Leaf
+  text : List ℕ → Leaf
 
 -- a leaf, or a holder of the cell of a number
 pub data Content : Type 0 where
@@ -47,29 +49,74 @@ copy (node c g m) = node c g ReadWrite
 abbrev pub paint : AccessMode → Tree → Tree
 paint m (node c g n) = node c g m
 
--- the int of a leaf, and the leaf with an int in the place of its own
+-- what a leaf has: its int, its character, its text
 abbrev pub leaf_int : Leaf → Option ℤ
 leaf_int unit = None
 leaf_int (bool b) = None
 leaf_int (int n) = Some n
+leaf_int (char c) = None
+leaf_int (text s) = None
+
+abbrev pub leaf_char : Leaf → Option ℕ
+leaf_char unit = None
+leaf_char (bool b) = None
+leaf_char (int n) = None
+leaf_char (char c) = Some c
+leaf_char (text s) = None
+
+abbrev pub leaf_text : Leaf → Option (List ℕ)
+leaf_text unit = None
+leaf_text (bool b) = None
+leaf_text (int n) = None
+leaf_text (char c) = None
+leaf_text (text s) = Some s
+
+-- the same of a value that is a leaf
+abbrev pub part_of : {A : Type 0} → (Leaf → Option A) → Tree → Option A
+part_of part (node (leaf l) g m) = part l
+part_of part (node (holder c) g m) = None
 
 abbrev pub int_of : Tree → Option ℤ
-int_of (node (leaf l) g m) = leaf_int l
-int_of (node (holder c) g m) = None
+int_of t = part_of leaf_int t
 
+abbrev pub char_of : Tree → Option ℕ
+char_of t = part_of leaf_char t
+
+abbrev pub text_of : Tree → Option (List ℕ)
+text_of t = part_of leaf_text t
+
+-- a leaf with another int, and with another text, where it has one
 abbrev pub leaf_with_int : ℤ → Leaf → Leaf
 leaf_with_int n unit = unit
 leaf_with_int n (bool b) = bool b
 leaf_with_int n (int k) = int n
+leaf_with_int n (char c) = char c
+leaf_with_int n (text s) = text s
 
--- the value with its int replaced, tag and mode staying; a value that is no int stays
+abbrev pub leaf_with_text : List ℕ → Leaf → Leaf
+leaf_with_text s unit = unit
+leaf_with_text s (bool b) = bool b
+leaf_with_text s (int n) = int n
+leaf_with_text s (char c) = char c
+leaf_with_text s (text t) = text s
+
+-- the value with its leaf changed, tag and mode staying
+abbrev pub with_leaf : (Leaf → Leaf) → Tree → Tree
+with_leaf f (node (leaf l) g m) = node (leaf (f l)) g m
+with_leaf f (node (holder c) g m) = node (holder c) g m
+
+-- the value with another int, and with another text; a value that has none stays
 abbrev pub with_int : ℤ → Tree → Tree
-with_int n (node (leaf l) g m) = node (leaf (leaf_with_int n l)) g m
-with_int n (node (holder c) g m) = node (holder c) g m
+with_int n t = with_leaf (leaf_with_int n) t
+
+abbrev pub with_text : List ℕ → Tree → Tree
+with_text s t = with_leaf (leaf_with_text s) t
 
 -- the values whose copies take no memory
 abbrev pub TakesNoMemory : Tree → Type 0
 TakesNoMemory (node (leaf unit) g m) = Unit {0}
 TakesNoMemory (node (leaf (bool b)) g m) = Unit {0}
 TakesNoMemory (node (leaf (int n)) g m) = Unit {0}
+TakesNoMemory (node (leaf (char c)) g m) = Unit {0}
+TakesNoMemory (node (leaf (text s)) g m) = ⊥
 TakesNoMemory (node (holder c) g m) = Unit {0}

@@ -1,7 +1,7 @@
 //! Where a chain of holders ends.
 ghost use Rattle.std.specs.Prelude.{◌≡◌, [], option_copied};
 ghost use Rattle.rhai_value.specs.End.{end, held_in};
-ghost use Rattle.rhai_value.specs.Seen.{end_seen};
+ghost use Rattle.rhai_value.specs.Seen.{end_seen, place_seen, place_of};
 
 use crate::dynamic::Dynamic;
 use crate::store::Store;
@@ -13,7 +13,26 @@ pub(crate) enum ChainEnd<'s> {
     Closed,
 }
 
+/// The place of a held value: the value itself, a cell, or none.
+pub(crate) enum Place {
+    Own,
+    Cell(usize),
+    None,
+}
+
 impl Dynamic {
+    /// Where the held value stands.
+    pub(crate) fn held_place(&self, s: &Store) -> Place
+        ensures { place_seen result ≡ place_of (end s.now [] self.now) }
+    {
+        match self.chain_end(s) {
+            ChainEnd::Held(None, _) => Place::Own,
+            ChainEnd::Held(Some(index), _) => Place::Cell(index),
+            ChainEnd::Stuck(_) => Place::None,
+            ChainEnd::Closed => Place::None,
+        }
+    }
+
     /// Follows holders from cell to cell. A chain of more holders than there are cells passes one twice.
     pub(crate) fn chain_end<'s>(&'s self, s: &'s Store) -> ChainEnd<'s>
         ensures { end_seen result ≡ end s.now [] self.now }

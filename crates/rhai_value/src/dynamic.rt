@@ -3,6 +3,7 @@
 use crate::access_mode::AccessMode;
 use crate::cell_ref::CellRef;
 use crate::union::{INT, Tag, Union};
+use rhai_text::ImmutableString;
 use std::alloc::{AllocError, Global};
 use std::default::Default;
 use std::marker::Model;
@@ -24,7 +25,8 @@ impl Model for Dynamic {
 
 impl Dynamic {
     ghost use Rattle.std.specs.Prelude.{◌≡◌, IfOk, IsOk, Option, option_map, is_some};
-    ghost use Rattle.rhai_value.specs.Tree.{fresh, unit, bool, int, tag_of, mode_of, cell_of, int_of, with_int, paint, copy, TakesNoMemory};
+    ghost use Rattle.rhai_value.specs.Tree.{fresh, unit, bool, int, char, text, tag_of, mode_of, cell_of, int_of, with_int, paint, copy, TakesNoMemory};
+    ghost use Rattle.std.specs.Str.{chars};
     ghost use Rattle.rhai_value.specs.View.{tree_of};
 
     /// A boolean, with tag 0 and mode ReadWrite. (`Dynamic::from_bool`)
@@ -45,6 +47,22 @@ impl Dynamic {
         }
     }
 
+    /// A character, with tag 0 and mode ReadWrite. (`Dynamic::from_char`)
+    pub const fn from_char(value: char) -> Dynamic
+        ensures { result ≡ fresh (char value) }
+    {
+        Dynamic {
+            union: Union::Char(value, 0, AccessMode::ReadWrite),
+        }
+    }
+
+    /// A text, with tag 0 and mode ReadWrite. Costs the length of the text. (`FromStr` and `From<&str>` of rhai's `Dynamic`)
+    pub fn from_text(alloc: Global, value: &str) -> Result<Dynamic, AllocError>
+        ensures { IfOk result (λ d. d ≡ fresh (text (chars value.now))) }
+    {
+        Ok(Dynamic::from(ImmutableString::from_str(alloc, value)?))
+    }
+
     /// The constructor with its content, for a crate that reads values by cases.
     pub const fn parts(&self) -> &Union
         ensures { tree_of result.now ≡ self.now }
@@ -60,6 +78,8 @@ impl Dynamic {
             Union::Unit(tag, _) => *tag,
             Union::Bool(_, tag, _) => *tag,
             Union::Int(_, tag, _) => *tag,
+            Union::Char(_, tag, _) => *tag,
+            Union::Str(_, tag, _) => *tag,
             Union::Shared(_, tag, _) => *tag,
         }
     }
@@ -72,6 +92,8 @@ impl Dynamic {
             Union::Unit(_, mode) => *mode,
             Union::Bool(_, _, mode) => *mode,
             Union::Int(_, _, mode) => *mode,
+            Union::Char(_, _, mode) => *mode,
+            Union::Str(_, _, mode) => *mode,
             Union::Shared(_, _, mode) => *mode,
         }
     }
@@ -84,6 +106,8 @@ impl Dynamic {
             Union::Unit(_, own) => *own = mode,
             Union::Bool(_, _, own) => *own = mode,
             Union::Int(_, _, own) => *own = mode,
+            Union::Char(_, _, own) => *own = mode,
+            Union::Str(_, _, own) => *own = mode,
             Union::Shared(_, _, own) => *own = mode,
         }
     }
@@ -103,6 +127,8 @@ impl Dynamic {
             Union::Unit(_, _) => None,
             Union::Bool(_, _, _) => None,
             Union::Int(_, _, _) => None,
+            Union::Char(_, _, _) => None,
+            Union::Str(_, _, _) => None,
             Union::Shared(cell, _, _) => Some(*cell),
         }
     }
@@ -119,13 +145,15 @@ impl Dynamic {
             }
             Union::Unit(_, _) => false,
             Union::Bool(_, _, _) => false,
+            Union::Char(_, _, _) => false,
+            Union::Str(_, _, _) => false,
             Union::Shared(_, _, _) => false,
         }
     }
 
     /// The same value once more, every mode being ReadWrite; the copy of a holder names the same cell. Takes no memory for
-    /// unit, booleans, integers and holders. (`Clone` of rhai's `Dynamic`)
-    pub fn copy(&self, _alloc: Global) -> Result<Dynamic, AllocError>
+    /// unit, booleans, integers, characters and holders; a text shares its bytes. (`Clone` of rhai's `Dynamic`)
+    pub fn copy(&self, alloc: Global) -> Result<Dynamic, AllocError>
         ensures value { IfOk result (λ d. d ≡ copy self.now) }
         ensures free { TakesNoMemory self.now → IsOk result }
     {
@@ -134,9 +162,24 @@ impl Dynamic {
             Union::Unit(tag, _) => Union::Unit(*tag, mode),
             Union::Bool(value, tag, _) => Union::Bool(*value, *tag, mode),
             Union::Int(value, tag, _) => Union::Int(*value, *tag, mode),
+            Union::Char(value, tag, _) => Union::Char(*value, *tag, mode),
+            Union::Str(text, tag, _) => Union::Str(text.copy(alloc)?, *tag, mode),
             Union::Shared(cell, tag, _) => Union::Shared(*cell, *tag, mode),
         };
         Ok(Dynamic { union })
+    }
+}
+
+impl From<ImmutableString> for Dynamic {
+    ghost use Rattle.std.specs.Prelude.{◌≡◌};
+    ghost use Rattle.rhai_value.specs.Tree.{fresh, text};
+
+    ghost from_gives = { λ s d. d ≡ fresh (text s) };
+
+    fn from(value: ImmutableString) -> Dynamic {
+        Dynamic {
+            union: Union::Str(value, 0, AccessMode::ReadWrite),
+        }
     }
 }
 

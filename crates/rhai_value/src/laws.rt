@@ -2,10 +2,11 @@
 ghost use Rattle.std.specs.Prelude.{◌≡◌, ◌∷◌, [], ◌++◌, ℕ, true, List, length};
 ghost use Rattle.rhai_value.specs.declared.access_mode.AccessMode.{AccessMode};
 ghost use Rattle.rhai_value.specs.declared.store.Cell.{Cell};
-ghost use Rattle.rhai_value.specs.Tree.{Tree, copy, paint};
+ghost use Rattle.rhai_value.specs.Tree.{Tree, Leaf, copy, paint, with_leaf};
 ghost use Rattle.rhai_value.specs.Store.{put, added};
 ghost use Rattle.rhai_value.specs.Walk.{visit, visit_map};
-ghost use Rattle.rhai_value.specs.End.{end_of, end};
+ghost use Rattle.rhai_value.specs.End.{End, end_of, end, int_held, char_held, text_held, value_after, store_after};
+ghost use Rattle.rhai_value.specs.Names.{end_name};
 ghost use Rattle.rhai_value.specs.Relation.{Renaming, paired, Related, IsOneToOne, SameCells, SameEnd};
 
 /// Where a chain ends, by its parts: a value that is no holder is held, a holder is stuck, closes, or leads on to its cell's content.
@@ -44,4 +45,20 @@ pub fn added_is_renamed()
         → IsOneToOne r → SameCells r s z → IsOneToOne (r ++ (length s, length z) ∷ []) }
     ensures cells { (r : Renaming) (s z : List Cell) (t u : Tree) → SameCells r s z → Related r t u
         → SameCells (r ++ (length s, length z) ∷ []) (added s t) (added z u) }
+{}
+
+/// Ends that are alike have the same int, the same character, the same text and the same name.
+pub fn held_parts_are_renamed()
+    ensures int { (r : Renaming) (e f : End) → SameEnd r e f → int_held e ≡ int_held f }
+    ensures character { (r : Renaming) (e f : End) → SameEnd r e f → char_held e ≡ char_held f }
+    ensures text { (r : Renaming) (e f : End) → SameEnd r e f → text_held e ≡ text_held f }
+    ensures name { (r : Renaming) (e f : End) → SameEnd r e f → end_name e ≡ end_name f }
+{}
+
+/// What a write leaves where chains end alike stays the same up to the renaming: the values, and the stores.
+pub fn writes_are_renamed()
+    ensures value { (r : Renaming) (f : Leaf → Leaf) (t u : Tree) (e o : End) → Related r t u → SameEnd r e o
+        → Related r (value_after (with_leaf f) e t) (value_after (with_leaf f) o u) }
+    ensures store { (r : Renaming) (f : Leaf → Leaf) (s z : List Cell) (e o : End) → IsOneToOne r → SameCells r s z → SameEnd r e o
+        → SameCells r (store_after (with_leaf f) e s) (store_after (with_leaf f) o z) }
 {}

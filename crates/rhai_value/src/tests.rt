@@ -1,4 +1,5 @@
 use super::*;
+use rhai_text::ImmutableString;
 use std::mem::size_of;
 use std::test::Fail;
 
@@ -64,6 +65,52 @@ fn a_path_opens_a_cell_once(rt: HostRuntime) -> Result<(), Fail> {
     assert!(rt; path.enter(&store, &holder)?.is_some());
     assert!(rt; path.enter(&store, &holder)?.is_none());
     assert!(rt; matches!(Dynamic::constants()[1].parts(), Union::Bool(true, _, _)));
+    Ok(())
+}
+
+#[test]
+fn texts_and_characters_are_held(rt: HostRuntime) -> Result<(), Fail> {
+    let alloc = rt.alloc();
+    let mut store = Store::new(alloc);
+    let mut text = Dynamic::from_text(alloc, "hé")?;
+    let letter = Dynamic::from_char('é');
+    assert!(rt; text.is_string(&store) && !text.is_char(&store) && letter.is_char(&store));
+    assert_eq!(rt; letter.as_char(&store).ok(), Some('é'));
+    assert_eq!(rt; text.as_char(&store).err(), Some("string"));
+    assert_eq!(rt; letter.type_name(&store), "char");
+    match text.as_immutable_string_mut(&mut store) {
+        Ok(held) => *held = ImmutableString::from_str(alloc, "other")?,
+        Err(_) => assert!(rt; false),
+    }
+    let Ok(mut holder) = text.into_shared(&mut store) else {
+        return Err("no room for a cell".into());
+    };
+    assert_eq!(rt;
+        holder
+            .as_immutable_string_ref(&store)
+            .ok()
+            .map(|held| held.as_str()),
+        Some("other")
+    );
+    let mut place = InStore {
+        value: &mut holder,
+        store: &mut store,
+    };
+    match place.immutable_string_mut() {
+        Ok(held) => *held = ImmutableString::from_str(alloc, "")?,
+        Err(_) => assert!(rt; false),
+    }
+    let copy = holder.copy(alloc)?;
+    assert_eq!(rt;
+        copy.as_immutable_string_ref(&store)
+            .ok()
+            .map(|held| held.len()),
+        Some(0)
+    );
+    assert_eq!(rt;
+        Dynamic::ONE.as_immutable_string_ref(&store).err(),
+        Some("i64")
+    );
     Ok(())
 }
 

@@ -1,14 +1,15 @@
 //! Questions about the type of what is held, which follow chains of holders to their end.
-ghost use Rattle.std.specs.Prelude.{◌≡◌, [], ◌↔◌, IsTrue, IsSome, IfOk, IfErr, Some, None, is_some};
+ghost use Rattle.std.specs.Prelude.{◌≡◌, [], ◌↔◌, IsTrue, IsSome, IfOk, IfErr, Some, None, is_some, option_copied, option_map};
 ghost use Rattle.std.specs.Bool.{OnFalse};
-ghost use Rattle.rhai_value.specs.End.{end, int_held, value_after, store_after};
+ghost use Rattle.rhai_value.specs.End.{end, int_held, char_held, text_held, value_after, store_after};
 ghost use Rattle.rhai_value.specs.Names.{tree_name, end_name};
-ghost use Rattle.rhai_value.specs.Tree.{int_of, with_int};
+ghost use Rattle.rhai_value.specs.Tree.{int_of, char_of, text_of, with_int};
 
-use crate::chain::ChainEnd;
+use crate::chain::{ChainEnd, Place};
 use crate::dynamic::Dynamic;
 use crate::store::Store;
 use crate::union::{INT, Union};
+use rhai_text::ImmutableString;
 
 impl Dynamic {
     /// The name of the held type, or `<shared>` where the chain is stuck or closed. (`Dynamic::type_name`)
@@ -29,6 +30,8 @@ impl Dynamic {
             Union::Unit(_, _) => "()",
             Union::Bool(_, _, _) => "bool",
             Union::Int(_, _, _) => "i64",
+            Union::Char(_, _, _) => "char",
+            Union::Str(_, _, _) => "string",
             Union::Shared(_, _, _) => "<shared>",
         }
     }
@@ -38,6 +41,20 @@ impl Dynamic {
         ensures { result ≡ is_some (int_held (end s.now [] self.now)) }
     {
         self.int_at_end(s).is_some()
+    }
+
+    /// Whether a character is held. (`Dynamic::is_char`)
+    pub fn is_char(&self, s: &Store) -> bool
+        ensures { result ≡ is_some (char_held (end s.now [] self.now)) }
+    {
+        self.char_at_end(s).is_some()
+    }
+
+    /// Whether a text is held. (`Dynamic::is_string`)
+    pub fn is_string(&self, s: &Store) -> bool
+        ensures { result ≡ is_some (text_held (end s.now [] self.now)) }
+    {
+        self.text_at_end(s).is_some()
     }
 
     /// The held int, or the name of the held type. (`Dynamic::as_int`)
@@ -52,11 +69,58 @@ impl Dynamic {
         }
     }
 
+    /// The held character, or the name of the held type. (`Dynamic::as_char`)
+    pub fn as_char(&self, s: &Store) -> Result<char, &'static str>
+        ensures ok { IfOk result (λ c. char_held (end s.now [] self.now) ≡ Some c) }
+        ensures err { IfErr result (λ name. (char_held (end s.now [] self.now) ≡ None)
+            × (name.now ≡ end_name (end s.now [] self.now))) }
+    {
+        match self.char_at_end(s) {
+            Some(value) => Ok(value),
+            None => Err(self.type_name(s)),
+        }
+    }
+
+    /// The held text, or the name of the held type. (`Dynamic::as_immutable_string_ref`)
+    pub fn as_immutable_string_ref<'s>(
+        &'s self,
+        s: &'s Store,
+    ) -> Result<&'s ImmutableString, &'static str>
+        ensures ok { IfOk result (λ t. text_held (end s.now [] self.now) ≡ Some t.now) }
+        ensures err { IfErr result (λ name. (text_held (end s.now [] self.now) ≡ None)
+            × (name.now ≡ end_name (end s.now [] self.now))) }
+    {
+        match self.text_at_end(s) {
+            Some(text) => Ok(text),
+            None => Err(self.type_name(s)),
+        }
+    }
+
     fn int_at_end(&self, s: &Store) -> Option<INT>
         ensures { result ≡ int_held (end s.now [] self.now) }
     {
         match self.chain_end(s) {
             ChainEnd::Held(_, value) => value.own_int(),
+            ChainEnd::Stuck(_) => None,
+            ChainEnd::Closed => None,
+        }
+    }
+
+    fn char_at_end(&self, s: &Store) -> Option<char>
+        ensures { result ≡ char_held (end s.now [] self.now) }
+    {
+        match self.chain_end(s) {
+            ChainEnd::Held(_, value) => value.own_char(),
+            ChainEnd::Stuck(_) => None,
+            ChainEnd::Closed => None,
+        }
+    }
+
+    fn text_at_end<'s>(&'s self, s: &'s Store) -> Option<&'s ImmutableString>
+        ensures { option_copied result ≡ text_held (end s.now [] self.now) }
+    {
+        match self.chain_end(s) {
+            ChainEnd::Held(_, value) => value.own_text(),
             ChainEnd::Stuck(_) => None,
             ChainEnd::Closed => None,
         }
@@ -69,6 +133,34 @@ impl Dynamic {
             Union::Int(value, _, _) => Some(*value),
             Union::Unit(_, _) => None,
             Union::Bool(_, _, _) => None,
+            Union::Char(_, _, _) => None,
+            Union::Str(_, _, _) => None,
+            Union::Shared(_, _, _) => None,
+        }
+    }
+
+    fn own_char(&self) -> Option<char>
+        ensures { result ≡ char_of self.now }
+    {
+        match &self.union {
+            Union::Char(value, _, _) => Some(*value),
+            Union::Unit(_, _) => None,
+            Union::Bool(_, _, _) => None,
+            Union::Int(_, _, _) => None,
+            Union::Str(_, _, _) => None,
+            Union::Shared(_, _, _) => None,
+        }
+    }
+
+    fn own_text(&self) -> Option<&ImmutableString>
+        ensures { option_copied result ≡ text_of self.now }
+    {
+        match &self.union {
+            Union::Str(text, _, _) => Some(text),
+            Union::Unit(_, _) => None,
+            Union::Bool(_, _, _) => None,
+            Union::Int(_, _, _) => None,
+            Union::Char(_, _, _) => None,
             Union::Shared(_, _, _) => None,
         }
     }
@@ -88,6 +180,37 @@ impl Dynamic {
         match place {
             None => self.set_own_int(value),
             Some(index) => m.set_int_in(index, value),
+        }
+    }
+
+    /// The held text, to write, or the name of the held type. (`Dynamic::as_immutable_string_mut`)
+    ///
+    /// The clauses say what is found. What value and store are once the text was written is said by
+    /// `InStore::immutable_string_mut`, which lends from the pair of the two.
+    pub fn as_immutable_string_mut<'s>(
+        &'s mut self,
+        m: &'s mut Store,
+    ) -> Result<&'s mut ImmutableString, &'static str>
+        ensures ok { IfOk result (λ t. text_held (end m.old [] self.old) ≡ Some t.now) }
+        ensures err { IfErr result (λ name. (text_held (end m.old [] self.old) ≡ None)
+            × (name.now ≡ end_name (end m.old [] self.old))) }
+    {
+        if !self.is_string(m) {
+            return Err(self.type_name(m));
+        }
+        match self.text_at_end_mut(m) {
+            Some(text) => Ok(text),
+            None => unreachable!(),
+        }
+    }
+
+    fn text_at_end_mut<'s>(&'s mut self, m: &'s mut Store) -> Option<&'s mut ImmutableString>
+        ensures { option_map (λ t. t.now) result ≡ text_held (end m.old [] self.old) }
+    {
+        match self.held_place(m) {
+            Place::Own => self.own_text_mut(),
+            Place::Cell(index) => m.content_mut(index).own_text_mut(),
+            Place::None => None,
         }
     }
 }

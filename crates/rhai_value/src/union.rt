@@ -2,6 +2,7 @@
 
 use crate::access_mode::AccessMode;
 use crate::cell_ref::CellRef;
+use rhai_text::ImmutableString;
 
 /// The integers of a script.
 pub type INT = i64;
@@ -18,6 +19,10 @@ pub enum Union {
     Bool(bool, Tag, AccessMode),
     /// An integer.
     Int(INT, Tag, AccessMode),
+    /// A character.
+    Char(char, Tag, AccessMode),
+    /// A text.
+    Str(ImmutableString, Tag, AccessMode),
     /// A holder of a shared cell.
     Shared(CellRef, Tag, AccessMode),
 }

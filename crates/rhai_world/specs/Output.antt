@@ -3,7 +3,7 @@ use Rattle.std.specs.Prelude.{ℕ, List, [], ◌∷◌, ◌++◌, take, length, 
 use Rattle.std.specs.List.{slice_split}
 use Rattle.rhai_run.specs.declared.command.Command.{Command}
 use Rattle.rhai_run.specs.State.{State, empty_state}
-use Rattle.rhai_run.specs.Reply.{Reply, done, text, refused, Reason, no_value, no_entry, empty_scope, mismatch}
+use Rattle.rhai_run.specs.Reply.{Reply, done, told, refused, Reason, no_value, no_entry, empty_scope, mismatch}
 use Rattle.rhai_run.specs.Step.{step}
 use Rattle.rhai_world.specs.Line.{command_of}
 
@@ -26,7 +26,7 @@ reason_text (mismatch name) = codes "Mismatch " ++ name
 
 abbrev pub printed : Reply → List ℕ
 printed done = codes "ok"
-printed (text characters) = encode_utf8_all characters
+printed (told characters) = encode_utf8_all characters
 printed (refused why) = codes "refused " ++ reason_text why
 
 -- what is written for a command or a line without one, and the world after it
@@ -61,9 +61,13 @@ output_from w input = answers_to_lines w (lines_of input)
 abbrev pub output_of_first_from : State → ℕ → List ℕ → List ℕ
 output_of_first_from w n input = answers_to_lines w (take n (lines_of input))
 
+-- a new world without limits
+abbrev pub new_world : State
+new_world = empty_state (record { text = 0; items = 0 })
+
 -- the same of a new world
 abbrev pub output : List ℕ → List ℕ
-output input = output_from empty_state input
+output input = output_from new_world input
 
 abbrev pub output_of_first : ℕ → List ℕ → List ℕ
-output_of_first n input = output_of_first_from empty_state n input
+output_of_first n input = output_of_first_from new_world n input

@@ -113,16 +113,16 @@ fn command_of_one(alloc: Global, verb: &str, word: &str) -> Result<Option<Comman
     ensures command { IfOk result (λ o. o ≡ said_of_one verb.now word.now) }
     ensures memory { OnErr result (SaysNamed (said_of_one verb.now word.now)) }
 {
-    Ok(match verb {
-        "bool" => truth(word).map(|b| Command::Put(Literal::Bool(b))),
-        "int" => int(word).map(|n| Command::Put(Literal::Int(n))),
-        "copy" => position(word).map(Command::Copy),
-        "share" => position(word).map(Command::Share),
-        "rewind" => position(word).map(Command::Rewind),
-        "get" => name(alloc, word)?.map(Command::Get),
-        "show" => position(word).map(Command::Show),
-        _ => None,
-    })
+    match verb {
+        "bool" => Ok(truth(word).map(|b| Command::Put(Literal::Bool(b)))),
+        "int" => Ok(int(word).map(|n| Command::Put(Literal::Int(n)))),
+        "copy" => Ok(position(word).map(Command::Copy)),
+        "share" => Ok(position(word).map(Command::Share)),
+        "rewind" => Ok(position(word).map(Command::Rewind)),
+        "get" => Ok(name(alloc, word)?.map(Command::Get)),
+        "show" => Ok(position(word).map(Command::Show)),
+        _ => Ok(None),
+    }
 }
 
 /// The command of a line of three words.

@@ -1,7 +1,7 @@
 //! A run over lines: each is answered as soon as it is complete.
 ghost use Rattle.std.specs.Prelude.{◌≡◌, ℕ, List, Option, [], ◌∷◌, ◌++◌, take, Some, OnOk, OnErr, IfErr, IfSome};
 ghost use Rattle.std.specs.Io.KnownBytes.{Appends};
-ghost use Rattle.rhai_run.specs.State.{State, empty_state};
+ghost use Rattle.rhai_run.specs.State.{State};
 ghost use Rattle.rhai_world.specs.Output.{line_answer, line_state, output_from, output_of_first_from, output, output_of_first};
 ghost use Rattle.rhai_world.specs.Fed.{Feeds, StopsWithin, Completes};
 ghost use Rattle.rhai_world.specs.Faults.{IsNoWriteFault};
@@ -9,6 +9,7 @@ ghost use Rattle.rhai_world.specs.Faults.{IsNoWriteFault};
 use crate::line::command;
 use crate::print::{write_answer, write_bad_line};
 use rhai_run::{World, apply};
+use rhai_text::Limits;
 use std::alloc::Global;
 use std::io;
 use std::io::{ErrorKind, Read, Write};
@@ -137,7 +138,7 @@ pub fn run_lines<R: Read, W: Write>(
     ensures end { OnOk result (IfSome (R.remaining reader.old) (λ _. R.remaining reader.new ≡ Some [])) }
     ensures fault { IfErr result (λ e. IsNoWriteFault e → IfSome (R.remaining reader.old) (λ input. (n : ℕ) × Appends (W.contents writer.old) (W.contents writer.new) (output_of_first n input))) }
 {
-    let mut world = World::new(alloc);
+    let mut world = World::new(alloc, Limits { text: 0, items: 0 });
     let outcome = answer_input(alloc, &mut world, reader, writer);
     world.close();
     outcome

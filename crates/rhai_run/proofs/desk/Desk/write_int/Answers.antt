@@ -10,7 +10,7 @@ use Rattle.rhai_run.proofs.desk.Desk.write_int.Goals as goal
 
 pub returns : goal.returns
 returns c =
-    let w : State = record { store = c.self.inside.store; entries = c.self.inside.entries.items; marks = []; hand = c.self.inside.hand.items } in
+    let w : State = record { store = c.self.inside.store; entries = c.self.inside.entries.items; marks = []; hand = c.self.inside.hand.items; limits = c.self.inside.limits } in
     let hand = c.self.inside.hand in
     let i = c.args.i in
     let t = c.index_mut.result.now in

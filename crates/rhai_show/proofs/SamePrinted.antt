@@ -1,0 +1,24 @@
+-- Texts of values in stores that are the same up to the numbers of their cells.
+use Rattle.std.proofs.Common.{◌≡◌, ℕ, List, [], refl, ap}
+use mathlib.Core.Path.{fun_ext}
+use Rattle.rhai_value.specs.declared.store.Cell.{Cell}
+use Rattle.rhai_value.specs.Tree.{Tree, node, leaf, holder}
+use Rattle.rhai_value.specs.Walk.{Visit, entered}
+use Rattle.rhai_value.specs.Relation.{Renaming, Related, IsOneToOne, SameCells}
+use Rattle.rhai_value.proofs.SameWalks.{AlikeVisit, Keeps, by_visits, same_walk}
+use Rattle.rhai_show.specs.declared.form.Form.{Form}
+use Rattle.rhai_show.specs.Text.{leaf_printed, holder_printed, printed_of, printed}
+
+same_holder : (o q : Visit (Form → List ℕ)) → AlikeVisit ◌≡◌ o q → (form : Form) → holder_printed form o ≡ holder_printed form q
+same_holder o q h form = by_visits ◌≡◌ (λ o q. holder_printed form o ≡ holder_printed form q) (λ a b e. ap (λ t. holder_printed form (entered t)) e) refl refl o q h
+
+printed_kept : (r : Renaming) → Keeps r printed_of printed_of ◌≡◌
+printed_kept r path road h k (node (leaf l) g m) (node (leaf j) i n) same to e = ap (λ l form. leaf_printed form l) e.0
+printed_kept r path road h k (node (holder c) g m) (node (holder d) i n) same to e = fun_ext (same_holder (h c) (k d) (to c d e.0))
+printed_kept r path road h k (node (leaf l) g m) (node (holder d) i n) same to e = absurd e.0
+printed_kept r path road h k (node (holder c) g m) (node (leaf j) i n) same to e = absurd e.0
+
+-- the text of a value doesn't depend on the numbers of cells
+pub same_printed : (r : Renaming) (s z : List Cell) (t u : Tree) → IsOneToOne r → SameCells r s z → Related r t u → printed s [] t ≡ printed z [] u
+unfolding printed
+same_printed r s z t u one cells h = same_walk r printed_of printed_of ◌≡◌ s z (printed_kept r) one cells t u h

@@ -1,0 +1,28 @@
+//! The three forms of printed text.
+
+/// How a value is printed.
+#[derive(Clone, Copy)]
+pub enum Form {
+    /// As `{}` does.
+    Display,
+    /// As `{}` does inside a shared value.
+    Inner,
+    /// As `{:?}` does.
+    Debug,
+}
+
+impl Form {
+    ghost use Rattle.std.specs.Prelude.{◌≡◌};
+    ghost use Rattle.rhai_show.specs.Text.{content_form};
+
+    /// The form of a cell's content.
+    pub(crate) fn of_content(self) -> Form
+        ensures { result ≡ content_form self }
+    {
+        match self {
+            Form::Display => Form::Inner,
+            Form::Inner => Form::Inner,
+            Form::Debug => Form::Debug,
+        }
+    }
+}

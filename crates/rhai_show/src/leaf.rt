@@ -1,0 +1,73 @@
+//! The texts of values that hold no other value.
+ghost use Rattle.std.specs.Prelude.{◌≡◌, ◌++◌, OnOk, string_bytes};
+ghost use Rattle.std.specs.Str.{chars};
+ghost use Rattle.std.specs.Fmt.{signed_decimal};
+ghost use Rattle.rhai_value.specs.Tree.{unit, char as a_char, text as a_text};
+ghost use Rattle.rhai_show.specs.Text.{bool_text, leaf_printed};
+
+use crate::form::Form;
+use rhai_text::{ImmutableString, quoted_char_into};
+use rhai_value::INT;
+use std::alloc::AllocError;
+
+/// Adds a text at the end.
+pub(crate) fn add_text(out: &mut String, text: &str) -> Result<(), AllocError>
+    ensures { OnOk result (chars (string_bytes out.new) ≡ chars (string_bytes out.old) ++ chars text.now) }
+{
+    let _before = out.as_str();
+    out.push_str(text)
+}
+
+pub(crate) fn add_unit(out: &mut String, form: Form) -> Result<(), AllocError>
+    ensures { OnOk result (chars (string_bytes out.new) ≡ chars (string_bytes out.old) ++ leaf_printed form unit) }
+{
+    match form {
+        Form::Display => Ok(()),
+        Form::Inner => Ok(()),
+        Form::Debug => add_text(out, "()"),
+    }
+}
+
+pub(crate) fn add_bool(out: &mut String, value: bool) -> Result<(), AllocError>
+    ensures { OnOk result (chars (string_bytes out.new) ≡ chars (string_bytes out.old) ++ bool_text value) }
+{
+    if value {
+        add_text(out, "true")
+    } else {
+        add_text(out, "false")
+    }
+}
+
+/// Adds the decimal digits of an int.
+pub(crate) fn add_int(out: &mut String, value: &INT) -> Result<(), AllocError>
+    ensures { OnOk result (chars (string_bytes out.new) ≡ chars (string_bytes out.old) ++ signed_decimal value.now) }
+{
+    let _before = out.as_str();
+    let value = *value;
+    write!(out, "{value}")
+}
+
+pub(crate) fn add_char(out: &mut String, value: char, form: Form) -> Result<(), AllocError>
+    ensures { OnOk result (chars (string_bytes out.new) ≡ chars (string_bytes out.old) ++ leaf_printed form (a_char value)) }
+{
+    let mut buffer = [0; 4];
+    match form {
+        Form::Display => add_text(out, value.encode_utf8(&mut buffer)),
+        Form::Inner => add_text(out, value.encode_utf8(&mut buffer)),
+        Form::Debug => quoted_char_into(value, out),
+    }
+}
+
+pub(crate) fn add_string(
+    out: &mut String,
+    value: &ImmutableString,
+    form: Form,
+) -> Result<(), AllocError>
+    ensures { OnOk result (chars (string_bytes out.new) ≡ chars (string_bytes out.old) ++ leaf_printed form (a_text value.now)) }
+{
+    match form {
+        Form::Display => add_text(out, value.as_str()),
+        Form::Inner => add_text(out, value.as_str()),
+        Form::Debug => value.quoted_into(out),
+    }
+}

@@ -1,0 +1,59 @@
+//! A text to print.
+ghost use Rattle.std.specs.Prelude.{◌≡◌, [], IfOk, Some, string_bytes};
+ghost use Rattle.std.specs.Str.{chars, encode_utf8_all};
+ghost use Rattle.rhai_show.specs.declared.form.Form.TheVariants.{Display, Debug};
+ghost use Rattle.rhai_show.specs.Text.{printed};
+
+use crate::text::{debug_text, display_text};
+use rhai_value::{Dynamic, Store};
+use std::alloc::{AllocError, Global};
+use std::fmt;
+use std::marker::Model;
+
+/// A text that was made to be printed, which contracts see as its characters.
+#[derive(Drop)]
+pub struct Shown {
+    text: String,
+}
+
+impl Model for Shown {
+    ghost use Rattle.std.specs.Prelude.{List, ℕ, string_bytes};
+    ghost use Rattle.std.specs.Str.{chars};
+
+    ghost Value = { List ℕ };
+
+    ghost view = { λ x. chars (string_bytes x.text) };
+}
+
+impl Shown {
+    /// What `{}` prints of a value.
+    pub fn display(alloc: Global, value: &Dynamic, s: &Store) -> Result<Shown, AllocError>
+        ensures { IfOk result (λ x. x ≡ printed s.now [] value.now Display) }
+    {
+        let text = display_text(alloc, value, s)?;
+        Ok(Shown { text })
+    }
+
+    /// What `{:?}` prints of a value.
+    pub fn debug(alloc: Global, value: &Dynamic, s: &Store) -> Result<Shown, AllocError>
+        ensures { IfOk result (λ x. x ≡ printed s.now [] value.now Debug) }
+    {
+        let text = debug_text(alloc, value, s)?;
+        Ok(Shown { text })
+    }
+
+    /// A text that is at hand.
+    pub fn from_text(text: String) -> Shown
+        ensures { result ≡ chars (string_bytes text) }
+    {
+        Shown { text }
+    }
+}
+
+impl fmt::Display for Shown {
+    ghost output = { λ x. Some (encode_utf8_all x) };
+
+    fn fmt<W: fmt::Write>(&self, f: &mut fmt::Formatter<W>) -> fmt::Result {
+        f.write_str(self.text.as_str())
+    }
+}

@@ -203,3 +203,56 @@ fn texts_and_characters_are_shown(rt: HostRuntime) -> Result<(), Fail> {
     );
     Ok(())
 }
+
+/// Runs the commands, and goes on after a stop with the command that was stopped.
+fn answers_at_last(
+    alloc: Global,
+    world: &mut World,
+    commands: &[Command],
+) -> Option<(Vec<Answer>, Vec<Answer>)> {
+    match run(world, commands) {
+        Ok(answers) => Some((answers, Vec::new(alloc))),
+        Err(stopped) => {
+            let done = stopped.answers.len();
+            let rest = run(world, commands.get(done..)?).ok()?;
+            Some((stopped.answers, rest))
+        }
+    }
+}
+
+/// Passes too where a growth of the run is refused.
+#[test]
+fn a_stopped_run_goes_on(rt: HostRuntime) -> Result<(), Fail> {
+    let alloc = rt.alloc();
+    let commands = [
+        Command::Put(Literal::Int(7)),
+        Command::Share(0),
+        Command::Copy(0),
+        Command::WriteInt(1, 9),
+        Command::Show(0),
+        Command::Put(Literal::Char('\'')),
+        Command::Debug(2),
+        Command::Pop,
+    ];
+    let expected = [
+        "ok",
+        "ok",
+        "ok",
+        "ok",
+        "9 (shared)",
+        "ok",
+        "'\\''",
+        "EmptyScope",
+    ];
+    let mut world = World::new(alloc, UNLIMITED);
+    let told_in_parts = answers_at_last(alloc, &mut world, &commands);
+    world.close();
+    let Some((first, rest)) = told_in_parts else {
+        return Err("memory was refused twice".into());
+    };
+    assert_eq!(rt; first.len() + rest.len(), expected.len());
+    for (answer, text) in first.iter().chain(&rest).zip(&expected) {
+        assert_eq!(rt; told(answer), *text);
+    }
+    Ok(())
+}

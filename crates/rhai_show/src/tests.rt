@@ -62,3 +62,36 @@ fn shared_values_in_both_forms(rt: HostRuntime) -> Result<(), Fail> {
     );
     Ok(())
 }
+
+/// Passes too where any one growth is refused.
+#[test]
+fn a_refused_growth_changes_nothing(rt: HostRuntime) -> Result<(), Fail> {
+    let alloc = rt.alloc();
+    let mut store = Store::new(alloc);
+    let text = match Dynamic::from_text(alloc, "é\n") {
+        Ok(text) => text,
+        Err(_) => Dynamic::from_text(alloc, "é\n")?,
+    };
+    let holder = match text.into_shared(&mut store) {
+        Ok(holder) => holder,
+        Err(text) => match text.into_shared(&mut store) {
+            Ok(holder) => holder,
+            Err(_) => return Err("no room for a cell".into()),
+        },
+    };
+    let display = match display_text(alloc, &holder, &store) {
+        Ok(text) => text,
+        Err(_) => display_text(alloc, &holder, &store)?,
+    };
+    let debug = match Shown::debug(alloc, &holder, &store) {
+        Ok(shown) => shown,
+        Err(_) => Shown::debug(alloc, &holder, &store)?,
+    };
+    assert_eq!(rt; display.as_str(), "é\n (shared)");
+    let printed = match format!(in alloc; "{debug}") {
+        Ok(text) => text,
+        Err(_) => format!(in alloc; "{debug}")?,
+    };
+    assert_eq!(rt; printed.as_str(), "\"é\\n\" (shared)");
+    Ok(())
+}

@@ -2,12 +2,12 @@
 use Rattle.std.proofs.Common.{◌≡◌, ◌<◌, ℕ, List, [], length, Option, Some, None, IfSome, slice_get, refl, ap, ◌∙◌}
 use Rattle.rhai_value.specs.declared.in_store.InStore.{InStore}
 use Rattle.rhai_value.specs.declared.store.Cell.{Cell}
-use Rattle.rhai_value.specs.Tree.{Tree, Leaf, part_of}
+use Rattle.rhai_value.specs.Tree.{Tree, node, Leaf, leaf, holder, cell_of, part_of}
 use Rattle.rhai_value.specs.Store.{put, at}
 use Rattle.rhai_value.specs.End.{End, end, held, stuck, closed, held_in, part_held}
 use Rattle.rhai_value.specs.Seen.{place_of}
 use Rattle.rhai_value.specs.Writes.{written_at, written}
-use Rattle.rhai_value.proofs.Ends.{stands}
+use Rattle.rhai_value.proofs.Ends.{stands, end_opens}
 use Rattle.rhai_value.proofs.Stores.{content_is}
 use Rattle.rhai_value.proofs.Walks.{at_within}
 
@@ -62,3 +62,8 @@ pub part_of_none : {A : Type 0} (part : Leaf → Option A) (e : End) → None �
 part_of_none part (held p u) e = cc
 part_of_none part (stuck u) e = refl
 part_of_none part closed e = refl
+
+-- a value that is no holder stands in no cell
+pub unshared_place : (s : List Cell) (t : Tree) (c : ℕ) → cell_of t ≡ None → Some (Some c) ≡ place_of (end s [] t) → ⊥
+unshared_place s (node (leaf l) g m) c e p = let q : Some (Some c) ≡ Some None = p ∙ ap place_of (end_opens s [] (node (leaf l) g m)) in cc
+unshared_place s (node (holder d) g m) c e p = cc

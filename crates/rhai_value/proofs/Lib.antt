@@ -2,8 +2,10 @@ pub mod Chains
 pub mod Ends
 pub mod Grow
 pub mod InStores
+pub mod MarkedCells
 pub mod Paths
 pub mod SameCells
+pub mod SameFlat
 pub mod SameWalks
 pub mod Stores
 pub mod Walks

@@ -1,51 +1,45 @@
--- Open cells, in the order in which they were opened and in the other.
-use Rattle.std.proofs.Common.{◌≡◌, ℕ, zero, suc, ◌+◌, ◌<◌, Bool, true, false, nat_eq, ◌||◌, List, [], ◌∷◌, ◌++◌, length, get_or, take, reverse, refl, sym, ap, ap₂, ◌∙◌, arith, eq-eqb}
+-- Cells that open and close.
+use Rattle.std.proofs.Common.{◌≡◌, ℕ, Bool, true, false, cond, nat_eq, ◌||◌, List, [], ◌∷◌, ◌++◌, reverse, subst, Some, refl, sym, ap, ◌∙◌, arith, eqb-true}
+use Rattle.std.proofs.lemmas.List.{reverse-append}
 use Rattle.std.proofs.lemmas.Bool.Decides.{nat_tests}
-use Rattle.std.proofs.lemmas.List.{take_more}
-use mathlib.Core.List.{reverse_aux}
-use Rattle.rhai_value.specs.Walk.{is_open}
+use Rattle.std.specs.Ordering.{nat_cmp, is_eq}
+use Rattle.std.specs.BTreeSet.{BTreeSet, contains, UpdatesBy}
+use Rattle.rhai_value.specs.declared.store.Cell.{Cell}
+use Rattle.rhai_value.specs.Tree.{Tree, node, leaf, holder, cell_of}
+use Rattle.rhai_value.specs.Store.{at}
+use Rattle.rhai_value.specs.Walk.{is_open, visit_of, opened, entry}
+use Rattle.rhai_value.specs.Opened.{IsOpened}
 
-or_assoc : (a b c : Bool) → (a || b) || c ≡ a || (b || c)
-or_assoc true b c = refl
-or_assoc false b c = refl
+is_eq-nat_cmp : (c q : ℕ) → is_eq (nat_cmp c q) ≡ nat_eq q c
+is_eq-nat_cmp c q = grind (arith, nat_tests)
 
-turn : (a b d : Bool) → a || (b || d) ≡ (b || a) || d
-turn true true d = refl
-turn true false d = refl
-turn false true d = refl
-turn false false d = refl
+or_else : (a b : Bool) → cond a true b ≡ a || b
+or_else true b = refl
+or_else false b = refl
 
-or_none : (a : Bool) → a || false ≡ a
-or_none true = refl
-or_none false = refl
+-- a cell opens that wasn't open
+pub opened-more : (order longer : List ℕ) (c : ℕ) (cells more : BTreeSet ℕ) → IsOpened (reverse order) cells → UpdatesBy nat_cmp (nat_cmp c) cells more true → contains nat_cmp cells c ≡ false → longer ≡ order ++ (c ∷ []) → IsOpened (reverse longer) more
+opened-more order longer c cells more h u none e =
+    rw (e, reverse-append order (c ∷ [])) (record {
+      same = λ q. u.0 q ∙ ap (λ b. cond b true (contains nat_cmp cells q)) (is_eq-nat_cmp c q) ∙ or_else (nat_eq q c) (contains nat_cmp cells q) ∙ ap (λ b. nat_eq q c || b) (h.same q);
+      once = (sym (h.same c) ∙ none, h.once);
+    })
 
-pub open_append : (c : ℕ) (xs ys : List ℕ) → is_open c (xs ++ ys) ≡ is_open c xs || is_open c ys
-open_append c [] ys = refl
-open_append c (x ∷ xs) ys = ap (λ b. nat_eq c x || b) (open_append c xs ys) ∙ sym (or_assoc (nat_eq c x) (is_open c xs) (is_open c ys))
+or_off : (a b : Bool) → (a ≡ true → b ≡ false) → cond a false (a || b) ≡ b
+or_off true b h = sym (h refl)
+or_off false b h = refl
 
-open_aux : (c : ℕ) (xs ys : List ℕ) → is_open c (reverse_aux xs ys) ≡ is_open c xs || is_open c ys
-open_aux c [] ys = refl
-open_aux c (x ∷ xs) ys = open_aux c xs (x ∷ ys) ∙ turn (is_open c xs) (nat_eq c x) (is_open c ys)
+-- the cell that was opened last closes
+pub opened-less : (order shorter : List ℕ) (c : ℕ) (cells fewer : BTreeSet ℕ) → IsOpened (reverse order) cells → order ≡ shorter ++ (c ∷ []) → UpdatesBy nat_cmp (nat_cmp c) cells fewer false → IsOpened (reverse shorter) fewer
+opened-less order shorter c cells fewer opened e u =
+    let h : IsOpened (c ∷ reverse shorter) cells = subst (λ p. IsOpened p cells) (ap reverse e ∙ reverse-append shorter (c ∷ [])) opened in
+    record {
+      same = λ q. u.0 q ∙ ap (λ b. cond b false (contains nat_cmp cells q)) (is_eq-nat_cmp c q) ∙ ap (cond (nat_eq q c) false) (h.same q)
+          ∙ or_off (nat_eq q c) (is_open q (reverse shorter)) (λ x. ap (λ x. is_open x (reverse shorter)) (eqb-true q c x) ∙ h.once.0);
+      once = h.once.1;
+    }
 
-pub open_reverse : (c : ℕ) (xs : List ℕ) → is_open c (reverse xs) ≡ is_open c xs
-open_reverse c xs = open_aux c xs [] ∙ or_none (is_open c xs)
-
-apart : (c x : ℕ) → (x ≡ c → ⊥) → nat_eq c x ≡ false
-apart c x n = grind (arith, nat_tests)
-
-or_last : (a b : Bool) → b ≡ true → a || b ≡ true
-or_last true b e = refl
-or_last false b e = e
-
--- one more that isn't the cell, and one that is
-pub open_more : (c : ℕ) (xs : List ℕ) (i : ℕ) → i < length xs → (get_or xs i 0 ≡ c → ⊥) → is_open c (take i xs) ≡ false → is_open c (take (i + 1) xs) ≡ false
-open_more c xs i l n e =
-    ap (is_open c) (take_more xs i 0 l) ∙ open_append c (take i xs) (get_or xs i 0 ∷ []) ∙ ap₂ (λ a b. a || (b || false)) e (apart c (get_or xs i 0) n)
-
-pub open_at : (c : ℕ) (xs : List ℕ) (i : ℕ) → i < length xs → get_or xs i 0 ≡ c → is_open c xs ≡ true
-open_at c [] i l e = absurd (omega arith)
-open_at c (x ∷ xs) zero l e = ap (λ b. b || is_open c xs) (eq-eqb c x (sym e))
-open_at c (x ∷ xs) (suc i) l e = or_last (nat_eq c x) _ (open_at c xs i (omega arith) e)
-
-pub seen_open : (c : ℕ) (xs ys zs : List ℕ) → xs ≡ ys → reverse ys ≡ zs → is_open c xs ≡ is_open c zs
-seen_open c xs ys zs e f = ap (is_open c) e ∙ sym (open_reverse c ys) ∙ ap (is_open c) f
+-- what opens, where the cell can be read and is open, and where it isn't
+pub entry-read : (s : List Cell) (path : List ℕ) (t u : Tree) (c : ℕ) (b : Bool) → Some c ≡ cell_of t → Some u ≡ at s c → is_open c path ≡ b → entry s path t ≡ opened (visit_of (Some u) b)
+entry-read s path (node (leaf l) g m) u c b e f h = cc
+entry-read s path (node (holder d) g m) u c b e f h = let same : c ≡ d = cc in rw (← same) (rw (← f, h) refl)

@@ -108,7 +108,7 @@ length-store_after f (held (Some c) v) s = length-changed _ s c
 length-store_after f (stuck v) s = refl
 length-store_after f closed s = refl
 
-marked-put : (s : List Cell) (c d : ℕ) (t : Tree) → is_marked_at (put s c t) d ≡ is_marked_at s d
+pub marked-put : (s : List Cell) (c d : ℕ) (t : Tree) → is_marked_at (put s c t) d ≡ is_marked_at s d
 marked-put [] c d t = refl
 marked-put (x ∷ s) zero zero t = refl
 marked-put (x ∷ s) zero (suc d) t = refl

@@ -1,7 +1,7 @@
 -- Where a chain of holders ends.
-use Rattle.std.specs.Prelude.{ℕ, ℤ, List, Option, Some, None, slice_get}
+use Rattle.std.specs.Prelude.{ℕ, ℤ, Bool, List, Option, Some, None, slice_get}
 use Rattle.rhai_value.specs.declared.store.Cell.{Cell}
-use Rattle.rhai_value.specs.Tree.{Tree, node, Leaf, leaf, holder, part_of, leaf_int, leaf_char, leaf_text}
+use Rattle.rhai_value.specs.Tree.{Tree, node, Leaf, leaf, holder, part_of, leaf_unit, leaf_bool, leaf_int, leaf_char, leaf_text}
 use Rattle.rhai_value.specs.Store.{put}
 use Rattle.rhai_value.specs.Walk.{Visit, entered, barred, revisited, walk}
 
@@ -42,6 +42,12 @@ abbrev pub part_held : {A : Type 0} → (Leaf → Option A) → End → Option A
 part_held part (held place t) = part_of part t
 part_held part (stuck t) = None
 part_held part closed = None
+
+abbrev pub unit_held : End → Option (Unit {0})
+unit_held e = part_held leaf_unit e
+
+abbrev pub bool_held : End → Option Bool
+bool_held e = part_held leaf_bool e
 
 abbrev pub int_held : End → Option ℤ
 int_held e = part_held leaf_int e

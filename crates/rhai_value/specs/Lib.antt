@@ -4,7 +4,11 @@ pub mod View
 pub mod Walk
 pub mod End
 pub mod Names
+pub mod Opened
 pub mod Seen
 pub mod Share
 pub mod Relation
 pub mod Writes
+pub mod First
+pub mod Marks
+pub mod Flat

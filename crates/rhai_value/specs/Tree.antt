@@ -1,7 +1,7 @@
 -- What a value is: a tree, in which the number of a cell stands for what is shared.
-use Rattle.std.specs.Prelude.{ℕ, ℤ, pos, Bool, Option, Some, None, List}
+use Rattle.std.specs.Prelude.{ℕ, ℤ, pos, Bool, true, false, Option, Some, None, List}
 use Rattle.rhai_value.specs.declared.access_mode.AccessMode.{AccessMode}
-use Rattle.rhai_value.specs.declared.access_mode.AccessMode.TheVariants.{ReadWrite}
+use Rattle.rhai_value.specs.declared.access_mode.AccessMode.TheVariants.{ReadWrite, ReadOnly}
 
 -- a content that holds no other value
 pub data Leaf : Type 0 where
@@ -49,7 +49,42 @@ copy (node c g m) = node c g ReadWrite
 abbrev pub paint : AccessMode → Tree → Tree
 paint m (node c g n) = node c g m
 
--- what a leaf has: its int, its character, its text
+-- the same with the tag h
+abbrev pub with_tag : ℤ → Tree → Tree
+with_tag h (node c g m) = node c h m
+
+-- whether the mode forbids writes
+abbrev pub is_constant : AccessMode → Bool
+is_constant ReadWrite = false
+is_constant ReadOnly = true
+
+-- whether the value is of one of the host's types: no leaf is so far
+abbrev pub is_host_leaf : Leaf → Bool
+is_host_leaf unit = false
+is_host_leaf (bool b) = false
+is_host_leaf (int n) = false
+is_host_leaf (char c) = false
+is_host_leaf (text s) = false
+
+abbrev pub is_host : Tree → Bool
+is_host (node (leaf l) g m) = is_host_leaf l
+is_host (node (holder c) g m) = false
+
+-- what a leaf has: its unit, its boolean, its int, its character, its text
+abbrev pub leaf_unit : Leaf → Option (Unit {0})
+leaf_unit unit = Some tt
+leaf_unit (bool b) = None
+leaf_unit (int n) = None
+leaf_unit (char c) = None
+leaf_unit (text s) = None
+
+abbrev pub leaf_bool : Leaf → Option Bool
+leaf_bool unit = None
+leaf_bool (bool b) = Some b
+leaf_bool (int n) = None
+leaf_bool (char c) = None
+leaf_bool (text s) = None
+
 abbrev pub leaf_int : Leaf → Option ℤ
 leaf_int unit = None
 leaf_int (bool b) = None
@@ -75,6 +110,12 @@ leaf_text (text s) = Some s
 abbrev pub part_of : {A : Type 0} → (Leaf → Option A) → Tree → Option A
 part_of part (node (leaf l) g m) = part l
 part_of part (node (holder c) g m) = None
+
+abbrev pub unit_of : Tree → Option (Unit {0})
+unit_of t = part_of leaf_unit t
+
+abbrev pub bool_of : Tree → Option Bool
+bool_of t = part_of leaf_bool t
 
 abbrev pub int_of : Tree → Option ℤ
 int_of t = part_of leaf_int t

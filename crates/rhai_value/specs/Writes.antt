@@ -4,6 +4,7 @@ use mir.Syntax.{named}
 use denote.RattleType.{RattleType}
 use Rattle.rhai_value.specs.Tree.{Tree}
 use Rattle.rhai_value.specs.End.{End, end, value_after, store_after}
+use Rattle.rhai_value.specs.First.{value_with_first, store_with_first}
 use Rattle.rhai_value.specs.contracts.in_store.InStore as in_store
 use Rattle.rhai_value.specs.declared.in_store.InStore.{InStore}
 use Rattle.rhai_value.specs.declared.union.Union.{Union}
@@ -20,6 +21,10 @@ written_at e h f = record { value = record (h.value) { now = value_after f e h.v
 
 abbrev pub written : InStore → (Tree → Tree) → InStore
 written h f = written_at (end h.store.now [] h.value.now) h f
+
+-- w being written over the first content
+abbrev pub first_written : InStore → Tree → InStore
+first_written h w = record { value = record (h.value) { now = value_with_first w h.value.now }; store = record (h.store) { now = store_with_first w h.store.now h.value.now } }
 
 -- the type, at the lifetime that stands second in a method's signature
 abbrev pub in_store_row : RattleType

@@ -25,7 +25,8 @@ impl Model for Dynamic {
 
 impl Dynamic {
     ghost use Rattle.std.specs.Prelude.{◌≡◌, IfOk, IsOk, Option, option_map, is_some};
-    ghost use Rattle.rhai_value.specs.Tree.{fresh, unit, bool, int, char, text, tag_of, mode_of, cell_of, int_of, with_int, paint, copy, TakesNoMemory};
+    ghost use Rattle.rhai_value.specs.Tree.{fresh, unit, bool, int, char, text, tag_of, mode_of, cell_of, int_of, with_int, with_tag, is_host, paint, copy, TakesNoMemory};
+    ghost use Rattle.rhai_value.specs.declared.access_mode.AccessMode.TheVariants.{ReadOnly};
     ghost use Rattle.std.specs.Str.{chars};
     ghost use Rattle.rhai_value.specs.View.{tree_of};
 
@@ -84,6 +85,20 @@ impl Dynamic {
         }
     }
 
+    /// Sets the tag; of a holder not that of the content. (`Dynamic::set_tag`)
+    pub fn set_tag(&mut self, tag: Tag)
+        ensures { self.new ≡ with_tag tag self.old }
+    {
+        match &mut self.union {
+            Union::Unit(own, _) => *own = tag,
+            Union::Bool(_, own, _) => *own = tag,
+            Union::Int(_, own, _) => *own = tag,
+            Union::Char(_, own, _) => *own = tag,
+            Union::Str(_, own, _) => *own = tag,
+            Union::Shared(_, own, _) => *own = tag,
+        }
+    }
+
     /// The value's own mode; of a holder not that of the content. (`Dynamic::access_mode`)
     pub const fn access_mode(&self) -> AccessMode
         ensures { result ≡ mode_of self.now }
@@ -109,6 +124,36 @@ impl Dynamic {
             Union::Char(_, _, own) => *own = mode,
             Union::Str(_, _, own) => *own = mode,
             Union::Shared(_, _, own) => *own = mode,
+        }
+    }
+
+    /// The value as a constant; of a holder not the content. (`Dynamic::into_read_only`)
+    pub fn into_read_only(mut self) -> Dynamic
+        ensures { result ≡ paint ReadOnly self }
+    {
+        self.set_access_mode(AccessMode::ReadOnly);
+        self
+    }
+
+    /// Moves the value out, and leaves unit with tag 0 and mode ReadWrite. (`Dynamic::take`)
+    pub fn take(&mut self) -> Dynamic
+        ensures value { result ≡ self.old }
+        ensures left { self.new ≡ fresh unit }
+    {
+        std::mem::replace(self, Dynamic::default())
+    }
+
+    /// Whether the value is of one of the host's types. (`Dynamic::is_variant`)
+    pub const fn is_variant(&self) -> bool
+        ensures { result ≡ is_host self.now }
+    {
+        match &self.union {
+            Union::Unit(_, _) => false,
+            Union::Bool(_, _, _) => false,
+            Union::Int(_, _, _) => false,
+            Union::Char(_, _, _) => false,
+            Union::Str(_, _, _) => false,
+            Union::Shared(_, _, _) => false,
         }
     }
 

@@ -60,8 +60,8 @@ impl<'a> InStore<'a> {
         self.value.type_name(self.store)
     }
 
-    /// The held value, to write.
-    fn held_mut(&mut self) -> Option<&mut Dynamic>
+    /// The held value, to write; `None` where the chain is stuck or closed. Takes no memory.
+    pub fn held_mut(&mut self) -> Option<&mut Dynamic>
         ensures* writes_back { sem 𝓛 (LendsIf in_store_row dynamic_type.the_row self.entry result (λ w. written self.old (λ _. w)) self.old) }
         ensures value { option_map (λ d. d.now) result ≡ held_in (end self.old.store.now [] self.old.value.now) }
     {

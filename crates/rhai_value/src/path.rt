@@ -1,50 +1,45 @@
 //! The cells that are open on a walk.
 ghost use Rattle.std.specs.Prelude.{◌≡◌, ◌<◌, ◌∷◌, [], length, drop, IfOk, IfSome, IfNone, OnErr, option_copied};
-ghost use Rattle.rhai_value.specs.Walk.{is_open, entry};
+ghost use Rattle.rhai_value.specs.Walk.{entry};
 ghost use Rattle.rhai_value.specs.Tree.{cell_of};
 
 use crate::dynamic::Dynamic;
 use crate::store::Store;
 use std::alloc::{AllocError, Global};
+use std::collections::BTreeSet;
 use std::marker::Model;
 
 /// The cells that are open on a walk over values, the one opened last first. It keeps a walk from following a loop for ever.
 #[derive(Drop)]
 pub struct Path {
-    cells: Vec<usize>,
+    order: Vec<usize>,
+    cells: BTreeSet<usize>,
 }
 
 impl Model for Path {
     ghost use Rattle.std.specs.Prelude.{List, ℕ, reverse};
+    ghost use Rattle.rhai_value.specs.Opened.{IsOpened};
 
     ghost Value = { List ℕ };
 
-    ghost view = { λ p. reverse p.cells.items };
+    ghost view = { λ p. reverse p.order.items };
+
+    ghost invariant = { λ p. IsOpened (reverse p.order.items) p.cells };
 }
 
 impl Path {
-    /// No cell is open.
+    /// No cell is open. Takes no memory.
     pub fn new(alloc: Global) -> Self
         ensures { result ≡ [] }
     {
         Path {
-            cells: Vec::new(alloc),
+            order: Vec::new(alloc),
+            cells: BTreeSet::new(alloc),
         }
-    }
-
-    fn has(&self, cell: usize) -> bool
-        ensures { result ≡ is_open cell self.now }
-    {
-        for open in &self.cells {
-            if *open == cell {
-                return true;
-            }
-        }
-        false
     }
 
     /// Opens the cell of a holder and gives its content; `None`, with nothing changed, for a value that is no holder and for a cell
-    /// that is open, marked or no cell of the store. Looks at each open cell.
+    /// that is open, marked or no cell of the store. Costs the logarithm of the number of open cells.
     pub fn enter<'s>(
         &mut self,
         store: &'s Store,
@@ -59,23 +54,26 @@ impl Path {
         let Some(cell) = value.cell() else {
             return Ok(None);
         };
-        if self.has(cell.index) {
+        let Some(content) = store.read(cell) else {
+            return Ok(None);
+        };
+        self.order.reserve(1)?;
+        if !self.cells.insert(cell.index)? {
             return Ok(None);
         }
-        match store.read(cell) {
-            None => Ok(None),
-            Some(content) => {
-                self.cells.push(cell.index)?;
-                Ok(Some(content))
-            }
+        if self.order.push(cell.index).is_err() {
+            unreachable!();
         }
+        Ok(Some(content))
     }
 
-    /// Closes the cell that was opened last.
+    /// Closes the cell that was opened last. Takes no memory; costs the logarithm of the number of open cells.
     pub fn leave(&mut self)
         requires { 0 < length self.old }
         ensures { self.new ≡ drop 1 self.old }
     {
-        let _ = self.cells.pop();
+        if let Some(cell) = self.order.pop() {
+            let _ = self.cells.remove(&cell);
+        }
     }
 }

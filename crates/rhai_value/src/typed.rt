@@ -1,9 +1,9 @@
 //! Questions about the type of what is held, which follow chains of holders to their end.
 ghost use Rattle.std.specs.Prelude.{◌≡◌, [], ◌↔◌, IsTrue, IsSome, IfOk, IfErr, Some, None, is_some, option_copied, option_map};
 ghost use Rattle.std.specs.Bool.{OnFalse};
-ghost use Rattle.rhai_value.specs.End.{end, int_held, char_held, text_held, value_after, store_after};
+ghost use Rattle.rhai_value.specs.End.{end, unit_held, bool_held, int_held, char_held, text_held, value_after, store_after};
 ghost use Rattle.rhai_value.specs.Names.{tree_name, end_name};
-ghost use Rattle.rhai_value.specs.Tree.{int_of, char_of, text_of, with_int};
+ghost use Rattle.rhai_value.specs.Tree.{unit_of, bool_of, int_of, char_of, text_of, with_int};
 
 use crate::chain::{ChainEnd, Place};
 use crate::dynamic::Dynamic;
@@ -36,6 +36,20 @@ impl Dynamic {
         }
     }
 
+    /// Whether unit is held. (`Dynamic::is_unit`)
+    pub fn is_unit(&self, s: &Store) -> bool
+        ensures { result ≡ is_some (unit_held (end s.now [] self.now)) }
+    {
+        self.unit_at_end(s).is_some()
+    }
+
+    /// Whether a boolean is held. (`Dynamic::is_bool`)
+    pub fn is_bool(&self, s: &Store) -> bool
+        ensures { result ≡ is_some (bool_held (end s.now [] self.now)) }
+    {
+        self.bool_at_end(s).is_some()
+    }
+
     /// Whether an int is held. (`Dynamic::is_int`)
     pub fn is_int(&self, s: &Store) -> bool
         ensures { result ≡ is_some (int_held (end s.now [] self.now)) }
@@ -55,6 +69,30 @@ impl Dynamic {
         ensures { result ≡ is_some (text_held (end s.now [] self.now)) }
     {
         self.text_at_end(s).is_some()
+    }
+
+    /// The held unit, or the name of the held type. (`Dynamic::as_unit`)
+    pub fn as_unit(&self, s: &Store) -> Result<(), &'static str>
+        ensures ok { IfOk result (λ u. unit_held (end s.now [] self.now) ≡ Some u) }
+        ensures err { IfErr result (λ name. (unit_held (end s.now [] self.now) ≡ None)
+            × (name.now ≡ end_name (end s.now [] self.now))) }
+    {
+        match self.unit_at_end(s) {
+            Some(value) => Ok(value),
+            None => Err(self.type_name(s)),
+        }
+    }
+
+    /// The held boolean, or the name of the held type. (`Dynamic::as_bool`)
+    pub fn as_bool(&self, s: &Store) -> Result<bool, &'static str>
+        ensures ok { IfOk result (λ b. bool_held (end s.now [] self.now) ≡ Some b) }
+        ensures err { IfErr result (λ name. (bool_held (end s.now [] self.now) ≡ None)
+            × (name.now ≡ end_name (end s.now [] self.now))) }
+    {
+        match self.bool_at_end(s) {
+            Some(value) => Ok(value),
+            None => Err(self.type_name(s)),
+        }
     }
 
     /// The held int, or the name of the held type. (`Dynamic::as_int`)
@@ -96,6 +134,26 @@ impl Dynamic {
         }
     }
 
+    fn unit_at_end(&self, s: &Store) -> Option<()>
+        ensures { result ≡ unit_held (end s.now [] self.now) }
+    {
+        match self.chain_end(s) {
+            ChainEnd::Held(_, value) => value.own_unit(),
+            ChainEnd::Stuck(_) => None,
+            ChainEnd::Closed => None,
+        }
+    }
+
+    fn bool_at_end(&self, s: &Store) -> Option<bool>
+        ensures { result ≡ bool_held (end s.now [] self.now) }
+    {
+        match self.chain_end(s) {
+            ChainEnd::Held(_, value) => value.own_bool(),
+            ChainEnd::Stuck(_) => None,
+            ChainEnd::Closed => None,
+        }
+    }
+
     fn int_at_end(&self, s: &Store) -> Option<INT>
         ensures { result ≡ int_held (end s.now [] self.now) }
     {
@@ -123,6 +181,32 @@ impl Dynamic {
             ChainEnd::Held(_, value) => value.own_text(),
             ChainEnd::Stuck(_) => None,
             ChainEnd::Closed => None,
+        }
+    }
+
+    fn own_unit(&self) -> Option<()>
+        ensures { result ≡ unit_of self.now }
+    {
+        match &self.union {
+            Union::Unit(_, _) => Some(()),
+            Union::Bool(_, _, _) => None,
+            Union::Int(_, _, _) => None,
+            Union::Char(_, _, _) => None,
+            Union::Str(_, _, _) => None,
+            Union::Shared(_, _, _) => None,
+        }
+    }
+
+    fn own_bool(&self) -> Option<bool>
+        ensures { result ≡ bool_of self.now }
+    {
+        match &self.union {
+            Union::Bool(value, _, _) => Some(*value),
+            Union::Unit(_, _) => None,
+            Union::Int(_, _, _) => None,
+            Union::Char(_, _, _) => None,
+            Union::Str(_, _, _) => None,
+            Union::Shared(_, _, _) => None,
         }
     }
 

@@ -1,0 +1,54 @@
+//! Values without their holders.
+ghost use Rattle.std.specs.Prelude.{◌≡◌, IfOk, IfErr, IsOk, option_copied};
+ghost use Rattle.rhai_value.specs.Flat.{flat, flat_source, flattened};
+ghost use Rattle.rhai_value.specs.Tree.{TakesNoMemory};
+
+use crate::chain::ChainEnd;
+use crate::dynamic::Dynamic;
+use crate::store::Store;
+use std::alloc::{AllocError, Global};
+
+impl Dynamic {
+    /// The copy of what is held; of the holder at which the chain is stuck; of the value itself where the chain closes.
+    /// (`Dynamic::flatten_clone`)
+    pub fn flatten_clone(&self, alloc: Global, s: &Store) -> Result<Dynamic, AllocError>
+        ensures value { IfOk result (λ d. d ≡ flat s.now self.now) }
+        ensures free { TakesNoMemory (flat s.now self.now) → IsOk result }
+    {
+        match self.chain_end(s) {
+            ChainEnd::Held(_, value) => value.copy(alloc),
+            ChainEnd::Stuck(value) => value.copy(alloc),
+            ChainEnd::Closed => self.copy(alloc),
+        }
+    }
+
+    /// The value itself, modes kept, if it is no holder, if its own cell is marked or no cell of the store, and if the chain closes;
+    /// else the answer of `flatten_clone`. Where memory is refused the value comes back. (`Dynamic::flatten`)
+    pub fn flatten(self, alloc: Global, s: &Store) -> Result<Dynamic, Dynamic>
+        ensures ok { IfOk result (λ d. d ≡ flattened s.now self) }
+        ensures err { IfErr result (λ back. back ≡ self) }
+        ensures free { TakesNoMemory (flattened s.now self) → IsOk result }
+    {
+        let copied = match self.flat_source(s) {
+            None => return Ok(self),
+            Some(source) => source.copy(alloc),
+        };
+        match copied {
+            Ok(flat) => Ok(flat),
+            Err(_) => Err(self),
+        }
+    }
+
+    /// What `flatten` copies.
+    fn flat_source<'s>(&'s self, s: &'s Store) -> Option<&'s Dynamic>
+        ensures { option_copied result ≡ flat_source s.now self.now }
+    {
+        let cell = self.cell()?;
+        let _ = s.read(cell)?;
+        match self.chain_end(s) {
+            ChainEnd::Held(_, value) => Some(value),
+            ChainEnd::Stuck(value) => Some(value),
+            ChainEnd::Closed => None,
+        }
+    }
+}

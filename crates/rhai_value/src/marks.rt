@@ -1,0 +1,130 @@
+//! Marks on cells: the right to write to one cell while no one else reads it.
+ghost use Rattle.std.specs.Prelude.{◌≡◌, ◌<◌, [], true, false, length, option_map, Some, IfSome};
+ghost use Rattle.std.specs.Borrow.{Lends, sem};
+ghost use Rattle.rhai_value.specs.contracts.dynamic.Dynamic as dynamic_type;
+ghost use Rattle.rhai_value.specs.contracts.store.Store as store_type;
+ghost use Rattle.rhai_value.specs.End.{end};
+ghost use Rattle.rhai_value.specs.Marks.{set_mark, marked_with, content_at, open_cell, cell_held, is_locked};
+ghost use Rattle.rhai_value.specs.Store.{put, is_marked_at};
+
+use crate::cell_ref::CellRef;
+use crate::chain::ChainEnd;
+use crate::dynamic::Dynamic;
+use crate::store::Store;
+use std::marker::Model;
+
+/// The right to read and to write what is in one marked cell. It must be spent, by `Store::release`: the compiler refuses to let
+/// it go. Contracts see the number of the cell.
+pub struct WriteToken {
+    cell: usize,
+}
+
+impl Model for WriteToken {
+    ghost use Rattle.std.specs.Prelude.{ℕ};
+
+    ghost Value = { ℕ };
+
+    ghost view = { λ t. t.cell };
+}
+
+impl Store {
+    /// Marks the cell of a holder; `None`, with nothing changed, for a value that is no holder and for a cell that is marked or no
+    /// cell of the store. Takes no memory.
+    pub fn mark(&mut self, d: &Dynamic) -> Option<WriteToken>
+        ensures which { result ≡ open_cell self.old d.now }
+        ensures after { self.new ≡ marked_with (open_cell self.old d.now) self.old }
+        ensures marked { IfSome result (λ t. is_marked_at self.new t ≡ true) }
+    {
+        match d.open_cell(self) {
+            None => None,
+            Some(cell) => {
+                self.set_mark(cell.index, true);
+                Some(WriteToken { cell: cell.index })
+            }
+        }
+    }
+
+    /// Marks the cell in which the held value of a holder stands; `None`, with nothing changed, for a value that is no holder and
+    /// where the chain is stuck or closed. Takes no memory, and costs the length of the chain; where it closes, the number of cells.
+    pub fn mark_held(&mut self, d: &Dynamic) -> Option<WriteToken>
+        ensures which { result ≡ cell_held (end self.old [] d.now) }
+        ensures after { self.new ≡ marked_with (cell_held (end self.old [] d.now)) self.old }
+        ensures marked { IfSome result (λ t. is_marked_at self.new t ≡ true) }
+    {
+        match d.cell_held(self) {
+            None => None,
+            Some(cell) => {
+                self.set_mark(cell, true);
+                Some(WriteToken { cell })
+            }
+        }
+    }
+
+    /// What is in the token's cell.
+    pub fn through(&self, t: &WriteToken) -> &Dynamic
+        requires { is_marked_at self.now t.now ≡ true }
+        ensures { content_at self.now t.now ≡ Some result.now }
+    {
+        &self.cells[t.cell].content
+    }
+
+    /// What is in the token's cell, to write.
+    pub fn through_mut(&mut self, t: &WriteToken) -> &mut Dynamic
+        requires { is_marked_at self.old t.now ≡ true }
+        ensures* writes_back { sem 𝓛 (Lends store_type.the_row dynamic_type.the_row self.entry result (λ w. put self.old t.now w)) }
+        ensures value { content_at self.old t.now ≡ Some result.now }
+    {
+        self.content_mut(t.cell)
+    }
+
+    /// Clears the mark of the token's cell.
+    pub fn release(&mut self, t: WriteToken)
+        requires { is_marked_at self.old t ≡ true }
+        ensures { self.new ≡ set_mark self.old t false }
+    {
+        let WriteToken { cell } = t;
+        self.set_mark(cell, false);
+    }
+
+    fn set_mark(&mut self, cell: usize, is_marked: bool)
+        requires { cell < length self.old }
+        ensures after { self.new ≡ set_mark self.old cell is_marked }
+        ensures stands { is_marked_at self.new cell ≡ is_marked }
+    {
+        self.cells[cell].is_marked = is_marked;
+    }
+}
+
+impl Dynamic {
+    /// Whether the value is a holder of a cell that is marked or no cell of the store. (`Dynamic::is_locked`)
+    pub fn is_locked(&self, s: &Store) -> bool
+        ensures { result ≡ is_locked s.now self.now }
+    {
+        match self.cell() {
+            None => false,
+            Some(cell) => s.read(cell).is_none(),
+        }
+    }
+
+    /// The cell of a holder, where that is an unmarked cell of the store.
+    pub(crate) fn open_cell(&self, s: &Store) -> Option<CellRef>
+        ensures { option_map (λ c. c.index) result ≡ open_cell s.now self.now }
+    {
+        let cell = self.cell()?;
+        match s.read(cell) {
+            None => None,
+            Some(_) => Some(cell),
+        }
+    }
+
+    /// The cell in which the held value stands.
+    fn cell_held(&self, s: &Store) -> Option<usize>
+        ensures { result ≡ cell_held (end s.now [] self.now) }
+    {
+        match self.chain_end(s) {
+            ChainEnd::Held(place, _) => place,
+            ChainEnd::Stuck(_) => None,
+            ChainEnd::Closed => None,
+        }
+    }
+}

@@ -5,14 +5,15 @@ use Rattle.std.proofs.lemmas.Option.{same_Some}
 use Rattle.rhai_value.specs.declared.store.Cell.{Cell}
 use Rattle.rhai_value.specs.Tree.{Tree}
 use Rattle.rhai_value.specs.End.{end, int_held}
-use Rattle.rhai_value.specs.Names.{end_name}
+use Rattle.rhai_value.specs.Types.{end_name}
+use Rattle.rhai_value.specs.Flat.{flattened}
 use Rattle.rhai_value.specs.Share.{shared_value, shared_store}
-use Rattle.rhai_run.specs.State.{State, with_cells}
+use Rattle.rhai_run.specs.State.{State, with_hand, with_cells}
 use Rattle.rhai_run.specs.Reply.{Reply, done, refused, mismatch}
-use Rattle.rhai_run.specs.Step.{Outcome, with_value, shared, write_int, int_written}
+use Rattle.rhai_run.specs.Step.{Outcome, with_value, shared, flatten_at, write_int, int_written}
 
 -- a value written over itself
-set_own : (ts : List Tree) (i : ℕ) (t : Tree) → slice_get ts i ≡ Some t → slice_set ts i t ≡ ts
+pub set_own : (ts : List Tree) (i : ℕ) (t : Tree) → slice_get ts i ≡ Some t → slice_set ts i t ≡ ts
 set_own [] i t e = refl
 set_own (x ∷ ts) zero t e = ap (λ y. y ∷ ts) (sym (same_Some x t e))
 set_own (x ∷ ts) (suc i) t e = ap (λ ys. x ∷ ys) (set_own ts i t e)
@@ -25,12 +26,21 @@ world w s ts = with_cells w s ts
 at_value : (w : State) (i : ℕ) (go : Tree → Outcome) (t : Tree) (a : Reply) (v : State) → slice_get w.hand i ≡ Some t → (a ≡ (go t).0) × (v ≡ (go t).1) → (a ≡ (with_value w i go).0) × (v ≡ (with_value w i go).1)
 at_value w i go t a v e h = rw e h
 
--- a value is taken out of its place, and a holder of its new cell comes there
+-- a value is taken out of its place, and another comes there
+pub moved_in : (ts us : List Tree) (i : ℕ) (u d t : Tree) → d ≡ t → us ≡ slice_set (slice_set ts i u) i d → us ≡ slice_set ts i t
+moved_in ts us i u d t e h = h ∙ set-set ts i u d ∙ ap (slice_set ts i) e
+
+-- so a holder of its new cell, or what it is without its holders
 pub share_done : (w : State) (i : ℕ) (t u d : Tree) (s : List Cell) (ts : List Tree) → slice_get w.hand i ≡ Some t → (d ≡ shared_value w.store t) × (s ≡ shared_store w.store t) → ts ≡ slice_set (slice_set w.hand i u) i d
     → (done ≡ (shared w i).0) × (world w s ts ≡ (shared w i).1)
 share_done w i t u d s ts e h k =
     at_value w i (λ x. (done, world w (shared_store w.store x) (slice_set w.hand i (shared_value w.store x)))) t done (world w s ts) e
-    (refl, ap₂ (world w) h.1 (k ∙ set-set w.hand i u d ∙ ap (slice_set w.hand i) h.0))
+    (refl, ap₂ (world w) h.1 (moved_in w.hand ts i u d (shared_value w.store t) h.0 k))
+
+pub flatten_done : (w : State) (i : ℕ) (t u d : Tree) (ts : List Tree) → slice_get w.hand i ≡ Some t → d ≡ flattened w.store t → ts ≡ slice_set (slice_set w.hand i u) i d
+    → (done ≡ (flatten_at w i).0) × (world w w.store ts ≡ (flatten_at w i).1)
+flatten_done w i t u d ts e h k =
+    at_value w i (λ x. (done, with_hand w (slice_set w.hand i (flattened w.store x)))) t done (world w w.store ts) e (refl, ap (with_hand w) (moved_in w.hand ts i u d (flattened w.store t) h k))
 
 -- a value is taken out of its place and put back
 pub put_back : (w : State) (i : ℕ) (t u d : Tree) (s : List Cell) (ts : List Tree) → slice_get w.hand i ≡ Some t → (d ≡ t) × (s ≡ w.store) → ts ≡ slice_set (slice_set w.hand i u) i d → world w s ts ≡ w

@@ -5,10 +5,14 @@ pub use Rattle.rhai_value.specs.End
 pub use Rattle.rhai_value.specs.Relation
 pub use Rattle.rhai_show.specs.Text
 pub mod State
+pub mod StateCode
 pub mod Reply
+pub mod Made
+pub mod Asked
 pub mod Step
 pub mod Machine
 pub mod Fits
 pub mod Correspondence
+pub mod Lost
 pub mod Stop
 pub mod Does

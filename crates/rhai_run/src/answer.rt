@@ -1,16 +1,22 @@
 //! What a world answers.
 
+use rhai_text::EvalAltResult;
+
 /// Why a command was refused. A refused command changes nothing.
 #[derive(Drop)]
 pub enum Refusal {
-    /// No value stands at a position.
+    /// No value stands at a position, or too few stand in the hand.
     NoValue,
+    /// Two positions that must differ are the same.
+    SameValue,
     /// The scope has no entry of the name.
     NoEntry,
     /// The scope has no entry at all.
     EmptyScope,
     /// Another type is held; this is its name.
     Mismatch(&'static str),
+    /// The call that the command makes ended in this error.
+    Fault(EvalAltResult),
 }
 
 /// The answer to one command.
@@ -18,6 +24,10 @@ pub enum Refusal {
 pub enum Answer {
     /// It is done.
     Done,
+    /// Yes or no.
+    Bool(bool),
+    /// A number.
+    Int(i128),
     /// A text.
     Text(String),
     /// It was refused.

@@ -1,7 +1,7 @@
 //! What a world is told to do.
 
 use rhai_text::ImmutableString;
-use rhai_value::INT;
+use rhai_value::{Blob, ExclusiveRange, Host, INT, InclusiveRange, Tag, TypeId};
 
 /// A value that a command makes.
 #[derive(Drop)]
@@ -16,6 +16,41 @@ pub enum Literal {
     Char(char),
     /// A text.
     Text(ImmutableString),
+    /// A blob.
+    Blob(Blob),
+    /// A value of the host's own types.
+    Host(Host),
+    /// A range without its end.
+    Range(ExclusiveRange),
+    /// A range with its end.
+    RangeEq(InclusiveRange),
+}
+
+/// What is asked of a value.
+#[derive(Drop)]
+pub enum Question {
+    /// Its own tag: a number.
+    Tag,
+    /// Whether it is of one of the host's types.
+    Variant,
+    /// Whether it is a holder.
+    Shared,
+    /// Whether its first content is a constant.
+    ReadOnly,
+    /// Whether it is, or has inside, a holder of a marked cell.
+    Locked,
+    /// The name of the held type: a text.
+    TypeName,
+    /// Whether this is the held type.
+    Held(TypeId),
+    /// The held unit.
+    Unit,
+    /// The held int: a number.
+    Int,
+    /// The held boolean.
+    Bool,
+    /// The held character: a text.
+    Char,
 }
 
 /// One command. Positions in the hand count from 0, and new values go to its end.
@@ -23,14 +58,35 @@ pub enum Literal {
 pub enum Command {
     /// Appends a value that is made anew.
     Put(Literal),
+    /// Takes this many values off the end of the hand, and appends the array of them in order.
+    MakeArray(usize),
+    /// Takes as many values off the end of the hand as there are keys, and appends the map of these to those in order; of equal
+    /// keys the last value stands.
+    MakeMap(Vec<ImmutableString>),
+    /// Takes this many values off the end of the hand, and appends the function pointer of the name with these curried in order.
+    MakeFn(ImmutableString, usize),
     /// Appends a copy of the value at the position.
     Copy(usize),
+    /// Moves the value at the position to the end, and leaves unit.
+    Take(usize),
     /// Drops the last value.
     Drop,
     /// Moves the value at the position into a new cell, and leaves a holder of it; a holder stays.
     Share(usize),
+    /// Puts in the place of a holder what is held, without its holders.
+    Flatten(usize),
+    /// Appends a copy of the value at the position without its holders.
+    FlattenClone(usize),
+    /// Makes the value at the position a constant.
+    MakeReadOnly(usize),
+    /// Sets the tag of the value at the position.
+    SetTag(usize, Tag),
+    /// Asks a question of the value at the position.
+    Ask(usize, Question),
     /// Writes over the int that is held at the position.
     WriteInt(usize, INT),
+    /// Writes the value at the second position over the first content of the one at the first, and leaves unit at the second.
+    Write(usize, usize),
     /// Moves the value at the position into a new entry of the name, and leaves unit.
     Push(ImmutableString, usize),
     /// Drops the last entry.

@@ -1,21 +1,32 @@
 -- The text of a value by its parts.
-use Rattle.std.proofs.Common.{◌≡◌, ℕ, ℤ, ◌++◌, ◌∷◌, List, Result, OnOk, Some, None, IfSome, codes, refl, sym, ap, ◌∙◌, subst}
+use Rattle.std.proofs.Common.{◌≡◌, ℕ, ℤ, ◌++◌, [], ◌∷◌, List, map, Result, OnOk, Some, None, IfSome, codes, refl, sym, ap, ap₂, ◌∙◌, subst}
+use Rattle.std.specs.List.{zip}
+use Rattle.std.specs.Str.{chars}
 use Rattle.rhai_value.specs.declared.access_mode.AccessMode.{AccessMode}
 use Rattle.rhai_value.specs.declared.store.Cell.{Cell}
-use Rattle.rhai_value.specs.Tree.{Tree, node, Leaf, leaf, holder, cell_of}
+use Rattle.rhai_value.specs.Rows.{Rows, trees_of, keys, values}
+use Rattle.rhai_value.specs.Tree.{Tree, node, Leaf, leaf, branch, holder, array, fields, function, cell_of}
 use Rattle.rhai_value.specs.Walk.{Visit, entered, barred, revisited, visit, visit_map, opened, entry}
 use Rattle.rhai_value.proofs.Walks.{walk_opens}
+use Rattle.rhai_show.proofs.Commas.{joined-map, further-map}
 use Rattle.rhai_show.proofs.Pushed.{added_as}
 use Rattle.rhai_show.specs.declared.form.Form.{Form}
-use Rattle.rhai_show.specs.Text.{leaf_printed, content_form, holder_printed, printed_of, printed}
+use Rattle.rhai_show.specs.declared.form.Form.TheVariants.{Debug}
+use Rattle.rhai_show.specs.Leaves.{in_debug, leaf_printed}
+use Rattle.rhai_show.specs.Text.{joined, further, item_form, content_form, field_printed, name_printed, holder_printed, printed_of, all_printed, printed}
+use Rattle.rhai_show.specs.Listed.{row_printed}
+
+-- what each holder's cell leads to
+abbrev pub within : List Cell → List ℕ → ℕ → Visit (Form → List ℕ)
+within s path c = visit_map (printed s (c ∷ path)) (visit s path c)
 
 pub printed_opens : (s : List Cell) (path : List ℕ) (t : Tree) → printed s path t ≡ printed_of path (λ c. visit_map (printed s (c ∷ path)) (visit s path c)) t
 unfolding printed
 printed_opens s path t = walk_opens printed_of s path t
 
--- a value that is a leaf
-pub printed-leaf : (s : List Cell) (path : List ℕ) (t : Tree) (form : Form) (l : Leaf) (g : ℤ) (m : AccessMode) → t ≡ node (leaf l) g m → leaf_printed form l ≡ printed s path t form
-printed-leaf s path t form l g m e = sym (ap (λ u. printed s path u form) e ∙ ap (λ f. f form) (printed_opens s path (node (leaf l) g m)))
+-- a value by its content
+by_parts : (s : List Cell) (path : List ℕ) (t u : Tree) (form : Form) → t ≡ u → printed s path t form ≡ printed_of path (within s path) u form
+by_parts s path t u form e = ap (λ x. printed s path x form) e ∙ ap (λ f. f form) (printed_opens s path u)
 
 closed_text : (o : Visit Tree) (form : Form) (go : Tree → Form → List ℕ) → None ≡ opened o → codes "<shared>" ≡ holder_printed form (visit_map go o)
 closed_text (entered t) form go e = cc
@@ -27,19 +38,48 @@ open_text (entered u) form go t e = let same : t ≡ u = cc in ap (λ x. go x (c
 open_text barred form go t e = cc
 open_text revisited form go t e = cc
 
-holder_text : (s : List Cell) (path : List ℕ) (t : Tree) (form : Form) (c : ℕ) (g : ℤ) (m : AccessMode) → t ≡ node (holder c) g m → printed s path t form ≡ holder_printed form (visit_map (printed s (c ∷ path)) (visit s path c))
-holder_text s path t form c g m e = ap (λ u. printed s path u form) e ∙ ap (λ f. f form) (printed_opens s path (node (holder c) g m))
-
 -- a holder whose cell doesn't open, and one whose cell does
 pub printed-closed : (s : List Cell) (path : List ℕ) (t : Tree) (form : Form) (c : ℕ) (g : ℤ) (m : AccessMode) → t ≡ node (holder c) g m → None ≡ entry s path t → codes "<shared>" ≡ printed s path t form
-printed-closed s path t form c g m e none = closed_text (visit s path c) form _ (none ∙ ap (entry s path) e) ∙ sym (holder_text s path t form c g m e)
+printed-closed s path t form c g m e none = closed_text (visit s path c) form _ (none ∙ ap (entry s path) e) ∙ sym (by_parts s path t (node (holder c) g m) form e)
 
 pub printed-opened : (s : List Cell) (path next : List ℕ) (t u : Tree) (form : Form) (c : ℕ) (g : ℤ) (m : AccessMode) → t ≡ node (holder c) g m → Some u ≡ entry s path t → IfSome (cell_of t) (λ k. next ≡ k ∷ path)
     → printed s next u (content_form form) ++ codes " (shared)" ≡ printed s path t form
 printed-opened s path next t u form c g m e some is =
     let opens : next ≡ c ∷ path = subst (λ x. IfSome (cell_of x) (λ k. next ≡ k ∷ path)) e is in
-    ap (λ p. printed s p u (content_form form) ++ codes " (shared)") opens ∙ open_text (visit s path c) form _ u (some ∙ ap (entry s path) e) ∙ sym (holder_text s path t form c g m e)
+    ap (λ p. printed s p u (content_form form) ++ codes " (shared)") opens ∙ open_text (visit s path c) form _ u (some ∙ ap (entry s path) e) ∙ sym (by_parts s path t (node (holder c) g m) form e)
 
 -- the text of a leaf is added, which is that of the value
 pub added_leaf : {A E : Type 0} (r : Result A E) (new old : List ℕ) (s : List Cell) (path : List ℕ) (t : Tree) (form : Form) (l : Leaf) (g : ℤ) (m : AccessMode) → t ≡ node (leaf l) g m → OnOk r (new ≡ old ++ leaf_printed form l) → OnOk r (new ≡ old ++ printed s path t form)
-added_leaf r new old s path t form l g m e h = added_as r new old (leaf_printed form l) (printed s path t form) (printed-leaf s path t form l g m e) h
+added_leaf r new old s path t form l g m e h = added_as r new old (leaf_printed form l) (printed s path t form) (sym (by_parts s path t (node (leaf l) g m) form e)) h
+
+-- the texts of children, and those of a map's values with their keys
+module _ (s : List Cell) (path : List ℕ) where
+  each_printed : (xs : List Tree) → map (printed s path) xs ≡ all_printed path (within s path) (trees_of xs)
+  each_printed [] = refl
+  each_printed (x ∷ xs) = ap₂ (λ v vs. v ∷ vs) (printed_opens s path x) (each_printed xs)
+
+  rows_printed : (rs : Rows) → map (λ r. (chars r.0, printed s path r.1)) rs ≡ zip (keys rs) (all_printed path (within s path) (values rs))
+  rows_printed [] = refl
+  rows_printed (r ∷ rs) = ap₂ (λ v vs. (chars r.0, v) ∷ vs) (printed_opens s path r.1) (rows_printed rs)
+
+  -- arrays, maps and function pointers
+  pub printed-array : (t : Tree) (form own : Form) (xs items : List Tree) (g : ℤ) (m : AccessMode) → t ≡ node (branch array (trees_of items)) g m → own ≡ item_form form → xs ≡ items
+      → codes "[" ++ joined (λ u. printed s path u own) xs ++ codes "]" ≡ printed s path t form
+  printed-array t form own xs items g m e same all =
+      ap₂ (λ f ys. codes "[" ++ joined (λ u. printed s path u f) ys ++ codes "]") same all
+      ∙ ap (λ x. codes "[" ++ x ++ codes "]") (sym (joined-map (λ v. v (item_form form)) (printed s path) items) ∙ ap (joined (λ v. v (item_form form))) (each_printed items))
+      ∙ sym (by_parts s path t (node (branch array (trees_of items)) g m) form e)
+
+  pub printed-map : (t : Tree) (form own : Form) (rs : Rows) (g : ℤ) (m : AccessMode) → t ≡ node (branch (fields (keys rs)) (values rs)) g m → own ≡ item_form form
+      → codes "#{" ++ joined (row_printed own (λ u. printed s path u own)) rs ++ codes "}" ≡ printed s path t form
+  printed-map t form own rs g m e same =
+      let field = λ (r : List ℕ × (Form → List ℕ)). field_printed (item_form form) r.0 (r.1 (item_form form)) in
+      ap (λ f. codes "#{" ++ joined (row_printed f (λ u. printed s path u f)) rs ++ codes "}") same
+      ∙ ap (λ x. codes "#{" ++ x ++ codes "}") (sym (joined-map field (λ r. (chars r.0, printed s path r.1)) rs) ∙ ap (joined field) (rows_printed rs))
+      ∙ sym (by_parts s path t (node (branch (fields (keys rs)) (values rs)) g m) form e)
+
+  pub printed-function : (t : Tree) (form : Form) (f : List ℕ) (items : List Tree) (g : ℤ) (m : AccessMode) → t ≡ node (branch (function f) (trees_of items)) g m
+      → codes "Fn(" ++ name_printed form f ++ in_debug form (further (λ u. printed s path u Debug) items) [] ++ codes ")" ≡ printed s path t form
+  printed-function t form f items g m e =
+      ap (λ x. codes "Fn(" ++ name_printed form f ++ in_debug form x [] ++ codes ")") (sym (further-map (λ v. v Debug) (printed s path) items) ∙ ap (further (λ v. v Debug)) (each_printed items))
+      ∙ sym (by_parts s path t (node (branch (function f) (trees_of items)) g m) form e)

@@ -1,22 +1,23 @@
 -- Texts of values in stores that are the same up to the numbers of their cells.
-use Rattle.std.proofs.Common.{◌≡◌, ℕ, List, [], refl, ap}
+use Rattle.std.proofs.Common.{◌≡◌, ℕ, List, [], ◌∷◌, refl, ap, ap₂}
 use mathlib.Core.Path.{fun_ext}
 use Rattle.rhai_value.specs.declared.store.Cell.{Cell}
-use Rattle.rhai_value.specs.Tree.{Tree, node, leaf, holder}
+use Rattle.rhai_value.specs.Tree.{Tree}
 use Rattle.rhai_value.specs.Walk.{Visit, entered}
 use Rattle.rhai_value.specs.Relation.{Renaming, Related, IsOneToOne, SameCells}
+use Rattle.rhai_value.proofs.SameTrees.{by_related}
 use Rattle.rhai_value.proofs.SameWalks.{AlikeVisit, Keeps, by_visits, same_walk}
 use Rattle.rhai_show.specs.declared.form.Form.{Form}
-use Rattle.rhai_show.specs.Text.{leaf_printed, holder_printed, printed_of, printed}
+use Rattle.rhai_show.specs.Text.{branch_printed, holder_printed, printed_of, all_printed, printed}
 
 same_holder : (o q : Visit (Form → List ℕ)) → AlikeVisit ◌≡◌ o q → (form : Form) → holder_printed form o ≡ holder_printed form q
 same_holder o q h form = by_visits ◌≡◌ (λ o q. holder_printed form o ≡ holder_printed form q) (λ a b e. ap (λ t. holder_printed form (entered t)) e) refl refl o q h
 
 printed_kept : (r : Renaming) → Keeps r printed_of printed_of ◌≡◌
-printed_kept r path road h k (node (leaf l) g m) (node (leaf j) i n) same to e = ap (λ l form. leaf_printed form l) e.0
-printed_kept r path road h k (node (holder c) g m) (node (holder d) i n) same to e = fun_ext (same_holder (h c) (k d) (to c d e.0))
-printed_kept r path road h k (node (leaf l) g m) (node (holder d) i n) same to e = absurd e.0
-printed_kept r path road h k (node (holder c) g m) (node (leaf j) i n) same to e = absurd e.0
+printed_kept r path road h k t u same to =
+    by_related r (λ t u. printed_of path h t ≡ printed_of road k u) (λ ts us. all_printed path h ts ≡ all_printed road k us)
+    (λ l g m. refl) (λ i ts us g m e q. ap (λ vs form. branch_printed form i vs) q) (λ c d g m p. fun_ext (same_holder (h c) (k d) (to c d p)))
+    refl (λ t u ts us p q. ap₂ (λ v vs. v ∷ vs) p q) t u
 
 -- the text of a value doesn't depend on the numbers of cells
 pub same_printed : (r : Renaming) (s z : List Cell) (t u : Tree) → IsOneToOne r → SameCells r s z → Related r t u → printed s [] t ≡ printed z [] u

@@ -1,37 +1,51 @@
 -- How a value is printed.
-use Rattle.std.specs.Prelude.{ℕ, Bool, true, false, List, [], ◌∷◌, ◌++◌, codes}
-use Rattle.std.specs.Fmt.{signed_decimal}
-use Rattle.rhai_text.specs.Quote.{quoted_text, quoted_char}
+use Rattle.std.specs.Prelude.{ℕ, List, [], ◌∷◌, ◌++◌, codes}
+use Rattle.std.specs.List.{flat_map, join_by, zip}
+use Rattle.rhai_text.specs.Quote.{quoted_text}
 use Rattle.rhai_value.specs.declared.store.Cell.{Cell}
-use Rattle.rhai_value.specs.Tree.{Tree, node, Leaf, unit, bool, int, char, text, leaf, holder}
+use Rattle.rhai_value.specs.Tree.{Tree, node, Content, leaf, branch, holder, Kind, array, fields, function, Trees, no_trees, tree_then}
 use Rattle.rhai_value.specs.Walk.{Visit, entered, barred, revisited, walk}
+use Rattle.rhai_show.specs.Leaves.{in_debug, leaf_printed}
 use Rattle.rhai_show.specs.declared.form.Form.{Form}
 use Rattle.rhai_show.specs.declared.form.Form.TheVariants.{Display, Inner, Debug}
-
--- a boolean's name
-abbrev pub bool_text : Bool → List ℕ
-bool_text true = codes "true"
-bool_text false = codes "false"
-
--- the first in Debug, and else the second
-abbrev pub in_debug : Form → List ℕ → List ℕ → List ℕ
-in_debug Display quoted plain = plain
-in_debug Inner quoted plain = plain
-in_debug Debug quoted plain = quoted
-
--- Unit prints nothing but in Debug; numbers are plain decimal; characters and texts stand as they are, and quoted in Debug.
-abbrev pub leaf_printed : Form → Leaf → List ℕ
-leaf_printed form unit = in_debug form (codes "()") []
-leaf_printed form (bool b) = bool_text b
-leaf_printed form (int n) = signed_decimal n
-leaf_printed form (char c) = in_debug form (quoted_char c) (c ∷ [])
-leaf_printed form (text s) = in_debug form (quoted_text s) s
 
 -- the form of what stands in a cell
 abbrev pub content_form : Form → Form
 content_form Display = Inner
 content_form Inner = Inner
 content_form Debug = Debug
+
+-- the form of what stands in an array or a map
+abbrev pub item_form : Form → Form
+item_form Display = Debug
+item_form Inner = Inner
+item_form Debug = Debug
+
+-- a comma and a space
+abbrev pub comma : List ℕ
+comma = codes ", "
+
+-- the texts of these, with a comma between two
+abbrev pub joined : {A : Type 0} → (A → List ℕ) → List A → List ℕ
+joined f xs = join_by f comma xs
+
+-- the texts of these, each behind a comma
+abbrev pub further : {A : Type 0} → (A → List ℕ) → List A → List ℕ
+further f xs = flat_map (λ x. comma ++ f x) xs
+
+-- a key or the name of a function
+abbrev pub name_printed : Form → List ℕ → List ℕ
+name_printed form n = in_debug form (quoted_text n) n
+
+-- a key with the text of its value
+abbrev pub field_printed : Form → List ℕ → List ℕ → List ℕ
+field_printed form k v = name_printed form k ++ codes ": " ++ v
+
+-- what holds other values, by the texts of these: an array, a map and a function pointer
+abbrev pub branch_printed : Form → Kind → List (Form → List ℕ) → List ℕ
+branch_printed form array vs = codes "[" ++ joined (λ v. v (item_form form)) vs ++ codes "]"
+branch_printed form (fields ks) vs = codes "#{" ++ joined (λ r. field_printed (item_form form) r.0 (r.1 (item_form form))) (zip ks vs) ++ codes "}"
+branch_printed form (function f) vs = codes "Fn(" ++ name_printed form f ++ in_debug form (further (λ v. v Debug) vs) [] ++ codes ")"
 
 -- a holder is its cell's content with a mark behind it; where the cell is open, marked or foreign, it is the mark alone
 abbrev pub holder_printed : Form → Visit (Form → List ℕ) → List ℕ
@@ -40,9 +54,18 @@ holder_printed form barred = codes "<shared>"
 holder_printed form revisited = codes "<shared>"
 
 -- a value in each form
-abbrev pub printed_of : List ℕ → (ℕ → Visit (Form → List ℕ)) → Tree → Form → List ℕ
-printed_of path go (node (leaf l) g m) form = leaf_printed form l
-printed_of path go (node (holder c) g m) form = holder_printed form (go c)
+abbrev mutual
+  pub printed_of : List ℕ → (ℕ → Visit (Form → List ℕ)) → Tree → Form → List ℕ
+  printed_of path go (node c g m) form = content_printed path go c form
+
+  pub content_printed : List ℕ → (ℕ → Visit (Form → List ℕ)) → Content → Form → List ℕ
+  content_printed path go (leaf l) form = leaf_printed form l
+  content_printed path go (branch k ts) form = branch_printed form k (all_printed path go ts)
+  content_printed path go (holder c) form = holder_printed form (go c)
+
+  pub all_printed : List ℕ → (ℕ → Visit (Form → List ℕ)) → Trees → List (Form → List ℕ)
+  all_printed path go no_trees = []
+  all_printed path go (tree_then t ts) = printed_of path go t ∷ all_printed path go ts
 
 -- the characters of a value in a form, these cells being open
 unfoldable pub printed : List Cell → List ℕ → Tree → Form → List ℕ

@@ -13,7 +13,7 @@ pub enum Form {
 
 impl Form {
     ghost use Rattle.std.specs.Prelude.{◌≡◌};
-    ghost use Rattle.rhai_show.specs.Text.{content_form};
+    ghost use Rattle.rhai_show.specs.Text.{content_form, item_form};
 
     /// The form of a cell's content.
     pub(crate) fn of_content(self) -> Form
@@ -23,6 +23,16 @@ impl Form {
             Form::Display => Form::Inner,
             Form::Inner => Form::Inner,
             Form::Debug => Form::Debug,
+        }
+    }
+
+    /// The form of what stands in an array or a map.
+    pub(crate) fn of_items(self) -> Form
+        ensures { result ≡ item_form self }
+    {
+        match self {
+            Form::Display | Form::Debug => Form::Debug,
+            Form::Inner => Form::Inner,
         }
     }
 }

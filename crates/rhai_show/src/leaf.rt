@@ -3,7 +3,7 @@ ghost use Rattle.std.specs.Prelude.{◌≡◌, ◌++◌, OnOk, string_bytes};
 ghost use Rattle.std.specs.Str.{chars};
 ghost use Rattle.std.specs.Fmt.{signed_decimal};
 ghost use Rattle.rhai_value.specs.Tree.{unit, char as a_char, text as a_text};
-ghost use Rattle.rhai_show.specs.Text.{bool_text, leaf_printed};
+ghost use Rattle.rhai_show.specs.Leaves.{bool_text, leaf_printed};
 
 use crate::form::Form;
 use rhai_text::{ImmutableString, quoted_char_into};

@@ -1,7 +1,9 @@
 //! The printed text of script values.
 #![tactic(auto)]
 
+mod blob;
 pub mod form;
+mod host;
 pub mod laws;
 mod leaf;
 mod shown;

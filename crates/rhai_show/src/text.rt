@@ -1,15 +1,21 @@
 //! The text of a value.
-ghost use Rattle.std.specs.Prelude.{◌≡◌, ◌++◌, [], IfOk, OnOk, string_bytes};
+ghost use Rattle.std.specs.Prelude.{◌≡◌, ◌++◌, [], true, IfOk, OnOk, codes, string_bytes};
 ghost use Rattle.std.specs.Str.{chars};
 ghost use Rattle.rhai_show.specs.declared.form.Form.TheVariants.{Display, Debug};
-ghost use Rattle.rhai_show.specs.Text.{printed};
+ghost use Rattle.rhai_show.specs.Leaves.{in_debug};
+ghost use Rattle.rhai_show.specs.Text.{joined, further, name_printed, printed};
+ghost use Rattle.rhai_show.specs.Listed.{listed, comma_unless, row_printed};
 
+use crate::blob::add_blob;
 use crate::form::Form;
+use crate::host::add_host;
 use crate::leaf::{add_bool, add_char, add_int, add_string, add_text, add_unit};
-use rhai_value::{Dynamic, Path, Store, Union};
+use rhai_text::quoted_text_into;
+use rhai_value::{Dynamic, FnPtr, Map, Path, Store, Union};
 use std::alloc::{AllocError, Global};
 
 /// Adds the text of a value, the cells of the path being open.
+#[cycle(print)]
 fn add_value(
     store: &Store,
     path: &mut Path,
@@ -23,10 +29,15 @@ fn add_value(
 {
     match value.parts() {
         Union::Unit(_, _) => add_unit(out, form),
-        Union::Bool(value, _, _) => add_bool(out, *value),
-        Union::Int(value, _, _) => add_int(out, value),
-        Union::Char(value, _, _) => add_char(out, *value, form),
-        Union::Str(value, _, _) => add_string(out, value, form),
+        Union::Bool(_, _, value) => add_bool(out, *value),
+        Union::Int(_, _, value) => add_int(out, value),
+        Union::Char(_, _, value) => add_char(out, *value, form),
+        Union::Str(_, _, value) => add_string(out, value, form),
+        Union::Blob(_, _, bytes) => add_blob(out, bytes.as_slice()),
+        Union::Variant(_, _, value) => add_host(out, value),
+        Union::Array(_, _, items) => add_array(store, path, items.as_slice(), form.of_items(), out),
+        Union::Map(_, _, map) => add_map(store, path, map, form.of_items(), out),
+        Union::FnPtr(_, _, function) => add_function(store, path, function, form, out),
         Union::Shared(_, _, _) => match path.enter(store, value)? {
             None => add_text(out, "<shared>"),
             Some(content) => {
@@ -35,6 +46,149 @@ fn add_value(
                 add_text(out, " (shared)")
             }
         },
+    }
+}
+
+#[cycle(print)]
+fn add_array(
+    store: &Store,
+    path: &mut Path,
+    items: &[Dynamic],
+    form: Form,
+    out: &mut String,
+) -> Result<(), AllocError>
+    ensures text { OnOk result (chars (string_bytes out.new) ≡ chars (string_bytes out.old)
+        ++ (codes "[" ++ joined (λ t. printed store.now path.old t form) items.now ++ codes "]")) }
+    ensures path { OnOk result (path.new ≡ path.old) }
+{
+    add_text(out, "[")?;
+    add_items(store, path, items, form, true, out)?;
+    add_text(out, "]")
+}
+
+/// Adds the items of an array, or curried values, with a comma between two; where they aren't the first, also before them.
+#[cycle(print)]
+fn add_items(
+    store: &Store,
+    path: &mut Path,
+    items: &[Dynamic],
+    form: Form,
+    are_first: bool,
+    out: &mut String,
+) -> Result<(), AllocError>
+    ensures text { OnOk result (chars (string_bytes out.new) ≡ chars (string_bytes out.old)
+        ++ listed (λ t. printed store.now path.old t form) are_first items.now) }
+    ensures path { OnOk result (path.new ≡ path.old) }
+{
+    let mut is_first = are_first;
+    for item in items {
+        add_comma(out, is_first)?;
+        add_value(store, path, item, form, out)?;
+        is_first = false;
+    }
+    Ok(())
+}
+
+#[cycle(print)]
+fn add_map(
+    store: &Store,
+    path: &mut Path,
+    map: &Map,
+    form: Form,
+    out: &mut String,
+) -> Result<(), AllocError>
+    ensures text { OnOk result (chars (string_bytes out.new) ≡ chars (string_bytes out.old)
+        ++ (codes "#{" ++ joined (row_printed form (λ t. printed store.now path.old t form)) map.now ++ codes "}")) }
+    ensures path { OnOk result (path.new ≡ path.old) }
+{
+    add_text(out, "#{")?;
+    add_fields(store, path, map, form, out)?;
+    add_text(out, "}")
+}
+
+/// Adds the keys of a map with their values, with a comma between two.
+#[cycle(print)]
+fn add_fields(
+    store: &Store,
+    path: &mut Path,
+    map: &Map,
+    form: Form,
+    out: &mut String,
+) -> Result<(), AllocError>
+    ensures text { OnOk result (chars (string_bytes out.new) ≡ chars (string_bytes out.old)
+        ++ listed (row_printed form (λ t. printed store.now path.old t form)) true map.now) }
+    ensures path { OnOk result (path.new ≡ path.old) }
+{
+    let mut is_first = true;
+    for (key, value) in map.iter() {
+        add_comma(out, is_first)?;
+        add_name(out, key, form)?;
+        add_text(out, ": ")?;
+        add_value(store, path, value, form, out)?;
+        is_first = false;
+    }
+    Ok(())
+}
+
+#[cycle(print)]
+fn add_function(
+    store: &Store,
+    path: &mut Path,
+    function: &FnPtr,
+    form: Form,
+    out: &mut String,
+) -> Result<(), AllocError>
+    ensures text { OnOk result (chars (string_bytes out.new) ≡ chars (string_bytes out.old)
+        ++ (codes "Fn(" ++ name_printed form function.now.name
+        ++ in_debug form (further (λ t. printed store.now path.old t Debug) function.now.curry.items) []
+        ++ codes ")")) }
+    ensures path { OnOk result (path.new ≡ path.old) }
+{
+    add_text(out, "Fn(")?;
+    add_name(out, function.fn_name(), form)?;
+    add_curried(store, path, function.curry(), form, out)?;
+    add_text(out, ")")
+}
+
+/// Adds curried values, in Debug alone.
+#[cycle(print)]
+fn add_curried(
+    store: &Store,
+    path: &mut Path,
+    items: &[Dynamic],
+    form: Form,
+    out: &mut String,
+) -> Result<(), AllocError>
+    ensures text { OnOk result (chars (string_bytes out.new) ≡ chars (string_bytes out.old)
+        ++ in_debug form (further (λ t. printed store.now path.old t Debug) items.now) []) }
+    ensures path { OnOk result (path.new ≡ path.old) }
+{
+    match form {
+        Form::Display => Ok(()),
+        Form::Inner => Ok(()),
+        Form::Debug => add_items(store, path, items, Form::Debug, false, out),
+    }
+}
+
+/// Adds a key or the name of a function.
+fn add_name(out: &mut String, name: &str, form: Form) -> Result<(), AllocError>
+    ensures { OnOk result (chars (string_bytes out.new) ≡ chars (string_bytes out.old) ++ name_printed form (chars name.now)) }
+{
+    match form {
+        Form::Display => add_text(out, name),
+        Form::Inner => add_text(out, name),
+        Form::Debug => quoted_text_into(name, out),
+    }
+}
+
+/// Adds the comma that stands before a text, unless that is the first.
+fn add_comma(out: &mut String, is_first: bool) -> Result<(), AllocError>
+    ensures { OnOk result (chars (string_bytes out.new) ≡ chars (string_bytes out.old) ++ comma_unless is_first) }
+{
+    if is_first {
+        Ok(())
+    } else {
+        add_text(out, ", ")
     }
 }
 
@@ -47,15 +201,16 @@ fn text_of(alloc: Global, value: &Dynamic, s: &Store, form: Form) -> Result<Stri
     Ok(out)
 }
 
-/// The text of a value as `{}` prints it (`Display` of rhai's `Dynamic`). Costs the length of the text, and for each holder on the way
-/// a look at each cell that is open then.
+/// The text of a value as `{}` prints it (`Display` of rhai's `Dynamic`). Costs the length of the text, and for each holder on the
+/// way the logarithm of how many cells are open then.
 pub fn display_text(alloc: Global, value: &Dynamic, s: &Store) -> Result<String, AllocError>
     ensures { IfOk result (λ t. chars (string_bytes t) ≡ printed s.now [] value.now Display) }
 {
     text_of(alloc, value, s, Form::Display)
 }
 
-/// The text of a value as `{:?}` prints it (`Debug` of rhai's `Dynamic`). Costs as `display_text`.
+/// The text of a value as `{:?}` prints it (`Debug` of rhai's `Dynamic`). Costs the length of the text, and for each holder on the
+/// way the logarithm of how many cells are open then.
 pub fn debug_text(alloc: Global, value: &Dynamic, s: &Store) -> Result<String, AllocError>
     ensures { IfOk result (λ t. chars (string_bytes t) ≡ printed s.now [] value.now Debug) }
 {

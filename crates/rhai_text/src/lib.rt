@@ -17,5 +17,5 @@ pub use error::{ArithmeticFault, EvalAltResult, SizeKind};
 pub use immutable_string::ImmutableString;
 pub use limits::Limits;
 pub use position::Position;
-pub use quote::quoted_char_into;
+pub use quote::{quoted_char_into, quoted_text_into};
 pub use token::Token;

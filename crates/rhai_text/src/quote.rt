@@ -16,8 +16,18 @@ impl ImmutableString {
         ensures bytes { OnOk result (string_bytes out.new ≡ string_bytes out.old ++ encode_utf8_all (quoted_text self.now)) }
         ensures err { OnErr result (string_bytes out.new ≡ string_bytes out.old) }
     {
-        append_quoted(self.as_str(), '"', out)
+        quoted_text_into(self.as_str(), out)
     }
+}
+
+/// Appends a text in double quotation marks, as `ImmutableString::quoted_into` does. The time is in the length of the text. Where
+/// memory is refused, `out` is as before.
+pub fn quoted_text_into(text: &str, out: &mut String) -> Result<(), AllocError>
+    ensures characters { OnOk result (chars (string_bytes out.new) ≡ chars (string_bytes out.old) ++ quoted_text (chars text.now)) }
+    ensures bytes { OnOk result (string_bytes out.new ≡ string_bytes out.old ++ encode_utf8_all (quoted_text (chars text.now))) }
+    ensures err { OnErr result (string_bytes out.new ≡ string_bytes out.old) }
+{
+    append_quoted(text, '"', out)
 }
 
 /// Appends a character in single quotation marks, with `'`, the backslash and what does not print escaped, as `Debug` of

@@ -188,6 +188,9 @@ fn quotes_texts(rt: HostRuntime) -> Result<(), Fail> {
         let mut out = String::from_str(rt.alloc(), "é")?;
         text(rt.alloc(), characters)?.quoted_into(&mut out)?;
         assert_eq!(rt; out.as_str().strip_prefix('é'), Some(want));
+        let mut plain = String::new(rt.alloc());
+        quoted_text_into(characters, &mut plain)?;
+        assert_eq!(rt; plain.as_str(), want);
     }
     Ok(())
 }

@@ -1,9 +1,11 @@
 -- A count of steps finds where a chain ends.
-use Rattle.std.proofs.Common.{◌≡◌, ℕ, ℤ, zero, suc, ◌≤◌, Bool, true, false, List, [], ◌∷◌, length, slice_get, Option, Some, None, refl, ap, sym, ◌∙◌, arith, inl, inr}
+use Rattle.std.proofs.Common.{◌≡◌, ℕ, ℤ, zero, suc, ◌≤◌, Bool, true, false, List, [], ◌∷◌, length, slice_get, Option, Some, None, refl, ap, sym, ◌∙◌, arith, eqb, eqb-true, inl, inr}
+use Rattle.std.specs.Option.{option_eq}
 use Rattle.std.proofs.lemmas.Bool.Decides.{eqb_tells}
+use Rattle.std.proofs.lemmas.Option.{none-some, same_Some}
 use Rattle.rhai_value.specs.declared.access_mode.AccessMode.{AccessMode}
 use Rattle.rhai_value.specs.declared.store.Cell.{Cell}
-use Rattle.rhai_value.specs.Tree.{Tree, node, leaf, holder}
+use Rattle.rhai_value.specs.Tree.{Tree, node, leaf, branch, holder, cell_of}
 use Rattle.rhai_value.specs.Store.{at}
 use Rattle.rhai_value.specs.Walk.{is_open, visit, visit_of, visit_map, unentered, walk_in}
 use Rattle.rhai_value.specs.End.{End, closed, end_at, end_from, end_of, end}
@@ -51,6 +53,8 @@ unentered_either (Some u) false = refl
 chain_walk : (n : ℕ) (s : List Cell) (path : List ℕ) (t : Tree) → Behind s path t → chain n s (slice_get path 0) t ≡ walk_in end_of n s path t
 chain_walk zero s path (node (leaf l) g a) h = refl
 chain_walk (suc n) s path (node (leaf l) g a) h = refl
+chain_walk zero s path (node (branch k ts) g a) h = refl
+chain_walk (suc n) s path (node (branch k ts) g a) h = refl
 chain_walk zero s path (node (holder c) g a) h = ap (end_at (node (holder c) g a)) (unentered_either (at s c) (is_open c path))
 chain_walk (suc n) s path (node (holder c) g a) h = at_cell (chain_walk n s (c ∷ path)) (at s c) (is_open c path) refl refl
   where
@@ -66,3 +70,47 @@ chain_walk (suc n) s path (node (holder c) g a) h = at_cell (chain_walk n s (c �
 pub chain-end : (s : List Cell) (t : Tree) → chain (length s) s None t ≡ end s [] t
 unfolding end
 chain-end s t = chain_walk (length s) s [] t (λ c u n passed. cc)
+
+-- from one value another is reached by this many holders
+abbrev pub Reaches : List Cell → ℕ → Tree → Tree → Type 0
+Reaches s zero t u = t ≡ u
+Reaches s (suc n) t u = (c : ℕ) × (v : Tree) × (cell_of t ≡ Some c) × (at s c ≡ Some v) × Reaches s n v u
+
+reaches_next : (s : List Cell) (n : ℕ) (t u w : Tree) (c : ℕ) → Reaches s n t u → cell_of u ≡ Some c → at s c ≡ Some w → Reaches s (suc n) t w
+reaches_next s zero t u w c h e is = (c, w, ap cell_of h ∙ e, is, refl)
+reaches_next s (suc n) t u w c h e is = (h.0, h.1, h.2, h.3, reaches_next s n h.1 u w c h.4 e is)
+
+-- a chain that comes back to a cell never ends
+comes_back : (s : List Cell) (c : ℕ) (v u : Tree) (j : ℕ) → at s c ≡ Some v → Reaches s j v u → cell_of u ≡ Some c
+    → (n k : ℕ) (place : Option ℕ) (t : Tree) → Reaches s k t u → chain n s place t ≡ closed
+comes_back s c v u j is round e zero zero place (node (holder d) g a) r = rw (same_Some d c (ap cell_of r ∙ e), is) refl
+comes_back s c v u j is round e (suc n) zero place (node (holder d) g a) r = rw (same_Some d c (ap cell_of r ∙ e), is) (comes_back s c v u j is round e n j (Some c) v round)
+comes_back s c v u j is round e zero (suc k) place (node (holder d) g a) r = rw (same_Some d r.0 r.2, r.3) refl
+comes_back s c v u j is round e (suc n) (suc k) place (node (holder d) g a) r = rw (same_Some d r.0 r.2, r.3) (comes_back s c v u j is round e n k (Some r.0) r.1 r.4)
+comes_back s c v u j is round e n zero place (node (leaf l) g a) r = absurd (none-some c (ap cell_of r ∙ e))
+comes_back s c v u j is round e n zero place (node (branch k ts) g a) r = absurd (none-some c (ap cell_of r ∙ e))
+comes_back s c v u j is round e n (suc k) place (node (leaf l) g a) r = absurd (none-some r.0 r.2)
+comes_back s c v u j is round e n (suc k) place (node (branch i ts) g a) r = absurd (none-some r.0 r.2)
+
+-- the chain has come to t, some steps behind the content of the cell that is kept, if one is
+abbrev pub IsBehind : List Cell → Option ℕ → Tree → Type 0
+IsBehind s None t = Unit {0}
+IsBehind s (Some c) t = (v : Tree) × (j : ℕ) × (at s c ≡ Some v) × Reaches s j v t
+
+pub behind_next_step : (s : List Cell) (kept : Option ℕ) (t w : Tree) (c : ℕ) → IsBehind s kept t → Some c ≡ cell_of t → Some w ≡ at s c → IsBehind s kept w
+behind_next_step s None t w c h e is = tt
+behind_next_step s (Some d) t w c h e is = (h.0, suc h.1, h.2, reaches_next s h.1 h.0 t w c h.3 (sym e) (sym is))
+
+pub behind_first : (s : List Cell) (w : Tree) (c : ℕ) → Some w ≡ at s c → IsBehind s (Some c) w
+behind_first s w c is = (w, 0, sym is, refl)
+
+-- where a chain has come back to the cell that is kept, it never ends
+pub behind_closed : (s : List Cell) (kept : Option ℕ) (t : Tree) (c n : ℕ) (place : Option ℕ) → IsBehind s kept t → true ≡ option_eq eqb kept (Some c) → Some c ≡ cell_of t → chain n s place t ≡ closed
+behind_closed s None t c n place h q e = cc
+behind_closed s (Some d) t c n place h q e = comes_back s d h.0 t h.1 h.2 h.3 (sym (ap Some (eqb-true d c (sym q)) ∙ e)) n 0 place t refl
+
+-- a step into the cell of a holder
+pub chain_next : (s : List Cell) (t w : Tree) (c n m : ℕ) (place : Option ℕ) → Some c ≡ cell_of t → Some w ≡ at s c → n ≡ suc m → chain n s place t ≡ chain m s (Some c) w
+chain_next s (node (leaf l) g a) w c n m place e is next = cc
+chain_next s (node (branch k ts) g a) w c n m place e is next = cc
+chain_next s (node (holder d) g a) w c n m place e is next = rw (next, same_Some d c (sym e), ← is) refl

@@ -4,9 +4,10 @@ use Rattle.std.proofs.lemmas.Bool.{or_cases}
 use Rattle.std.proofs.lemmas.Option.{slice_get_within}
 use Rattle.std.proofs.lemmas.Bool.Decides.{nat_tests}
 use Rattle.rhai_value.specs.declared.store.Cell.{Cell}
-use Rattle.rhai_value.specs.Tree.{Tree, node, Content, leaf, holder}
+use Rattle.rhai_value.specs.Tree.{Tree}
 use Rattle.rhai_value.specs.Store.{added}
-use Rattle.rhai_value.specs.Relation.{Renaming, paired, SameContent, Related, SameCells, IsOneToOne, new_pairs}
+use Rattle.rhai_value.specs.Relation.{Renaming, paired, Related, AllRelated, SameCells, IsOneToOne, new_pairs}
+use Rattle.rhai_value.proofs.SameTrees.{by_related}
 use Rattle.rhai_value.proofs.Zips.{get_append, get_last}
 
 or_assoc : (a b c : Bool) → (a || b) || c ≡ a || (b || c)
@@ -20,14 +21,8 @@ paired_append (p ∷ r) q c d = ap (λ b. (nat_eq p.0 c && nat_eq p.1 d) || b) (
 pub paired_more : (r q : Renaming) (c d : ℕ) → paired r c d ≡ true → paired (r ++ q) c d ≡ true
 paired_more r q c d e = paired_append r q c d ∙ ap (λ b. b || paired q c d) e
 
-content_more : (r q : Renaming) (c d : Content) → SameContent r c d → SameContent (r ++ q) c d
-content_more r q (leaf l) (leaf k) e = e
-content_more r q (holder c) (holder d) e = paired_more r q c d e
-content_more r q (leaf l) (holder d) e = absurd e
-content_more r q (holder c) (leaf k) e = absurd e
-
 pub related_more : (r q : Renaming) (t u : Tree) → Related r t u → Related (r ++ q) t u
-related_more r q (node c g m) (node d h n) e = (content_more r q c d e.0, e.1, e.2)
+related_more r q = by_related r (Related (r ++ q)) (AllRelated (r ++ q)) (λ l g m. (refl, refl, refl)) (λ k ts us g m e h. ((refl, h), refl, refl)) (λ c d g m p. (paired_more r q c d p, refl, refl)) tt (λ t u ts us p q. (p, q))
 
 abbrev pub one_pair : ℕ → ℕ → Renaming
 one_pair n m = (n, m) ∷ []

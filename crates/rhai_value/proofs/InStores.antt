@@ -1,11 +1,11 @@
 -- Writes to what a value holds in its store.
-use Rattle.std.proofs.Common.{◌≡◌, ◌<◌, ℕ, List, [], length, Option, Some, None, IfSome, slice_get, refl, ap, ◌∙◌}
+use Rattle.std.proofs.Common.{◌≡◌, ◌<◌, ℕ, ℤ, List, [], length, Option, Some, None, IfSome, slice_get, refl, sym, ap, ◌∙◌}
+use Rattle.rhai_value.specs.declared.access_mode.AccessMode.{AccessMode}
 use Rattle.rhai_value.specs.declared.in_store.InStore.{InStore}
 use Rattle.rhai_value.specs.declared.store.Cell.{Cell}
-use Rattle.rhai_value.specs.Tree.{Tree, node, Leaf, leaf, holder, cell_of, part_of}
+use Rattle.rhai_value.specs.Tree.{Tree, node, leaf, branch, holder, cell_of}
 use Rattle.rhai_value.specs.Store.{put, at}
-use Rattle.rhai_value.specs.End.{End, end, held, stuck, closed, held_in, part_held}
-use Rattle.rhai_value.specs.Seen.{place_of}
+use Rattle.rhai_value.specs.End.{End, end, held, stuck, closed, held_in, held_part, place_of}
 use Rattle.rhai_value.specs.Writes.{written_at, written}
 use Rattle.rhai_value.proofs.Ends.{stands, end_opens}
 use Rattle.rhai_value.proofs.Stores.{content_is}
@@ -52,18 +52,14 @@ cell_within s t c p = let r = cell_read_at (end s [] t) s t c refl p in at_withi
 pub cell_value : (s : List Cell) (t : Tree) (c : ℕ) (u : Tree) → Some (Some c) ≡ place_of (end s [] t) → IfSome (slice_get s c) (λ x. u ≡ x.content) → Some u ≡ held_in (end s [] t)
 cell_value s t c u p e = let r = cell_read_at (end s [] t) s t c refl p in ap Some (content_is s c r.0 u r.1 e) ∙ r.2
 
--- what the held value has
-pub part_of_held : {A : Type 0} (part : Leaf → Option A) (e : End) (v : Tree) → Some v ≡ held_in e → part_of part v ≡ part_held part e
-part_of_held part (held p u) v e = let same : v ≡ u = cc in ap (part_of part) same
-part_of_held part (stuck u) v e = cc
-part_of_held part closed v e = cc
-
-pub part_of_none : {A : Type 0} (part : Leaf → Option A) (e : End) → None ≡ place_of e → None ≡ part_held part e
-part_of_none part (held p u) e = cc
-part_of_none part (stuck u) e = refl
-part_of_none part closed e = refl
-
 -- a value that is no holder stands in no cell
 pub unshared_place : (s : List Cell) (t : Tree) (c : ℕ) → cell_of t ≡ None → Some (Some c) ≡ place_of (end s [] t) → ⊥
 unshared_place s (node (leaf l) g m) c e p = let q : Some (Some c) ≡ Some None = p ∙ ap place_of (end_opens s [] (node (leaf l) g m)) in cc
+unshared_place s (node (branch k ts) g m) c e p = let q : Some (Some c) ≡ Some None = p ∙ ap place_of (end_opens s [] (node (branch k ts) g m)) in cc
 unshared_place s (node (holder d) g m) c e p = cc
+
+-- a value that has a part which no holder has holds it itself
+pub own_part_held : {A : Type 0} (part : Tree → Option A) (s : List Cell) (t : Tree) (a : A) → ((c : ℕ) (g : ℤ) (m : AccessMode) → part (node (holder c) g m) ≡ None) → part t ≡ Some a → held_part part (end s [] t) ≡ Some a
+own_part_held part s (node (leaf l) g m) a none h = ap (held_part part) (end_opens s [] (node (leaf l) g m)) ∙ h
+own_part_held part s (node (branch k ts) g m) a none h = ap (held_part part) (end_opens s [] (node (branch k ts) g m)) ∙ h
+own_part_held part s (node (holder c) g m) a none h = let e : None ≡ Some a = sym (none c g m) ∙ h in cc

@@ -1,37 +1,16 @@
 -- Changes that keep values and stores the same up to the numbers of cells.
-use Rattle.std.proofs.Common.{◌≡◌, ℕ, zero, suc, ℤ, true, List, [], ◌∷◌, length, slice_get, Option, Some, None, refl, sym, ap, ◌∙◌, eqb-true, eq-eqb, inl, inr}
+use Rattle.std.proofs.Common.{◌≡◌, ℕ, zero, suc, Bool, true, List, [], ◌∷◌, length, slice_get, Option, Some, None, refl, sym, ap, ◌∙◌, eqb-true, eq-eqb, inl, inr}
 use Rattle.std.proofs.lemmas.Bool.{cases_eq}
 use Rattle.std.proofs.lemmas.Option.{none-some, same_Some}
-use Rattle.rhai_value.specs.declared.access_mode.AccessMode.{AccessMode}
 use Rattle.rhai_value.specs.declared.store.Cell.{Cell}
-use Rattle.rhai_value.specs.Tree.{Tree, node, Leaf, leaf, holder, copy, paint, part_of, with_leaf}
+use Rattle.rhai_value.specs.Tree.{Tree, Leaf}
+use Rattle.rhai_value.specs.Parts.{part_of}
 use Rattle.rhai_value.specs.Store.{put, changed_at, is_marked_at, added}
-use Rattle.rhai_value.specs.End.{End, held, stuck, closed, part_held, value_after, store_after}
-use Rattle.rhai_value.specs.Names.{tree_name, leaf_name, end_name}
-use Rattle.rhai_value.specs.Relation.{Renaming, paired, Related, IsOneToOne, SameCells, SameEnd}
-
-pub same_copy : (r : Renaming) (t u : Tree) → Related r t u → Related r (copy t) (copy u)
-same_copy r (node c g m) (node d h n) e = (e.0, e.1, refl)
-
-pub same_paint : (r : Renaming) (m : AccessMode) (t u : Tree) → Related r t u → Related r (paint m t) (paint m u)
-same_paint r m (node c g i) (node d h j) e = (e.0, e.1, refl)
-
--- related trees are of one kind
-pub by_trees : (r : Renaming) (P : Tree → Tree → Type 0) → ((l k : Leaf) (g h : ℤ) (m n : AccessMode) → l ≡ k → g ≡ h → m ≡ n → P (node (leaf l) g m) (node (leaf k) h n))
-    → ((c d : ℕ) (g h : ℤ) (m n : AccessMode) → paired r c d ≡ true → g ≡ h → m ≡ n → P (node (holder c) g m) (node (holder d) h n)) → (t u : Tree) → Related r t u → P t u
-by_trees r P leaves holders (node (leaf l) g m) (node (leaf k) h n) e = leaves l k g h m n e.0 e.1 e.2
-by_trees r P leaves holders (node (holder c) g m) (node (holder d) h n) e = holders c d g h m n e.0 e.1 e.2
-by_trees r P leaves holders (node (leaf l) g m) (node (holder d) h n) e = absurd e.0
-by_trees r P leaves holders (node (holder c) g m) (node (leaf k) h n) e = absurd e.0
-
-pub same_part : {A : Type 0} (r : Renaming) (part : Leaf → Option A) (t u : Tree) → Related r t u → part_of part t ≡ part_of part u
-same_part r part = by_trees r (λ t u. part_of part t ≡ part_of part u) (λ l k g h m n e f i. ap part e) (λ c d g h m n e f i. refl)
-
-pub same_name : (r : Renaming) (t u : Tree) → Related r t u → tree_name t ≡ tree_name u
-same_name r = by_trees r (λ t u. tree_name t ≡ tree_name u) (λ l k g h m n e f i. ap leaf_name e) (λ c d g h m n e f i. refl)
-
-pub same_with_leaf : (r : Renaming) (f : Leaf → Leaf) (t u : Tree) → Related r t u → Related r (with_leaf f t) (with_leaf f u)
-same_with_leaf r f = by_trees r (λ t u. Related r (with_leaf f t) (with_leaf f u)) (λ l k g h m i e j n. (ap f e, j, n)) (λ c d g h m i e j n. (e, j, n))
+use Rattle.rhai_value.specs.End.{End, held, stuck, closed, held_part, value_after, store_after}
+use Rattle.rhai_value.specs.Marks.{set_mark}
+use Rattle.rhai_value.specs.Types.{end_type}
+use Rattle.rhai_value.specs.Relation.{Renaming, paired, Related, IsOneToOne, SameCell, SameCells, SameEnd}
+use Rattle.rhai_value.proofs.SameTrees.{same_part, same_type}
 
 -- a cell that is changed, and the others
 pub get_changed : (f : Cell → Cell) (s : List Cell) (c : ℕ) (x : Cell) → slice_get s c ≡ Some x → slice_get (changed_at f s c) c ≡ Some (f x)
@@ -46,27 +25,36 @@ get_unchanged f (y ∷ s) zero (suc d) e = refl
 get_unchanged f (y ∷ s) (suc c) zero e = refl
 get_unchanged f (y ∷ s) (suc c) (suc d) e = get_unchanged f s c d (λ h. e (ap suc h))
 
-pub length-changed : (f : Cell → Cell) (s : List Cell) (c : ℕ) → length (changed_at f s c) ≡ length s
-length-changed f [] c = refl
-length-changed f (y ∷ s) zero = refl
-length-changed f (y ∷ s) (suc c) = ap suc (length-changed f s c)
+pub length_changed : (f : Cell → Cell) (s : List Cell) (c : ℕ) → length (changed_at f s c) ≡ length s
+length_changed f [] c = refl
+length_changed f (y ∷ s) zero = refl
+length_changed f (y ∷ s) (suc c) = ap suc (length_changed f s c)
 
--- related values are put into paired cells
-pub same_put : (r : Renaming) (s z : List Cell) (a b : ℕ) (t u : Tree) → IsOneToOne r → SameCells r s z → paired r a b ≡ true → Related r t u → SameCells r (put s a t) (put z b u)
-same_put r s z a b t u one cells p e c d q =
+-- paired cells are changed alike
+pub same_changed : (f h : Cell → Cell) (r : Renaming) (s z : List Cell) (a b : ℕ) → IsOneToOne r → SameCells r s z → paired r a b ≡ true
+    → ((x y : Cell) → SameCell r x y → SameCell r (f x) (h y)) → SameCells r (changed_at f s a) (changed_at h z b)
+same_changed f h r s z a b one cells p e c d q =
     let old = cells c d q in
     elim (cases_eq c a) [
       | inl same ↦
           let other : d ≡ b = eqb-true d b (sym (one c d a b q p) ∙ eq-eqb c a same) in (
-            record { content = t; is_marked = old.0.is_marked },
-            record { content = u; is_marked = old.1.is_marked },
-            ap (slice_get (put s a t)) same ∙ get_changed _ s a old.0 (ap (slice_get s) (sym same) ∙ old.2),
-            ap (slice_get (put z b u)) other ∙ get_changed _ z b old.1 (ap (slice_get z) (sym other) ∙ old.3),
-            (old.4.0, e),
+            f old.0,
+            h old.1,
+            ap (slice_get (changed_at f s a)) same ∙ get_changed f s a old.0 (ap (slice_get s) (sym same) ∙ old.2),
+            ap (slice_get (changed_at h z b)) other ∙ get_changed h z b old.1 (ap (slice_get z) (sym other) ∙ old.3),
+            e old.0 old.1 old.4,
           )
       | inr away ↦
-          (old.0, old.1, get_unchanged _ s a c away ∙ old.2, get_unchanged _ z b d (λ f. away (eqb-true c a (one c d a b q p ∙ eq-eqb d b f))) ∙ old.3, old.4)
+          (old.0, old.1, get_unchanged f s a c away ∙ old.2, get_unchanged h z b d (λ i. away (eqb-true c a (one c d a b q p ∙ eq-eqb d b i))) ∙ old.3, old.4)
     ]
+
+-- related values are put into paired cells
+pub same_put : (r : Renaming) (s z : List Cell) (a b : ℕ) (t u : Tree) → IsOneToOne r → SameCells r s z → paired r a b ≡ true → Related r t u → SameCells r (put s a t) (put z b u)
+same_put r s z a b t u one cells p e = same_changed _ _ r s z a b one cells p (λ x y h. (h.0, e))
+
+-- paired cells are marked alike
+pub same_set_mark : (r : Renaming) (s z : List Cell) (a b : ℕ) (m : Bool) → IsOneToOne r → SameCells r s z → paired r a b ≡ true → SameCells r (set_mark s a m) (set_mark z b m)
+same_set_mark r s z a b m one cells p = same_changed _ _ r s z a b one cells p (λ x y h. (refl, h.1))
 
 -- the same ends are of one kind
 pub by_ends : (r : Renaming) (P : End → End → Type 0) → ((t u : Tree) → Related r t u → P (held None t) (held None u)) → ((c d : ℕ) (t u : Tree) → paired r c d ≡ true → Related r t u → P (held (Some c) t) (held (Some d) u))
@@ -85,11 +73,11 @@ by_ends r P own cell bars loops closed (held q u) h = absurd h
 by_ends r P own cell bars loops closed (stuck u) h = absurd h
 
 -- what is told of the same ends, and what becomes of values and stores that are written at them
-pub same_part_held : {A : Type 0} (r : Renaming) (part : Leaf → Option A) (e f : End) → SameEnd r e f → part_held part e ≡ part_held part f
-same_part_held r part = by_ends r (λ e f. part_held part e ≡ part_held part f) (same_part r part) (λ c d t u p. same_part r part t u) (λ t u h. refl) refl
+pub same_held_part : {A : Type 0} (r : Renaming) (part : Leaf → Option A) (e f : End) → SameEnd r e f → held_part (part_of part) e ≡ held_part (part_of part) f
+same_held_part r part = by_ends r (λ e f. held_part (part_of part) e ≡ held_part (part_of part) f) (same_part r part) (λ c d t u p. same_part r part t u) (λ t u h. refl) refl
 
-pub same_end_name : (r : Renaming) (e f : End) → SameEnd r e f → end_name e ≡ end_name f
-same_end_name r = by_ends r (λ e f. end_name e ≡ end_name f) (same_name r) (λ c d t u p. same_name r t u) (λ t u h. refl) refl
+pub same_end_type : (r : Renaming) (e f : End) → SameEnd r e f → end_type e ≡ end_type f
+same_end_type r = by_ends r (λ e f. end_type e ≡ end_type f) (same_type r) (λ c d t u p. same_type r t u) (λ t u h. refl) refl
 
 -- a change of values that takes related ones to related ones
 abbrev pub Respects : Renaming → (Tree → Tree) → Type 0
@@ -102,28 +90,28 @@ pub same_store_after : (r : Renaming) (f : Tree → Tree) (s z : List Cell) → 
 same_store_after r f s z k one cells = by_ends r (λ e o. SameCells r (store_after f e s) (store_after f o z)) (λ t u h. cells) (λ c d t u p h. same_put r s z c d (f t) (f u) one cells p (k t u h)) (λ t u h. cells) cells
 
 -- a write where a chain ends makes no cell and sets no mark
-pub length-store_after : (f : Tree → Tree) (e : End) (s : List Cell) → length (store_after f e s) ≡ length s
-length-store_after f (held None v) s = refl
-length-store_after f (held (Some c) v) s = length-changed _ s c
-length-store_after f (stuck v) s = refl
-length-store_after f closed s = refl
+pub length_store_after : (f : Tree → Tree) (e : End) (s : List Cell) → length (store_after f e s) ≡ length s
+length_store_after f (held None v) s = refl
+length_store_after f (held (Some c) v) s = length_changed _ s c
+length_store_after f (stuck v) s = refl
+length_store_after f closed s = refl
 
-pub marked-put : (s : List Cell) (c d : ℕ) (t : Tree) → is_marked_at (put s c t) d ≡ is_marked_at s d
-marked-put [] c d t = refl
-marked-put (x ∷ s) zero zero t = refl
-marked-put (x ∷ s) zero (suc d) t = refl
-marked-put (x ∷ s) (suc c) zero t = refl
-marked-put (x ∷ s) (suc c) (suc d) t = marked-put s c d t
+pub marked_put : (s : List Cell) (c d : ℕ) (t : Tree) → is_marked_at (put s c t) d ≡ is_marked_at s d
+marked_put [] c d t = refl
+marked_put (x ∷ s) zero zero t = refl
+marked_put (x ∷ s) zero (suc d) t = refl
+marked_put (x ∷ s) (suc c) zero t = refl
+marked_put (x ∷ s) (suc c) (suc d) t = marked_put s c d t
 
-pub marked-store_after : (f : Tree → Tree) (e : End) (s : List Cell) (d : ℕ) → is_marked_at (store_after f e s) d ≡ is_marked_at s d
-marked-store_after f (held None v) s d = refl
-marked-store_after f (held (Some c) v) s d = marked-put s c d (f v)
-marked-store_after f (stuck v) s d = refl
-marked-store_after f closed s d = refl
+pub marked_store_after : (f : Tree → Tree) (e : End) (s : List Cell) (d : ℕ) → is_marked_at (store_after f e s) d ≡ is_marked_at s d
+marked_store_after f (held None v) s d = refl
+marked_store_after f (held (Some c) v) s d = marked_put s c d (f v)
+marked_store_after f (stuck v) s d = refl
+marked_store_after f closed s d = refl
 
 -- nor does a new cell set one
-pub marked-added : (s : List Cell) (t : Tree) (d : ℕ) → is_marked_at (added s t) d ≡ is_marked_at s d
-marked-added [] t zero = refl
-marked-added [] t (suc d) = refl
-marked-added (x ∷ s) t zero = refl
-marked-added (x ∷ s) t (suc d) = marked-added s t d
+pub marked_added : (s : List Cell) (t : Tree) (d : ℕ) → is_marked_at (added s t) d ≡ is_marked_at s d
+marked_added [] t zero = refl
+marked_added [] t (suc d) = refl
+marked_added (x ∷ s) t zero = refl
+marked_added (x ∷ s) t (suc d) = marked_added s t d

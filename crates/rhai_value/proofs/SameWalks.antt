@@ -2,11 +2,12 @@
 use Rattle.std.proofs.Common.{◌≡◌, ℕ, zero, suc, ◌+◌, Bool, true, false, ◌||◌, List, [], ◌∷◌, length, Option, Some, None, option_and_then, refl, sym, ap, ap₂, ◌∙◌, subst₂, arith}
 use Rattle.std.specs.List.{AllZip}
 use Rattle.rhai_value.specs.declared.store.Cell.{Cell}
-use Rattle.rhai_value.specs.Tree.{Tree, node, leaf, holder}
+use Rattle.rhai_value.specs.Tree.{Tree, node, holder}
 use Rattle.rhai_value.specs.Store.{at, unmarked}
 use Rattle.rhai_value.specs.Walk.{Visit, entered, barred, revisited, is_open, visit, visit_of, visit_map, unentered, walk_in, walk}
 use Rattle.rhai_value.specs.End.{End, end_at, end_of, end}
 use Rattle.rhai_value.specs.Relation.{Renaming, paired, Related, Alike, IsOneToOne, SameCells, SameEnd}
+use Rattle.rhai_value.proofs.SameTrees.{by_trees}
 use Rattle.rhai_value.proofs.Zips.{zip_get}
 use Rattle.rhai_value.proofs.Walks.{more_room_by}
 
@@ -99,10 +100,9 @@ end_at_alike : (r : Renaming) (t u : Tree) (o q : Visit End) → Related r t u �
 end_at_alike r t u o q h k = by_visits (SameEnd r) (λ o q. SameEnd r (end_at t o) (end_at u q)) (λ e f same. same) h tt o q k
 
 end_kept : (r : Renaming) → Keeps r end_of end_of (SameEnd r)
-end_kept r path road h k (node (leaf l) g m) (node (leaf j) i n) same to e = (zip_get (Paired r) path road 0 same, e)
-end_kept r path road h k (node (holder c) g m) (node (holder d) i n) same to e = end_at_alike r (node (holder c) g m) (node (holder d) i n) (h c) (k d) e (to c d e.0)
-end_kept r path road h k (node (leaf l) g m) (node (holder d) i n) same to e = absurd e.0
-end_kept r path road h k (node (holder c) g m) (node (leaf j) i n) same to e = absurd e.0
+end_kept r path road h k t u same to = by_trees r (λ t u. SameEnd r (end_of path h t) (end_of road k u))
+    (λ l g m. (zip_get (Paired r) path road 0 same, (refl, refl, refl))) (λ i ts us g m e. (zip_get (Paired r) path road 0 same, ((refl, e), refl, refl)))
+    (λ c d g m p. end_at_alike r (node (holder c) g m) (node (holder d) g m) (h c) (k d) (p, refl, refl) (to c d p)) t u
 
 -- the ends of the chains from related values are the same
 pub same_end : (r : Renaming) (s z : List Cell) (t u : Tree) → IsOneToOne r → SameCells r s z → Related r t u → SameEnd r (end s [] t) (end z [] u)

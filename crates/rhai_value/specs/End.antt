@@ -1,7 +1,8 @@
 -- Where a chain of holders ends.
-use Rattle.std.specs.Prelude.{ℕ, ℤ, Bool, List, Option, Some, None, slice_get}
+use Rattle.std.specs.Prelude.{ℕ, ℤ, Bool, List, Option, Some, None, option_and_then, slice_get}
 use Rattle.rhai_value.specs.declared.store.Cell.{Cell}
-use Rattle.rhai_value.specs.Tree.{Tree, node, Leaf, leaf, holder, part_of, leaf_unit, leaf_bool, leaf_int, leaf_char, leaf_text}
+use Rattle.rhai_value.specs.Tree.{Tree, node, holder, Trees}
+use Rattle.rhai_value.specs.Parts.{unit_of, bool_of, int_of, char_of, text_of, blob_of, array_of, map_of, function_of}
 use Rattle.rhai_value.specs.Store.{put}
 use Rattle.rhai_value.specs.Walk.{Visit, entered, barred, revisited, walk}
 
@@ -20,8 +21,8 @@ end_at t revisited = closed
 
 -- the end from a value, which stands in this cell or in none, being told what each holder's cell leads to
 abbrev pub end_from : Option ℕ → (ℕ → Visit End) → Tree → End
-end_from place go (node (leaf l) g m) = held place (node (leaf l) g m)
 end_from place go (node (holder c) g m) = end_at (node (holder c) g m) (go c)
+end_from place go t = held place t
 
 -- the same on a walk: the cell that was passed last comes first
 abbrev pub end_of : List ℕ → (ℕ → Visit End) → Tree → End
@@ -37,26 +38,42 @@ held_in (held place t) = Some t
 held_in (stuck t) = None
 held_in closed = None
 
--- what the held value has, if it is a leaf
-abbrev pub part_held : {A : Type 0} → (Leaf → Option A) → End → Option A
-part_held part (held place t) = part_of part t
-part_held part (stuck t) = None
-part_held part closed = None
+-- where it stands: in the value itself, in a cell, or nowhere
+abbrev pub place_of : End → Option (Option ℕ)
+place_of (held place t) = Some place
+place_of (stuck t) = None
+place_of closed = None
+
+-- what the held value has
+abbrev pub held_part : {A : Type 0} → (Tree → Option A) → End → Option A
+held_part part e = option_and_then part (held_in e)
 
 abbrev pub unit_held : End → Option (Unit {0})
-unit_held e = part_held leaf_unit e
+unit_held e = held_part unit_of e
 
 abbrev pub bool_held : End → Option Bool
-bool_held e = part_held leaf_bool e
+bool_held e = held_part bool_of e
 
 abbrev pub int_held : End → Option ℤ
-int_held e = part_held leaf_int e
+int_held e = held_part int_of e
 
 abbrev pub char_held : End → Option ℕ
-char_held e = part_held leaf_char e
+char_held e = held_part char_of e
 
 abbrev pub text_held : End → Option (List ℕ)
-text_held e = part_held leaf_text e
+text_held e = held_part text_of e
+
+abbrev pub blob_held : End → Option (List ℕ)
+blob_held e = held_part blob_of e
+
+abbrev pub array_held : End → Option Trees
+array_held e = held_part array_of e
+
+abbrev pub map_held : End → Option (List (List ℕ) × Trees)
+map_held e = held_part map_of e
+
+abbrev pub function_held : End → Option (List ℕ × Trees)
+function_held e = held_part function_of e
 
 -- a value, and a store, after f was applied to what is held where the chain from the value ends
 abbrev pub value_after : (Tree → Tree) → End → Tree → Tree

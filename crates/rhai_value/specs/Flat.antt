@@ -1,25 +1,19 @@
 -- A value without its holders.
-use Rattle.std.specs.Prelude.{List, [], Option, Some, None, option_and_then}
+use Rattle.std.specs.Prelude.{List, [], Option, Some, None, option_and_then, unwrap_or}
 use Rattle.rhai_value.specs.declared.store.Cell.{Cell}
 use Rattle.rhai_value.specs.Tree.{Tree, cell_of, copy}
 use Rattle.rhai_value.specs.Store.{at}
 use Rattle.rhai_value.specs.End.{End, end, held, stuck, closed}
-
--- the value at an end, which is t where the chain closes
-abbrev pub value_at_end : End → Tree → Tree
-value_at_end (held place v) t = v
-value_at_end (stuck v) t = v
-value_at_end closed t = t
-
--- the copy of what is held, of the holder at which the chain is stuck, or of the value itself where it closes
-abbrev pub flat : List Cell → Tree → Tree
-flat s t = copy (value_at_end (end s [] t) t)
 
 -- the value at an end that isn't closed
 abbrev pub value_ahead : End → Option Tree
 value_ahead (held place v) = Some v
 value_ahead (stuck v) = Some v
 value_ahead closed = None
+
+-- the copy of what is held, of the holder at which the chain is stuck, or of the value itself where it closes
+abbrev pub flat : List Cell → Tree → Tree
+flat s t = copy (unwrap_or (value_ahead (end s [] t)) t)
 
 -- t itself, or the copy of another value
 abbrev pub or_copy : Tree → Option Tree → Tree

@@ -1,7 +1,7 @@
 -- Values and stores that are equal up to the numbers of their cells.
 use Rattle.std.specs.Prelude.{◌≡◌, ◌<◌, ℕ, zero, suc, ◌+◌, Bool, true, false, nat_eq, ◌||◌, ◌&&◌, List, [], ◌∷◌, slice_get, Option, Some, None}
 use Rattle.rhai_value.specs.declared.store.Cell.{Cell}
-use Rattle.rhai_value.specs.Tree.{Tree, node, Content, leaf, holder}
+use Rattle.rhai_value.specs.Tree.{Tree, node, Content, leaf, branch, holder, Trees, no_trees, tree_then}
 use Rattle.rhai_value.specs.End.{End, held, stuck, closed}
 
 -- pairs of a cell of one store and a cell of another
@@ -13,23 +13,27 @@ abbrev pub paired : Renaming → ℕ → ℕ → Bool
 paired [] c d = false
 paired (p ∷ ps) c d = (nat_eq p.0 c && nat_eq p.1 d) || paired ps c d
 
--- the same leaf, or holders of the cells of a pair
-abbrev pub SameContent : Renaming → Content → Content → Type 0
-SameContent r (leaf l) (leaf k) = l ≡ k
-SameContent r (holder c) (holder d) = paired r c d ≡ true
-SameContent r (leaf l) (holder d) = ⊥
-SameContent r (holder c) (leaf k) = ⊥
-
 -- the same constructors, tags, modes and contents, and holders of paired cells
-abbrev pub Related : Renaming → Tree → Tree → Type 0
-Related r (node c g m) (node d h n) = SameContent r c d × (g ≡ h) × (m ≡ n)
+abbrev mutual
+  pub Related : Renaming → Tree → Tree → Type 0
+  Related r (node c g m) (node d h n) = SameContent r c d × (g ≡ h) × (m ≡ n)
+
+  pub SameContent : Renaming → Content → Content → Type 0
+  SameContent r (leaf l) (leaf k) = l ≡ k
+  SameContent r (branch k ts) (branch l us) = (k ≡ l) × AllRelated r ts us
+  SameContent r (holder c) (holder d) = paired r c d ≡ true
+  SameContent r _ _ = ⊥
+
+  pub AllRelated : Renaming → Trees → Trees → Type 0
+  AllRelated r no_trees no_trees = Unit {0}
+  AllRelated r (tree_then t ts) (tree_then u us) = Related r t u × AllRelated r ts us
+  AllRelated r _ _ = ⊥
 
 -- both are none, or both are there and related
 abbrev pub Alike : {A B : Type 0} → (A → B → Type 0) → Option A → Option B → Type 0
 Alike R None None = Unit {0}
 Alike R (Some a) (Some b) = R a b
-Alike R None (Some b) = ⊥
-Alike R (Some a) None = ⊥
+Alike R _ _ = ⊥
 
 -- no cell is in two pairs
 abbrev pub IsOneToOne : Renaming → Type 0
@@ -49,12 +53,18 @@ new_pairs a b zero = []
 new_pairs a b (suc k) = (a, b) ∷ new_pairs (a + 1) (b + 1) k
 
 -- each cell number in a value is below n
-abbrev pub ContentBelow : ℕ → Content → Type 0
-ContentBelow n (leaf l) = Unit {0}
-ContentBelow n (holder c) = c < n
+abbrev mutual
+  pub Below : ℕ → Tree → Type 0
+  Below n (node c g m) = ContentBelow n c
 
-abbrev pub Below : ℕ → Tree → Type 0
-Below n (node c g m) = ContentBelow n c
+  pub ContentBelow : ℕ → Content → Type 0
+  ContentBelow n (leaf l) = Unit {0}
+  ContentBelow n (branch k ts) = AllBelow n ts
+  ContentBelow n (holder c) = c < n
+
+  pub AllBelow : ℕ → Trees → Type 0
+  AllBelow n no_trees = Unit {0}
+  AllBelow n (tree_then t ts) = Below n t × AllBelow n ts
 
 abbrev pub CellBelow : ℕ → Cell → Type 0
 CellBelow n x = Below n x.content
@@ -64,9 +74,4 @@ abbrev pub SameEnd : Renaming → End → End → Type 0
 SameEnd r (held p t) (held q u) = Alike (λ c d. paired r c d ≡ true) p q × Related r t u
 SameEnd r (stuck t) (stuck u) = Related r t u
 SameEnd r closed closed = Unit {0}
-SameEnd r (held p t) (stuck u) = ⊥
-SameEnd r (held p t) closed = ⊥
-SameEnd r (stuck t) (held q u) = ⊥
-SameEnd r (stuck t) closed = ⊥
-SameEnd r closed (held q u) = ⊥
-SameEnd r closed (stuck u) = ⊥
+SameEnd r _ _ = ⊥

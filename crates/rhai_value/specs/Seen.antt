@@ -16,8 +16,3 @@ abbrev pub place_seen : Place → Option (Option ℕ)
 place_seen place.Own = Some None
 place_seen (place.Cell index) = Some (Some index)
 place_seen place.None = None
-
-abbrev pub place_of : End → Option (Option ℕ)
-place_of (held at t) = Some at
-place_of (stuck t) = None
-place_of closed = None

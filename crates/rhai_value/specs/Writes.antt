@@ -2,18 +2,38 @@
 use Rattle.std.specs.Prelude.{ℕ, List, []}
 use mir.Syntax.{named}
 use denote.RattleType.{RattleType}
+use Rattle.std.specs.Borrow.{u8}
+use Rattle.std.specs.declared.alloc.Global.{Global}
+use Rattle.std.specs.declared.vec.Vec.{Vec}
+use Rattle.rhai_value.specs.Rows.{Rows}
 use Rattle.rhai_value.specs.Tree.{Tree}
 use Rattle.rhai_value.specs.End.{End, end, value_after, store_after}
 use Rattle.rhai_value.specs.First.{value_with_first, store_with_first}
+use Rattle.rhai_value.specs.contracts.dynamic.Dynamic as dynamic
 use Rattle.rhai_value.specs.contracts.in_store.InStore as in_store
+use Rattle.std.specs.contracts.alloc.Global as global
+use Rattle.std.specs.contracts.vec.Vec as vec
+use Rattle.std.specs.contracts.impls.GlobalAllocator.TheImpl.{ghosts}
 use Rattle.rhai_value.specs.declared.in_store.InStore.{InStore}
 use Rattle.rhai_value.specs.declared.union.Union.{Union}
-use Rattle.rhai_value.specs.declared.union.Union.TheVariants.{Str}
+use Rattle.rhai_value.specs.declared.union.Union.TheVariants.{Str, Blob, Array, Map}
 
--- the union with another text, where it is one
+-- the union with another content, where it is of that kind
 abbrev pub union_with_text : Union → List ℕ → Union
-union_with_text (Str s g m) t = Str t g m
+union_with_text (Str g m s) t = Str g m t
 union_with_text u t = u
+
+abbrev pub union_with_blob : Union → Vec ℕ Global → Union
+union_with_blob (Blob g m v) w = Blob g m w
+union_with_blob u w = u
+
+abbrev pub union_with_array : Union → Vec Tree Global → Union
+union_with_array (Array g m v) w = Array g m w
+union_with_array u w = u
+
+abbrev pub union_with_map : Union → Rows → Union
+union_with_map (Map g m v) w = Map g m w
+union_with_map u w = u
 
 -- a value in its store, f being applied to what is held
 abbrev pub written_at : End → InStore → (Tree → Tree) → InStore
@@ -29,3 +49,10 @@ first_written h w = record { value = record (h.value) { now = value_with_first w
 -- the type, at the lifetime that stands second in a method's signature
 abbrev pub in_store_row : RattleType
 in_store_row = in_store.the_row (record { mir = named 1; lft = [] })
+
+-- the types of an array's items and of a blob's bytes
+abbrev pub blob_row : RattleType
+blob_row = vec.the_row u8 global.the_row ghosts
+
+abbrev pub array_row : RattleType
+array_row = vec.the_row dynamic.the_row global.the_row ghosts

@@ -1,7 +1,7 @@
 //! Where a chain of holders ends.
 ghost use Rattle.std.specs.Prelude.{◌≡◌, [], option_copied};
-ghost use Rattle.rhai_value.specs.End.{end, held_in};
-ghost use Rattle.rhai_value.specs.Seen.{end_seen, place_seen, place_of};
+ghost use Rattle.rhai_value.specs.End.{end, held_in, place_of};
+ghost use Rattle.rhai_value.specs.Seen.{end_seen, place_seen};
 
 use crate::dynamic::Dynamic;
 use crate::store::Store;
@@ -28,18 +28,22 @@ impl Dynamic {
         match self.chain_end(s) {
             ChainEnd::Held(None, _) => Place::Own,
             ChainEnd::Held(Some(index), _) => Place::Cell(index),
-            ChainEnd::Stuck(_) => Place::None,
-            ChainEnd::Closed => Place::None,
+            ChainEnd::Stuck(_) | ChainEnd::Closed => Place::None,
         }
     }
 
-    /// Follows holders from cell to cell. A chain of more holders than there are cells passes one twice.
+    /// Follows holders from cell to cell. Of the cells that were passed one is kept, and another after 1, 2, 4, 8 and so on steps,
+    /// so that a chain which comes back to a cell soon comes back to the one that is kept (Brent's way). A chain of more holders
+    /// than there are cells is closed in any case.
     pub(crate) fn chain_end<'s>(&'s self, s: &'s Store) -> ChainEnd<'s>
         ensures { end_seen result ≡ end s.now [] self.now }
     {
         let mut at = self;
         let mut place = None;
         let mut left = s.cells.len();
+        let mut kept = None;
+        let mut steps = 0usize;
+        let mut turn = 1usize;
         loop {
             let Some(cell) = at.cell() else {
                 return ChainEnd::Held(place, at);
@@ -49,6 +53,16 @@ impl Dynamic {
             };
             if left == 0 {
                 return ChainEnd::Closed;
+            }
+            if kept == Some(cell.index) {
+                return ChainEnd::Closed;
+            }
+            if steps == 0 {
+                kept = Some(cell.index);
+                steps = turn;
+                turn = turn.saturating_mul(2);
+            } else {
+                steps -= 1;
             }
             left -= 1;
             place = Some(cell.index);
@@ -62,8 +76,7 @@ impl Dynamic {
     {
         match self.chain_end(s) {
             ChainEnd::Held(_, value) => Some(value),
-            ChainEnd::Stuck(_) => None,
-            ChainEnd::Closed => None,
+            ChainEnd::Stuck(_) | ChainEnd::Closed => None,
         }
     }
 }

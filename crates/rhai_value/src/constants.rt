@@ -16,62 +16,62 @@ impl Dynamic {
 
     /// The boolean `true`.
     pub const TRUE: Dynamic = Dynamic {
-        union: Union::Bool(true, 0, AccessMode::ReadWrite),
+        union: Union::Bool(0, AccessMode::ReadWrite, true),
     };
 
     /// The boolean `false`.
     pub const FALSE: Dynamic = Dynamic {
-        union: Union::Bool(false, 0, AccessMode::ReadWrite),
+        union: Union::Bool(0, AccessMode::ReadWrite, false),
     };
 
     /// The integer 0.
     pub const ZERO: Dynamic = Dynamic {
-        union: Union::Int(0, 0, AccessMode::ReadWrite),
+        union: Union::Int(0, AccessMode::ReadWrite, 0),
     };
 
     /// The integer 1.
     pub const ONE: Dynamic = Dynamic {
-        union: Union::Int(1, 0, AccessMode::ReadWrite),
+        union: Union::Int(0, AccessMode::ReadWrite, 1),
     };
 
     /// The integer 2.
     pub const TWO: Dynamic = Dynamic {
-        union: Union::Int(2, 0, AccessMode::ReadWrite),
+        union: Union::Int(0, AccessMode::ReadWrite, 2),
     };
 
     /// The integer 3.
     pub const THREE: Dynamic = Dynamic {
-        union: Union::Int(3, 0, AccessMode::ReadWrite),
+        union: Union::Int(0, AccessMode::ReadWrite, 3),
     };
 
     /// The integer 10.
     pub const TEN: Dynamic = Dynamic {
-        union: Union::Int(10, 0, AccessMode::ReadWrite),
+        union: Union::Int(0, AccessMode::ReadWrite, 10),
     };
 
     /// The integer 100.
     pub const HUNDRED: Dynamic = Dynamic {
-        union: Union::Int(100, 0, AccessMode::ReadWrite),
+        union: Union::Int(0, AccessMode::ReadWrite, 100),
     };
 
     /// The integer 1000.
     pub const THOUSAND: Dynamic = Dynamic {
-        union: Union::Int(1000, 0, AccessMode::ReadWrite),
+        union: Union::Int(0, AccessMode::ReadWrite, 1000),
     };
 
     /// The integer 1000000.
     pub const MILLION: Dynamic = Dynamic {
-        union: Union::Int(1000000, 0, AccessMode::ReadWrite),
+        union: Union::Int(0, AccessMode::ReadWrite, 1000000),
     };
 
     /// The integer -1.
     pub const NEGATIVE_ONE: Dynamic = Dynamic {
-        union: Union::Int(-1, 0, AccessMode::ReadWrite),
+        union: Union::Int(0, AccessMode::ReadWrite, -1),
     };
 
     /// The integer -2.
     pub const NEGATIVE_TWO: Dynamic = Dynamic {
-        union: Union::Int(-2, 0, AccessMode::ReadWrite),
+        union: Union::Int(0, AccessMode::ReadWrite, -2),
     };
 
     /// All the constants, in this order: a law that says what they are.

@@ -2,40 +2,58 @@
 
 use crate::access_mode::AccessMode;
 use crate::cell_ref::CellRef;
-use crate::union::{INT, Tag, Union};
+use crate::map::Map;
+use crate::union::{Array, Blob, INT, Tag, Union};
 use rhai_text::ImmutableString;
 use std::alloc::{AllocError, Global};
 use std::default::Default;
 use std::marker::Model;
 
 /// A value of a script (`Dynamic` of rhai), which contracts see as a tree.
+#[cycle(dynamic)]
 #[derive(Drop)]
 pub struct Dynamic {
     pub(crate) union: Union,
 }
 
 impl Model for Dynamic {
-    ghost use Rattle.rhai_value.specs.Tree.{Tree};
-    ghost use Rattle.rhai_value.specs.View.{tree_of};
+    ghost use Rattle.std.specs.Prelude.{◌*◌};
+    ghost use Rattle.rhai_value.specs.Tree.{Tree, nodes};
 
     ghost Value = { Tree };
 
+    ghost use Rattle.std.specs.Coded.{codes};
+    ghost use Rattle.rhai_value.specs.contracts.access_mode.AccessMode as access_mode;
+    ghost use Rattle.rhai_value.specs.contracts.host.Host as host_kind;
+    ghost use Rattle.rhai_value.specs.Code.{tree_code};
+
+    ghost coded = { tree_code (Prim.hlevel (codes, access_mode.the_row.coded, host_kind.the_row.coded)) };
+
+    ghost use Rattle.rhai_value.specs.View.{tree_of};
+
     ghost view = { λ d. tree_of d.union };
+
+    ghost size = { λ t. 2 * nodes t };
+
+    ghost use Rattle.std.proofs.Common.{arith};
+    ghost use Rattle.rhai_value.specs.Falls.{falls};
+
+    ghost size_decreases = { λ d h. Prim.omega (arith, falls d.union) };
 }
 
+/// Makers.
 impl Dynamic {
-    ghost use Rattle.std.specs.Prelude.{◌≡◌, IfOk, IsOk, Option, option_map, is_some};
-    ghost use Rattle.rhai_value.specs.Tree.{fresh, unit, bool, int, char, text, tag_of, mode_of, cell_of, int_of, with_int, with_tag, is_host, paint, copy, TakesNoMemory};
-    ghost use Rattle.rhai_value.specs.declared.access_mode.AccessMode.TheVariants.{ReadOnly};
+    ghost use Rattle.std.specs.Prelude.{◌≡◌, IfOk};
     ghost use Rattle.std.specs.Str.{chars};
-    ghost use Rattle.rhai_value.specs.View.{tree_of};
+    ghost use Rattle.rhai_value.specs.Rows.{trees_of, keys, values};
+    ghost use Rattle.rhai_value.specs.Tree.{made, fresh, bool, int, char, text, blob, branch, array, fields};
 
     /// A boolean, with tag 0 and mode ReadWrite. (`Dynamic::from_bool`)
     pub const fn from_bool(value: bool) -> Dynamic
         ensures { result ≡ fresh (bool value) }
     {
         Dynamic {
-            union: Union::Bool(value, 0, AccessMode::ReadWrite),
+            union: Union::Bool(0, AccessMode::ReadWrite, value),
         }
     }
 
@@ -44,7 +62,7 @@ impl Dynamic {
         ensures { result ≡ fresh (int value) }
     {
         Dynamic {
-            union: Union::Int(value, 0, AccessMode::ReadWrite),
+            union: Union::Int(0, AccessMode::ReadWrite, value),
         }
     }
 
@@ -53,7 +71,7 @@ impl Dynamic {
         ensures { result ≡ fresh (char value) }
     {
         Dynamic {
-            union: Union::Char(value, 0, AccessMode::ReadWrite),
+            union: Union::Char(0, AccessMode::ReadWrite, value),
         }
     }
 
@@ -64,6 +82,44 @@ impl Dynamic {
         Ok(Dynamic::from(ImmutableString::from_str(alloc, value)?))
     }
 
+    /// An array of these items, which keep their tags and modes; with tag 0 and mode ReadWrite. Takes no memory.
+    /// (`Dynamic::from_array`)
+    pub fn from_array(items: Array) -> Dynamic
+        ensures { result ≡ made (branch array (trees_of items.items)) }
+    {
+        Dynamic {
+            union: Union::Array(0, AccessMode::ReadWrite, items),
+        }
+    }
+
+    /// A blob, with tag 0 and mode ReadWrite. Takes no memory. (`Dynamic::from_blob`)
+    pub fn from_blob(bytes: Blob) -> Dynamic
+        ensures { result ≡ fresh (blob bytes.items) }
+    {
+        Dynamic {
+            union: Union::Blob(0, AccessMode::ReadWrite, bytes),
+        }
+    }
+
+    /// A map of these values, which keep their tags and modes; with tag 0 and mode ReadWrite. Takes no memory.
+    /// (`Dynamic::from_map`)
+    pub fn from_map(map: Map) -> Dynamic
+        ensures { result ≡ made (branch (fields (keys map)) (values map)) }
+    {
+        Dynamic {
+            union: Union::Map(0, AccessMode::ReadWrite, map),
+        }
+    }
+}
+
+/// The constructor inside.
+impl Dynamic {
+    ghost use Rattle.std.specs.Prelude.{◌≡◌};
+    ghost use Rattle.std.specs.Borrow.{Lends, sem};
+    ghost use Rattle.rhai_value.specs.contracts.dynamic.Dynamic as dynamic_type;
+    ghost use Rattle.rhai_value.specs.contracts.union.Union as union_type;
+    ghost use Rattle.rhai_value.specs.View.{tree_of};
+
     /// The constructor with its content, for a crate that reads values by cases.
     pub const fn parts(&self) -> &Union
         ensures { tree_of result.now ≡ self.now }
@@ -71,17 +127,51 @@ impl Dynamic {
         &self.union
     }
 
+    /// The same, to write.
+    pub fn parts_mut(&mut self) -> &mut Union
+        ensures* writes_back { sem 𝓛 (Lends dynamic_type.the_row union_type.the_row self.entry result tree_of) }
+        ensures value { tree_of result.now ≡ self.old }
+    {
+        &mut self.union
+    }
+
+    /// The constructor with its content, moved out.
+    pub fn into_parts(self) -> Union
+        ensures { tree_of result ≡ self }
+    {
+        self.union
+    }
+
+    /// The value with this constructor.
+    pub fn from_parts(union: Union) -> Dynamic
+        ensures { result ≡ tree_of union }
+    {
+        Dynamic { union }
+    }
+}
+
+/// Tag, mode, and what the value itself is.
+impl Dynamic {
+    ghost use Rattle.std.specs.Prelude.{◌≡◌, option_map, is_some};
+    ghost use Rattle.rhai_value.specs.Parts.{int_of, with_int};
+    ghost use Rattle.rhai_value.specs.Tree.{fresh, unit, tag_of, mode_of, cell_of, with_tag, is_host};
+
     /// The tag, which the host is free to use. (`Dynamic::tag`)
     pub const fn tag(&self) -> Tag
         ensures { result ≡ tag_of self.now }
     {
         match &self.union {
-            Union::Unit(tag, _) => *tag,
-            Union::Bool(_, tag, _) => *tag,
-            Union::Int(_, tag, _) => *tag,
-            Union::Char(_, tag, _) => *tag,
-            Union::Str(_, tag, _) => *tag,
-            Union::Shared(_, tag, _) => *tag,
+            Union::Unit(tag, _)
+            | Union::Bool(tag, _, _)
+            | Union::Str(tag, _, _)
+            | Union::Char(tag, _, _)
+            | Union::Int(tag, _, _)
+            | Union::Array(tag, _, _)
+            | Union::Blob(tag, _, _)
+            | Union::Map(tag, _, _)
+            | Union::FnPtr(tag, _, _)
+            | Union::Variant(tag, _, _)
+            | Union::Shared(tag, _, _) => *tag,
         }
     }
 
@@ -91,11 +181,16 @@ impl Dynamic {
     {
         match &mut self.union {
             Union::Unit(own, _) => *own = tag,
-            Union::Bool(_, own, _) => *own = tag,
-            Union::Int(_, own, _) => *own = tag,
-            Union::Char(_, own, _) => *own = tag,
-            Union::Str(_, own, _) => *own = tag,
-            Union::Shared(_, own, _) => *own = tag,
+            Union::Bool(own, _, _) => *own = tag,
+            Union::Str(own, _, _) => *own = tag,
+            Union::Char(own, _, _) => *own = tag,
+            Union::Int(own, _, _) => *own = tag,
+            Union::Array(own, _, _) => *own = tag,
+            Union::Blob(own, _, _) => *own = tag,
+            Union::Map(own, _, _) => *own = tag,
+            Union::FnPtr(own, _, _) => *own = tag,
+            Union::Variant(own, _, _) => *own = tag,
+            Union::Shared(own, _, _) => *own = tag,
         }
     }
 
@@ -104,35 +199,18 @@ impl Dynamic {
         ensures { result ≡ mode_of self.now }
     {
         match &self.union {
-            Union::Unit(_, mode) => *mode,
-            Union::Bool(_, _, mode) => *mode,
-            Union::Int(_, _, mode) => *mode,
-            Union::Char(_, _, mode) => *mode,
-            Union::Str(_, _, mode) => *mode,
-            Union::Shared(_, _, mode) => *mode,
+            Union::Unit(_, mode)
+            | Union::Bool(_, mode, _)
+            | Union::Str(_, mode, _)
+            | Union::Char(_, mode, _)
+            | Union::Int(_, mode, _)
+            | Union::Array(_, mode, _)
+            | Union::Blob(_, mode, _)
+            | Union::Map(_, mode, _)
+            | Union::FnPtr(_, mode, _)
+            | Union::Variant(_, mode, _)
+            | Union::Shared(_, mode, _) => *mode,
         }
-    }
-
-    /// Sets the mode; of a holder not that of the content. (`Dynamic::set_access_mode`)
-    pub fn set_access_mode(&mut self, mode: AccessMode)
-        ensures { self.new ≡ paint mode self.old }
-    {
-        match &mut self.union {
-            Union::Unit(_, own) => *own = mode,
-            Union::Bool(_, _, own) => *own = mode,
-            Union::Int(_, _, own) => *own = mode,
-            Union::Char(_, _, own) => *own = mode,
-            Union::Str(_, _, own) => *own = mode,
-            Union::Shared(_, _, own) => *own = mode,
-        }
-    }
-
-    /// The value as a constant; of a holder not the content. (`Dynamic::into_read_only`)
-    pub fn into_read_only(mut self) -> Dynamic
-        ensures { result ≡ paint ReadOnly self }
-    {
-        self.set_access_mode(AccessMode::ReadOnly);
-        self
     }
 
     /// Moves the value out, and leaves unit with tag 0 and mode ReadWrite. (`Dynamic::take`)
@@ -147,14 +225,7 @@ impl Dynamic {
     pub const fn is_variant(&self) -> bool
         ensures { result ≡ is_host self.now }
     {
-        match &self.union {
-            Union::Unit(_, _) => false,
-            Union::Bool(_, _, _) => false,
-            Union::Int(_, _, _) => false,
-            Union::Char(_, _, _) => false,
-            Union::Str(_, _, _) => false,
-            Union::Shared(_, _, _) => false,
-        }
+        matches!(&self.union, Union::Variant(_, _, _))
     }
 
     /// Whether the value is a holder of a shared cell. (`Dynamic::is_shared`)
@@ -169,12 +240,8 @@ impl Dynamic {
         ensures { option_map (λ c. c.index) result ≡ cell_of self.now }
     {
         match &self.union {
-            Union::Unit(_, _) => None,
-            Union::Bool(_, _, _) => None,
-            Union::Int(_, _, _) => None,
-            Union::Char(_, _, _) => None,
-            Union::Str(_, _, _) => None,
-            Union::Shared(cell, _, _) => Some(*cell),
+            Union::Shared(_, _, cell) => Some(*cell),
+            _ => None,
         }
     }
 
@@ -184,46 +251,11 @@ impl Dynamic {
         ensures after { self.new ≡ with_int value self.old }
     {
         match &mut self.union {
-            Union::Int(own, _, _) => {
+            Union::Int(_, _, own) => {
                 *own = value;
                 true
             }
-            Union::Unit(_, _) => false,
-            Union::Bool(_, _, _) => false,
-            Union::Char(_, _, _) => false,
-            Union::Str(_, _, _) => false,
-            Union::Shared(_, _, _) => false,
-        }
-    }
-
-    /// The same value once more, every mode being ReadWrite; the copy of a holder names the same cell. Takes no memory for
-    /// unit, booleans, integers, characters and holders; a text shares its bytes. (`Clone` of rhai's `Dynamic`)
-    pub fn copy(&self, alloc: Global) -> Result<Dynamic, AllocError>
-        ensures value { IfOk result (λ d. d ≡ copy self.now) }
-        ensures free { TakesNoMemory self.now → IsOk result }
-    {
-        let mode = AccessMode::ReadWrite;
-        let union = match &self.union {
-            Union::Unit(tag, _) => Union::Unit(*tag, mode),
-            Union::Bool(value, tag, _) => Union::Bool(*value, *tag, mode),
-            Union::Int(value, tag, _) => Union::Int(*value, *tag, mode),
-            Union::Char(value, tag, _) => Union::Char(*value, *tag, mode),
-            Union::Str(text, tag, _) => Union::Str(text.copy(alloc)?, *tag, mode),
-            Union::Shared(cell, tag, _) => Union::Shared(*cell, *tag, mode),
-        };
-        Ok(Dynamic { union })
-    }
-}
-
-impl From<ImmutableString> for Dynamic {
-    ghost use Rattle.std.specs.Prelude.{◌≡◌};
-    ghost use Rattle.rhai_value.specs.Tree.{fresh, text};
-
-    ghost from_gives = { λ s d. d ≡ fresh (text s) };
-
-    fn from(value: ImmutableString) -> Dynamic {
-        Dynamic {
-            union: Union::Str(value, 0, AccessMode::ReadWrite),
+            _ => false,
         }
     }
 }

@@ -1,6 +1,7 @@
 //! Values without their holders.
-ghost use Rattle.std.specs.Prelude.{◌≡◌, IfOk, IfErr, IsOk, option_copied};
-ghost use Rattle.rhai_value.specs.Flat.{flat, flat_source, flattened};
+ghost use Rattle.std.specs.Prelude.{◌≡◌, IfOk, IfErr, IsOk, [], option_copied};
+ghost use Rattle.rhai_value.specs.End.{end};
+ghost use Rattle.rhai_value.specs.Flat.{flat, flat_source, flattened, value_ahead};
 ghost use Rattle.rhai_value.specs.Tree.{TakesNoMemory};
 
 use crate::chain::ChainEnd;
@@ -15,10 +16,9 @@ impl Dynamic {
         ensures value { IfOk result (λ d. d ≡ flat s.now self.now) }
         ensures free { TakesNoMemory (flat s.now self.now) → IsOk result }
     {
-        match self.chain_end(s) {
-            ChainEnd::Held(_, value) => value.copy(alloc),
-            ChainEnd::Stuck(value) => value.copy(alloc),
-            ChainEnd::Closed => self.copy(alloc),
+        match self.value_ahead(s) {
+            Some(value) => value.copy(alloc),
+            None => self.copy(alloc),
         }
     }
 
@@ -45,6 +45,13 @@ impl Dynamic {
     {
         let cell = self.cell()?;
         let _ = s.read(cell)?;
+        self.value_ahead(s)
+    }
+
+    /// What stands where the chain ends, if it doesn't close.
+    fn value_ahead<'s>(&'s self, s: &'s Store) -> Option<&'s Dynamic>
+        ensures { option_copied result ≡ value_ahead (end s.now [] self.now) }
+    {
         match self.chain_end(s) {
             ChainEnd::Held(_, value) => Some(value),
             ChainEnd::Stuck(value) => Some(value),

@@ -1,9 +1,15 @@
 //! Values from Rust's own, each with tag 0 and mode ReadWrite.
 ghost use Rattle.std.specs.Prelude.{◌≡◌};
-ghost use Rattle.rhai_value.specs.Tree.{fresh, unit, bool as boolean, int, char as character};
+ghost use Rattle.rhai_value.specs.Rows.{trees_of};
+ghost use Rattle.rhai_value.specs.Tree.{made, fresh, unit, bool as boolean, int, char as character, text, host, branch, function};
+ghost use Rattle.rhai_value.specs.declared.host.Host.TheVariants as host_kind;
 
+use crate::access_mode::AccessMode;
 use crate::dynamic::Dynamic;
-use crate::union::INT;
+use crate::fn_ptr::FnPtr;
+use crate::host::{ExclusiveRange, Host, InclusiveRange};
+use crate::union::{INT, Union};
+use rhai_text::ImmutableString;
 
 impl From<()> for Dynamic {
     ghost from_gives = { λ u d. d ≡ fresh unit };
@@ -34,5 +40,51 @@ impl From<char> for Dynamic {
 
     fn from(value: char) -> Dynamic {
         Dynamic::from_char(value)
+    }
+}
+
+impl From<ImmutableString> for Dynamic {
+    ghost from_gives = { λ s d. d ≡ fresh (text s) };
+
+    fn from(value: ImmutableString) -> Dynamic {
+        Dynamic {
+            union: Union::Str(0, AccessMode::ReadWrite, value),
+        }
+    }
+}
+
+impl From<FnPtr> for Dynamic {
+    ghost from_gives = { λ f d. d ≡ made (branch (function f.name) (trees_of f.curry.items)) };
+
+    fn from(value: FnPtr) -> Dynamic {
+        Dynamic {
+            union: Union::FnPtr(0, AccessMode::ReadWrite, value),
+        }
+    }
+}
+
+impl From<Host> for Dynamic {
+    ghost from_gives = { λ h d. d ≡ fresh (host h) };
+
+    fn from(value: Host) -> Dynamic {
+        Dynamic {
+            union: Union::Variant(0, AccessMode::ReadWrite, value),
+        }
+    }
+}
+
+impl From<ExclusiveRange> for Dynamic {
+    ghost from_gives = { λ r d. d ≡ fresh (host (host_kind.ExclusiveRange r)) };
+
+    fn from(value: ExclusiveRange) -> Dynamic {
+        Dynamic::from(Host::ExclusiveRange(value))
+    }
+}
+
+impl From<InclusiveRange> for Dynamic {
+    ghost from_gives = { λ r d. d ≡ fresh (host (host_kind.InclusiveRange r)) };
+
+    fn from(value: InclusiveRange) -> Dynamic {
+        Dynamic::from(Host::InclusiveRange(value))
     }
 }

@@ -2,14 +2,17 @@
 ghost use Rattle.std.specs.Prelude.{◌≡◌, ◌∷◌, [], ◌++◌, ℕ, Bool, true, false, List, length, Some, None, is_some, slice_get};
 ghost use Rattle.rhai_value.specs.declared.access_mode.AccessMode.{AccessMode};
 ghost use Rattle.rhai_value.specs.declared.store.Cell.{Cell};
-ghost use Rattle.rhai_value.specs.Tree.{Tree, Leaf, cell_of, copy, paint, with_leaf};
+ghost use Rattle.rhai_value.specs.Parts.{with_leaf};
+ghost use Rattle.rhai_value.specs.Tree.{Tree, Leaf, cell_of, copy, paint};
+ghost use Rattle.rhai_value.specs.Copied.{SameButModes, IsWritable};
 ghost use Rattle.rhai_value.specs.Store.{at, put, added, is_marked_at};
 ghost use Rattle.rhai_value.specs.First.{first, store_with_first};
+ghost use Rattle.rhai_value.specs.Locked.{is_locked};
 ghost use Rattle.rhai_value.specs.Marks.{set_mark};
 ghost use Rattle.rhai_value.specs.Flat.{flat, flattened};
 ghost use Rattle.rhai_value.specs.Walk.{visit, visit_map};
-ghost use Rattle.rhai_value.specs.End.{End, end_of, end, int_held, char_held, text_held, value_after, store_after};
-ghost use Rattle.rhai_value.specs.Names.{end_name};
+ghost use Rattle.rhai_value.specs.End.{End, end_of, end, unit_held, bool_held, int_held, char_held, text_held, blob_held, value_after, store_after};
+ghost use Rattle.rhai_value.specs.Types.{end_type};
 ghost use Rattle.rhai_value.specs.Relation.{Renaming, paired, Related, Alike, IsOneToOne, SameCells, SameEnd};
 
 /// Where a chain ends, by its parts: a value that is no holder is held, a holder is stuck, closes, or leads on to its cell's content.
@@ -23,6 +26,12 @@ pub fn end_opens()
 pub fn end_is_renamed()
     ensures { (r : Renaming) (s z : List Cell) (t u : Tree)
         → IsOneToOne r → SameCells r s z → Related r t u → SameEnd r (end s [] t) (end z [] u) }
+{}
+
+/// A copy has the contents and the tags of the value, and its holders name the same cells; every mode is ReadWrite.
+pub fn copies_keep_all_but_modes()
+    ensures kept { (t : Tree) → SameButModes (copy t) t }
+    ensures writable { (t : Tree) → IsWritable (copy t) }
 {}
 
 /// Copies of related values are related.
@@ -50,12 +59,15 @@ pub fn added_is_renamed()
         → SameCells (r ++ (length s, length z) ∷ []) (added s t) (added z u) }
 {}
 
-/// Ends that are alike have the same int, the same character, the same text and the same name.
+/// Ends that are alike have the same type, and the same unit, boolean, int, character, text and bytes.
 pub fn held_parts_are_renamed()
     ensures int { (r : Renaming) (e f : End) → SameEnd r e f → int_held e ≡ int_held f }
     ensures character { (r : Renaming) (e f : End) → SameEnd r e f → char_held e ≡ char_held f }
     ensures text { (r : Renaming) (e f : End) → SameEnd r e f → text_held e ≡ text_held f }
-    ensures name { (r : Renaming) (e f : End) → SameEnd r e f → end_name e ≡ end_name f }
+    ensures held_type { (r : Renaming) (e f : End) → SameEnd r e f → end_type e ≡ end_type f }
+    ensures unit { (r : Renaming) (e f : End) → SameEnd r e f → unit_held e ≡ unit_held f }
+    ensures boolean { (r : Renaming) (e f : End) → SameEnd r e f → bool_held e ≡ bool_held f }
+    ensures bytes { (r : Renaming) (e f : End) → SameEnd r e f → blob_held e ≡ blob_held f }
 {}
 
 /// What a write leaves where chains end alike stays the same up to the renaming: the values, and the stores.
@@ -70,6 +82,11 @@ pub fn writes_are_renamed()
 pub fn first_is_renamed()
     ensures { (r : Renaming) (s z : List Cell) (t u : Tree)
         → SameCells r s z → Related r t u → Alike (Related r) (first s t) (first z u) }
+{}
+
+/// Related values are locked alike.
+pub fn is_locked_is_renamed()
+    ensures { (r : Renaming) (s z : List Cell) (t u : Tree) → SameCells r s z → Related r t u → is_locked s t ≡ is_locked z u }
 {}
 
 /// Stores stay the same where the marks of paired cells are set, and where they are cleared.

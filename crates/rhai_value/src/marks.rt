@@ -4,11 +4,11 @@ ghost use Rattle.std.specs.Borrow.{Lends, sem};
 ghost use Rattle.rhai_value.specs.contracts.dynamic.Dynamic as dynamic_type;
 ghost use Rattle.rhai_value.specs.contracts.store.Store as store_type;
 ghost use Rattle.rhai_value.specs.End.{end};
-ghost use Rattle.rhai_value.specs.Marks.{set_mark, marked_with, content_at, open_cell, cell_held, is_locked};
+ghost use Rattle.rhai_value.specs.Marks.{set_mark, marked_with, content_at, first_cell, held_cell, cell_of_place, IsWithin};
+ghost use Rattle.rhai_value.specs.Seen.{place_seen};
 ghost use Rattle.rhai_value.specs.Store.{put, is_marked_at};
 
-use crate::cell_ref::CellRef;
-use crate::chain::ChainEnd;
+use crate::chain::Place;
 use crate::dynamic::Dynamic;
 use crate::store::Store;
 use std::marker::Model;
@@ -31,32 +31,36 @@ impl Store {
     /// Marks the cell of a holder; `None`, with nothing changed, for a value that is no holder and for a cell that is marked or no
     /// cell of the store. Takes no memory.
     pub fn mark(&mut self, d: &Dynamic) -> Option<WriteToken>
-        ensures which { result ≡ open_cell self.old d.now }
-        ensures after { self.new ≡ marked_with (open_cell self.old d.now) self.old }
+        ensures which { result ≡ first_cell self.old d.now }
+        ensures after { self.new ≡ marked_with (first_cell self.old d.now) self.old }
         ensures marked { IfSome result (λ t. is_marked_at self.new t ≡ true) }
     {
-        match d.open_cell(self) {
-            None => None,
-            Some(cell) => {
-                self.set_mark(cell.index, true);
-                Some(WriteToken { cell: cell.index })
-            }
-        }
+        self.mark_place(d.first_place(self))
     }
 
     /// Marks the cell in which the held value of a holder stands; `None`, with nothing changed, for a value that is no holder and
     /// where the chain is stuck or closed. Takes no memory, and costs the length of the chain; where it closes, the number of cells.
     pub fn mark_held(&mut self, d: &Dynamic) -> Option<WriteToken>
-        ensures which { result ≡ cell_held (end self.old [] d.now) }
-        ensures after { self.new ≡ marked_with (cell_held (end self.old [] d.now)) self.old }
+        ensures which { result ≡ held_cell (end self.old [] d.now) }
+        ensures after { self.new ≡ marked_with (held_cell (end self.old [] d.now)) self.old }
         ensures marked { IfSome result (λ t. is_marked_at self.new t ≡ true) }
     {
-        match d.cell_held(self) {
-            None => None,
-            Some(cell) => {
+        self.mark_place(d.held_place(self))
+    }
+
+    fn mark_place(&mut self, place: Place) -> Option<WriteToken>
+        requires { IsWithin self.old (place_seen place) }
+        ensures which { result ≡ cell_of_place (place_seen place) }
+        ensures after { self.new ≡ marked_with (cell_of_place (place_seen place)) self.old }
+        ensures marked { IfSome result (λ t. is_marked_at self.new t ≡ true) }
+    {
+        match place {
+            Place::Cell(cell) => {
                 self.set_mark(cell, true);
                 Some(WriteToken { cell })
             }
+            Place::Own => None,
+            Place::None => None,
         }
     }
 
@@ -92,39 +96,5 @@ impl Store {
         ensures stands { is_marked_at self.new cell ≡ is_marked }
     {
         self.cells[cell].is_marked = is_marked;
-    }
-}
-
-impl Dynamic {
-    /// Whether the value is a holder of a cell that is marked or no cell of the store. (`Dynamic::is_locked`)
-    pub fn is_locked(&self, s: &Store) -> bool
-        ensures { result ≡ is_locked s.now self.now }
-    {
-        match self.cell() {
-            None => false,
-            Some(cell) => s.read(cell).is_none(),
-        }
-    }
-
-    /// The cell of a holder, where that is an unmarked cell of the store.
-    pub(crate) fn open_cell(&self, s: &Store) -> Option<CellRef>
-        ensures { option_map (λ c. c.index) result ≡ open_cell s.now self.now }
-    {
-        let cell = self.cell()?;
-        match s.read(cell) {
-            None => None,
-            Some(_) => Some(cell),
-        }
-    }
-
-    /// The cell in which the held value stands.
-    fn cell_held(&self, s: &Store) -> Option<usize>
-        ensures { result ≡ cell_held (end s.now [] self.now) }
-    {
-        match self.chain_end(s) {
-            ChainEnd::Held(place, _) => place,
-            ChainEnd::Stuck(_) => None,
-            ChainEnd::Closed => None,
-        }
     }
 }

@@ -20,7 +20,7 @@ impl Dynamic {
         let mode = self.access_mode();
         let cell = m.add(self)?;
         Ok(Dynamic {
-            union: Union::Shared(cell, 0, mode),
+            union: Union::Shared(0, mode, cell),
         })
     }
 }

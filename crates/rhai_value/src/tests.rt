@@ -1,8 +1,12 @@
+//! What no clause says: that the definitions mean what is wanted, and that calls succeed with ample memory.
 ghost use Rattle.std.specs.Prelude.{◌≡◌, None, is_some};
 ghost use Rattle.std.specs.Bool.{OnTrue};
 ghost use Rattle.rhai_value.specs.First.{first};
 ghost use Rattle.rhai_value.specs.Tree.{cell_of};
 ghost use Rattle.rhai_value.specs.Writes.{first_written};
+
+mod containers;
+mod maps;
 
 use super::*;
 use rhai_text::ImmutableString;
@@ -71,7 +75,7 @@ fn a_path_opens_a_cell_once(rt: HostRuntime) -> Result<(), Fail> {
     assert!(rt; path.enter(&store, &Dynamic::ONE)?.is_none());
     assert!(rt; path.enter(&store, &holder)?.is_some());
     assert!(rt; path.enter(&store, &holder)?.is_none());
-    assert!(rt; matches!(Dynamic::constants()[1].parts(), Union::Bool(true, _, _)));
+    assert!(rt; matches!(Dynamic::constants()[1].parts(), Union::Bool(_, _, true)));
     Ok(())
 }
 
@@ -180,7 +184,7 @@ fn a_marked_cell_is_read_by_its_token_alone(rt: HostRuntime) -> Result<(), Fail>
 }
 
 #[test]
-#[tactic(auto, using(crate::proofs::MarkedCells::mark_stays))]
+#[tactic(auto, using(crate::proofs::SameCells::marked_put))]
 fn what_is_written_through_a_token_is_held(rt: HostRuntime) -> Result<(), Fail> {
     let alloc = rt.alloc();
     let mut store = Store::new(alloc);
@@ -302,7 +306,7 @@ fn own_parts_are_set_and_taken(rt: HostRuntime) -> Result<(), Fail> {
 
 #[test]
 fn a_value_is_small(rt: HostRuntime) {
-    assert!(rt; size_of::<Dynamic>() <= 24);
+    assert!(rt; size_of::<Dynamic>() <= 48);
 }
 
 /// A cell with the value, asked for again where memory was refused once.

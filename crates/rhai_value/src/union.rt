@@ -2,6 +2,10 @@
 
 use crate::access_mode::AccessMode;
 use crate::cell_ref::CellRef;
+use crate::dynamic::Dynamic;
+use crate::fn_ptr::FnPtr;
+use crate::host::Host;
+use crate::map::Map;
 use rhai_text::ImmutableString;
 
 /// The integers of a script.
@@ -10,19 +14,36 @@ pub type INT = i64;
 /// A mark of the host's own on a value.
 pub type Tag = i32;
 
-/// What a value is, with its tag and its mode (`Union` of rhai).
+/// The items of an array.
+pub type Array = Vec<Dynamic>;
+
+/// The bytes of a blob.
+pub type Blob = Vec<u8>;
+
+/// What a value is: its tag, its mode and its content (`Union` of rhai).
+#[cycle(dynamic)]
 #[derive(Drop)]
 pub enum Union {
     /// The unit value.
     Unit(Tag, AccessMode),
     /// A boolean.
-    Bool(bool, Tag, AccessMode),
-    /// An integer.
-    Int(INT, Tag, AccessMode),
-    /// A character.
-    Char(char, Tag, AccessMode),
+    Bool(Tag, AccessMode, bool),
     /// A text.
-    Str(ImmutableString, Tag, AccessMode),
+    Str(Tag, AccessMode, ImmutableString),
+    /// A character.
+    Char(Tag, AccessMode, char),
+    /// An integer.
+    Int(Tag, AccessMode, INT),
+    /// An array.
+    Array(Tag, AccessMode, Array),
+    /// A blob.
+    Blob(Tag, AccessMode, Blob),
+    /// A map.
+    Map(Tag, AccessMode, Map),
+    /// A function pointer.
+    FnPtr(Tag, AccessMode, FnPtr),
+    /// A value of the host's own types.
+    Variant(Tag, AccessMode, Host),
     /// A holder of a shared cell.
-    Shared(CellRef, Tag, AccessMode),
+    Shared(Tag, AccessMode, CellRef),
 }

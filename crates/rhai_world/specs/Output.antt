@@ -17,17 +17,19 @@ without_empty_rest (line ∷ next ∷ lines) = line ∷ without_empty_rest (next
 abbrev pub lines_of : List ℕ → List (List ℕ)
 lines_of input = without_empty_rest (slice_split (λ b. b == 10) input)
 
--- why a command was refused, and an answer, as bytes
+-- why a command was refused, and an answer, as bytes; those that no line's command gives are printed as a line without a command is
 abbrev pub reason_text : Reason → List ℕ
 reason_text no_value = codes "NoValue"
 reason_text no_entry = codes "NoEntry"
 reason_text empty_scope = codes "EmptyScope"
 reason_text (mismatch name) = codes "Mismatch " ++ name
+reason_text _ = codes "BadLine"
 
 abbrev pub printed : Reply → List ℕ
 printed done = codes "ok"
 printed (told characters) = encode_utf8_all characters
 printed (refused why) = codes "refused " ++ reason_text why
+printed _ = codes "refused BadLine"
 
 -- what is written for a command or a line without one, and the world after it
 abbrev pub answer_to : State → Option Command → List ℕ

@@ -1,7 +1,7 @@
 use Rattle.std.proofs.Common.{ap, sym, ◌∙◌}
 use Rattle.rhai_text.proofs.Texts.{chars-one}
 use Rattle.rhai_value.specs.Tree.{char}
-use Rattle.rhai_show.specs.Text.{leaf_printed}
+use Rattle.rhai_show.specs.Leaves.{leaf_printed}
 use Rattle.rhai_show.proofs.Pushed.{added_as}
 use Rattle.rhai_show.proofs.leaf.add_char.Goals as goal
 

@@ -1,5 +1,6 @@
-use Rattle.rhai_value.specs.Tree.{with_leaf}
-use Rattle.rhai_value.proofs.SameCells.{same_with_leaf, same_value_after, same_store_after}
+use Rattle.rhai_value.specs.Parts.{with_leaf}
+use Rattle.rhai_value.proofs.SameCells.{same_value_after, same_store_after}
+use Rattle.rhai_value.proofs.SameTrees.{same_with_leaf}
 use Rattle.rhai_value.proofs.laws.writes_are_renamed.Goals as goal
 
 pub returns-clause-value : goal.returns-clause-value

@@ -1,6 +1,6 @@
 use Rattle.std.proofs.Common.{◌≡◌, [], Some, None, is_some, w64, refl, sym, ap, ◌∙◌}
 use Rattle.std.proofs.lemmas.Int.{to_z-of_z}
-use Rattle.rhai_value.specs.Tree.{int_of, with_int}
+use Rattle.rhai_value.specs.Parts.{int_of, with_int}
 use Rattle.rhai_value.specs.Store.{put}
 use Rattle.rhai_value.specs.End.{end, held, int_held, value_after, store_after}
 use Rattle.rhai_value.proofs.Walks.{at_within}

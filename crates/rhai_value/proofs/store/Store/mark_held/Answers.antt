@@ -1,5 +1,5 @@
-use Rattle.rhai_value.proofs.MarkedCells.{cell_held-within}
+use Rattle.rhai_value.proofs.MarkedCells.{held_within}
 use Rattle.rhai_value.proofs.store.Store.mark_held.Goals as goal
 
-pub set_mark-requires : goal.set_mark-requires
-set_mark-requires c = cell_held-within c.args.self.now c.args.d.now c.in-Some.cell c.in-Some.ensures
+pub mark_place-requires : goal.mark_place-requires
+mark_place-requires c = rw c.held_place.ensures (held_within c.args.self.now c.args.d.now)

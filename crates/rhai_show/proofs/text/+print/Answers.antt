@@ -1,0 +1,170 @@
+use Rattle.std.proofs.Common.{◌≡◌, ◌*◌, [], ◌∷◌, ◌++◌, Some, None, option_copied, IfSome, codes, string_bytes, refl, sym, ap, ◌∙◌, arith}
+use Rattle.std.specs.Str.{chars}
+use Rattle.std.specs.Map.Iter.{deref_pair}
+use Rattle.std.proofs.lemmas.Map.Iter.{rest_more, rest_all}
+use Rattle.std.proofs.lemmas.Option.{MatchOption-at_some}
+use Rattle.rhai_value.specs.Rows.{values}
+use Rattle.rhai_value.specs.Tree.{Tree, nodes, nodes_trees, unit, bool, int, char, text, blob, host, cell_of}
+use Rattle.rhai_value.specs.View.{tree_of}
+use Rattle.rhai_value.specs.Walk.{entry}
+use Rattle.rhai_show.specs.declared.form.Form.TheVariants.{Debug}
+use Rattle.rhai_show.specs.Leaves.{in_debug, blob_printed}
+use Rattle.rhai_show.specs.Listed.{row_printed}
+use Rattle.rhai_show.specs.Text.{joined, further, name_printed, content_form, printed}
+use Rattle.rhai_show.proofs.Commas.{listed_step, listed_turn, listed_all, listed_end}
+use Rattle.rhai_show.proofs.Measures.{left_in, left-entry, nodes_item}
+use Rattle.rhai_show.proofs.Pushed.{fixed, added_as, added_twice, added_more, added_fixed, enclosed}
+use Rattle.rhai_show.proofs.Printed.{added_leaf, printed-closed, printed-opened, printed-array, printed-map, printed-function}
+use Rattle.rhai_show.proofs.text.+print.Goals as goal
+
+pub add_array-returns-clause-text : goal.add_array-returns-clause-text
+add_array-returns-clause-text t c =
+    enclosed c.add_text-2.result _ (chars (string_bytes c.add_items.new.out)) (chars (string_bytes c.add_text.new.out)) (chars (string_bytes c.args.out.now)) (codes "[") (joined (λ u. printed c.args.store.now c.args.path.now u c.args.form) c.args.items.now) (codes "]") refl refl
+    c.in_ok-add_text.ensures c.in_ok-add_items.ensures.text c.add_text-2.ensures
+
+pub add_map-returns-clause-text : goal.add_map-returns-clause-text
+add_map-returns-clause-text t c =
+    enclosed c.add_text-2.result _ (chars (string_bytes c.add_fields.new.out)) (chars (string_bytes c.add_text.new.out)) (chars (string_bytes c.args.out.now)) (codes "#{") (joined (row_printed c.args.form (λ u. printed c.args.store.now c.args.path.now u c.args.form)) c.args.map.now) (codes "}") refl refl
+    c.in_ok-add_text.ensures c.in_ok-add_fields.ensures.text c.add_text-2.ensures
+
+pub add_function-returns-clause-text : goal.add_function-returns-clause-text
+add_function-returns-clause-text t c =
+    let old = chars (string_bytes c.args.out.now) in
+    let name = name_printed c.args.form c.args.function.now.name in
+    let curried = in_debug c.args.form (further (λ u. printed c.args.store.now c.args.path.now u Debug) c.args.function.now.curry.items) [] in
+    let opens = added_fixed (chars (string_bytes c.add_text.new.out)) old (codes "Fn(") refl c.in_ok-add_text.ensures in
+    let named = c.in_ok-add_name.ensures ∙ ap (λ n. chars (string_bytes c.add_text.new.out) ++ name_printed c.args.form n) c.fn_name.ensures in
+    let items = c.in_ok-add_curried.ensures.text ∙ ap (λ xs. chars (string_bytes c.add_name.new.out) ++ in_debug c.args.form (further (λ u. printed c.args.store.now c.args.path.now u Debug) xs) []) c.curry.ensures in
+    added_twice c.add_text-2.result _ (chars (string_bytes c.add_curried.new.out)) old (codes "Fn(" ++ name ++ curried) (chars (codes ")")) _
+    (added_more _ _ old (codes "Fn(" ++ name) curried (added_more _ _ old (codes "Fn(") name opens named) items)
+    (ap (λ x. codes "Fn(" ++ name ++ curried ++ x) (fixed (codes ")") refl)) c.add_text-2.ensures
+
+pub add_items-add_value-requires : goal.add_items-add_value-requires
+add_items-add_value-requires t c =
+    let few = nodes_item c.args.items.now c.loop-item.item-index c.item-item.result (omega arith) c.item-item.is in
+    let same = ap (left_in c.args.store.now) c.loop-item.invariant.path in
+    (omega arith, tt)
+
+pub add_items-returns-clause-text : goal.add_items-returns-clause-text
+add_items-returns-clause-text t c =
+    listed_end (λ u. printed c.args.store.now c.args.path.now u c.args.form) c.loop-item.is_first c.args.items.now c.loop-item.item-index _ _ (omega arith) c.loop-item.invariant.text
+
+pub add_items-returns-clause-path : goal.add_items-returns-clause-path
+add_items-returns-clause-path t c = c.loop-item.invariant.path
+
+pub add_items-loop-item-preserved : goal.add_items-loop-item-preserved
+add_items-loop-item-preserved t c =
+    let f = λ (u : Tree). printed c.args.store.now c.args.path.now u c.args.form in
+    let item = c.in_ok-add_value.ensures.text ∙ ap (λ p. chars (string_bytes c.add_comma.new.out) ++ printed c.args.store.now p c.item-item.result c.args.form) c.loop-item.invariant.path in
+    record {
+      text = listed_turn f c.loop-item.is_first c.args.items.now c.loop-item.item-index c.item-item.result (chars (string_bytes c.loop-item.out)) (chars (string_bytes c.add_comma.new.out)) _ (omega arith) c.item-item.is c.in_ok-add_comma.ensures item
+          ∙ c.loop-item.invariant.text;
+      path = c.in_ok-add_value.ensures.path ∙ c.loop-item.invariant.path;
+    }
+
+pub add_fields-add_value-requires : goal.add_fields-add_value-requires
+add_fields-add_value-requires t c =
+    let next = rest_more deref_pair c.loop-key.key-iterator c.next.new.self c.next.result (c.in-Some.key, c.in-Some.value) c.in-Some.is c.next.ensures.steps in
+    let few = ap (λ rs. nodes_trees (values rs)) next in
+    let same = ap (left_in c.args.store.now) c.loop-key.invariant.path in
+    (omega arith, tt)
+
+pub add_fields-returns-clause-text : goal.add_fields-returns-clause-text
+add_fields-returns-clause-text t c =
+    let none = rest_all deref_pair c.loop-key.key-iterator c.next.new.self c.next.result c.in-None.is c.next.ensures.steps in
+    listed_all (row_printed c.args.form (λ u. printed c.args.store.now c.args.path.now u c.args.form)) c.loop-key.is_first c.loop-key.key-iterator _ _ none c.loop-key.invariant.text
+
+pub add_fields-returns-clause-path : goal.add_fields-returns-clause-path
+add_fields-returns-clause-path t c = c.loop-key.invariant.path
+
+pub add_fields-loop-key-preserved : goal.add_fields-loop-key-preserved
+add_fields-loop-key-preserved t c =
+    let f = row_printed c.args.form (λ u. printed c.args.store.now c.args.path.now u c.args.form) in
+    let next = rest_more deref_pair c.loop-key.key-iterator c.next.new.self c.next.result (c.in-Some.key, c.in-Some.value) c.in-Some.is c.next.ensures.steps in
+    let few = ap (λ rs. nodes_trees (values rs)) next in
+    let more = chars (string_bytes c.add_comma.new.out) in
+    let colon = added_fixed (chars (string_bytes c.add_text.new.out)) (chars (string_bytes c.add_name.new.out)) (codes ": ") refl c.in_ok-add_text.ensures in
+    let value = c.in_ok-add_value.ensures.text ∙ ap (λ p. chars (string_bytes c.add_text.new.out) ++ printed c.args.store.now p c.in-Some.value.now c.args.form) c.loop-key.invariant.path in
+    let row = added_more _ _ more _ _ (added_more _ _ more _ _ c.in_ok-add_name.ensures colon) value in
+    record {
+      text = listed_step f c.loop-key.is_first (c.in-Some.key.now, c.in-Some.value.now) c.next.new.self c.loop-key.key-iterator (chars (string_bytes c.loop-key.out)) more _ next c.in_ok-add_comma.ensures row
+          ∙ c.loop-key.invariant.text;
+      path = c.in_ok-add_value.ensures.path ∙ c.loop-key.invariant.path;
+      nodes_left = omega arith;
+    }
+
+pub add_value-returns-in-Unit-clause-text : goal.add_value-returns-in-Unit-clause-text
+add_value-returns-in-Unit-clause-text t c =
+    added_leaf c.add_unit.result _ _ c.args.store.now c.args.path.now c.args.value.now c.args.form unit c.in-Unit.field-0 c.in-Unit.field-1 (sym c.parts.ensures ∙ ap tree_of c.in-Unit.is) c.add_unit.ensures
+
+pub add_value-returns-in-Bool-clause-text : goal.add_value-returns-in-Bool-clause-text
+add_value-returns-in-Bool-clause-text t c =
+    added_leaf c.add_bool.result _ _ c.args.store.now c.args.path.now c.args.value.now c.args.form (bool c.in-Bool.value) c.in-Bool.field-0 c.in-Bool.field-1 (sym c.parts.ensures ∙ ap tree_of c.in-Bool.is) c.add_bool.ensures
+
+pub add_value-returns-in-Int-clause-text : goal.add_value-returns-in-Int-clause-text
+add_value-returns-in-Int-clause-text t c =
+    added_leaf c.add_int.result _ _ c.args.store.now c.args.path.now c.args.value.now c.args.form (int c.in-Int.value) c.in-Int.field-0 c.in-Int.field-1 (sym c.parts.ensures ∙ ap tree_of c.in-Int.is) c.add_int.ensures
+
+pub add_value-returns-in-Char-clause-text : goal.add_value-returns-in-Char-clause-text
+add_value-returns-in-Char-clause-text t c =
+    added_leaf c.add_char.result _ _ c.args.store.now c.args.path.now c.args.value.now c.args.form (char c.in-Char.value) c.in-Char.field-0 c.in-Char.field-1 (sym c.parts.ensures ∙ ap tree_of c.in-Char.is) c.add_char.ensures
+
+pub add_value-returns-in-Str-clause-text : goal.add_value-returns-in-Str-clause-text
+add_value-returns-in-Str-clause-text t c =
+    added_leaf c.add_string.result _ _ c.args.store.now c.args.path.now c.args.value.now c.args.form (text c.in-Str.value) c.in-Str.field-0 c.in-Str.field-1 (sym c.parts.ensures ∙ ap tree_of c.in-Str.is) c.add_string.ensures
+
+pub add_value-returns-in-Blob-clause-text : goal.add_value-returns-in-Blob-clause-text
+add_value-returns-in-Blob-clause-text t c =
+    added_leaf c.add_blob.result _ _ c.args.store.now c.args.path.now c.args.value.now c.args.form (blob c.in-Blob.bytes.items) c.in-Blob.field-0 c.in-Blob.field-1 (sym c.parts.ensures ∙ ap tree_of c.in-Blob.is)
+    (added_as c.add_blob.result _ _ _ _ (ap blob_printed c.as_slice.ensures.value) c.add_blob.ensures)
+
+pub add_value-returns-in-Variant-clause-text : goal.add_value-returns-in-Variant-clause-text
+add_value-returns-in-Variant-clause-text t c =
+    added_leaf c.add_host.result _ _ c.args.store.now c.args.path.now c.args.value.now c.args.form (host c.in-Variant.value) c.in-Variant.field-0 c.in-Variant.field-1 (sym c.parts.ensures ∙ ap tree_of c.in-Variant.is) c.add_host.ensures
+
+pub add_value-returns-in-Array-clause-text : goal.add_value-returns-in-Array-clause-text
+add_value-returns-in-Array-clause-text t c =
+    added_as c.add_array.result _ _ _ _
+    (printed-array c.args.store.now c.args.path.now c.args.value.now c.args.form c.of_items.result c.as_slice-in-Array.result.now c.in-Array.items.items c.in-Array.field-0 c.in-Array.field-1 (sym c.parts.ensures ∙ ap tree_of c.in-Array.is) c.of_items.ensures c.as_slice-in-Array.ensures.value)
+    c.add_array.ensures.text
+
+pub add_value-returns-in-Map-clause-text : goal.add_value-returns-in-Map-clause-text
+add_value-returns-in-Map-clause-text t c =
+    added_as c.add_map.result _ _ _ _
+    (printed-map c.args.store.now c.args.path.now c.args.value.now c.args.form c.of_items-in-Map.result c.in-Map.map c.in-Map.field-0 c.in-Map.field-1 (sym c.parts.ensures ∙ ap tree_of c.in-Map.is) c.of_items-in-Map.ensures)
+    c.add_map.ensures.text
+
+pub add_value-returns-in-FnPtr-clause-text : goal.add_value-returns-in-FnPtr-clause-text
+add_value-returns-in-FnPtr-clause-text t c =
+    added_as c.add_function.result _ _ _ _
+    (printed-function c.args.store.now c.args.path.now c.args.value.now c.args.form c.in-FnPtr.function.name c.in-FnPtr.function.curry.items c.in-FnPtr.field-0 c.in-FnPtr.field-1 (sym c.parts.ensures ∙ ap tree_of c.in-FnPtr.is))
+    c.add_function.ensures.text
+
+pub add_value-returns-in-None-clause-text : goal.add_value-returns-in-None-clause-text
+add_value-returns-in-None-clause-text t c =
+    let h = c.in-Shared in
+    let none : None ≡ entry c.args.store.now c.args.path.now c.args.value.now = ap option_copied (sym c.in-None.is) ∙ c.in_ok-enter-in-Shared.ensures.found in
+    added_as c.add_text.result _ (chars (string_bytes c.args.out.now)) (chars (codes "<shared>")) _
+    (fixed (codes "<shared>") refl ∙ printed-closed c.args.store.now c.args.path.now c.args.value.now c.args.form h.field-2.index h.field-0 h.field-1 (sym c.parts.ensures ∙ ap tree_of h.is) none)
+    c.add_text.ensures
+
+pub add_value-add_value-requires : goal.add_value-add_value-requires
+add_value-add_value-requires t c =
+    let o = c.in_ok-enter-in-Shared.ensures in
+    let some : Some c.in-Some.content.now ≡ entry c.args.store.now c.args.path.now c.args.value.now = ap option_copied (sym c.in-Some.is) ∙ o.found in
+    let next : IfSome (cell_of c.args.value.now) (λ k. c.enter.new.self ≡ k ∷ c.args.path.now) = MatchOption-at_some _ _ _ c.in-Some.is o.opened in
+    let less = left-entry c.args.store.now c.args.path.now c.enter.new.self c.args.value.now c.in-Some.content.now (4 * nodes c.args.value.now) some next in
+    (omega arith, tt)
+
+pub add_value-returns-in_ok-add_value-in-Some-clause-text : goal.add_value-returns-in_ok-add_value-in-Some-clause-text
+add_value-returns-in_ok-add_value-in-Some-clause-text t c =
+    let h = c.in-Shared in
+    let o = c.in_ok-enter-in-Shared.ensures in
+    let some : Some c.in-Some.content.now ≡ entry c.args.store.now c.args.path.now c.args.value.now = ap option_copied (sym c.in-Some.is) ∙ o.found in
+    let next : IfSome (cell_of c.args.value.now) (λ k. c.enter.new.self ≡ k ∷ c.args.path.now) = MatchOption-at_some _ _ _ c.in-Some.is o.opened in
+    let inside = printed c.args.store.now c.enter.new.self c.in-Some.content.now in
+    added_twice c.add_text-in-Some.result _ (chars (string_bytes c.add_value.new.out)) (chars (string_bytes c.args.out.now)) (inside (content_form c.args.form)) (chars (codes " (shared)")) _
+    (c.in_ok-add_value-in-Some.ensures.text ∙ ap (λ f. chars (string_bytes c.args.out.now) ++ inside f) c.of_content.ensures)
+    (ap (λ x. inside (content_form c.args.form) ++ x) (fixed (codes " (shared)") refl)
+    ∙ printed-opened c.args.store.now c.args.path.now c.enter.new.self c.args.value.now c.in-Some.content.now c.args.form h.field-2.index h.field-0 h.field-1 (sym c.parts.ensures ∙ ap tree_of h.is) some next)
+    c.add_text-in-Some.ensures

@@ -1,0 +1,213 @@
+//! Maps from texts to values, in the order of the keys.
+
+use crate::dynamic::Dynamic;
+use crate::map_entries::{Entries, Keys, Values};
+use std::alloc::Global;
+use std::collections::BTreeMap;
+use std::marker::Model;
+
+/// A map (`Map` of rhai). Contracts see its rows: each key, as its bytes, with its value, by rising keys.
+///
+/// A map of no entries takes no memory before its first entry.
+#[cycle(dynamic)]
+#[derive(Drop)]
+pub struct Map {
+    pub(crate) parts: Option<Box<Parts>>,
+    pub(crate) alloc: Global,
+}
+
+/// Where the value of each key stands, the values, and the first of the places that are free.
+///
+/// The free places are a list, which ends at a place that is taken or past the last one.
+#[cycle(dynamic)]
+#[derive(Drop)]
+pub(crate) struct Parts {
+    pub(crate) places: BTreeMap<String, usize>,
+    pub(crate) values: Vec<Slot>,
+    pub(crate) free: usize,
+}
+
+/// A place for a value: free, with the next one that is free, or taken.
+#[cycle(dynamic)]
+#[derive(Drop)]
+pub(crate) enum Slot {
+    Free(usize),
+    Held(Dynamic),
+}
+
+impl Model for Map {
+    ghost use Rattle.rhai_value.specs.Rows.{Rows};
+
+    ghost Value = { Rows };
+
+    ghost use Rattle.std.specs.Coded.{codes, coded_list, coded×, coded_ℕ};
+    ghost use Rattle.rhai_value.specs.contracts.access_mode.AccessMode as access_mode;
+    ghost use Rattle.rhai_value.specs.contracts.host.Host as host_kind;
+    ghost use Rattle.rhai_value.specs.Code.{tree_code};
+
+    ghost coded = { coded_list (coded× (coded_list coded_ℕ) (tree_code (Prim.hlevel (codes, access_mode.the_row.coded, host_kind.the_row.coded)))) };
+
+    ghost use Rattle.rhai_value.specs.Rows.{rows_in, map_size, ArePlacedIn};
+
+    ghost view = { λ m. rows_in m.parts };
+
+    ghost invariant = { λ m. ArePlacedIn m.parts };
+
+    ghost size = { map_size };
+
+    ghost use Rattle.std.proofs.Common.{arith};
+    ghost use Rattle.rhai_value.specs.Slots.{most_parts};
+
+    ghost size_decreases = { λ m h. Prim.omega (arith, most_parts m.parts h) };
+}
+
+impl Map {
+    ghost use Rattle.std.specs.Prelude.{◌≡◌, ◌↔◌, [], ◌∷◌, length, option_copied, is_some, string_bytes, IfOk, IfErr, OnOk, IsTrue, MatchOption};
+    ghost use Rattle.std.specs.BTreeMap.{insert_entry, is_at};
+    ghost use Rattle.std.specs.Borrow.{LendsIf, sem};
+    ghost use Rattle.std.specs.List.Sorted.{IsStrictlySortedBy};
+    ghost use Rattle.std.specs.Map.{keys_of, lookup, remove_entry, set_value, values_of};
+    ghost use Rattle.std.specs.Option.{option_copied_mut};
+    ghost use Rattle.rhai_value.specs.Rows.{bytes_cmp};
+    ghost use Rattle.rhai_value.specs.contracts.dynamic.Dynamic as dynamic_type;
+    ghost use Rattle.rhai_value.specs.contracts.map.Map as map_type;
+
+    /// A map of no entries. It takes no memory; the first entry takes it from `alloc`.
+    pub fn new(alloc: Global) -> Map
+        ensures { result ≡ [] }
+    {
+        Map { parts: None, alloc }
+    }
+
+    /// The number of entries, in constant time.
+    pub fn len(&self) -> usize
+        ensures len { result ≡ length self.now }
+        ensures ordered { IsStrictlySortedBy bytes_cmp (keys_of self.now) }
+    {
+        match &self.parts {
+            Some(parts) => parts.len(),
+            None => 0,
+        }
+    }
+
+    /// Whether there is no entry.
+    pub fn is_empty(&self) -> bool
+        ensures { IsTrue result ↔ (self.now ≡ []) }
+    {
+        self.len() == 0
+    }
+
+    /// Whether there is an entry of this key. The time grows with the logarithm of the number of entries.
+    pub fn contains_key(&self, key: &str) -> bool
+        ensures { result ≡ is_some (lookup (is_at (bytes_cmp key.now)) self.now) }
+    {
+        self.get(key).is_some()
+    }
+
+    /// The value of a key, if it has one. The time grows with the logarithm of the number of entries.
+    pub fn get(&self, key: &str) -> Option<&Dynamic>
+        ensures { option_copied result ≡ lookup (is_at (bytes_cmp key.now)) self.now }
+    {
+        match &self.parts {
+            Some(parts) => parts.get(key),
+            None => None,
+        }
+    }
+
+    /// The value of a key, to write to. The time grows with the logarithm of the number of entries.
+    pub fn get_mut(&mut self, key: &str) -> Option<&mut Dynamic>
+        ensures* writes_back { sem 𝓛 (LendsIf map_type.the_row dynamic_type.the_row self.entry result (λ w. set_value (is_at (bytes_cmp key.now)) self.old w) self.old) }
+        ensures value { option_copied_mut result ≡ lookup (is_at (bytes_cmp key.now)) self.old }
+    {
+        match &mut self.parts {
+            Some(parts) => parts.get_mut(key),
+            None => None,
+        }
+    }
+
+    /// Puts a value at a key, and returns the value that was there. The time grows with the logarithm of the number of
+    /// entries; now and then the list of values grows, which takes time in their number.
+    ///
+    /// A key that is there keeps its own text, and its entry takes no more memory.
+    ///
+    /// # Errors
+    ///
+    /// The key and the value come back where the key is new and the memory for its entry is refused.
+    pub fn insert(
+        &mut self,
+        key: String,
+        value: Dynamic,
+    ) -> Result<Option<Dynamic>, (String, Dynamic)>
+        ensures old { IfOk result (λ old. old ≡ lookup (is_at (bytes_cmp (string_bytes key))) self.old) }
+        ensures inserted { OnOk result (self.new ≡ insert_entry bytes_cmp self.old (string_bytes key) value) }
+        ensures err { IfErr result (λ back. (back ≡ (key, value)) × (self.new ≡ self.old)) }
+    {
+        match &mut self.parts {
+            Some(parts) => parts.insert(key, value),
+            None => {
+                let Ok(mut parts) = Box::new(self.alloc, Parts::new(self.alloc)) else {
+                    return Err((key, value));
+                };
+                let old = parts.insert(key, value)?;
+                self.parts = Some(parts);
+                Ok(old)
+            }
+        }
+    }
+
+    /// Takes a key out, and returns its value. It takes no memory; the time grows with the logarithm of the number of
+    /// entries.
+    pub fn remove(&mut self, key: &str) -> Option<Dynamic>
+        ensures value { result ≡ lookup (is_at (bytes_cmp key.now)) self.old }
+        ensures removed { self.new ≡ remove_entry (is_at (bytes_cmp key.now)) self.old }
+    {
+        match &mut self.parts {
+            Some(parts) => parts.remove(key),
+            None => None,
+        }
+    }
+
+    /// Takes the first entry out, which is that of the least key. It takes no memory; the time grows with the logarithm of
+    /// the number of entries.
+    pub fn pop_first(&mut self) -> Option<(String, Dynamic)>
+        ensures { MatchOption result ((self.old ≡ []) × (self.new ≡ [])) (λ x. self.old ≡ (string_bytes x.0, x.1) ∷ self.new) }
+    {
+        match &mut self.parts {
+            Some(parts) => parts.pop_first(),
+            None => None,
+        }
+    }
+
+    /// Takes all entries out, and gives their memory back. The time grows with what they hold.
+    pub fn clear(&mut self)
+        ensures { self.new ≡ [] }
+    {
+        self.parts = None;
+    }
+
+    /// The entries, by rising keys. It takes no memory; the whole walk takes time in the number of entries.
+    pub fn iter(&self) -> Entries<'_>
+        ensures { result ≡ self.now }
+    {
+        match &self.parts {
+            Some(parts) => Entries::of_parts(parts),
+            None => Entries::none(),
+        }
+    }
+
+    /// The keys, by rising order, at the cost of `iter`.
+    pub fn keys(&self) -> Keys<'_>
+        ensures { result ≡ keys_of self.now }
+    {
+        let entries = self.iter();
+        Keys { entries }
+    }
+
+    /// The values, by rising keys, at the cost of `iter`.
+    pub fn values(&self) -> Values<'_>
+        ensures { result ≡ values_of self.now }
+    {
+        let entries = self.iter();
+        Values { entries }
+    }
+}

@@ -1,0 +1,201 @@
+//! Going over the entries of a map.
+
+use crate::dynamic::Dynamic;
+use crate::map::{Map, Parts, Slot};
+use crate::parts::held;
+use std::collections::btree_map;
+use std::iter::{ExactSizeIterator, FusedIterator, IntoIterator, Iterator};
+use std::marker::Model;
+
+/// The entries of a map that are left, by rising keys. Contracts see their rows.
+#[derive(Drop)]
+pub struct Entries<'a> {
+    rest: Option<Rest<'a>>,
+}
+
+/// The keys that are left with their places, and the values of all places.
+#[derive(Drop)]
+pub(crate) struct Rest<'a> {
+    pub(crate) places: btree_map::Iter<'a, String, usize>,
+    pub(crate) values: &'a Vec<Slot>,
+}
+
+impl<'a> Model for Entries<'a> {
+    ghost use Rattle.rhai_value.specs.Rows.{Rows};
+
+    ghost Value = { Rows };
+
+    ghost use Rattle.std.specs.Coded.{codes, coded_list, coded×, coded_ℕ};
+    ghost use Rattle.rhai_value.specs.contracts.access_mode.AccessMode as access_mode;
+    ghost use Rattle.rhai_value.specs.contracts.host.Host as host_kind;
+    ghost use Rattle.rhai_value.specs.Code.{tree_code};
+
+    ghost coded = { coded_list (coded× (coded_list coded_ℕ) (tree_code (Prim.hlevel (codes, access_mode.the_row.coded, host_kind.the_row.coded)))) };
+
+    ghost use Rattle.rhai_value.specs.Rest.{rows_left, AreHeldIn};
+
+    ghost view = { λ a. rows_left a.rest };
+
+    ghost invariant = { λ a. AreHeldIn a.rest };
+}
+
+impl<'a> Entries<'a> {
+    ghost use Rattle.std.specs.Prelude.{◌≡◌, []};
+    ghost use Rattle.rhai_value.specs.Rows.{rows_of, IsPlaced};
+
+    pub(crate) fn none() -> Entries<'a>
+        ensures { result ≡ [] }
+    {
+        Entries { rest: None }
+    }
+
+    pub(crate) fn of_parts(parts: &'a Parts) -> Entries<'a>
+        requires { IsPlaced parts.now }
+        ensures { result ≡ rows_of parts.now }
+    {
+        Entries {
+            rest: Some(Rest {
+                places: parts.places.iter(),
+                values: &parts.values,
+            }),
+        }
+    }
+}
+
+impl<'a> Iterator for Entries<'a> {
+    ghost use Rattle.std.specs.Iterator.{YieldsFirstBy, item_count};
+    ghost use Rattle.std.specs.Map.Iter.{deref_pair};
+
+    type Item = (&'a str, &'a Dynamic);
+
+    ghost next_gives = { YieldsFirstBy deref_pair (λ rest. rest) };
+
+    ghost remaining = { item_count (λ rest. rest) };
+
+    fn next(&mut self) -> Option<(&'a str, &'a Dynamic)> {
+        let rest = self.rest.as_mut()?;
+        match rest.places.next() {
+            Some((key, place)) => {
+                let values = rest.values;
+                Some((key.as_str(), held(&values[*place])))
+            }
+            None => None,
+        }
+    }
+
+    fn size_hint(&self) -> (usize, Option<usize>) {
+        let len = self.len();
+        (len, Some(len))
+    }
+}
+
+impl<'a> ExactSizeIterator for Entries<'a> {
+    fn len(&self) -> usize {
+        match &self.rest {
+            Some(rest) => rest.places.len(),
+            None => 0,
+        }
+    }
+}
+
+impl<'a> FusedIterator for Entries<'a> {}
+
+impl<'a> IntoIterator for &'a Map {
+    ghost use Rattle.std.specs.Prelude.{◌≡◌};
+
+    type Item = (&'a str, &'a Dynamic);
+
+    type IntoIter = Entries<'a>;
+
+    ghost into_iter_gives = { λ m r. r ≡ m.now };
+
+    fn into_iter(self) -> Entries<'a> {
+        self.iter()
+    }
+}
+
+/// The keys of a map that are left, by rising order.
+#[derive(Drop)]
+pub struct Keys<'a> {
+    pub(crate) entries: Entries<'a>,
+}
+
+impl<'a> Model for Keys<'a> {
+    ghost use Rattle.std.specs.Prelude.{ℕ, List};
+
+    ghost Value = { List (List ℕ) };
+
+    ghost use Rattle.std.specs.Map.{keys_of};
+
+    ghost view = { λ a. keys_of a.entries };
+}
+
+impl<'a> Iterator for Keys<'a> {
+    ghost use Rattle.std.specs.Iterator.{YieldsFirstRef, item_count};
+
+    type Item = &'a str;
+
+    ghost next_gives = { YieldsFirstRef (λ rest. rest) };
+
+    ghost remaining = { item_count (λ rest. rest) };
+
+    fn next(&mut self) -> Option<&'a str> {
+        match self.entries.next() {
+            Some((key, _)) => Some(key),
+            None => None,
+        }
+    }
+
+    fn size_hint(&self) -> (usize, Option<usize>) {
+        self.entries.size_hint()
+    }
+}
+
+impl<'a> FusedIterator for Keys<'a> {}
+
+/// The values of a map that are left, by rising keys.
+#[derive(Drop)]
+pub struct Values<'a> {
+    pub(crate) entries: Entries<'a>,
+}
+
+impl<'a> Model for Values<'a> {
+    ghost use Rattle.std.specs.Prelude.{List};
+    ghost use Rattle.rhai_value.specs.Tree.{Tree};
+
+    ghost Value = { List Tree };
+
+    ghost use Rattle.std.specs.Coded.{codes, coded_list};
+    ghost use Rattle.rhai_value.specs.contracts.access_mode.AccessMode as access_mode;
+    ghost use Rattle.rhai_value.specs.contracts.host.Host as host_kind;
+    ghost use Rattle.rhai_value.specs.Code.{tree_code};
+
+    ghost coded = { coded_list (tree_code (Prim.hlevel (codes, access_mode.the_row.coded, host_kind.the_row.coded))) };
+
+    ghost use Rattle.std.specs.Map.{values_of};
+
+    ghost view = { λ a. values_of a.entries };
+}
+
+impl<'a> Iterator for Values<'a> {
+    ghost use Rattle.std.specs.Iterator.{YieldsFirstRef, item_count};
+
+    type Item = &'a Dynamic;
+
+    ghost next_gives = { YieldsFirstRef (λ rest. rest) };
+
+    ghost remaining = { item_count (λ rest. rest) };
+
+    fn next(&mut self) -> Option<&'a Dynamic> {
+        match self.entries.next() {
+            Some((_, value)) => Some(value),
+            None => None,
+        }
+    }
+
+    fn size_hint(&self) -> (usize, Option<usize>) {
+        self.entries.size_hint()
+    }
+}
+
+impl<'a> FusedIterator for Values<'a> {}

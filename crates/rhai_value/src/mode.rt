@@ -1,0 +1,101 @@
+//! Setting the mode of a value and of what it holds.
+ghost use Rattle.std.specs.Prelude.{◌≡◌, map};
+ghost use Rattle.rhai_value.specs.Tree.{paint, paint_trees};
+ghost use Rattle.rhai_value.specs.Rows.{keys, values};
+ghost use Rattle.rhai_value.specs.Painted.{with_mode, painted_slot};
+ghost use Rattle.rhai_value.specs.declared.access_mode.AccessMode.TheVariants.{ReadOnly};
+
+use crate::access_mode::AccessMode;
+use crate::dynamic::Dynamic;
+use crate::map::{Map, Slot};
+use crate::union::Union;
+
+impl Dynamic {
+    /// Sets the mode of the value and of all that it holds through arrays and maps. Curried values keep their modes, and so
+    /// does what is in a cell. Takes no memory; the time grows with the number of values inside. (`Dynamic::set_access_mode`)
+    pub fn set_access_mode(&mut self, mode: AccessMode)
+        ensures { self.new ≡ paint mode self.old }
+    {
+        paint_value(self, mode);
+    }
+
+    /// The value as a constant, with all that it holds through arrays and maps; at the cost of `set_access_mode`.
+    /// (`Dynamic::into_read_only`)
+    pub fn into_read_only(mut self) -> Dynamic
+        ensures { result ≡ paint ReadOnly self }
+    {
+        paint_value(&mut self, AccessMode::ReadOnly);
+        self
+    }
+}
+
+// Sets the mode of the value alone.
+fn set_own_mode(value: &mut Dynamic, mode: AccessMode)
+    ensures { value.new ≡ with_mode mode value.old }
+{
+    match &mut value.union {
+        Union::Unit(_, own) => *own = mode,
+        Union::Bool(_, own, _) => *own = mode,
+        Union::Str(_, own, _) => *own = mode,
+        Union::Char(_, own, _) => *own = mode,
+        Union::Int(_, own, _) => *own = mode,
+        Union::Array(_, own, _) => *own = mode,
+        Union::Blob(_, own, _) => *own = mode,
+        Union::Map(_, own, _) => *own = mode,
+        Union::FnPtr(_, own, _) => *own = mode,
+        Union::Variant(_, own, _) => *own = mode,
+        Union::Shared(_, own, _) => *own = mode,
+    }
+}
+
+#[cycle(paint)]
+#[tactic(auto, using(crate::proofs::Paints::painted_trees))]
+fn paint_value(value: &mut Dynamic, mode: AccessMode)
+    ensures { value.new ≡ paint mode value.old }
+{
+    match &mut value.union {
+        Union::Array(_, _, items) => paint_items(items, mode),
+        Union::Map(_, _, map) => paint_map(map, mode),
+        _ => {}
+    }
+    set_own_mode(value, mode);
+}
+
+#[cycle(paint)]
+fn paint_items(items: &mut Vec<Dynamic>, mode: AccessMode)
+    ensures { items.new.items ≡ map (paint mode) items.old.items }
+{
+    for item in items.iter_mut() {
+        paint_value(item, mode);
+    }
+}
+
+#[cycle(paint)]
+fn paint_map(map: &mut Map, mode: AccessMode)
+    ensures same { keys map.new ≡ keys map.old }
+    ensures painted { values map.new ≡ paint_trees mode (values map.old) }
+{
+    let Some(mut parts) = map.parts.take() else {
+        return;
+    };
+    paint_slots(&mut parts.values, mode);
+    map.parts = Some(parts);
+}
+
+#[cycle(paint)]
+fn paint_slots(slots: &mut Vec<Slot>, mode: AccessMode)
+    ensures { slots.new.items ≡ map (painted_slot mode) slots.old.items }
+{
+    for slot in slots.iter_mut() {
+        paint_slot(slot, mode);
+    }
+}
+
+#[cycle(paint)]
+fn paint_slot(slot: &mut Slot, mode: AccessMode)
+    ensures { slot.new ≡ painted_slot mode slot.old }
+{
+    if let Slot::Held(value) = slot {
+        paint_value(value, mode);
+    }
+}

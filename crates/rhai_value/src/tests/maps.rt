@@ -1,0 +1,124 @@
+//! Maps: that the definitions mean what is wanted, shown on small maps, that calls succeed, and that places are used again.
+use crate::map::Map;
+use crate::union::{INT, Union};
+use crate::{AccessMode, Dynamic};
+use std::alloc::{AllocError, Global};
+use std::process::Abort;
+use std::test::Fail;
+
+fn int(value: INT) -> Dynamic {
+    Dynamic {
+        union: Union::Int(0, AccessMode::ReadWrite, value),
+    }
+}
+
+fn int_of(value: &Dynamic) -> Option<INT> {
+    match &value.union {
+        Union::Int(_, _, value) => Some(*value),
+        _ => None,
+    }
+}
+
+fn put(map: &mut Map, key: &str, value: INT) -> Result<Option<Dynamic>, AllocError> {
+    let key = String::from_str(map.alloc, key)?;
+    map.insert(key, int(value)).map_err(|_| AllocError)
+}
+
+fn sample(alloc: Global) -> Result<Map, AllocError> {
+    let mut map = Map::new(alloc);
+    for (key, value) in [("b", 2), ("", 0), ("é", 4), ("a", 1), ("ba", 3)] {
+        put(&mut map, key, value)?;
+    }
+    Ok(map)
+}
+
+fn has_entries(map: &Map, wanted: &[(&str, INT)]) -> bool {
+    let mut entries = map.iter();
+    for (key, value) in wanted {
+        match entries.next() {
+            Some((found, item)) => if found != *key || int_of(item) != Some(*value) {
+                return false;
+            },
+            None => return false,
+        }
+    }
+    entries.next().is_none() && map.len() == wanted.len()
+}
+
+fn places(map: &Map) -> usize {
+    match &map.parts {
+        Some(parts) => parts.values.len(),
+        None => 0,
+    }
+}
+
+#[test]
+fn starts_empty(rt: HostRuntime) -> Result<(), Fail> {
+    let mut map = Map::new(rt.alloc());
+    assert!(rt; map.is_empty() && has_entries(&map, &[]));
+    assert!(rt; map.get("a").is_none() && map.get_mut("a").is_none() && !map.contains_key("a"));
+    assert!(rt; map.remove("a").is_none() && map.pop_first().is_none());
+    Ok(())
+}
+
+#[test]
+fn keys_rise(rt: HostRuntime) -> Result<(), Fail> {
+    let map = sample(rt.alloc())?;
+    assert!(rt; has_entries(&map, &[("", 0), ("a", 1), ("b", 2), ("ba", 3), ("é", 4)]));
+    assert!(rt; map.get("ba").and_then(int_of) == Some(3) && map.get("bb").is_none());
+    assert_eq!(rt; map.iter().size_hint(), (5, Some(5)));
+    assert!(rt; map.keys().last() == Some("é") && map.values().last().and_then(int_of) == Some(4));
+    assert!(rt; map.contains_key("") && !map.contains_key("c") && !map.is_empty());
+    Ok(())
+}
+
+#[test]
+fn a_key_is_written_over(rt: HostRuntime) -> Result<(), Fail> {
+    let mut map = sample(rt.alloc())?;
+    let old = put(&mut map, "b", 20)?;
+    assert!(rt; old.as_ref().and_then(int_of) == Some(2));
+    if let Some(value) = map.get_mut("a") {
+        *value = int(10);
+    }
+    assert!(rt; has_entries(&map, &[("", 0), ("a", 10), ("b", 20), ("ba", 3), ("é", 4)]));
+    assert_eq!(rt; places(&map), 5);
+    Ok(())
+}
+
+#[test]
+fn places_are_used_again(rt: HostRuntime) -> Result<(), Fail> {
+    let mut map = sample(rt.alloc())?;
+    for key in ["b", "é", ""] {
+        assert!(rt; map.remove(key).is_some() && map.remove(key).is_none());
+    }
+    assert!(rt; has_entries(&map, &[("a", 1), ("ba", 3)]));
+    for (key, value) in [("z", 9), ("c", 5), ("b", 7)] {
+        assert!(rt; put(&mut map, key, value)?.is_none());
+    }
+    assert!(rt; has_entries(&map, &[("a", 1), ("b", 7), ("ba", 3), ("c", 5), ("z", 9)]));
+    assert_eq!(rt; places(&map), 5);
+    put(&mut map, "y", 8)?;
+    assert_eq!(rt; places(&map), 6);
+    Ok(())
+}
+
+#[test]
+fn entries_leave_in_order(rt: HostRuntime) -> Result<(), Fail> {
+    let mut map = sample(rt.alloc())?;
+    for (wanted, number) in [("", 0), ("a", 1), ("b", 2), ("ba", 3), ("é", 4)] {
+        match map.pop_first() {
+            Some((key, value)) => assert!(rt;
+                key.as_str() == wanted && int_of(&value) == Some(number),
+                "{wanted}"
+            ),
+            None => assert!(rt; false, "{wanted}"),
+        }
+    }
+    assert!(rt; map.pop_first().is_none() && has_entries(&map, &[]));
+    assert!(rt; put(&mut map, "x", 1)?.is_none());
+    assert_eq!(rt; places(&map), 5);
+    map.clear();
+    assert!(rt; has_entries(&map, &[]) && places(&map) == 0);
+    assert!(rt; put(&mut map, "x", 2)?.is_none() && has_entries(&map, &[("x", 2)]));
+    Ok(())
+}

@@ -1,0 +1,86 @@
+//! The types of values.
+ghost use Rattle.std.specs.Prelude.{◌≡◌};
+ghost use Rattle.rhai_value.specs.Types.{type_name};
+
+/// A type that a value may be of, and the type of what can't be looked into (`TypeId` of `std::any` in rhai).
+#[derive(Debug, PartialEq, Eq, Copy, Clone)]
+pub enum TypeId {
+    /// `()`.
+    Unit,
+    /// `bool`.
+    Bool,
+    /// `char`.
+    Char,
+    /// `i64`.
+    Int,
+    /// `u8`.
+    U8,
+    /// `u16`.
+    U16,
+    /// `u32`.
+    U32,
+    /// `u64`.
+    U64,
+    /// `u128`.
+    U128,
+    /// `i8`.
+    I8,
+    /// `i16`.
+    I16,
+    /// `i32`.
+    I32,
+    /// `i128`.
+    I128,
+    /// `String`, which no value holds: a text is an `ImmutableString`.
+    String,
+    /// A text.
+    ImmutableString,
+    /// An array.
+    Array,
+    /// A blob.
+    Blob,
+    /// A map.
+    Map,
+    /// A function pointer.
+    FnPtr,
+    /// A range without its end.
+    ExclusiveRange,
+    /// A range with its end.
+    InclusiveRange,
+    /// Any value.
+    Dynamic,
+    /// A holder whose chain is stuck or closed.
+    Shared,
+}
+
+impl TypeId {
+    /// The name of the type, as scripts see it.
+    pub fn name(self) -> &'static str
+        ensures { result.now ≡ type_name self }
+    {
+        match self {
+            TypeId::Unit => "()",
+            TypeId::Bool => "bool",
+            TypeId::Char => "char",
+            TypeId::Int => "i64",
+            TypeId::U8 => "u8",
+            TypeId::U16 => "u16",
+            TypeId::U32 => "u32",
+            TypeId::U64 => "u64",
+            TypeId::U128 => "u128",
+            TypeId::I8 => "i8",
+            TypeId::I16 => "i16",
+            TypeId::I32 => "i32",
+            TypeId::I128 => "i128",
+            TypeId::String | TypeId::ImmutableString => "string",
+            TypeId::Array => "array",
+            TypeId::Blob => "blob",
+            TypeId::Map => "map",
+            TypeId::FnPtr => "Fn",
+            TypeId::ExclusiveRange => "core::ops::range::Range<i64>",
+            TypeId::InclusiveRange => "core::ops::range::RangeInclusive<i64>",
+            TypeId::Dynamic => "Dynamic",
+            TypeId::Shared => "<shared>",
+        }
+    }
+}

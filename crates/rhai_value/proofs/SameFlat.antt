@@ -1,13 +1,15 @@
 -- First contents, marks and flat values of related values, and a write that all holders of a cell see.
-use Rattle.std.proofs.Common.{◌≡◌, ℕ, zero, suc, Bool, true, false, List, [], ◌∷◌, slice_get, Option, Some, None, is_some, is_none, unwrap_or, ◌||◌, option_and_then, refl, sym, ap, ap₂, ◌∙◌, length}
+use Rattle.std.proofs.Common.{◌≡◌, ℕ, zero, suc, Bool, true, false, List, [], ◌∷◌, slice_get, Option, Some, None, is_some, is_none, unwrap_or, ◌||◌, option_and_then, option_map, refl, sym, ap, ap₂, ◌∙◌, length}
 use Rattle.rhai_value.specs.declared.store.Cell.{Cell}
 use Rattle.rhai_value.specs.Tree.{Tree, node, leaf, branch, holder, cell_of}
 use Rattle.rhai_value.specs.Store.{at, put, unmarked}
 use Rattle.rhai_value.specs.End.{End, end}
 use Rattle.rhai_value.specs.First.{first, value_with_first, store_with_first}
 use Rattle.rhai_value.specs.Flat.{flat, flattened, value_ahead, or_copy, flat_source}
+use Rattle.rhai_value.specs.declared.chain.Site.TheVariants.{InCell}
+use Rattle.rhai_value.specs.Marks.{first_cell, held_cell, site_cell}
 use Rattle.rhai_value.specs.Locked.{is_locked, is_one_locked}
-use Rattle.rhai_value.specs.Relation.{Renaming, Related, Alike, IsOneToOne, SameCells, SameEnd}
+use Rattle.rhai_value.specs.Relation.{Renaming, paired, Related, Alike, IsOneToOne, SameCells, SameEnd}
 use Rattle.rhai_value.proofs.SameCells.{by_ends, get_unchanged, same_put, length_changed}
 use Rattle.rhai_value.proofs.SameTrees.{by_related, by_trees, same_copy}
 use Rattle.rhai_value.proofs.SameWalks.{same_at, same_end}
@@ -92,3 +94,17 @@ pub length_with_first : (x : Tree) (s : List Cell) (t : Tree) → length (store_
 length_with_first x s (node (leaf l) g m) = refl
 length_with_first x s (node (branch k ts) g m) = refl
 length_with_first x s (node (holder c) g m) = length_changed _ s c
+
+cell_alike : (r : Renaming) (o q : Option Tree) (c d : ℕ) → paired r c d ≡ true → Alike (Related r) o q
+    → Alike (λ a b. paired r a b ≡ true) (site_cell (option_map (λ x. InCell c) o)) (site_cell (option_map (λ x. InCell d) q))
+cell_alike r None None c d p h = tt
+cell_alike r (Some x) (Some y) c d p h = p
+cell_alike r None (Some y) c d p h = absurd h
+cell_alike r (Some x) None c d p h = absurd h
+
+pub same_first_cell : (r : Renaming) (s z : List Cell) (t u : Tree) → SameCells r s z → Related r t u → Alike (λ c d. paired r c d ≡ true) (first_cell s t) (first_cell z u)
+same_first_cell r s z t u cells = by_trees r (λ t u. Alike (λ c d. paired r c d ≡ true) (first_cell s t) (first_cell z u)) (λ l g m. tt) (λ k ts us g m e. tt)
+    (λ c d g m p. cell_alike r (at s c) (at z d) c d p (same_at r s z c d cells p)) t u
+
+pub same_held_cell : (r : Renaming) (e f : End) → SameEnd r e f → Alike (λ c d. paired r c d ≡ true) (held_cell e) (held_cell f)
+same_held_cell r = by_ends r (λ e f. Alike (λ c d. paired r c d ≡ true) (held_cell e) (held_cell f)) (λ t u h. tt) (λ c d t u p h. p) (λ t u h. tt) tt

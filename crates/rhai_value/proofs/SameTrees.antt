@@ -1,10 +1,10 @@
 -- Values that are the same up to the numbers of their cells.
-use Rattle.std.proofs.Common.{◌≡◌, ℕ, ℤ, true, Option, refl, is_some}
+use Rattle.std.proofs.Common.{◌≡◌, ℕ, ℤ, Bool, true, false, List, Option, refl, is_some, cond}
 use Rattle.rhai_value.specs.declared.access_mode.AccessMode.{AccessMode}
-use Rattle.rhai_value.specs.Tree.{Tree, node, Content, Leaf, leaf, branch, holder, Kind, array, fields, function, Trees, no_trees, tree_then, tag_of, mode_of, cell_of, is_host, with_tag, copy, copy_trees, paint, paint_trees}
-use Rattle.rhai_value.specs.Parts.{part_of, with_leaf}
+use Rattle.rhai_value.specs.Tree.{Tree, node, Content, Leaf, leaf, int, branch, holder, Kind, array, fields, function, Trees, no_trees, tree_then, tag_of, mode_of, cell_of, is_host, with_tag, copy, copy_trees, paint, paint_trees}
+use Rattle.rhai_value.specs.Parts.{leaf_part, leaf_int, array_of, map_of, function_of, with_content, with_int}
 use Rattle.rhai_value.specs.Types.{tree_type}
-use Rattle.rhai_value.specs.Relation.{Renaming, paired, Related, SameContent, AllRelated}
+use Rattle.rhai_value.specs.Relation.{Renaming, paired, Related, SameContent, AllRelated, SameNamed, Alike, Respect}
 
 -- What holds of each leaf with itself, of holders of paired cells, and of branches of one kind where it holds of their children,
 -- holds of related values.
@@ -54,14 +54,48 @@ pub same_paint : (r : Renaming) (m : AccessMode) (t u : Tree) → Related r t u 
 same_paint r m = by_related r (λ t u. Related r (paint m t) (paint m u)) (λ ts us. AllRelated r (paint_trees m ts) (paint_trees m us))
     (λ l g i. (refl, refl, refl)) (painted_branch r m) (λ c d g i e. (e, refl, refl)) tt (λ t u ts us p q. (p, q))
 
-pub same_part : {A : Type 0} (r : Renaming) (part : Leaf → Option A) (t u : Tree) → Related r t u → part_of part t ≡ part_of part u
-same_part r part = by_trees r (λ t u. part_of part t ≡ part_of part u) (λ l g m. refl) (λ k ts us g m e. refl) (λ c d g m e. refl)
+pub same_part : {A : Type 0} (r : Renaming) (part : Leaf → Option A) (t u : Tree) → Related r t u → leaf_part part t ≡ leaf_part part u
+same_part r part = by_trees r (λ t u. leaf_part part t ≡ leaf_part part u) (λ l g m. refl) (λ k ts us g m e. refl) (λ c d g m e. refl)
+
+pub same_items : (r : Renaming) (t u : Tree) → Related r t u → Alike (AllRelated r) (array_of t) (array_of u)
+same_items r = by_trees r (λ t u. Alike (AllRelated r) (array_of t) (array_of u)) (λ l g m. tt) kinds (λ c d g m e. tt)
+  where
+    kinds : (k : Kind) (ts us : Trees) (g : ℤ) (m : AccessMode) → AllRelated r ts us → Alike (AllRelated r) (array_of (node (branch k ts) g m)) (array_of (node (branch k us) g m))
+    kinds array ts us g m e = e
+    kinds (fields ks) ts us g m e = tt
+    kinds (function f) ts us g m e = tt
+
+pub same_rows : (r : Renaming) (t u : Tree) → Related r t u → Alike (SameNamed r) (map_of t) (map_of u)
+same_rows r = by_trees r (λ t u. Alike (SameNamed r) (map_of t) (map_of u)) (λ l g m. tt) kinds (λ c d g m e. tt)
+  where
+    kinds : (k : Kind) (ts us : Trees) (g : ℤ) (m : AccessMode) → AllRelated r ts us → Alike (SameNamed r) (map_of (node (branch k ts) g m)) (map_of (node (branch k us) g m))
+    kinds array ts us g m e = tt
+    kinds (fields ks) ts us g m e = (refl, e)
+    kinds (function f) ts us g m e = tt
+
+pub same_function : (r : Renaming) (t u : Tree) → Related r t u → Alike (SameNamed r) (function_of t) (function_of u)
+same_function r = by_trees r (λ t u. Alike (SameNamed r) (function_of t) (function_of u)) (λ l g m. tt) kinds (λ c d g m e. tt)
+  where
+    kinds : (k : Kind) (ts us : Trees) (g : ℤ) (m : AccessMode) → AllRelated r ts us → Alike (SameNamed r) (function_of (node (branch k ts) g m)) (function_of (node (branch k us) g m))
+    kinds array ts us g m e = tt
+    kinds (fields ks) ts us g m e = tt
+    kinds (function f) ts us g m e = (refl, e)
+
+pub same_with_content : (r : Renaming) (c d : Content) → SameContent r c d → Respect r (with_content c) (with_content d)
+same_with_content r c d h (node x g m) (node y i n) e = (h, e.1, e.2)
+
+pub same_with_int : (r : Renaming) (n : ℤ) → Respect r (with_int n) (with_int n)
+same_with_int r n = by_trees r (λ t u. Related r (with_int n t) (with_int n u)) leaves (λ k ts us g m e. ((refl, e), refl, refl)) (λ c d g m e. (e, refl, refl))
+  where
+    leaves : (l : Leaf) (g : ℤ) (m : AccessMode) → Related r (with_int n (node (leaf l) g m)) (with_int n (node (leaf l) g m))
+    leaves l g m = either (is_some (leaf_int l))
+      where
+        either : (b : Bool) → Related r (cond b (node (leaf (int n)) g m) (node (leaf l) g m)) (cond b (node (leaf (int n)) g m) (node (leaf l) g m))
+        either true = (refl, refl, refl)
+        either false = (refl, refl, refl)
 
 pub same_type : (r : Renaming) (t u : Tree) → Related r t u → tree_type t ≡ tree_type u
 same_type r = by_trees r (λ t u. tree_type t ≡ tree_type u) (λ l g m. refl) (λ k ts us g m e. refl) (λ c d g m e. refl)
-
-pub same_with_leaf : (r : Renaming) (f : Leaf → Leaf) (t u : Tree) → Related r t u → Related r (with_leaf f t) (with_leaf f u)
-same_with_leaf r f = by_trees r (λ t u. Related r (with_leaf f t) (with_leaf f u)) (λ l g m. (refl, refl, refl)) (λ k ts us g m e. ((refl, e), refl, refl)) (λ c d g m e. (e, refl, refl))
 
 pub same_tag : (r : Renaming) (t u : Tree) → Related r t u → tag_of t ≡ tag_of u
 same_tag r = by_trees r (λ t u. tag_of t ≡ tag_of u) (λ l g m. refl) (λ k ts us g m e. refl) (λ c d g m e. refl)

@@ -5,7 +5,7 @@ use Rattle.rhai_value.specs.declared.union.Union.{Union}
 use Rattle.rhai_value.specs.declared.union.Union.TheVariants as union
 
 abbrev pub tree_of : Union → Tree
-tree_of (union.Unit g m) = node (leaf unit) g m
+tree_of (union.Unit g m u) = node (leaf unit) g m
 tree_of (union.Bool g m b) = node (leaf (bool b)) g m
 tree_of (union.Str g m s) = node (leaf (text s)) g m
 tree_of (union.Char g m c) = node (leaf (char c)) g m

@@ -34,7 +34,7 @@ fn set_own_mode(value: &mut Dynamic, mode: AccessMode)
     ensures { value.new ≡ with_mode mode value.old }
 {
     match &mut value.union {
-        Union::Unit(_, own) => *own = mode,
+        Union::Unit(_, own, _) => *own = mode,
         Union::Bool(_, own, _) => *own = mode,
         Union::Str(_, own, _) => *own = mode,
         Union::Char(_, own, _) => *own = mode,

@@ -5,7 +5,7 @@ use Rattle.std.proofs.lemmas.Bool.Decides.{eqb_tells}
 use Rattle.std.proofs.lemmas.Option.{none-some, same_Some}
 use Rattle.rhai_value.specs.declared.access_mode.AccessMode.{AccessMode}
 use Rattle.rhai_value.specs.declared.store.Cell.{Cell}
-use Rattle.rhai_value.specs.Tree.{Tree, node, leaf, branch, holder, cell_of}
+use Rattle.rhai_value.specs.Tree.{Tree, node, leaf, branch, fields, holder, cell_of}
 use Rattle.rhai_value.specs.Store.{at}
 use Rattle.rhai_value.specs.Walk.{is_open, visit, visit_of, visit_map, unentered, walk_in}
 use Rattle.rhai_value.specs.End.{End, closed, end_at, end_from, end_of, end}
@@ -54,7 +54,9 @@ chain_walk : (n : ℕ) (s : List Cell) (path : List ℕ) (t : Tree) → Behind s
 chain_walk zero s path (node (leaf l) g a) h = refl
 chain_walk (suc n) s path (node (leaf l) g a) h = refl
 chain_walk zero s path (node (branch k ts) g a) h = refl
+chain_walk zero s path (node (fields fs) g a) h = refl
 chain_walk (suc n) s path (node (branch k ts) g a) h = refl
+chain_walk (suc n) s path (node (fields fs) g a) h = refl
 chain_walk zero s path (node (holder c) g a) h = ap (end_at (node (holder c) g a)) (unentered_either (at s c) (is_open c path))
 chain_walk (suc n) s path (node (holder c) g a) h = at_cell (chain_walk n s (c ∷ path)) (at s c) (is_open c path) refl refl
   where
@@ -89,8 +91,10 @@ comes_back s c v u j is round e zero (suc k) place (node (holder d) g a) r = rw 
 comes_back s c v u j is round e (suc n) (suc k) place (node (holder d) g a) r = rw (same_Some d r.0 r.2, r.3) (comes_back s c v u j is round e n k (Some r.0) r.1 r.4)
 comes_back s c v u j is round e n zero place (node (leaf l) g a) r = absurd (none-some c (ap cell_of r ∙ e))
 comes_back s c v u j is round e n zero place (node (branch k ts) g a) r = absurd (none-some c (ap cell_of r ∙ e))
+comes_back s c v u j is round e n zero place (node (fields fs) g a) r = absurd (none-some c (ap cell_of r ∙ e))
 comes_back s c v u j is round e n (suc k) place (node (leaf l) g a) r = absurd (none-some r.0 r.2)
 comes_back s c v u j is round e n (suc k) place (node (branch i ts) g a) r = absurd (none-some r.0 r.2)
+comes_back s c v u j is round e n (suc k) place (node (fields fs) g a) r = absurd (none-some r.0 r.2)
 
 -- the chain has come to t, some steps behind the content of the cell that is kept, if one is
 abbrev pub IsBehind : List Cell → Option ℕ → Tree → Type 0
@@ -113,4 +117,5 @@ behind_closed s (Some d) t c n place h q e = comes_back s d h.0 t h.1 h.2 h.3 (s
 pub chain_next : (s : List Cell) (t w : Tree) (c n m : ℕ) (place : Option ℕ) → Some c ≡ cell_of t → Some w ≡ at s c → n ≡ suc m → chain n s place t ≡ chain m s (Some c) w
 chain_next s (node (leaf l) g a) w c n m place e is next = cc
 chain_next s (node (branch k ts) g a) w c n m place e is next = cc
+chain_next s (node (fields fs) g a) w c n m place e is next = cc
 chain_next s (node (holder d) g a) w c n m place e is next = rw (next, same_Some d c (sym e), ← is) refl

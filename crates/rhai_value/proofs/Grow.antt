@@ -6,7 +6,7 @@ use Rattle.std.proofs.lemmas.Bool.Decides.{nat_tests}
 use Rattle.rhai_value.specs.declared.store.Cell.{Cell}
 use Rattle.rhai_value.specs.Tree.{Tree}
 use Rattle.rhai_value.specs.Store.{added}
-use Rattle.rhai_value.specs.Relation.{Renaming, paired, Related, AllRelated, SameCells, IsOneToOne, new_pairs}
+use Rattle.rhai_value.specs.Relation.{Renaming, paired, Related, AllRelated, RelatedFields, SameCells, IsOneToOne, new_pairs}
 use Rattle.rhai_value.proofs.SameTrees.{by_related}
 use Rattle.rhai_value.proofs.Zips.{get_append, get_last}
 
@@ -22,7 +22,7 @@ pub paired_more : (r q : Renaming) (c d : ℕ) → paired r c d ≡ true → pai
 paired_more r q c d e = paired_append r q c d ∙ ap (λ b. b || paired q c d) e
 
 pub related_more : (r q : Renaming) (t u : Tree) → Related r t u → Related (r ++ q) t u
-related_more r q = by_related r (Related (r ++ q)) (AllRelated (r ++ q)) (λ l g m. (refl, refl, refl)) (λ k ts us g m e h. ((refl, h), refl, refl)) (λ c d g m p. (paired_more r q c d p, refl, refl)) tt (λ t u ts us p q. (p, q))
+related_more r q = by_related r (Related (r ++ q)) (AllRelated (r ++ q)) (RelatedFields (r ++ q)) (λ l g m. (refl, refl, refl)) (λ k ts us g m e h. ((refl, h), refl, refl)) (λ fs hs g m e h. (h, refl, refl)) (λ c d g m p. (paired_more r q c d p, refl, refl)) tt (λ t u ts us p q. (p, q)) tt (λ k t u fs hs p q. (refl, p, q))
 
 abbrev pub one_pair : ℕ → ℕ → Renaming
 one_pair n m = (n, m) ∷ []

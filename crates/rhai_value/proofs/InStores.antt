@@ -3,7 +3,7 @@ use Rattle.std.proofs.Common.{◌≡◌, ◌<◌, ℕ, ℤ, List, [], length, Op
 use Rattle.rhai_value.specs.declared.access_mode.AccessMode.{AccessMode}
 use Rattle.rhai_value.specs.declared.in_store.InStore.{InStore}
 use Rattle.rhai_value.specs.declared.store.Cell.{Cell}
-use Rattle.rhai_value.specs.Tree.{Tree, node, leaf, branch, holder, cell_of}
+use Rattle.rhai_value.specs.Tree.{Tree, node, leaf, branch, fields, holder, cell_of}
 use Rattle.rhai_value.specs.Store.{put, at}
 use Rattle.rhai_value.specs.End.{End, end, held, stuck, closed, held_in, held_part, place_of}
 use Rattle.rhai_value.specs.Writes.{written_at, written}
@@ -56,10 +56,12 @@ cell_value s t c u p e = let r = cell_read_at (end s [] t) s t c refl p in ap So
 pub unshared_place : (s : List Cell) (t : Tree) (c : ℕ) → cell_of t ≡ None → Some (Some c) ≡ place_of (end s [] t) → ⊥
 unshared_place s (node (leaf l) g m) c e p = let q : Some (Some c) ≡ Some None = p ∙ ap place_of (end_opens s [] (node (leaf l) g m)) in cc
 unshared_place s (node (branch k ts) g m) c e p = let q : Some (Some c) ≡ Some None = p ∙ ap place_of (end_opens s [] (node (branch k ts) g m)) in cc
+unshared_place s (node (fields fs) g m) c e p = let q : Some (Some c) ≡ Some None = p ∙ ap place_of (end_opens s [] (node (fields fs) g m)) in cc
 unshared_place s (node (holder d) g m) c e p = cc
 
 -- a value that has a part which no holder has holds it itself
 pub own_part_held : {A : Type 0} (part : Tree → Option A) (s : List Cell) (t : Tree) (a : A) → ((c : ℕ) (g : ℤ) (m : AccessMode) → part (node (holder c) g m) ≡ None) → part t ≡ Some a → held_part part (end s [] t) ≡ Some a
 own_part_held part s (node (leaf l) g m) a none h = ap (held_part part) (end_opens s [] (node (leaf l) g m)) ∙ h
 own_part_held part s (node (branch k ts) g m) a none h = ap (held_part part) (end_opens s [] (node (branch k ts) g m)) ∙ h
+own_part_held part s (node (fields fs) g m) a none h = ap (held_part part) (end_opens s [] (node (fields fs) g m)) ∙ h
 own_part_held part s (node (holder c) g m) a none h = let e : None ≡ Some a = sym (none c g m) ∙ h in cc

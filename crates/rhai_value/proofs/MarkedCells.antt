@@ -1,7 +1,7 @@
 -- Marks that are set and cleared.
 use Rattle.std.proofs.Common.{◌≡◌, ℕ, zero, suc, ◌<◌, Bool, true, false, List, [], ◌∷◌, length, get_or, slice_set, Option, Some, None, option_map, refl, sym, ap, ◌∙◌, arith}
 use Rattle.rhai_value.specs.declared.store.Cell.{Cell}
-use Rattle.rhai_value.specs.Tree.{Tree, node, leaf, branch, holder, cell_of}
+use Rattle.rhai_value.specs.Tree.{Tree, node, leaf, branch, fields, holder, cell_of}
 use Rattle.rhai_value.specs.Store.{at, unmarked, mark_of, is_marked_at}
 use Rattle.rhai_value.specs.End.{end, place_of}
 use Rattle.rhai_value.specs.Marks.{set_mark, IsWithin}
@@ -23,6 +23,7 @@ first_within_at s c (Some t) e = at_within s c t e
 pub first_within : (s : List Cell) (t : Tree) → IsWithin s (first_place s t)
 first_within s (node (leaf l) g m) = tt
 first_within s (node (branch k ts) g m) = tt
+first_within s (node (fields fs) g m) = tt
 first_within s (node (holder c) g m) = first_within_at s c (at s c) refl
 
 held_within_at : (s : List Cell) (t : Tree) (p : Option (Option ℕ)) → p ≡ place_of (end s [] t) → IsWithin s p
@@ -62,4 +63,5 @@ at_marked (x ∷ s) (suc c) = at_marked s c
 pub closed_by_mark : (s : List Cell) (t : Tree) (c : ℕ) → cell_of t ≡ Some c → first (set_mark s c true) t ≡ None
 closed_by_mark s (node (leaf l) g m) c e = cc
 closed_by_mark s (node (branch k ts) g m) c e = cc
+closed_by_mark s (node (fields fs) g m) c e = cc
 closed_by_mark s (node (holder d) g m) c e = let same : d ≡ c = cc in ap (at (set_mark s c true)) same ∙ at_marked s c

@@ -1,7 +1,7 @@
 -- Where a chain of holders ends.
 use Rattle.std.specs.Prelude.{ℕ, ℤ, Bool, List, Option, Some, None, option_and_then, slice_get}
 use Rattle.rhai_value.specs.declared.store.Cell.{Cell}
-use Rattle.rhai_value.specs.Tree.{Tree, node, holder, Trees}
+use Rattle.rhai_value.specs.Tree.{Tree, node, holder, Trees, Fields}
 use Rattle.rhai_value.specs.Parts.{unit_of, bool_of, int_of, char_of, text_of, blob_of, array_of, map_of, function_of}
 use Rattle.rhai_value.specs.Store.{put}
 use Rattle.rhai_value.specs.Walk.{Visit, entered, barred, revisited, walk}
@@ -69,7 +69,7 @@ blob_held e = held_part blob_of e
 abbrev pub array_held : End → Option Trees
 array_held e = held_part array_of e
 
-abbrev pub map_held : End → Option (List (List ℕ) × Trees)
+abbrev pub map_held : End → Option Fields
 map_held e = held_part map_of e
 
 abbrev pub function_held : End → Option (List ℕ × Trees)

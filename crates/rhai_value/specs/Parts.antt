@@ -1,6 +1,6 @@
 -- What a value has: the content of its kind.
 use Rattle.std.specs.Prelude.{ℕ, ℤ, Bool, Option, Some, None, List}
-use Rattle.rhai_value.specs.Tree.{Tree, node, Leaf, leaf, branch, unit, bool, int, char, text, blob, array, fields, function, Trees}
+use Rattle.rhai_value.specs.Tree.{Tree, node, Leaf, leaf, branch, fields, unit, bool, int, char, text, blob, array, function, Trees, Fields}
 
 -- what a leaf has: its unit, its boolean, its int, its character, its text, its bytes
 abbrev pub leaf_unit : Leaf → Option (Unit {0})
@@ -55,9 +55,9 @@ abbrev pub array_of : Tree → Option Trees
 array_of (node (branch array ts) g m) = Some ts
 array_of _ = None
 
--- the keys and the values of a map
-abbrev pub map_of : Tree → Option (List (List ℕ) × Trees)
-map_of (node (branch (fields ks) ts) g m) = Some (ks, ts)
+-- the fields of a map
+abbrev pub map_of : Tree → Option Fields
+map_of (node (fields fs) g m) = Some fs
 map_of _ = None
 
 -- the name and the curried values of a function pointer
@@ -83,7 +83,7 @@ abbrev pub with_leaf : (Leaf → Leaf) → Tree → Tree
 with_leaf f (node (leaf l) g m) = node (leaf (f l)) g m
 with_leaf f t = t
 
--- the value with another int, text, bytes, items, or keys and values; a value that has none stays
+-- the value with another int, text, bytes, items, or fields; a value that has none stays
 abbrev pub with_int : ℤ → Tree → Tree
 with_int n t = with_leaf (leaf_with_int n) t
 
@@ -97,6 +97,6 @@ abbrev pub with_array : Trees → Tree → Tree
 with_array ts (node (branch array us) g m) = node (branch array ts) g m
 with_array ts t = t
 
-abbrev pub with_map : List (List ℕ) → Trees → Tree → Tree
-with_map ks ts (node (branch (fields js) us) g m) = node (branch (fields ks) ts) g m
-with_map ks ts t = t
+abbrev pub with_map : Fields → Tree → Tree
+with_map fs (node (fields hs) g m) = node (fields fs) g m
+with_map fs t = t

@@ -6,7 +6,7 @@ use Rattle.rhai_value.specs.declared.host.Host.{Host}
 use Rattle.rhai_value.specs.declared.host.Host.TheVariants as host_kind
 use Rattle.rhai_value.specs.declared.type_id.TypeId.{TypeId}
 use Rattle.rhai_value.specs.declared.type_id.TypeId.TheVariants as id
-use Rattle.rhai_value.specs.Tree.{Tree, node, Content, leaf, branch, holder, Leaf, unit, bool, int, char, text, blob, host, Kind, array, fields, function}
+use Rattle.rhai_value.specs.Tree.{Tree, node, Content, leaf, branch, fields, holder, Leaf, unit, bool, int, char, text, blob, host, Kind, array, function}
 use Rattle.rhai_value.specs.End.{End, held, stuck, closed}
 
 abbrev pub host_type : Host → TypeId
@@ -33,12 +33,12 @@ leaf_type (host h) = host_type h
 
 abbrev pub kind_type : Kind → TypeId
 kind_type array = id.Array
-kind_type (fields ks) = id.Map
 kind_type (function f) = id.FnPtr
 
 abbrev pub content_type : Content → TypeId
 content_type (leaf l) = leaf_type l
 content_type (branch k ts) = kind_type k
+content_type (fields fs) = id.Map
 content_type (holder c) = id.Shared
 
 abbrev pub tree_type : Tree → TypeId

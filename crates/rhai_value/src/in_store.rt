@@ -6,7 +6,7 @@ ghost use Rattle.rhai_value.specs.contracts.dynamic.Dynamic as dynamic_type;
 ghost use Rattle.rhai_value.specs.contracts.map.Map as map_type;
 ghost use Rattle.rhai_value.specs.End.{end, held_in, text_held, blob_held, array_held, map_held};
 ghost use Rattle.rhai_value.specs.Parts.{with_text, with_blob, with_array, with_map};
-ghost use Rattle.rhai_value.specs.Rows.{trees_of, keys, values};
+ghost use Rattle.rhai_value.specs.Rows.{trees_of, fields_of};
 ghost use Rattle.rhai_value.specs.Types.{end_name};
 ghost use Rattle.rhai_value.specs.Writes.{written, in_store_row, array_row, blob_row};
 
@@ -105,8 +105,8 @@ impl<'a> InStore<'a> {
 
     /// The held map, to write, or the name of the held type. Takes no memory.
     pub fn map_mut(&mut self) -> Result<&mut Map, &'static str>
-        ensures* writes_back { sem 𝓛 (LendsIfOk in_store_row map_type.the_row self.entry result (λ w. written self.old (with_map (keys w) (values w))) self.old) }
-        ensures ok { IfOk result (λ v. map_held (end self.old.store.now [] self.old.value.now) ≡ Some (keys v.now, values v.now)) }
+        ensures* writes_back { sem 𝓛 (LendsIfOk in_store_row map_type.the_row self.entry result (λ w. written self.old (with_map (fields_of w))) self.old) }
+        ensures ok { IfOk result (λ v. map_held (end self.old.store.now [] self.old.value.now) ≡ Some (fields_of v.now)) }
         ensures err { IfErr result (λ name. (map_held (end self.old.store.now [] self.old.value.now) ≡ None)
             × (name.now ≡ end_name (end self.old.store.now [] self.old.value.now))) }
     {

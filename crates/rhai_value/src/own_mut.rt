@@ -6,7 +6,7 @@ ghost use Rattle.rhai_value.specs.contracts.dynamic.Dynamic as dynamic_type;
 ghost use Rattle.rhai_value.specs.contracts.map.Map as map_type;
 ghost use Rattle.rhai_value.specs.contracts.union.Union as union_type;
 ghost use Rattle.rhai_value.specs.Parts.{text_of, blob_of, array_of, map_of, with_text, with_blob, with_array, with_map};
-ghost use Rattle.rhai_value.specs.Rows.{trees_of, keys, values};
+ghost use Rattle.rhai_value.specs.Rows.{trees_of, fields_of};
 ghost use Rattle.rhai_value.specs.View.{tree_of};
 ghost use Rattle.rhai_value.specs.Writes.{union_with_text, union_with_blob, union_with_array, union_with_map, array_row, blob_row};
 
@@ -51,7 +51,7 @@ impl Union {
 
     fn map_mut(&mut self) -> Option<&mut Map>
         ensures* writes_back { sem 𝓛 (LendsIf union_type.the_row map_type.the_row self.entry result (union_with_map self.old) self.old) }
-        ensures value { option_map (λ v. (keys v.now, values v.now)) result ≡ map_of (tree_of self.old) }
+        ensures value { option_map (λ v. fields_of v.now) result ≡ map_of (tree_of self.old) }
     {
         if let Union::Map(_, _, value) = self {
             Some(value)
@@ -84,8 +84,8 @@ impl Dynamic {
     }
 
     pub(crate) fn own_map_mut(&mut self) -> Option<&mut Map>
-        ensures* writes_back { sem 𝓛 (LendsIf dynamic_type.the_row map_type.the_row self.entry result (λ w. with_map (keys w) (values w) self.old) self.old) }
-        ensures value { option_map (λ v. (keys v.now, values v.now)) result ≡ map_of self.old }
+        ensures* writes_back { sem 𝓛 (LendsIf dynamic_type.the_row map_type.the_row self.entry result (λ w. with_map (fields_of w) self.old) self.old) }
+        ensures value { option_map (λ v. fields_of v.now) result ≡ map_of self.old }
     {
         self.union.map_mut()
     }

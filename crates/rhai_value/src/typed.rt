@@ -2,7 +2,7 @@
 ghost use Rattle.std.specs.Prelude.{◌≡◌, [], IfOk, IfErr, Some, None, is_some, option_copied, option_map};
 ghost use Rattle.rhai_value.specs.End.{end, unit_held, bool_held, int_held, char_held, text_held, blob_held, array_held, map_held, function_held};
 ghost use Rattle.rhai_value.specs.Parts.{unit_of, bool_of, int_of, char_of, text_of, blob_of, array_of, map_of, function_of};
-ghost use Rattle.rhai_value.specs.Rows.{trees_of, keys, values};
+ghost use Rattle.rhai_value.specs.Rows.{trees_of, fields_of};
 ghost use Rattle.rhai_value.specs.Types.{tree_type, end_type, end_name};
 
 use crate::dynamic::Dynamic;
@@ -206,7 +206,7 @@ impl Dynamic {
 
     /// The held map, or the name of the held type. (`Dynamic::as_map_ref`)
     pub fn as_map_ref<'s>(&'s self, s: &'s Store) -> Result<&'s Map, &'static str>
-        ensures ok { IfOk result (λ v. map_held (end s.now [] self.now) ≡ Some (keys v.now, values v.now)) }
+        ensures ok { IfOk result (λ v. map_held (end s.now [] self.now) ≡ Some (fields_of v.now)) }
         ensures err { IfErr result (λ name. (map_held (end s.now [] self.now) ≡ None)
             × (name.now ≡ end_name (end s.now [] self.now))) }
     {
@@ -262,7 +262,7 @@ impl Dynamic {
     }
 
     fn map_at_end<'s>(&'s self, s: &'s Store) -> Option<&'s Map>
-        ensures { option_map (λ v. (keys v.now, values v.now)) result ≡ map_held (end s.now [] self.now) }
+        ensures { option_map (λ v. fields_of v.now) result ≡ map_held (end s.now [] self.now) }
     {
         self.held(s)?.own_map()
     }
@@ -340,7 +340,7 @@ impl Dynamic {
     }
 
     fn own_map(&self) -> Option<&Map>
-        ensures { option_map (λ v. (keys v.now, values v.now)) result ≡ map_of self.now }
+        ensures { option_map (λ v. fields_of v.now) result ≡ map_of self.now }
     {
         match &self.union {
             Union::Map(_, _, value) => Some(value),

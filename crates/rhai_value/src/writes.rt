@@ -3,7 +3,7 @@ ghost use Rattle.std.specs.Prelude.{◌≡◌, [], IfOk, IfErr, Some, None, is_s
 ghost use Rattle.std.specs.Bool.{OnFalse};
 ghost use Rattle.rhai_value.specs.End.{end, int_held, text_held, blob_held, array_held, map_held, value_after, store_after};
 ghost use Rattle.rhai_value.specs.Parts.{with_int};
-ghost use Rattle.rhai_value.specs.Rows.{trees_of, keys, values};
+ghost use Rattle.rhai_value.specs.Rows.{trees_of, fields_of};
 ghost use Rattle.rhai_value.specs.Types.{end_name};
 
 use crate::chain::ChainEnd;
@@ -99,7 +99,7 @@ impl Dynamic {
 
     /// The held map, to write, or the name of the held type. Takes no memory. (`Dynamic::as_map_mut`)
     pub fn as_map_mut<'s>(&'s mut self, m: &'s mut Store) -> Result<&'s mut Map, &'static str>
-        ensures ok { IfOk result (λ v. map_held (end m.old [] self.old) ≡ Some (keys v.now, values v.now)) }
+        ensures ok { IfOk result (λ v. map_held (end m.old [] self.old) ≡ Some (fields_of v.now)) }
         ensures err { IfErr result (λ name. (map_held (end m.old [] self.old) ≡ None)
             × (name.now ≡ end_name (end m.old [] self.old))) }
     {
@@ -111,7 +111,7 @@ impl Dynamic {
     }
 
     fn map_at_end_mut<'s>(&'s mut self, m: &'s mut Store) -> Option<&'s mut Map>
-        ensures { option_map (λ v. (keys v.now, values v.now)) result ≡ map_held (end m.old [] self.old) }
+        ensures { option_map (λ v. fields_of v.now) result ≡ map_held (end m.old [] self.old) }
     {
         self.held_mut(m)?.own_map_mut()
     }

@@ -7,7 +7,7 @@ use Rattle.rhai_value.specs.declared.access_mode.AccessMode.{AccessMode}
 use Rattle.rhai_value.specs.declared.chain.Site.{Site}
 use Rattle.rhai_value.specs.declared.chain.Site.TheVariants.{Own, InCell}
 use Rattle.rhai_value.specs.declared.store.Cell.{Cell}
-use Rattle.rhai_value.specs.Tree.{Tree, node, leaf, branch, holder, cell_of}
+use Rattle.rhai_value.specs.Tree.{Tree, node, leaf, branch, fields, holder, cell_of}
 use Rattle.rhai_value.specs.Store.{at}
 use Rattle.rhai_value.specs.Walk.{is_open, visit, visit_of, visit_map, unentered, walk_in}
 use Rattle.rhai_value.specs.End.{End, held, closed, end_at, end_from, site_after, end_of, end}
@@ -57,6 +57,8 @@ chain_walk zero s path (node (leaf l) g a) h = refl
 chain_walk (suc n) s path (node (leaf l) g a) h = refl
 chain_walk zero s path (node (branch k ts) g a) h = refl
 chain_walk (suc n) s path (node (branch k ts) g a) h = refl
+chain_walk zero s path (node (fields fs) g a) h = refl
+chain_walk (suc n) s path (node (fields fs) g a) h = refl
 chain_walk zero s path (node (holder c) g a) h = ap (end_at (node (holder c) g a)) (unentered_either (at s c) (is_open c path))
 chain_walk (suc n) s path (node (holder c) g a) h = at_cell (chain_walk n s (c ∷ path)) (at s c) (is_open c path) refl refl
   where
@@ -91,8 +93,10 @@ comes_back s c v u j is round e zero (suc k) site (node (holder d) g a) r = rw (
 comes_back s c v u j is round e (suc n) (suc k) site (node (holder d) g a) r = rw (same_Some d r.0 r.2, r.3) (comes_back s c v u j is round e n k (InCell r.0) r.1 r.4)
 comes_back s c v u j is round e n zero site (node (leaf l) g a) r = absurd (none-some c (ap cell_of r ∙ e))
 comes_back s c v u j is round e n zero site (node (branch k ts) g a) r = absurd (none-some c (ap cell_of r ∙ e))
+comes_back s c v u j is round e n zero site (node (fields fs) g a) r = absurd (none-some c (ap cell_of r ∙ e))
 comes_back s c v u j is round e n (suc k) site (node (leaf l) g a) r = absurd (none-some r.0 r.2)
 comes_back s c v u j is round e n (suc k) site (node (branch i ts) g a) r = absurd (none-some r.0 r.2)
+comes_back s c v u j is round e n (suc k) site (node (fields fs) g a) r = absurd (none-some r.0 r.2)
 
 -- the chain has come to t, some steps behind the content of the cell that is kept, if one is
 abbrev pub IsBehind : List Cell → Option ℕ → Tree → Type 0
@@ -115,6 +119,7 @@ behind_closed s (Some d) t c n site h q e = comes_back s d h.0 t h.1 h.2 h.3 (sy
 pub chain_next : (s : List Cell) (t w : Tree) (c n m : ℕ) (site : Site) → Some c ≡ cell_of t → Some w ≡ at s c → n ≡ suc m → chain n s site t ≡ chain m s (InCell c) w
 chain_next s (node (leaf l) g a) w c n m site e is next = cc
 chain_next s (node (branch k ts) g a) w c n m site e is next = cc
+chain_next s (node (fields fs) g a) w c n m site e is next = cc
 chain_next s (node (holder d) g a) w c n m site e is next = rw (next, same_Some d c (sym e), ← is) refl
 
 chain_alone : (n : ℕ) (s : List Cell) (site : Site) (t : Tree) → None ≡ cell_of t → held site t ≡ chain n s site t
@@ -122,6 +127,8 @@ chain_alone zero s site (node (leaf l) g a) e = refl
 chain_alone (suc n) s site (node (leaf l) g a) e = refl
 chain_alone zero s site (node (branch k ts) g a) e = refl
 chain_alone (suc n) s site (node (branch k ts) g a) e = refl
+chain_alone zero s site (node (fields fs) g a) e = refl
+chain_alone (suc n) s site (node (fields fs) g a) e = refl
 chain_alone zero s site (node (holder c) g a) e = cc
 chain_alone (suc n) s site (node (holder c) g a) e = cc
 

@@ -3,7 +3,7 @@ use Rattle.std.proofs.Common.{◌≡◌, ℕ, zero, suc, List, [], ◌∷◌, le
 use Rattle.rhai_value.specs.declared.chain.Site.{Site}
 use Rattle.rhai_value.specs.declared.chain.Site.TheVariants.{Own, InCell}
 use Rattle.rhai_value.specs.declared.store.Cell.{Cell}
-use Rattle.rhai_value.specs.Tree.{Tree, node, leaf, branch, holder}
+use Rattle.rhai_value.specs.Tree.{Tree, node, leaf, branch, fields, holder}
 use Rattle.rhai_value.specs.Store.{at}
 use Rattle.rhai_value.specs.Walk.{Visit, entered, barred, revisited, visit, visit_map, unentered, walk_in}
 use Rattle.rhai_value.specs.End.{End, held, stuck, closed, end_at, site_after, end_of, end}
@@ -34,7 +34,9 @@ stands_in : (n : ℕ) (s : List Cell) (root : Tree) (path : List ℕ) (t : Tree)
 stands_in zero s root path (node (leaf l) g m) h = h
 stands_in (suc n) s root path (node (leaf l) g m) h = h
 stands_in zero s root path (node (branch k ts) g m) h = h
+stands_in zero s root path (node (fields fs) g m) h = h
 stands_in (suc n) s root path (node (branch k ts) g m) h = h
+stands_in (suc n) s root path (node (fields fs) g m) h = h
 stands_in zero s root path (node (holder c) g m) h = at_none s root (node (holder c) g m) (visit s path c)
 stands_in (suc n) s root path (node (holder c) g m) h =
     at_visit s root c (node (holder c) g m) (visit s path c) (walk_in end_of n s (c ∷ path)) (λ x e. stands_in n s root (c ∷ path) x (opens s path c x e).0)

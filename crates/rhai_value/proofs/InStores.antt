@@ -5,7 +5,7 @@ use Rattle.rhai_value.specs.declared.in_store.InStore.{InStore}
 use Rattle.rhai_value.specs.declared.chain.Site.{Site}
 use Rattle.rhai_value.specs.declared.chain.Site.TheVariants.{Own, InCell}
 use Rattle.rhai_value.specs.declared.store.Cell.{Cell}
-use Rattle.rhai_value.specs.Tree.{Tree, node, Content, leaf, branch, holder, cell_of}
+use Rattle.rhai_value.specs.Tree.{Tree, node, Content, leaf, branch, fields, holder, cell_of}
 use Rattle.rhai_value.specs.Parts.{text_of, blob_of, with_content, with_part}
 use Rattle.rhai_value.specs.Store.{put, at}
 use Rattle.rhai_value.specs.End.{End, end, held, stuck, closed, held_in, held_part, site_of, value_after, store_after}
@@ -59,6 +59,7 @@ cell_value s t c u p e = let r = cell_read_at (end s [] t) s t c refl p in ap So
 pub unshared_site : (s : List Cell) (t : Tree) (c : ℕ) → cell_of t ≡ None → Some (InCell c) ≡ site_of (end s [] t) → ⊥
 unshared_site s (node (leaf l) g m) c e p = let q : Some (InCell c) ≡ Some Own = p ∙ ap site_of (end_opens s [] (node (leaf l) g m)) in cc
 unshared_site s (node (branch k ts) g m) c e p = let q : Some (InCell c) ≡ Some Own = p ∙ ap site_of (end_opens s [] (node (branch k ts) g m)) in cc
+unshared_site s (node (fields fs) g m) c e p = let q : Some (InCell c) ≡ Some Own = p ∙ ap site_of (end_opens s [] (node (fields fs) g m)) in cc
 unshared_site s (node (holder d) g m) c e p = cc
 
 -- what is made of the held value is written there
@@ -104,6 +105,7 @@ unheld part c s t none = unheld_at part c s t (end s [] t) refl none
 own_held : {A : Type 0} (part : Tree → Option A) (s : List Cell) (t : Tree) (a : A) → ((c : ℕ) (g : ℤ) (m : AccessMode) → part (node (holder c) g m) ≡ None) → part t ≡ Some a → held_part part (end s [] t) ≡ Some a
 own_held part s (node (leaf l) g m) a none h = ap (held_part part) (end_opens s [] (node (leaf l) g m)) ∙ h
 own_held part s (node (branch k ts) g m) a none h = ap (held_part part) (end_opens s [] (node (branch k ts) g m)) ∙ h
+own_held part s (node (fields fs) g m) a none h = ap (held_part part) (end_opens s [] (node (fields fs) g m)) ∙ h
 own_held part s (node (holder c) g m) a none h = let e : None ≡ Some a = sym (none c g m) ∙ h in cc
 
 pub own_text : (s : List Cell) (t : Tree) (x : List ℕ) → text_of t ≡ Some x → held_part text_of (end s [] t) ≡ Some x

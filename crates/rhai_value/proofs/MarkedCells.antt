@@ -3,7 +3,7 @@ use Rattle.std.proofs.Common.{◌≡◌, ℕ, zero, suc, ◌<◌, Bool, true, fa
 use Rattle.rhai_value.specs.declared.chain.Site.{Site}
 use Rattle.rhai_value.specs.declared.chain.Site.TheVariants.{Own, InCell}
 use Rattle.rhai_value.specs.declared.store.Cell.{Cell}
-use Rattle.rhai_value.specs.Tree.{Tree, node, leaf, branch, holder, cell_of}
+use Rattle.rhai_value.specs.Tree.{Tree, node, leaf, branch, fields, holder, cell_of}
 use Rattle.rhai_value.specs.Store.{at, unmarked, put, mark_of, is_marked_at}
 use Rattle.rhai_value.specs.End.{end, site_of}
 use Rattle.rhai_value.specs.Marks.{set_mark, IsWithin}
@@ -26,6 +26,7 @@ first_within_at s c (Some t) e = at_within s c t e
 pub first_within : (s : List Cell) (t : Tree) → IsWithin s (first_site s t)
 first_within s (node (leaf l) g m) = tt
 first_within s (node (branch k ts) g m) = tt
+first_within s (node (fields fs) g m) = tt
 first_within s (node (holder c) g m) = first_within_at s c (at s c) refl
 
 held_within_at : (s : List Cell) (t : Tree) (p : Option Site) → p ≡ site_of (end s [] t) → IsWithin s p
@@ -71,14 +72,17 @@ at_marked (x ∷ s) (suc c) = at_marked s c
 pub closed_by_mark : (s : List Cell) (t : Tree) (c : ℕ) → cell_of t ≡ Some c → first (set_mark s c true) t ≡ None
 closed_by_mark s (node (leaf l) g m) c e = cc
 closed_by_mark s (node (branch k ts) g m) c e = cc
+closed_by_mark s (node (fields fs) g m) c e = cc
 closed_by_mark s (node (holder d) g m) c e = let same : d ≡ c = cc in ap (at (set_mark s c true)) same ∙ at_marked s c
 
 pub marked_shared : (s : List Cell) (t : Tree) (d : ℕ) → is_marked_at (shared_store s t) d ≡ is_marked_at s d
 marked_shared s (node (leaf l) g m) d = marked_added s (node (leaf l) g m) d
 marked_shared s (node (branch k ts) g m) d = marked_added s (node (branch k ts) g m) d
+marked_shared s (node (fields fs) g m) d = marked_added s (node (fields fs) g m) d
 marked_shared s (node (holder c) g m) d = refl
 
 pub marked_with_first : (w : Tree) (s : List Cell) (t : Tree) (d : ℕ) → is_marked_at (store_with_first w s t) d ≡ is_marked_at s d
 marked_with_first w s (node (leaf l) g m) d = refl
 marked_with_first w s (node (branch k ts) g m) d = refl
+marked_with_first w s (node (fields fs) g m) d = refl
 marked_with_first w s (node (holder c) g m) d = marked_put s c d w

@@ -107,7 +107,7 @@ site_alike r (Some c) None h = absurd h
 
 end_kept : (r : Renaming) → Keeps r end_of end_of (SameEnd r)
 end_kept r path road h k t u same to = by_trees r (λ t u. SameEnd r (end_of path h t) (end_of road k u))
-    (λ l g m. (site_alike r _ _ (zip_get (Paired r) path road 0 same), (refl, refl, refl))) (λ i ts us g m e. (site_alike r _ _ (zip_get (Paired r) path road 0 same), ((refl, e), refl, refl)))
+    (λ l g m. (site_alike r _ _ (zip_get (Paired r) path road 0 same), (refl, refl, refl))) (λ i ts us g m e. (site_alike r _ _ (zip_get (Paired r) path road 0 same), ((refl, e), refl, refl))) (λ fs hs g m e. (site_alike r _ _ (zip_get (Paired r) path road 0 same), (e, refl, refl)))
     (λ c d g m p. end_at_alike r (node (holder c) g m) (node (holder d) g m) (h c) (k d) (p, refl, refl) (to c d p)) t u
 
 -- the ends of the chains from related values are the same

@@ -49,7 +49,7 @@ host_reads k e (node (leaf (char c)) g m) = none_at k id.Char (leaf (char c)) e 
 host_reads k e (node (leaf (text s)) g m) = none_at k id.ImmutableString (leaf (text s)) e refl
 host_reads k e (node (leaf (blob bs)) g m) = none_at k id.Blob (leaf (blob bs)) e refl
 host_reads k e (node (branch array ts) g m) = none_at k id.Array (branch array ts) e refl
-host_reads k e (node (branch (fields ks) ts) g m) = none_at k id.Map (branch (fields ks) ts) e refl
+host_reads k e (node (fields fs) g m) = none_at k id.Map (fields fs) e refl
 host_reads k e (node (branch (function f) ts) g m) = none_at k id.FnPtr (branch (function f) ts) e refl
 host_reads k e (node (holder c) g m) = none_at k id.Shared (holder c) e refl
 
@@ -88,7 +88,7 @@ array_reads (node (leaf (host (host_kind.U8 n))) g m) = refl
 array_reads (node (branch array ts) g m) = refl
 array_reads _ = refl
 
-pub map_reads : (t : Tree) → option_map (λ x. branch (fields x.0) x.1) (map_of t) ≡ content_at id.Map t
+pub map_reads : (t : Tree) → option_map (λ x. fields x) (map_of t) ≡ content_at id.Map t
 map_reads (node (leaf (host (host_kind.U8 n))) g m) = refl
 map_reads (node (branch array ts) g m) = refl
 map_reads _ = refl

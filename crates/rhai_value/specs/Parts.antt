@@ -3,7 +3,7 @@ use Rattle.std.specs.Prelude.{ℕ, ℤ, Bool, Option, Some, None, List, is_some,
 use Rattle.rhai_value.specs.declared.host.Host.{Host}
 use Rattle.rhai_value.specs.declared.type_id.TypeId.{TypeId}
 use Rattle.rhai_value.specs.Types.{host_at}
-use Rattle.rhai_value.specs.Tree.{Tree, node, Content, Leaf, leaf, branch, unit, bool, int, char, text, blob, host, array, fields, function, Trees}
+use Rattle.rhai_value.specs.Tree.{Tree, node, Content, Leaf, leaf, branch, unit, bool, int, char, text, blob, host, array, fields, function, Trees, Fields}
 
 -- what a leaf has: its unit, its boolean, its int, its character, its text, its bytes, its value of the host's
 abbrev pub leaf_unit : Leaf → Option (Unit {0})
@@ -69,9 +69,9 @@ abbrev pub array_of : Tree → Option Trees
 array_of (node (branch array ts) g m) = Some ts
 array_of _ = None
 
--- the keys and the values of a map
-abbrev pub map_of : Tree → Option (List (List ℕ) × Trees)
-map_of (node (branch (fields ks) ts) g m) = Some (ks, ts)
+-- the fields of a map
+abbrev pub map_of : Tree → Option Fields
+map_of (node (fields fs) g m) = Some fs
 map_of _ = None
 
 -- the name and the curried values of a function pointer

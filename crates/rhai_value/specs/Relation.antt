@@ -3,7 +3,7 @@ use Rattle.std.specs.Prelude.{◌≡◌, ◌<◌, ℕ, zero, suc, ◌+◌, Bool,
 use Rattle.rhai_value.specs.declared.chain.Site.{Site}
 use Rattle.rhai_value.specs.declared.chain.Site.TheVariants.{Own, InCell}
 use Rattle.rhai_value.specs.declared.store.Cell.{Cell}
-use Rattle.rhai_value.specs.Tree.{Tree, node, Content, leaf, branch, holder, Trees, no_trees, tree_then}
+use Rattle.rhai_value.specs.Tree.{Tree, node, Content, leaf, branch, fields, holder, Trees, no_trees, tree_then, Fields, no_fields, field_then}
 use Rattle.rhai_value.specs.End.{End, held, stuck, closed}
 
 -- pairs of a cell of one store and a cell of another
@@ -23,6 +23,7 @@ abbrev mutual
   pub SameContent : Renaming → Content → Content → Type 0
   SameContent r (leaf l) (leaf k) = l ≡ k
   SameContent r (branch k ts) (branch l us) = (k ≡ l) × AllRelated r ts us
+  SameContent r (fields fs) (fields hs) = RelatedFields r fs hs
   SameContent r (holder c) (holder d) = paired r c d ≡ true
   SameContent r _ _ = ⊥
 
@@ -30,6 +31,11 @@ abbrev mutual
   AllRelated r no_trees no_trees = Unit {0}
   AllRelated r (tree_then t ts) (tree_then u us) = Related r t u × AllRelated r ts us
   AllRelated r _ _ = ⊥
+
+  pub RelatedFields : Renaming → Fields → Fields → Type 0
+  RelatedFields r no_fields no_fields = Unit {0}
+  RelatedFields r (field_then k t fs) (field_then j u hs) = (k ≡ j) × Related r t u × RelatedFields r fs hs
+  RelatedFields r _ _ = ⊥
 
 -- the same names, and related children
 abbrev pub SameNamed : {A : Type 0} → Renaming → A × Trees → A × Trees → Type 0
@@ -75,11 +81,16 @@ abbrev mutual
   pub ContentBelow : ℕ → Content → Type 0
   ContentBelow n (leaf l) = Unit {0}
   ContentBelow n (branch k ts) = AllBelow n ts
+  ContentBelow n (fields fs) = FieldsBelow n fs
   ContentBelow n (holder c) = c < n
 
   pub AllBelow : ℕ → Trees → Type 0
   AllBelow n no_trees = Unit {0}
   AllBelow n (tree_then t ts) = Below n t × AllBelow n ts
+
+  pub FieldsBelow : ℕ → Fields → Type 0
+  FieldsBelow n no_fields = Unit {0}
+  FieldsBelow n (field_then k t fs) = Below n t × FieldsBelow n fs
 
 abbrev pub CellBelow : ℕ → Cell → Type 0
 CellBelow n x = Below n x.content

@@ -33,12 +33,12 @@ leaf_type (host h) = host_type h
 
 abbrev pub kind_type : Kind → TypeId
 kind_type array = id.Array
-kind_type (fields ks) = id.Map
 kind_type (function f) = id.FnPtr
 
 abbrev pub content_type : Content → TypeId
 content_type (leaf l) = leaf_type l
 content_type (branch k ts) = kind_type k
+content_type (fields fs) = id.Map
 content_type (holder c) = id.Shared
 
 abbrev pub tree_type : Tree → TypeId

@@ -38,7 +38,7 @@ fn copied(value: &Dynamic, alloc: Global) -> Result<Dynamic, AllocError>
 }
 
 #[cycle(copy)]
-#[tactic(auto, using(crate::proofs::Copies::copied_trees, crate::proofs::Copies::copied_keys, crate::proofs::Copies::copied_values))]
+#[tactic(auto, using(crate::proofs::Copies::copied_trees, crate::proofs::Copies::copied_fields))]
 fn copied_union(union: &Union, alloc: Global) -> Result<Union, AllocError>
     ensures value { IfOk result (λ u. tree_of u ≡ copy (tree_of union.now)) }
     ensures free { TakesNoMemory (tree_of union.now) → IsOk result }

@@ -45,7 +45,7 @@ impl Model for Dynamic {
 impl Dynamic {
     ghost use Rattle.std.specs.Prelude.{◌≡◌, IfOk};
     ghost use Rattle.std.specs.Str.{chars};
-    ghost use Rattle.rhai_value.specs.Rows.{trees_of, keys, values};
+    ghost use Rattle.rhai_value.specs.Rows.{trees_of, fields_of};
     ghost use Rattle.rhai_value.specs.Tree.{made, fresh, bool, int, char, text, blob, branch, array, fields};
 
     /// A boolean, with tag 0 and mode ReadWrite. (`Dynamic::from_bool`)
@@ -104,7 +104,7 @@ impl Dynamic {
     /// A map of these values, which keep their tags and modes; with tag 0 and mode ReadWrite. Takes no memory.
     /// (`Dynamic::from_map`)
     pub fn from_map(map: Map) -> Dynamic
-        ensures { result ≡ made (branch (fields (keys map)) (values map)) }
+        ensures { result ≡ made (fields (fields_of map)) }
     {
         Dynamic {
             union: Union::Map(0, AccessMode::ReadWrite, map),

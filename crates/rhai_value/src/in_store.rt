@@ -7,7 +7,7 @@ ghost use Rattle.rhai_value.specs.contracts.map.Map as map_type;
 ghost use Rattle.rhai_value.specs.End.{end, held_in, held_part, site_of};
 ghost use Rattle.rhai_value.specs.First.{first};
 ghost use Rattle.rhai_value.specs.Parts.{text_of, blob_of, array_of, map_of, with_content};
-ghost use Rattle.rhai_value.specs.Rows.{trees_of, keys, values};
+ghost use Rattle.rhai_value.specs.Rows.{trees_of, fields_of};
 ghost use Rattle.rhai_value.specs.Tree.{leaf, branch, text, blob, array, fields};
 ghost use Rattle.rhai_value.specs.Types.{end_name};
 ghost use Rattle.rhai_value.specs.Writes.{written, first_written, in_store_row, array_row, blob_row};
@@ -98,8 +98,8 @@ impl<'a> InStore<'a> {
 
     /// The held map.
     pub fn map_mut(&mut self) -> Result<&mut Map, &'static str>
-        ensures* writes_back { sem 𝓛 (LendsIfOk in_store_row map_type.the_row self.entry result (λ w. written self.old (with_content (branch (fields (keys w)) (values w)))) self.old) }
-        ensures ok { IfOk result (λ v. held_part map_of (end self.old.store.now [] self.old.value.now) ≡ Some (keys v.now, values v.now)) }
+        ensures* writes_back { sem 𝓛 (LendsIfOk in_store_row map_type.the_row self.entry result (λ w. written self.old (with_content (fields (fields_of w)))) self.old) }
+        ensures ok { IfOk result (λ v. held_part map_of (end self.old.store.now [] self.old.value.now) ≡ Some (fields_of v.now)) }
         ensures err { IfErr result (λ name. (held_part map_of (end self.old.store.now [] self.old.value.now) ≡ None)
             × (name.now ≡ end_name (end self.old.store.now [] self.old.value.now))) }
     {

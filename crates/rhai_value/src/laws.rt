@@ -15,7 +15,7 @@ ghost use Rattle.rhai_value.specs.Share.{shared_value, shared_store};
 ghost use Rattle.rhai_value.specs.Walk.{visit, visit_map};
 ghost use Rattle.rhai_value.specs.End.{End, end_of, end, held_part, value_after, store_after};
 ghost use Rattle.rhai_value.specs.Types.{end_type, is_type};
-ghost use Rattle.rhai_value.specs.Relation.{Renaming, paired, Related, SameContent, AllRelated, SameNamed, Alike, Respect, IsOneToOne, SameCells, SameEnd, shared_pairs};
+ghost use Rattle.rhai_value.specs.Relation.{Renaming, paired, Related, SameContent, AllRelated, RelatedFields, SameNamed, Alike, Respect, IsOneToOne, SameCells, SameEnd, shared_pairs};
 
 /// Where a chain ends, by its parts: a value that is no holder is held, a holder is stuck, closes, or leads on to its cell's content.
 /// No length of the store is in it.
@@ -86,7 +86,7 @@ pub fn parts_are_renamed()
 {}
 
 /// Ends that are alike have the same type, the same unit, boolean, int, character, text, bytes and value of the host's, and related
-/// items, rows and curried values.
+/// items, fields and curried values.
 pub fn held_parts_are_renamed()
     ensures held_type { (r : Renaming) (e f : End) → SameEnd r e f → end_type e ≡ end_type f }
     ensures unit { (r : Renaming) (e f : End) → SameEnd r e f → held_part unit_of e ≡ held_part unit_of f }
@@ -97,7 +97,7 @@ pub fn held_parts_are_renamed()
     ensures bytes { (r : Renaming) (e f : End) → SameEnd r e f → held_part blob_of e ≡ held_part blob_of f }
     ensures host { (r : Renaming) (e f : End) → SameEnd r e f → held_part host_of e ≡ held_part host_of f }
     ensures items { (r : Renaming) (e f : End) → SameEnd r e f → Alike (AllRelated r) (held_part array_of e) (held_part array_of f) }
-    ensures rows { (r : Renaming) (e f : End) → SameEnd r e f → Alike (SameNamed r) (held_part map_of e) (held_part map_of f) }
+    ensures fields { (r : Renaming) (e f : End) → SameEnd r e f → Alike (RelatedFields r) (held_part map_of e) (held_part map_of f) }
     ensures function { (r : Renaming) (e f : End) → SameEnd r e f → Alike (SameNamed r) (held_part function_of e) (held_part function_of f) }
 {}
 

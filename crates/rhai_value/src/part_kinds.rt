@@ -3,8 +3,8 @@ ghost use Rattle.std.specs.Prelude.{refl, ℕ, ℤ, Bool, List};
 ghost use Rattle.rhai_value.specs.declared.type_id.TypeId.TheVariants as type_id;
 ghost use Rattle.rhai_value.specs.Kinds.{unit_reads, bool_reads, int_reads, char_reads, text_reads, blob_reads, array_reads, map_reads, function_reads};
 ghost use Rattle.rhai_value.specs.Parts.{unit_of, bool_of, int_of, char_of, text_of, blob_of, array_of, map_of, function_of};
-ghost use Rattle.rhai_value.specs.Rows.{trees_of, keys, values};
-ghost use Rattle.rhai_value.specs.Tree.{Trees, leaf, branch, unit, bool as boolean, int, char as character, text, blob, array, fields, function};
+ghost use Rattle.rhai_value.specs.Rows.{trees_of, fields_of};
+ghost use Rattle.rhai_value.specs.Tree.{Trees, Fields, leaf, branch, unit, bool as boolean, int, char as character, text, blob, array, fields, function};
 
 use crate::access_mode::AccessMode;
 use crate::copy::{copied_function, copied_items, copied_map};
@@ -363,7 +363,7 @@ impl Part for Array {
         }
     }
 
-    #[tactic(auto, using(crate::proofs::Copies::copied_trees, crate::proofs::Copies::copied_keys, crate::proofs::Copies::copied_values))]
+    #[tactic(auto, using(crate::proofs::Copies::copied_trees, crate::proofs::Copies::copied_fields))]
     fn again(&self, alloc: Global) -> Result<Array, AllocError> {
         copied_items(self, alloc)
     }
@@ -380,11 +380,11 @@ impl Part for Map {
 
     ghost KIND = { type_id.Map };
 
-    ghost Meaning = { List (List ℕ) × Trees };
+    ghost Meaning = { Fields };
 
-    ghost meaning = { λ x. (keys x, values x) };
+    ghost meaning = { λ x. fields_of x };
 
-    ghost content = { λ x. branch (fields x.0) x.1 };
+    ghost content = { λ x. fields x };
 
     ghost part_of = { map_of };
 
@@ -415,7 +415,7 @@ impl Part for Map {
         }
     }
 
-    #[tactic(auto, using(crate::proofs::Copies::copied_trees, crate::proofs::Copies::copied_keys, crate::proofs::Copies::copied_values))]
+    #[tactic(auto, using(crate::proofs::Copies::copied_trees, crate::proofs::Copies::copied_fields))]
     fn again(&self, alloc: Global) -> Result<Map, AllocError> {
         copied_map(self, alloc)
     }
@@ -467,7 +467,7 @@ impl Part for FnPtr {
         }
     }
 
-    #[tactic(auto, using(crate::proofs::Copies::copied_trees, crate::proofs::Copies::copied_keys, crate::proofs::Copies::copied_values))]
+    #[tactic(auto, using(crate::proofs::Copies::copied_trees, crate::proofs::Copies::copied_fields))]
     fn again(&self, alloc: Global) -> Result<FnPtr, AllocError> {
         copied_function(self, alloc)
     }

@@ -2,7 +2,7 @@
 ghost use Rattle.std.specs.Prelude.{◌≡◌, [], IfOk, IfErr, Some, None, is_some};
 ghost use Rattle.rhai_value.specs.End.{end, held_part};
 ghost use Rattle.rhai_value.specs.Parts.{unit_of, bool_of, int_of, char_of, text_of, blob_of, array_of, map_of, function_of};
-ghost use Rattle.rhai_value.specs.Rows.{trees_of, keys, values};
+ghost use Rattle.rhai_value.specs.Rows.{trees_of, fields_of};
 ghost use Rattle.rhai_value.specs.Types.{tree_type, end_type, end_name};
 
 use crate::dynamic::Dynamic;
@@ -184,7 +184,7 @@ impl Dynamic {
 
     /// The held map. (`Dynamic::as_map_ref`)
     pub fn as_map_ref<'s>(&'s self, s: &'s Store) -> Result<&'s Map, &'static str>
-        ensures ok { IfOk result (λ v. held_part map_of (end s.now [] self.now) ≡ Some (keys v.now, values v.now)) }
+        ensures ok { IfOk result (λ v. held_part map_of (end s.now [] self.now) ≡ Some (fields_of v.now)) }
         ensures err { IfErr result (λ name. (held_part map_of (end s.now [] self.now) ≡ None)
             × (name.now ≡ end_name (end s.now [] self.now))) }
     {

@@ -3,7 +3,7 @@ ghost use Rattle.std.specs.Prelude.{◌≡◌, [], IfOk, IfErr, Some, None, is_s
 ghost use Rattle.std.specs.Bool.{OnFalse};
 ghost use Rattle.rhai_value.specs.End.{end, held_part, value_after, store_after};
 ghost use Rattle.rhai_value.specs.Parts.{int_of, text_of, blob_of, array_of, map_of, with_int};
-ghost use Rattle.rhai_value.specs.Rows.{trees_of, keys, values};
+ghost use Rattle.rhai_value.specs.Rows.{trees_of, fields_of};
 ghost use Rattle.rhai_value.specs.Types.{end_name};
 
 use crate::dynamic::Dynamic;
@@ -60,7 +60,7 @@ impl Dynamic {
 
     /// The held map. (`Dynamic::as_map_mut`)
     pub fn as_map_mut<'s>(&'s mut self, m: &'s mut Store) -> Result<&'s mut Map, &'static str>
-        ensures ok { IfOk result (λ v. held_part map_of (end m.old [] self.old) ≡ Some (keys v.now, values v.now)) }
+        ensures ok { IfOk result (λ v. held_part map_of (end m.old [] self.old) ≡ Some (fields_of v.now)) }
         ensures err { IfErr result (λ name. (held_part map_of (end m.old [] self.old) ≡ None)
             × (name.now ≡ end_name (end m.old [] self.old))) }
     {

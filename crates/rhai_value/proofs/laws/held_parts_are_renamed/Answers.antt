@@ -1,7 +1,7 @@
 use Rattle.rhai_value.specs.Parts.{leaf_unit, leaf_bool, leaf_int, leaf_char, leaf_text, leaf_blob, leaf_host, array_of, map_of, function_of}
-use Rattle.rhai_value.specs.Relation.{AllRelated, SameNamed}
+use Rattle.rhai_value.specs.Relation.{AllRelated, RelatedFields, SameNamed}
 use Rattle.rhai_value.proofs.SameCells.{same_held_leaf, same_held_part, same_end_type}
-use Rattle.rhai_value.proofs.SameTrees.{same_items, same_rows, same_function}
+use Rattle.rhai_value.proofs.SameTrees.{same_items, same_fields, same_function}
 use Rattle.rhai_value.proofs.laws.held_parts_are_renamed.Goals as goal
 
 pub returns-clause-held_type : goal.returns-clause-held_type
@@ -31,8 +31,8 @@ returns-clause-host c = λ r. same_held_leaf r leaf_host
 pub returns-clause-items : goal.returns-clause-items
 returns-clause-items c = λ r. same_held_part r (AllRelated r) array_of (same_items r)
 
-pub returns-clause-rows : goal.returns-clause-rows
-returns-clause-rows c = λ r. same_held_part r (SameNamed r) map_of (same_rows r)
+pub returns-clause-fields : goal.returns-clause-fields
+returns-clause-fields c = λ r. same_held_part r (RelatedFields r) map_of (same_fields r)
 
 pub returns-clause-function : goal.returns-clause-function
 returns-clause-function c = λ r. same_held_part r (SameNamed r) function_of (same_function r)

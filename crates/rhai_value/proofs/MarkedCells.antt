@@ -1,14 +1,15 @@
 -- Marks that are set and cleared.
-use Rattle.std.proofs.Common.{◌≡◌, ℕ, zero, suc, ◌<◌, Bool, true, false, List, [], ◌∷◌, length, get_or, slice_set, Option, Some, None, option_map, refl, sym, ap, ◌∙◌, arith}
+use Rattle.std.proofs.Common.{◌≡◌, ℕ, zero, suc, ◌<◌, Bool, true, false, List, [], ◌∷◌, length, get_or, slice_set, Option, Some, None, is_some, option_map, refl, sym, ap, ◌∙◌, arith}
 use Rattle.rhai_value.specs.declared.chain.Site.{Site}
 use Rattle.rhai_value.specs.declared.chain.Site.TheVariants.{Own, InCell}
 use Rattle.rhai_value.specs.declared.store.Cell.{Cell}
 use Rattle.rhai_value.specs.Tree.{Tree, node, leaf, branch, fields, holder, cell_of}
 use Rattle.rhai_value.specs.Store.{at, unmarked, put, mark_of, is_marked_at}
-use Rattle.rhai_value.specs.End.{end, site_of}
-use Rattle.rhai_value.specs.Marks.{set_mark, IsWithin}
+use Rattle.rhai_value.specs.End.{End, held, stuck, closed, end, site_of}
+use Rattle.rhai_value.specs.Marks.{set_mark, site_cell, first_cell, held_cell, IsWithin}
 use Rattle.rhai_value.specs.Share.{shared_store}
 use Rattle.rhai_value.specs.First.{first, first_site, store_with_first}
+use Rattle.rhai_value.proofs.Ends.{stands}
 use Rattle.rhai_value.proofs.InStores.{cell_within}
 use Rattle.rhai_value.proofs.Stores.{changed_index}
 use Rattle.rhai_value.proofs.Walks.{at_within}
@@ -43,21 +44,21 @@ mark_stands [] c b l = absurd (omega arith)
 mark_stands (x ∷ s) zero b l = refl
 mark_stands (x ∷ s) (suc c) b l = mark_stands s c b (omega arith)
 
-restored : (b : Bool) (t v : Tree) → unmarked (record { content = t; is_marked = b }) ≡ Some v → b ≡ false
-restored true t v e = cc
-restored false t v e = refl
+restored : (b : Bool) (t : Tree) → is_some (unmarked (record { content = t; is_marked = b })) ≡ true → b ≡ false
+restored true t e = cc
+restored false t e = refl
 
 -- a mark that is set on a cell and cleared leaves the store as it was
-pub cleared : (s : List Cell) (c : ℕ) (v : Tree) → at s c ≡ Some v → set_mark (set_mark s c true) c false ≡ s
-cleared [] c v e = refl
-cleared (x ∷ s) zero v e = ap (λ b. record { content = x.content; is_marked = b } ∷ s) (sym (restored x.is_marked x.content v e))
-cleared (x ∷ s) (suc c) v e = ap (λ z. x ∷ z) (cleared s c v e)
+pub cleared : (s : List Cell) (c : ℕ) → is_some (at s c) ≡ true → set_mark (set_mark s c true) c false ≡ s
+cleared [] c e = refl
+cleared (x ∷ s) zero e = ap (λ b. record { content = x.content; is_marked = b } ∷ s) (sym (restored x.is_marked x.content e))
+cleared (x ∷ s) (suc c) e = ap (λ z. x ∷ z) (cleared s c e)
 
 -- what is written while a cell is marked is there when the mark is cleared
-pub written_and_cleared : (s : List Cell) (c : ℕ) (v w : Tree) → at s c ≡ Some v → set_mark (put (set_mark s c true) c w) c false ≡ put s c w
-written_and_cleared [] c v w e = refl
-written_and_cleared (x ∷ s) zero v w e = ap (λ b. record { content = w; is_marked = b } ∷ s) (sym (restored x.is_marked x.content v e))
-written_and_cleared (x ∷ s) (suc c) v w e = ap (λ z. x ∷ z) (written_and_cleared s c v w e)
+pub written_and_cleared : (s : List Cell) (c : ℕ) (w : Tree) → is_some (at s c) ≡ true → set_mark (put (set_mark s c true) c w) c false ≡ put s c w
+written_and_cleared [] c w e = refl
+written_and_cleared (x ∷ s) zero w e = ap (λ b. record { content = w; is_marked = b } ∷ s) (sym (restored x.is_marked x.content e))
+written_and_cleared (x ∷ s) (suc c) w e = ap (λ z. x ∷ z) (written_and_cleared s c w e)
 
 -- a mark that is set or cleared on another cell keeps each mark
 pub others_marked : (s : List Cell) (c d : ℕ) (b : Bool) → (d ≡ c → ⊥) → is_marked_at (set_mark s c b) d ≡ is_marked_at s d
@@ -86,3 +87,23 @@ marked_with_first w s (node (leaf l) g m) d = refl
 marked_with_first w s (node (branch k ts) g m) d = refl
 marked_with_first w s (node (fields fs) g m) d = refl
 marked_with_first w s (node (holder c) g m) d = marked_put s c d w
+
+-- the cell in which a first content or a held value stands is read
+first_read_at : (s : List Cell) (d c : ℕ) (o : Option Tree) → at s d ≡ o → site_cell (option_map (λ x. InCell d) o) ≡ Some c → is_some (at s c) ≡ true
+first_read_at s d c None e h = cc
+first_read_at s d c (Some v) e h = let same : d ≡ c = cc in ap (λ i. is_some (at s i)) (sym same) ∙ ap is_some e
+
+pub first_read : (s : List Cell) (t : Tree) (c : ℕ) → first_cell s t ≡ Some c → is_some (at s c) ≡ true
+first_read s (node (leaf l) g m) c h = cc
+first_read s (node (branch k ts) g m) c h = cc
+first_read s (node (fields fs) g m) c h = cc
+first_read s (node (holder d) g m) c h = first_read_at s d c (at s d) refl h
+
+held_read_at : (s : List Cell) (t : Tree) (c : ℕ) (e : End) → e ≡ end s [] t → held_cell e ≡ Some c → is_some (at s c) ≡ true
+held_read_at s t c (held Own v) is h = cc
+held_read_at s t c (held (InCell d) v) is h = let same : d ≡ c = cc in ap (λ i. is_some (at s i)) (sym same) ∙ ap is_some (stands s t (InCell d) v is)
+held_read_at s t c (stuck v) is h = cc
+held_read_at s t c closed is h = cc
+
+pub held_read : (s : List Cell) (t : Tree) (c : ℕ) → held_cell (end s [] t) ≡ Some c → is_some (at s c) ≡ true
+held_read s t c h = held_read_at s t c (end s [] t) refl h

@@ -159,8 +159,14 @@ pub fn write_is_seen_by_all_holders()
 
 /// A mark that is set on a cell and cleared leaves the store as it was, or with what was written while it was marked.
 pub fn mark_is_cleared()
-    ensures alone { (s : List Cell) (c : ℕ) (v : Tree) → at s c ≡ Some v → set_mark (set_mark s c true) c false ≡ s }
-    ensures written { (s : List Cell) (c : ℕ) (v w : Tree) → at s c ≡ Some v → set_mark (put (set_mark s c true) c w) c false ≡ put s c w }
+    ensures alone { (s : List Cell) (c : ℕ) → is_some (at s c) ≡ true → set_mark (set_mark s c true) c false ≡ s }
+    ensures written { (s : List Cell) (c : ℕ) (w : Tree) → is_some (at s c) ≡ true → set_mark (put (set_mark s c true) c w) c false ≡ put s c w }
+{}
+
+/// The cell in which a first content or a held value stands can be read.
+pub fn sites_are_read()
+    ensures first { (s : List Cell) (t : Tree) (c : ℕ) → first_cell s t ≡ Some c → is_some (at s c) ≡ true }
+    ensures held { (s : List Cell) (t : Tree) (c : ℕ) → held_cell (end s [] t) ≡ Some c → is_some (at s c) ≡ true }
 {}
 
 /// No holder of a marked cell has a first content.

@@ -29,6 +29,7 @@ impl Model for WriteToken {
 impl Store {
     /// Marks the cell of a holder; `None`, with nothing changed, for a value that is no holder and for a cell that is marked or no
     /// cell of the store. Takes no memory.
+    #[tactic(auto, using(crate::proofs::MarkedCells::first_within))]
     pub fn mark(&mut self, d: &Dynamic) -> Option<WriteToken>
         ensures which { result ≡ first_cell self.old d.now }
         ensures after { self.new ≡ marked_with (first_cell self.old d.now) self.old }
@@ -39,6 +40,7 @@ impl Store {
 
     /// Marks the cell in which the held value of a holder stands; `None`, with nothing changed, for a value that is no holder and
     /// where the chain is stuck or closed. Takes no memory, and costs the length of the chain; where it closes, the number of cells.
+    #[tactic(auto, using(crate::proofs::MarkedCells::held_within))]
     pub fn mark_held(&mut self, d: &Dynamic) -> Option<WriteToken>
         ensures which { result ≡ held_cell (end self.old [] d.now) }
         ensures after { self.new ≡ marked_with (held_cell (end self.old [] d.now)) self.old }

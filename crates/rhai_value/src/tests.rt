@@ -5,8 +5,10 @@ ghost use Rattle.rhai_value.specs.First.{first};
 ghost use Rattle.rhai_value.specs.Tree.{cell_of};
 ghost use Rattle.rhai_value.specs.Writes.{first_written};
 
+mod callers;
 mod containers;
 mod maps;
+mod references;
 
 use super::*;
 use rhai_text::ImmutableString;

@@ -1,0 +1,87 @@
+//! References for writing: what they leave where there is nothing to lend.
+use crate::*;
+use std::process::Abort;
+
+/// A holder of a new cell with this value in it.
+fn cell_of(rt: &impl Abort, value: Dynamic, store: &mut Store) -> Dynamic {
+    let mut holder = Dynamic::UNIT.into_shared(store).ok().expect(rt, "memory");
+    *holder.write_whole(store).expect(rt, "an unmarked cell") = value;
+    holder
+}
+
+/// None of the calls lends what isn't held, and each names what is.
+fn lends_none(rt: &impl Abort, value: &mut Dynamic, store: &mut Store, name: &str) {
+    let (tag, mode) = (value.tag(), value.access_mode());
+    assert!(rt; value.as_immutable_string_mut(store).err() == Some(name));
+    assert!(rt; value.as_array_mut(store).err() == Some(name));
+    assert!(rt; value.as_blob_mut(store).err() == Some(name));
+    assert!(rt; value.as_map_mut(store).err() == Some(name));
+    assert!(rt; value.tag() == tag && value.access_mode() == mode);
+}
+
+#[test]
+fn nothing_is_lent_of_another_kind(rt: HostRuntime) {
+    let mut store = Store::new(rt.alloc());
+    let mut value = Dynamic::from_int(7).into_read_only();
+    value.set_tag(3);
+    lends_none(&rt, &mut value, &mut store, "i64");
+    assert_eq!(rt; value.as_int(&store).ok(), Some(7));
+    let mut holder = cell_of(&rt, value, &mut store);
+    holder.set_tag(4);
+    lends_none(&rt, &mut holder, &mut store, "i64");
+    let content = holder.read_whole(&store).expect(&rt, "an unmarked cell");
+    assert_eq!(rt; content.as_int(&store).ok(), Some(7));
+    assert!(rt; content.tag() == 3 && content.is_read_only(&store));
+}
+
+#[test]
+fn nothing_is_lent_of_a_marked_cell(rt: HostRuntime) {
+    let alloc = rt.alloc();
+    let mut store = Store::new(alloc);
+    let mut holder = cell_of(&rt, Dynamic::from_array(Vec::new(alloc)), &mut store);
+    let mut outer = cell_of(&rt, holder.copy(alloc).expect(&rt, "a holder"), &mut store);
+    let token = store.mark(&holder).expect(&rt, "an unmarked cell");
+    lends_none(&rt, &mut holder, &mut store, "<shared>");
+    lends_none(&rt, &mut outer, &mut store, "<shared>");
+    assert!(rt; holder.write_whole(&mut store).is_none() && holder.held_mut(&mut store).is_none());
+    assert!(rt; outer.held_mut(&mut store).is_none() && outer.write_whole(&mut store).is_some());
+    store.release(token);
+    assert!(rt; holder.is_array(&store) && outer.is_array(&store));
+}
+
+#[test]
+fn nothing_is_lent_of_a_closed_chain(rt: HostRuntime) {
+    let alloc = rt.alloc();
+    let mut store = Store::new(alloc);
+    let mut holder = cell_of(&rt, Dynamic::UNIT, &mut store);
+    let copy = holder.copy(alloc).expect(&rt, "a holder");
+    *holder
+        .write_whole(&mut store)
+        .expect(&rt, "an unmarked cell") = copy;
+    lends_none(&rt, &mut holder, &mut store, "<shared>");
+    assert!(rt; holder.held_mut(&mut store).is_none());
+    assert!(rt;
+        holder
+            .write_whole(&mut store)
+            .expect(&rt, "an unmarked cell")
+            .is_shared()
+    );
+}
+
+#[test]
+fn constants_are_what_they_are_named_for(rt: HostRuntime) {
+    let store = Store::new(rt.alloc());
+    assert!(rt; Dynamic::UNIT.is_unit(&store));
+    assert_eq!(rt; Dynamic::TRUE.as_bool(&store).ok(), Some(true));
+    assert_eq!(rt; Dynamic::FALSE.as_bool(&store).ok(), Some(false));
+    assert_eq!(rt; Dynamic::ZERO.as_int(&store).ok(), Some(0));
+    assert_eq!(rt; Dynamic::ONE.as_int(&store).ok(), Some(1));
+    assert_eq!(rt; Dynamic::TWO.as_int(&store).ok(), Some(2));
+    assert_eq!(rt; Dynamic::THREE.as_int(&store).ok(), Some(3));
+    assert_eq!(rt; Dynamic::TEN.as_int(&store).ok(), Some(10));
+    assert_eq!(rt; Dynamic::HUNDRED.as_int(&store).ok(), Some(100));
+    assert_eq!(rt; Dynamic::THOUSAND.as_int(&store).ok(), Some(1000));
+    assert_eq!(rt; Dynamic::MILLION.as_int(&store).ok(), Some(1000000));
+    assert_eq!(rt; Dynamic::NEGATIVE_ONE.as_int(&store).ok(), Some(-1));
+    assert_eq!(rt; Dynamic::NEGATIVE_TWO.as_int(&store).ok(), Some(-2));
+}

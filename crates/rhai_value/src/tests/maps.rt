@@ -45,9 +45,9 @@ fn has_entries(map: &Map, wanted: &[(&str, INT)]) -> bool {
     entries.next().is_none() && map.len() == wanted.len()
 }
 
-fn places(map: &Map) -> usize {
+fn index(map: &Map) -> usize {
     match &map.parts {
-        Some(parts) => parts.values.len(),
+        Some(parts) => parts.slots.len(),
         None => 0,
     }
 }
@@ -81,7 +81,7 @@ fn a_key_is_written_over(rt: HostRuntime) -> Result<(), Fail> {
         *value = int(10);
     }
     assert!(rt; has_entries(&map, &[("", 0), ("a", 10), ("b", 20), ("ba", 3), ("é", 4)]));
-    assert_eq!(rt; places(&map), 5);
+    assert_eq!(rt; index(&map), 5);
     Ok(())
 }
 
@@ -96,9 +96,9 @@ fn places_are_used_again(rt: HostRuntime) -> Result<(), Fail> {
         assert!(rt; put(&mut map, key, value)?.is_none());
     }
     assert!(rt; has_entries(&map, &[("a", 1), ("b", 7), ("ba", 3), ("c", 5), ("z", 9)]));
-    assert_eq!(rt; places(&map), 5);
+    assert_eq!(rt; index(&map), 5);
     put(&mut map, "y", 8)?;
-    assert_eq!(rt; places(&map), 6);
+    assert_eq!(rt; index(&map), 6);
     Ok(())
 }
 
@@ -116,9 +116,9 @@ fn entries_leave_in_order(rt: HostRuntime) -> Result<(), Fail> {
     }
     assert!(rt; map.pop_first().is_none() && has_entries(&map, &[]));
     assert!(rt; put(&mut map, "x", 1)?.is_none());
-    assert_eq!(rt; places(&map), 5);
+    assert_eq!(rt; index(&map), 5);
     map.clear();
-    assert!(rt; has_entries(&map, &[]) && places(&map) == 0);
+    assert!(rt; has_entries(&map, &[]) && index(&map) == 0);
     assert!(rt; put(&mut map, "x", 2)?.is_none() && has_entries(&map, &[("x", 2)]));
     Ok(())
 }

@@ -139,8 +139,8 @@ fn add_function(
     out: &mut String,
 ) -> Result<(), AllocError>
     ensures text { OnOk result (chars (string_bytes out.new) ≡ chars (string_bytes out.old)
-        ++ (codes "Fn(" ++ name_printed form function.now.name
-        ++ in_debug form (further (λ t. printed store.now path.old t Debug) function.now.curry.items) []
+        ++ (codes "Fn(" ++ name_printed form function.now.0
+        ++ in_debug form (further (λ t. printed store.now path.old t Debug) function.now.1) []
         ++ codes ")")) }
     ensures path { OnOk result (path.new ≡ path.old) }
 {

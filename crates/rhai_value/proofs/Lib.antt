@@ -8,12 +8,11 @@ pub mod InStores
 pub mod MarkedCells
 pub mod Paints
 pub mod Paths
-pub mod Places
 pub mod SameCells
 pub mod SameFlat
 pub mod SameTrees
 pub mod SameWalks
+pub mod Slots
 pub mod Stores
-pub mod Taken
 pub mod Walks
 pub mod Zips

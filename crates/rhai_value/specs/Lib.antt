@@ -1,11 +1,7 @@
 pub mod Tree
 pub mod Code
 pub mod Copied
-pub mod CopiedRows
 pub mod Rows
-pub mod Rest
-pub mod Held
-pub mod Painted
 pub mod Slots
 pub mod Parts
 pub mod View

@@ -1,54 +1,120 @@
--- No slot has more nodes than all rows have.
-use Rattle.std.specs.Prelude.{◌≡◌, ℕ, suc, ◌+◌, ◌*◌, ◌≤◌, Bool, true, false, ◌||◌, ◌⊎◌, nat_eq, List, [], ◌∷◌, Option, Some, None, refl}
-use Rattle.std.proofs.Common.{arith, inl, inr}
-use Rattle.std.proofs.lemmas.Bool.Decides.{nat_tests}
+-- How a map holds its rows: each key has the number of a slot, and its value stands there.
+use Rattle.std.specs.Prelude.{◌≡◌, ℕ, ◌+◌, ◌*◌, Bool, true, false, ◌||◌, nat_eq, List, [], ◌∷◌, map, String, string_bytes, string_cmp, slice_index_or, Option, Some, None, ⊤}
+use Rattle.std.specs.List.Sorted.{IsStrictlySortedBy}
+use Rattle.std.specs.Map.{keys_of, lookup}
+use Rattle.std.specs.Ordering.{is_eq}
+use Rattle.std.specs.Vec.{with_item}
 use Rattle.std.specs.declared.alloc.Global.{Global}
 use Rattle.std.specs.declared.boxed.Box.{Box}
-use denote.Param.Weighed.{most}
-use Rattle.rhai_value.specs.Tree.{Tree, nodes, nodes_trees, nodes_fields}
-use Rattle.rhai_value.specs.Rows.{Place, rows, rows_in, trees_of, fields_of, tree_in, slot_at, is_place, is_held, map_size, ArePlaced, ArePlacedIn}
+use Rattle.rhai_value.specs.Rows.{Rows, bytes_cmp, fields_of}
+use Rattle.rhai_value.specs.Tree.{Tree, fresh, unit, nodes_fields, paint}
+use Rattle.rhai_value.specs.declared.access_mode.AccessMode.{AccessMode}
 use Rattle.rhai_value.specs.declared.map.Slot.{Slot}
-use Rattle.rhai_value.specs.declared.map.Slot.TheVariants.{Free, Held}
-use Rattle.rhai_value.specs.declared.map.Parts.{Parts}
-use Rattle.rhai_value.specs.declared.dynamic.Dynamic.TheDeep.{deep-Slot, deep-Parts}
-use Rattle.rhai_value.specs.declared.dynamic.Dynamic.TheShapes.{weighed-Map-parts}
+use Rattle.rhai_value.specs.declared.map.Slot.TheVariants.{Vacant, Taken}
+use Rattle.rhai_value.specs.declared.map.MapParts.{MapParts}
+use Rattle.rhai_value.specs.declared.map_entries.Rest.{Rest}
 
--- no child has more nodes than all children have
-pub most_trees : (ts : List Tree) → most (λ t. 2 * nodes t + 1) ts ≤ 2 * nodes_trees (trees_of ts) + 1
-most_trees [] = omega arith
-most_trees (t ∷ ts) = omega (arith, most_trees ts)
+-- a key with the number of its slot
+abbrev pub KeySlot : Type 0
+KeySlot = String Global × ℕ
 
-pub or_true : (a b : Bool) → a || b ≡ true → (a ≡ true) ⊎ (b ≡ true)
-or_true true b h = inl refl
-or_true false b h = inr h
+abbrev pub tree_in : Slot → Tree
+tree_in (Vacant next) = fresh unit
+tree_in (Taken t) = t
 
-pub same_nat : (m n : ℕ) → nat_eq m n ≡ true → m ≡ n
-same_nat m n h = grind (arith, nat_tests)
+abbrev pub is_taken : Slot → Bool
+is_taken (Vacant next) = false
+is_taken (Taken t) = true
 
-most_le : (f : Slot → ℕ) (xs : List Slot) (n : ℕ) → ((i : ℕ) → f (slot_at xs i) ≤ n) → most f xs ≤ n
-most_le f [] n h = omega arith
-most_le f (x ∷ xs) n h =
-    let first : f x ≤ n = h 0 in
-    omega (arith, most_le f xs n (λ i. h (suc i)))
+abbrev pub slot_at : List Slot → ℕ → Slot
+slot_at ts i = slice_index_or ts i (Vacant 0)
 
--- a value that stands at a place has at most the nodes of all rows
-pub nodes_placed : (es : List Place) (ts : List Slot) (i : ℕ) → is_place i es ≡ true → nodes (tree_in (slot_at ts i)) ≤ nodes_fields (fields_of (rows es ts))
-nodes_placed [] ts i h = cc
-nodes_placed (e ∷ es) ts i h = elim (or_true _ _ h) [
-  | inl here ↦ (let same : i ≡ e.1 = same_nat i e.1 here in rw same (omega arith))
-  | inr later ↦ omega (arith, nodes_placed es ts i later)
-]
+abbrev pub row_in : List Slot → KeySlot → List ℕ × Tree
+row_in ts e = (string_bytes e.0, tree_in (slot_at ts e.1))
 
-slot_le : (n : ℕ) (s : Slot) → (is_held s ≡ true → nodes (tree_in s) ≤ n) → deep-Slot s ≤ 2 * n + 1
-slot_le n (Free next) h = omega arith
-slot_le n (Held t) h = omega (arith, h refl)
+-- each key with the value in its slot
+abbrev pub rows : List KeySlot → List Slot → Rows
+rows es ts = map (row_in ts) es
 
-most_placed : (es : List Place) (ts : List Slot) → ArePlaced es ts → most deep-Slot ts ≤ map_size (rows es ts)
-most_placed es ts placed = most_le deep-Slot ts (map_size (rows es ts)) (λ i.
-    let one = slot_le (nodes_fields (fields_of (rows es ts))) (slot_at ts i) (λ held. nodes_placed es ts i (placed.others i held)) in
-    omega (arith, one))
+abbrev pub rows_of : MapParts → Rows
+rows_of p = rows p.index.entries p.slots.items
 
--- no value of a map has more nodes than all rows have
-pub most_parts : (p : Option (Box Parts Global)) → ArePlacedIn p → (weighed-Map-parts).weight Parts deep-Parts p ≤ map_size (rows_in p)
-most_parts None h = omega arith
-most_parts (Some p) h = omega (arith, most_placed p.value.places.entries p.value.values.items h)
+abbrev pub rows_in : Option (Box MapParts Global) → Rows
+rows_in None = []
+rows_in (Some p) = rows_of p.value
+
+-- the test of a key by its bytes
+abbrev pub key_test : List ℕ → String Global → Bool
+key_test k s = is_eq (bytes_cmp k (string_bytes s))
+
+-- the number of a key's slot, if it has one
+abbrev pub number_of : List KeySlot → List ℕ → Option ℕ
+number_of es k = lookup (key_test k) es
+
+-- the parts with t as the value in a slot
+abbrev pub with_value : MapParts → Tree → ℕ → MapParts
+with_value p t i = record p { slots = with_item p.slots i (Taken t) }
+
+abbrev pub with_value_in : MapParts → Tree → Option ℕ → MapParts
+with_value_in p t None = p
+with_value_in p t (Some i) = with_value p t i
+
+-- the parts with t as the value of a key, if it has one
+abbrev pub with_value_at : MapParts → List ℕ → Tree → MapParts
+with_value_at p k t = with_value_in p t (number_of p.index.entries k)
+
+-- whether p is the number of one of these keys
+abbrev pub is_named : ℕ → List KeySlot → Bool
+is_named p [] = false
+is_named p (e ∷ es) = nat_eq p e.1 || is_named p es
+
+-- no two keys have one slot
+abbrev pub AreApart : List KeySlot → Type 0
+AreApart [] = ⊤
+AreApart (e ∷ es) = (is_named e.1 es ≡ false) × AreApart es
+
+-- no two keys have one slot, and the slots that are taken are those of the keys
+pub record AreMatched (es : List KeySlot) (ts : List Slot) : Type 0 where
+  pub apart : AreApart es
+  pub same : (p : ℕ) → is_taken (slot_at ts p) ≡ is_named p es
+
+-- keys and slots match, and the keys rise
+pub record AreWhole (es : List KeySlot) (ts : List Slot) : Type 0 where
+  pub matched : AreMatched es ts
+  pub rising : IsStrictlySortedBy string_cmp (keys_of es)
+
+abbrev pub IsWhole : MapParts → Type 0
+IsWhole p = AreWhole p.index.entries p.slots.items
+
+abbrev pub IsWholeIn : Option (Box MapParts Global) → Type 0
+IsWholeIn None = ⊤
+IsWholeIn (Some p) = IsWhole p.value
+
+-- the slots us are those of ts, but for t in the slot p, which was vacant
+pub record IsStored (ts us : List Slot) (p : ℕ) (t : Tree) : Type 0 where
+  pub vacant : is_taken (slot_at ts p) ≡ false
+  pub here : slot_at us p ≡ Taken t
+  pub others : (q : ℕ) → nat_eq q p ≡ false → slot_at us q ≡ slot_at ts q
+
+-- a bound on the nodes of each value
+abbrev pub map_size : Rows → ℕ
+map_size rs = 2 * nodes_fields (fields_of rs) + 1
+
+-- each of these keys has a slot that is taken
+abbrev pub AreTaken : List KeySlot → List Slot → Type 0
+AreTaken [] ts = ⊤
+AreTaken (e ∷ es) ts = (is_taken (slot_at ts e.1) ≡ true) × AreTaken es ts
+
+-- the rows that are left of a walk through a map
+abbrev pub rows_left : Option Rest → Rows
+rows_left None = []
+rows_left (Some a) = rows a.index a.slots.now.items
+
+abbrev pub AreTakenIn : Option Rest → Type 0
+AreTakenIn None = ⊤
+AreTakenIn (Some a) = AreTaken a.index a.slots.now.items
+
+-- a slot whose value is painted
+abbrev pub painted_slot : AccessMode → Slot → Slot
+painted_slot m (Vacant next) = Vacant next
+painted_slot m (Taken t) = Taken (paint m t)

@@ -127,6 +127,10 @@ abbrev mutual
 abbrev pub with_tag : ℤ → Tree → Tree
 with_tag h (node c g m) = node c h m
 
+-- the same with the mode m, its content staying
+abbrev pub with_mode : AccessMode → Tree → Tree
+with_mode m (node c g n) = node c g m
+
 -- whether the mode forbids writes
 abbrev pub is_constant : AccessMode → Bool
 is_constant ReadWrite = false

@@ -13,6 +13,6 @@ tree_of (union.Int g m n) = node (leaf (int n)) g m
 tree_of (union.Array g m v) = node (branch array (trees_of v.items)) g m
 tree_of (union.Blob g m v) = node (leaf (blob v.items)) g m
 tree_of (union.Map g m rs) = node (fields (fields_of rs)) g m
-tree_of (union.FnPtr g m f) = node (branch (function f.name) (trees_of f.curry.items)) g m
+tree_of (union.FnPtr g m f) = node (branch (function f.0) (trees_of f.1)) g m
 tree_of (union.Variant g m h) = node (leaf (host h)) g m
 tree_of (union.Shared g m c) = node (holder c.index) g m

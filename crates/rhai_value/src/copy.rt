@@ -1,16 +1,15 @@
 //! Deep copies.
 ghost use Rattle.std.specs.Prelude.{◌≡◌, IfOk, IsOk, map};
-ghost use Rattle.rhai_value.specs.CopiedRows.{copied_rows};
-ghost use Rattle.rhai_value.specs.Held.{AreHeld};
-ghost use Rattle.rhai_value.specs.Rows.{rows};
+ghost use Rattle.rhai_value.specs.Rows.{copied_rows};
+ghost use Rattle.rhai_value.specs.Slots.{AreTaken, rows};
 ghost use Rattle.rhai_value.specs.Tree.{TakesNoMemory, copy};
 ghost use Rattle.rhai_value.specs.View.{tree_of};
 
 use crate::access_mode::AccessMode;
 use crate::dynamic::Dynamic;
 use crate::fn_ptr::FnPtr;
-use crate::map::{Map, Parts, Slot};
-use crate::parts::value_at;
+use crate::map::{Map, MapParts, Slot};
+use crate::map_parts::value_at;
 use crate::union::Union;
 use std::alloc::{AllocError, Global};
 use std::collections::BTreeMap;
@@ -73,8 +72,7 @@ pub(crate) fn copied_items(items: &Vec<Dynamic>, alloc: Global) -> Result<Vec<Dy
 
 #[cycle(copy)]
 pub(crate) fn copied_function(f: &FnPtr, alloc: Global) -> Result<FnPtr, AllocError>
-    ensures name { IfOk result (λ g. g.name ≡ f.now.name) }
-    ensures curry { IfOk result (λ g. g.curry.items ≡ map copy f.now.curry.items) }
+    ensures { IfOk result (λ g. g ≡ (f.now.0, map copy f.now.1)) }
 {
     let name = f.name.copy(alloc)?;
     let curry = copied_items(&f.curry, alloc)?;
@@ -88,26 +86,26 @@ pub(crate) fn copied_map(map: &Map, alloc: Global) -> Result<Map, AllocError>
     match &map.parts {
         None => Ok(Map::new(alloc)),
         Some(parts) => {
-            let parts: &Parts = parts;
-            copied_places(&parts.places, &parts.values, alloc)
+            let parts: &MapParts = parts;
+            copied_entries(&parts.index, &parts.slots, alloc)
         }
     }
 }
 
 // Inserts the keys in their order, so that each goes last.
 #[cycle(copy)]
-fn copied_places(
-    places: &BTreeMap<String, usize>,
+fn copied_entries(
+    index: &BTreeMap<String, usize>,
     slots: &Vec<Slot>,
     alloc: Global,
 ) -> Result<Map, AllocError>
-    requires { AreHeld places.now.entries slots.now.items }
-    ensures { IfOk result (λ m. m ≡ copied_rows (rows places.now.entries slots.now.items)) }
+    requires { AreTaken index.now.entries slots.now.items }
+    ensures { IfOk result (λ m. m ≡ copied_rows (rows index.now.entries slots.now.items)) }
 {
     let mut copies = Map::new(alloc);
-    for (key, place) in places.iter() {
+    for (key, number) in index.iter() {
         let key = String::from_str(alloc, key)?;
-        let value = copied(value_at(slots, *place), alloc)?;
+        let value = copied(value_at(slots, *number), alloc)?;
         match copies.insert(key, value) {
             Ok(old) => drop(old),
             Err(back) => {

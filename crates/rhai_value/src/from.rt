@@ -54,7 +54,7 @@ impl From<ImmutableString> for Dynamic {
 }
 
 impl From<FnPtr> for Dynamic {
-    ghost from_gives = { λ f d. d ≡ made (branch (function f.name) (trees_of f.curry.items)) };
+    ghost from_gives = { λ f d. d ≡ made (branch (function f.0) (trees_of f.1)) };
 
     fn from(value: FnPtr) -> Dynamic {
         Dynamic {

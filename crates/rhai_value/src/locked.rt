@@ -1,12 +1,12 @@
 //! Values that hold a locked cell.
 ghost use Rattle.std.specs.Prelude.{◌≡◌};
-ghost use Rattle.rhai_value.specs.Held.{AreHeld};
+ghost use Rattle.rhai_value.specs.Slots.{AreTaken, rows};
 ghost use Rattle.rhai_value.specs.Locked.{is_locked, is_one_locked, is_field_locked};
-ghost use Rattle.rhai_value.specs.Rows.{rows, trees_of, fields_of};
+ghost use Rattle.rhai_value.specs.Rows.{trees_of, fields_of};
 
 use crate::dynamic::Dynamic;
-use crate::map::{Map, Parts, Slot};
-use crate::parts::value_at;
+use crate::map::{Map, MapParts, Slot};
+use crate::map_parts::value_at;
 use crate::store::Store;
 use crate::union::Union;
 use std::collections::BTreeMap;
@@ -53,19 +53,19 @@ fn locks_map(map: &Map, s: &Store) -> bool
     match &map.parts {
         None => false,
         Some(parts) => {
-            let parts: &Parts = parts;
-            locks_places(&parts.places, &parts.values, s)
+            let parts: &MapParts = parts;
+            locks_entries(&parts.index, &parts.slots, s)
         }
     }
 }
 
 #[cycle(locks)]
-fn locks_places(places: &BTreeMap<String, usize>, slots: &Vec<Slot>, s: &Store) -> bool
-    requires { AreHeld places.now.entries slots.now.items }
-    ensures { result ≡ is_field_locked s.now (fields_of (rows places.now.entries slots.now.items)) }
+fn locks_entries(index: &BTreeMap<String, usize>, slots: &Vec<Slot>, s: &Store) -> bool
+    requires { AreTaken index.now.entries slots.now.items }
+    ensures { result ≡ is_field_locked s.now (fields_of (rows index.now.entries slots.now.items)) }
 {
-    for (_, place) in places.iter() {
-        if locks(value_at(slots, *place), s) {
+    for (_, number) in index.iter() {
+        if locks(value_at(slots, *number), s) {
             return true;
         }
     }

@@ -12,27 +12,27 @@ use std::marker::Model;
 #[cycle(dynamic)]
 #[derive(Drop)]
 pub struct Map {
-    pub(crate) parts: Option<Box<Parts>>,
+    pub(crate) parts: Option<Box<MapParts>>,
     pub(crate) alloc: Global,
 }
 
-/// Where the value of each key stands, the values, and the first of the places that are free.
+/// The number of each key's slot, the slots, and the number of the first vacant one.
 ///
-/// The free places are a list, which ends at a place that is taken or past the last one.
+/// The vacant slots are a list, each having the number of the next; it ends at a slot that is taken or past the last one.
 #[cycle(dynamic)]
 #[derive(Drop)]
-pub(crate) struct Parts {
-    pub(crate) places: BTreeMap<String, usize>,
-    pub(crate) values: Vec<Slot>,
-    pub(crate) free: usize,
+pub(crate) struct MapParts {
+    pub(crate) index: BTreeMap<String, usize>,
+    pub(crate) slots: Vec<Slot>,
+    pub(crate) vacant: usize,
 }
 
-/// A place for a value: free, with the next one that is free, or taken.
+/// Where a value stands: vacant, with the number of the next vacant one, or taken.
 #[cycle(dynamic)]
 #[derive(Drop)]
 pub(crate) enum Slot {
-    Free(usize),
-    Held(Dynamic),
+    Vacant(usize),
+    Taken(Dynamic),
 }
 
 impl Model for Map {
@@ -47,28 +47,28 @@ impl Model for Map {
 
     ghost coded = { coded_list (coded× (coded_list coded_ℕ) (tree_code (Prim.hlevel (codes, access_mode.the_row.coded, host_kind.the_row.coded)))) };
 
-    ghost use Rattle.rhai_value.specs.Rows.{rows_in, map_size, ArePlacedIn};
+    ghost use Rattle.rhai_value.specs.Slots.{rows_in, map_size, IsWholeIn};
 
     ghost view = { λ m. rows_in m.parts };
 
-    ghost invariant = { λ m. ArePlacedIn m.parts };
+    ghost invariant = { λ m. IsWholeIn m.parts };
 
     ghost size = { map_size };
 
     ghost use Rattle.std.proofs.Common.{arith};
-    ghost use Rattle.rhai_value.specs.Slots.{most_parts};
+    ghost use Rattle.rhai_value.specs.Falls.{most_parts};
 
     ghost size_decreases = { λ m h. Prim.omega (arith, most_parts m.parts h) };
 }
 
 impl Map {
-    ghost use Rattle.std.specs.Prelude.{◌≡◌, ◌↔◌, [], ◌∷◌, length, option_copied, is_some, string_bytes, IfOk, IfErr, OnOk, IsTrue, MatchOption};
+    ghost use Rattle.std.specs.Prelude.{◌≡◌, ◌↔◌, [], ◌∷◌, length, option_copied, None, is_some, string_bytes, IfOk, IfErr, OnOk, OnErr, IsTrue, MatchOption};
     ghost use Rattle.std.specs.BTreeMap.{insert_entry, is_at};
     ghost use Rattle.std.specs.Borrow.{LendsIf, sem};
     ghost use Rattle.std.specs.List.Sorted.{IsStrictlySortedBy};
     ghost use Rattle.std.specs.Map.{keys_of, lookup, remove_entry, set_value, values_of};
     ghost use Rattle.std.specs.Option.{option_copied_mut};
-    ghost use Rattle.rhai_value.specs.Rows.{bytes_cmp};
+    ghost use Rattle.rhai_value.specs.Rows.{bytes_cmp, AreRising};
     ghost use Rattle.rhai_value.specs.contracts.dynamic.Dynamic as dynamic_type;
     ghost use Rattle.rhai_value.specs.contracts.map.Map as map_type;
 
@@ -82,7 +82,7 @@ impl Map {
     /// The number of entries, in constant time.
     pub fn len(&self) -> usize
         ensures len { result ≡ length self.now }
-        ensures ordered { IsStrictlySortedBy bytes_cmp (keys_of self.now) }
+        ensures ordered { AreRising self.now }
     {
         match &self.parts {
             Some(parts) => parts.len(),
@@ -106,7 +106,8 @@ impl Map {
 
     /// The value of a key, if it has one. The time grows with the logarithm of the number of entries.
     pub fn get(&self, key: &str) -> Option<&Dynamic>
-        ensures { option_copied result ≡ lookup (is_at (bytes_cmp key.now)) self.now }
+        ensures value { option_copied result ≡ lookup (is_at (bytes_cmp key.now)) self.now }
+        ensures ordered { AreRising self.now }
     {
         match &self.parts {
             Some(parts) => parts.get(key),
@@ -141,11 +142,13 @@ impl Map {
         ensures old { IfOk result (λ old. old ≡ lookup (is_at (bytes_cmp (string_bytes key))) self.old) }
         ensures inserted { OnOk result (self.new ≡ insert_entry bytes_cmp self.old (string_bytes key) value) }
         ensures err { IfErr result (λ back. (back ≡ (key, value)) × (self.new ≡ self.old)) }
+        ensures absent { OnErr result (lookup (is_at (bytes_cmp (string_bytes key))) self.old ≡ None) }
+        ensures ordered { AreRising self.new }
     {
         match &mut self.parts {
             Some(parts) => parts.insert(key, value),
             None => {
-                let Ok(mut parts) = Box::new(self.alloc, Parts::new(self.alloc)) else {
+                let Ok(mut parts) = Box::new(self.alloc, MapParts::new(self.alloc)) else {
                     return Err((key, value));
                 };
                 let old = parts.insert(key, value)?;
@@ -187,7 +190,8 @@ impl Map {
 
     /// The entries, by rising keys. It takes no memory; the whole walk takes time in the number of entries.
     pub fn iter(&self) -> Entries<'_>
-        ensures { result ≡ self.now }
+        ensures entries { result ≡ self.now }
+        ensures ordered { AreRising self.now }
     {
         match &self.parts {
             Some(parts) => Entries::of_parts(parts),
@@ -197,7 +201,8 @@ impl Map {
 
     /// The keys, by rising order, at the cost of `iter`.
     pub fn keys(&self) -> Keys<'_>
-        ensures { result ≡ keys_of self.now }
+        ensures keys { result ≡ keys_of self.now }
+        ensures ordered { IsStrictlySortedBy bytes_cmp result }
     {
         let entries = self.iter();
         Keys { entries }

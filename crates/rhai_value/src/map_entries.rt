@@ -1,8 +1,8 @@
 //! Going over the entries of a map.
 
 use crate::dynamic::Dynamic;
-use crate::map::{Map, Parts, Slot};
-use crate::parts::held;
+use crate::map::{Map, MapParts, Slot};
+use crate::map_parts::value_in;
 use std::collections::btree_map;
 use std::iter::{ExactSizeIterator, FusedIterator, IntoIterator, Iterator};
 use std::marker::Model;
@@ -13,11 +13,11 @@ pub struct Entries<'a> {
     rest: Option<Rest<'a>>,
 }
 
-/// The keys that are left with their places, and the values of all places.
+/// The keys that are left with the numbers of their slots, and all slots.
 #[derive(Drop)]
 pub(crate) struct Rest<'a> {
-    pub(crate) places: btree_map::Iter<'a, String, usize>,
-    pub(crate) values: &'a Vec<Slot>,
+    pub(crate) index: btree_map::Iter<'a, String, usize>,
+    pub(crate) slots: &'a Vec<Slot>,
 }
 
 impl<'a> Model for Entries<'a> {
@@ -32,16 +32,16 @@ impl<'a> Model for Entries<'a> {
 
     ghost coded = { coded_list (coded× (coded_list coded_ℕ) (tree_code (Prim.hlevel (codes, access_mode.the_row.coded, host_kind.the_row.coded)))) };
 
-    ghost use Rattle.rhai_value.specs.Rest.{rows_left, AreHeldIn};
+    ghost use Rattle.rhai_value.specs.Slots.{rows_left, AreTakenIn};
 
     ghost view = { λ a. rows_left a.rest };
 
-    ghost invariant = { λ a. AreHeldIn a.rest };
+    ghost invariant = { λ a. AreTakenIn a.rest };
 }
 
 impl<'a> Entries<'a> {
     ghost use Rattle.std.specs.Prelude.{◌≡◌, []};
-    ghost use Rattle.rhai_value.specs.Rows.{rows_of, IsPlaced};
+    ghost use Rattle.rhai_value.specs.Slots.{rows_of, IsWhole};
 
     pub(crate) fn none() -> Entries<'a>
         ensures { result ≡ [] }
@@ -49,14 +49,14 @@ impl<'a> Entries<'a> {
         Entries { rest: None }
     }
 
-    pub(crate) fn of_parts(parts: &'a Parts) -> Entries<'a>
-        requires { IsPlaced parts.now }
+    pub(crate) fn of_parts(parts: &'a MapParts) -> Entries<'a>
+        requires { IsWhole parts.now }
         ensures { result ≡ rows_of parts.now }
     {
         Entries {
             rest: Some(Rest {
-                places: parts.places.iter(),
-                values: &parts.values,
+                index: parts.index.iter(),
+                slots: &parts.slots,
             }),
         }
     }
@@ -74,10 +74,10 @@ impl<'a> Iterator for Entries<'a> {
 
     fn next(&mut self) -> Option<(&'a str, &'a Dynamic)> {
         let rest = self.rest.as_mut()?;
-        match rest.places.next() {
-            Some((key, place)) => {
-                let values = rest.values;
-                Some((key.as_str(), held(&values[*place])))
+        match rest.index.next() {
+            Some((key, number)) => {
+                let slots = rest.slots;
+                Some((key.as_str(), value_in(&slots[*number])))
             }
             None => None,
         }
@@ -92,7 +92,7 @@ impl<'a> Iterator for Entries<'a> {
 impl<'a> ExactSizeIterator for Entries<'a> {
     fn len(&self) -> usize {
         match &self.rest {
-            Some(rest) => rest.places.len(),
+            Some(rest) => rest.index.len(),
             None => 0,
         }
     }

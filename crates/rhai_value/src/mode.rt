@@ -1,8 +1,8 @@
 //! Setting the mode of a value and of what it holds.
 ghost use Rattle.std.specs.Prelude.{◌≡◌, map};
-ghost use Rattle.rhai_value.specs.Tree.{paint, paint_fields};
+ghost use Rattle.rhai_value.specs.Tree.{paint, paint_fields, with_mode};
 ghost use Rattle.rhai_value.specs.Rows.{fields_of};
-ghost use Rattle.rhai_value.specs.Painted.{with_mode, painted_slot};
+ghost use Rattle.rhai_value.specs.Slots.{painted_slot};
 ghost use Rattle.rhai_value.specs.declared.access_mode.AccessMode.TheVariants.{ReadOnly};
 
 use crate::access_mode::AccessMode;
@@ -77,7 +77,7 @@ fn paint_map(map: &mut Map, mode: AccessMode)
     let Some(mut parts) = map.parts.take() else {
         return;
     };
-    paint_slots(&mut parts.values, mode);
+    paint_slots(&mut parts.slots, mode);
     map.parts = Some(parts);
 }
 
@@ -94,7 +94,7 @@ fn paint_slots(slots: &mut Vec<Slot>, mode: AccessMode)
 fn paint_slot(slot: &mut Slot, mode: AccessMode)
     ensures { slot.new ≡ painted_slot mode slot.old }
 {
-    if let Slot::Held(value) = slot {
+    if let Slot::Taken(value) = slot {
         paint_value(value, mode);
     }
 }

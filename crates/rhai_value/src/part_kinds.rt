@@ -434,7 +434,7 @@ impl Part for FnPtr {
 
     ghost Meaning = { List ℕ × Trees };
 
-    ghost meaning = { λ f. (f.name, trees_of f.curry.items) };
+    ghost meaning = { λ f. (f.0, trees_of f.1) };
 
     ghost content = { λ f. branch (function f.0) f.1 };
 

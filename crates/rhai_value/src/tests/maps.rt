@@ -1,4 +1,4 @@
-//! Maps: that the definitions mean what is wanted, shown on small maps, that calls succeed, and that places are used again.
+//! Maps: that the definitions mean what is wanted, shown on small maps, that calls succeed, and that slots are used again.
 use crate::map::Map;
 use crate::union::{INT, Union};
 use crate::{AccessMode, Dynamic};
@@ -45,9 +45,9 @@ fn has_entries(map: &Map, wanted: &[(&str, INT)]) -> bool {
     entries.next().is_none() && map.len() == wanted.len()
 }
 
-fn places(map: &Map) -> usize {
+fn slots(map: &Map) -> usize {
     match &map.parts {
-        Some(parts) => parts.values.len(),
+        Some(parts) => parts.slots.len(),
         None => 0,
     }
 }
@@ -81,12 +81,16 @@ fn a_key_is_written_over(rt: HostRuntime) -> Result<(), Fail> {
         *value = int(10);
     }
     assert!(rt; has_entries(&map, &[("", 0), ("a", 10), ("b", 20), ("ba", 3), ("é", 4)]));
-    assert_eq!(rt; places(&map), 5);
+    assert_eq!(rt; slots(&map), 6);
+    put(&mut map, "b", 21)?;
+    put(&mut map, "é", 40)?;
+    assert!(rt; has_entries(&map, &[("", 0), ("a", 10), ("b", 21), ("ba", 3), ("é", 40)]));
+    assert_eq!(rt; slots(&map), 6);
     Ok(())
 }
 
 #[test]
-fn places_are_used_again(rt: HostRuntime) -> Result<(), Fail> {
+fn slots_are_used_again(rt: HostRuntime) -> Result<(), Fail> {
     let mut map = sample(rt.alloc())?;
     for key in ["b", "é", ""] {
         assert!(rt; map.remove(key).is_some() && map.remove(key).is_none());
@@ -96,9 +100,9 @@ fn places_are_used_again(rt: HostRuntime) -> Result<(), Fail> {
         assert!(rt; put(&mut map, key, value)?.is_none());
     }
     assert!(rt; has_entries(&map, &[("a", 1), ("b", 7), ("ba", 3), ("c", 5), ("z", 9)]));
-    assert_eq!(rt; places(&map), 5);
+    assert_eq!(rt; slots(&map), 5);
     put(&mut map, "y", 8)?;
-    assert_eq!(rt; places(&map), 6);
+    assert_eq!(rt; slots(&map), 6);
     Ok(())
 }
 
@@ -116,9 +120,36 @@ fn entries_leave_in_order(rt: HostRuntime) -> Result<(), Fail> {
     }
     assert!(rt; map.pop_first().is_none() && has_entries(&map, &[]));
     assert!(rt; put(&mut map, "x", 1)?.is_none());
-    assert_eq!(rt; places(&map), 5);
+    assert_eq!(rt; slots(&map), 5);
     map.clear();
-    assert!(rt; has_entries(&map, &[]) && places(&map) == 0);
+    assert!(rt; has_entries(&map, &[]) && slots(&map) == 0);
     assert!(rt; put(&mut map, "x", 2)?.is_none() && has_entries(&map, &[("x", 2)]));
+    Ok(())
+}
+
+#[test]
+fn many_changes_take_no_more_slots(rt: HostRuntime) -> Result<(), Fail> {
+    let mut map = Map::new(rt.alloc());
+    for round in 0..200 {
+        for key in ["c", "a", "g", "e", "b", "f", "d"] {
+            assert!(rt; put(&mut map, key, 1)?.is_none(), "{round} {key}");
+            let old = put(&mut map, key, 2)?;
+            assert!(rt; old.as_ref().and_then(int_of) == Some(1), "{round} {key}");
+        }
+        for key in ["d", "a", "g", "f"] {
+            assert!(rt; map.remove(key).is_some(), "{round} {key}");
+        }
+        assert!(rt;
+            has_entries(&map, &[("b", 2), ("c", 2), ("e", 2)]),
+            "{round}"
+        );
+        for key in ["b", "c", "e"] {
+            match map.pop_first() {
+                Some((found, _)) => assert!(rt; found.as_str() == key, "{round} {key}"),
+                None => assert!(rt; false, "{round} {key}"),
+            }
+        }
+        assert!(rt; map.is_empty() && slots(&map) <= 8, "{round}");
+    }
     Ok(())
 }

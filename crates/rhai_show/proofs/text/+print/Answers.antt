@@ -30,8 +30,8 @@ add_map-returns-clause-text t c =
 pub add_function-returns-clause-text : goal.add_function-returns-clause-text
 add_function-returns-clause-text t c =
     let old = chars (string_bytes c.args.out.now) in
-    let name = name_printed c.args.form c.args.function.now.name in
-    let curried = in_debug c.args.form (further (λ u. printed c.args.store.now c.args.path.now u Debug) c.args.function.now.curry.items) [] in
+    let name = name_printed c.args.form c.args.function.now.0 in
+    let curried = in_debug c.args.form (further (λ u. printed c.args.store.now c.args.path.now u Debug) c.args.function.now.1) [] in
     let opens = added_fixed (chars (string_bytes c.add_text.new.out)) old (codes "Fn(") refl c.in_ok-add_text.ensures in
     let named = c.in_ok-add_name.ensures ∙ ap (λ n. chars (string_bytes c.add_text.new.out) ++ name_printed c.args.form n) c.fn_name.ensures in
     let items = c.in_ok-add_curried.ensures.text ∙ ap (λ xs. chars (string_bytes c.add_name.new.out) ++ in_debug c.args.form (further (λ u. printed c.args.store.now c.args.path.now u Debug) xs) []) c.curry.ensures in
@@ -137,7 +137,7 @@ add_value-returns-in-Map-clause-text t c =
 pub add_value-returns-in-FnPtr-clause-text : goal.add_value-returns-in-FnPtr-clause-text
 add_value-returns-in-FnPtr-clause-text t c =
     added_as c.add_function.result _ _ _ _
-    (printed-function c.args.store.now c.args.path.now c.args.value.now c.args.form c.in-FnPtr.function.name c.in-FnPtr.function.curry.items c.in-FnPtr.field-0 c.in-FnPtr.field-1 (sym c.parts.ensures ∙ ap tree_of c.in-FnPtr.is))
+    (printed-function c.args.store.now c.args.path.now c.args.value.now c.args.form c.in-FnPtr.function.0 c.in-FnPtr.function.1 c.in-FnPtr.field-0 c.in-FnPtr.field-1 (sym c.parts.ensures ∙ ap tree_of c.in-FnPtr.is))
     c.add_function.ensures.text
 
 pub add_value-returns-in-None-clause-text : goal.add_value-returns-in-None-clause-text

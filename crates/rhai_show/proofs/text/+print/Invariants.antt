@@ -23,7 +23,7 @@ abbrev pub decreases-add_fields : goal.decreases-add_fields
 decreases-add_fields l = left_in l.store.now l.path.now + (4 * nodes_fields (fields_of l.map.now) + 1)
 
 abbrev pub decreases-add_function : goal.decreases-add_function
-decreases-add_function l = left_in l.store.now l.path.now + (4 * nodes_trees (trees_of l.function.now.curry.items) + 3)
+decreases-add_function l = left_in l.store.now l.path.now + (4 * nodes_trees (trees_of l.function.now.1) + 3)
 
 abbrev pub decreases-add_curried : goal.decreases-add_curried
 decreases-add_curried l = left_in l.store.now l.path.now + (4 * nodes_trees (trees_of l.items.now) + 2)

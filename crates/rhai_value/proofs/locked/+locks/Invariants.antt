@@ -1,7 +1,7 @@
 use Rattle.std.proofs.Common.{◌≡◌, ◌+◌, ◌*◌, ◌≤◌, drop}
-use Rattle.rhai_value.specs.Held.{AreHeld}
+use Rattle.rhai_value.specs.Slots.{AreTaken, rows}
 use Rattle.rhai_value.specs.Locked.{is_one_locked, is_field_locked}
-use Rattle.rhai_value.specs.Rows.{rows, trees_of, fields_of}
+use Rattle.rhai_value.specs.Rows.{trees_of, fields_of}
 use Rattle.rhai_value.specs.Tree.{nodes, nodes_trees, nodes_fields}
 use Rattle.rhai_value.proofs.locked.+locks.Given as goal
 
@@ -11,12 +11,12 @@ invariant-locks_items-loop-item l = record {
   same : is_one_locked l.s (trees_of (drop l.item-index l.item-items)) ≡ is_one_locked l.s (trees_of l.items.items);
 }
 
-abbrev pub invariant-locks_places-loop-place : goal.invariant-locks_places-loop-place
-invariant-locks_places-loop-place l =
+abbrev pub invariant-locks_entries-loop-number : goal.invariant-locks_entries-loop-number
+invariant-locks_entries-loop-number l =
     record {
-      held : AreHeld l.place-iterator l.slots.items;
-      fewer : nodes_fields (fields_of (rows l.place-iterator l.slots.items)) ≤ nodes_fields (fields_of (rows l.places.entries l.slots.items));
-      same : is_field_locked l.s (fields_of (rows l.place-iterator l.slots.items)) ≡ is_field_locked l.s (fields_of (rows l.places.entries l.slots.items));
+      taken : AreTaken l.number-iterator l.slots.items;
+      fewer : nodes_fields (fields_of (rows l.number-iterator l.slots.items)) ≤ nodes_fields (fields_of (rows l.index.entries l.slots.items));
+      same : is_field_locked l.s (fields_of (rows l.number-iterator l.slots.items)) ≡ is_field_locked l.s (fields_of (rows l.index.entries l.slots.items));
     }
 
 abbrev pub decreases-locks : goal.decreases-locks
@@ -28,5 +28,5 @@ decreases-locks_items l = 3 * nodes_trees (trees_of l.items.now.items) + 1
 abbrev pub decreases-locks_map : goal.decreases-locks_map
 decreases-locks_map l = 3 * nodes_fields (fields_of l.map.now) + 2
 
-abbrev pub decreases-locks_places : goal.decreases-locks_places
-decreases-locks_places l = 3 * nodes_fields (fields_of (rows l.places.now.entries l.slots.now.items)) + 1
+abbrev pub decreases-locks_entries : goal.decreases-locks_entries
+decreases-locks_entries l = 3 * nodes_fields (fields_of (rows l.index.now.entries l.slots.now.items)) + 1

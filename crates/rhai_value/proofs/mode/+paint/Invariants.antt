@@ -1,8 +1,8 @@
 use Rattle.std.proofs.Common.{◌≡◌, ◌≤◌, ◌+◌, ◌*◌, ◌++◌, map, take, drop}
 use denote.Param.Weighed.{most}
 use Rattle.rhai_value.specs.Tree.{paint, nodes, nodes_trees}
-use Rattle.rhai_value.specs.Rows.{trees_of, map_size}
-use Rattle.rhai_value.specs.Painted.{painted_slot}
+use Rattle.rhai_value.specs.Rows.{trees_of}
+use Rattle.rhai_value.specs.Slots.{map_size, painted_slot}
 use Rattle.rhai_value.specs.declared.dynamic.Dynamic.TheDeep.{deep-Slot}
 use Rattle.rhai_value.proofs.mode.+paint.Given as goal
 

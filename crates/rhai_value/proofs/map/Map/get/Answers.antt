@@ -1,0 +1,9 @@
+use Rattle.std.proofs.Common.{sym}
+use Rattle.rhai_value.proofs.Edits.{rising_in}
+use Rattle.rhai_value.proofs.map.Map.get.Goals as goal
+
+pub returns-in-Some-clause-ordered : goal.returns-in-Some-clause-ordered
+returns-in-Some-clause-ordered c = rw (sym c.self.view_is) (rising_in _ c.self.invariant)
+
+pub returns-in-None-clause-ordered : goal.returns-in-None-clause-ordered
+returns-in-None-clause-ordered c = rw (sym c.self.view_is) (rising_in _ c.self.invariant)

@@ -58,7 +58,7 @@ fn append_quoted(text: &str, quote: char, out: &mut String) -> Result<(), AllocE
     }
 }
 
-// The next three append what is asked, or some beginning of it where memory runs out.
+// The next four append what is asked, or some beginning of it where memory runs out.
 fn push_quoted(text: &str, quote: char, out: &mut String) -> Result<(), AllocError>
     ensures ok { OnOk result (string_bytes out.new ≡ string_bytes out.old ++ encode_utf8_all (quoted quote (chars text.now))) }
     ensures err { OnErr result (Extends (string_bytes out.old) (string_bytes out.new)) }
@@ -84,13 +84,6 @@ fn push_runs(text: &str, quote: char, out: &mut String) -> Result<(), AllocError
         }
     }
     out.push_str(run)
-}
-
-// Whether a character is not escaped.
-fn stands_as_itself(c: char, quote: char) -> bool
-    ensures { IsTrue result → escaped quote c ≡ c ∷ [] }
-{
-    !(c.is_ascii_control() || c == '\\' || c == quote)
 }
 
 fn push_escaped(c: char, quote: char, out: &mut String) -> Result<(), AllocError>
@@ -119,4 +112,11 @@ fn push_code(c: char, out: &mut String) -> Result<(), AllocError>
         out.push(escape)?;
     }
     Ok(())
+}
+
+// Whether a character is not escaped.
+fn stands_as_itself(c: char, quote: char) -> bool
+    ensures { IsTrue result → escaped quote c ≡ c ∷ [] }
+{
+    !(c.is_ascii_control() || c == '\\' || c == quote)
 }

@@ -2,5 +2,6 @@ mod Minus
 mod Order
 mod Quotes
 mod Replaced
+mod Runs
 mod Spelled
 pub mod Texts

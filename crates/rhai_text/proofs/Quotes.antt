@@ -1,11 +1,14 @@
 -- Characters that are written to the end of a text, one piece after another.
-use Rattle.std.proofs.Common.{◌≡◌, ℕ, List, [], ◌∷◌, ◌++◌, length, take, drop, refl, sym, ◌∙◌, ap, subst, arith, length-append, append_assoc, if◌then◌else◌, is_ok, OnOk, OnErr, Result, Ok, Err}
+use Rattle.std.proofs.Common.{◌≡◌, ℕ, ◌-◌, List, [], ◌∷◌, ◌++◌, length, take, drop, refl, sym, ◌∙◌, ap, subst, arith, length-append, append_assoc, if◌then◌else◌, is_ok, OnOk, OnErr, Result, Ok, Err}
 use Rattle.std.proofs.Math.Seq.{drop-append_seam, take-append_seam}
-use Rattle.std.proofs.lemmas.List.{append-nil}
-use Rattle.std.proofs.lemmas.Str.{chars-append, chars_from_encodes, encodes-append, IsCharBoundary-from_take, IsUtf8-drop}
+use Rattle.std.proofs.lemmas.List.{append-nil, take_at}
+use Rattle.std.proofs.lemmas.List.Concat.{flat_map-append}
+use Rattle.std.proofs.lemmas.Str.{chars-append, chars_from_encodes, encodes-append, IsCharBoundary-at_seam, IsCharBoundary-from_take, IsUtf8-drop}
 use Rattle.std.specs.Char.{encode_utf8}
+use Rattle.std.specs.List.{flat_map}
 use Rattle.std.specs.Str.{chars, encode_utf8_all, IsCharBoundary, IsUtf8}
-use Rattle.rhai_text.specs.Quote.{Extends}
+use Rattle.rhai_text.specs.Quote.{Extends, escaped}
+use Rattle.rhai_text.proofs.Runs.{chars-cut}
 
 pub encodes-more : (base : List ℕ) {before now : List ℕ} (cs ds : List ℕ) → before ≡ base ++ encode_utf8_all cs → now ≡ before ++ encode_utf8_all ds → now ≡ base ++ encode_utf8_all (cs ++ ds)
 encodes-more base cs ds e f =
@@ -48,3 +51,39 @@ chars-extended old new cs u v e =
     ap chars e
     ∙ chars-append old (encode_utf8_all cs) u
     ∙ ap (λ xs. chars old ++ xs) (sym (chars_from_encodes cs (encode_utf8_all cs) (IsUtf8-extension old new u v (encode_utf8_all cs) e) refl))
+
+-- characters that are not escaped, and one more of them
+pub unescaped-more : (quote : ℕ) (cs : List ℕ) (c : ℕ) → flat_map (escaped quote) cs ≡ cs → escaped quote c ≡ c ∷ [] → flat_map (escaped quote) (cs ++ c ∷ []) ≡ cs ++ c ∷ []
+unescaped-more quote cs c h e =
+    flat_map-append (escaped quote) cs (c ∷ []) ∙ ap (λ xs. xs ++ (escaped quote c ++ [])) h ∙ ap (λ xs. cs ++ (xs ++ [])) e
+
+-- a run s that begins with the characters cs, which are not escaped, and c
+module _ (quote : ℕ) (s cs rest : List ℕ) (c : ℕ) (e : s ≡ encode_utf8_all cs ++ (encode_utf8 c ++ rest)) where
+  pub run-more : s ≡ encode_utf8_all (cs ++ c ∷ []) ++ rest
+  run-more = e ∙ sym (append_assoc (encode_utf8_all cs) (encode_utf8 c) rest) ∙ ap (λ bs. bs ++ rest) (encodes-one_more [] cs c refl refl)
+
+  module _ (width left : ℕ) (w : width ≡ length (encode_utf8 c)) (l : left ≡ length rest) where
+    seam : length (encode_utf8_all cs) ≡ length s - width - left
+    seam =
+        omega (arith, ap length e, length-append (encode_utf8_all cs) (encode_utf8 c ++ rest), length-append (encode_utf8 c) rest, w, l)
+
+    pub IsCharBoundary-run : IsUtf8 (encode_utf8 c ++ rest) → IsCharBoundary s (length s - width - left)
+    IsCharBoundary-run u = subst (IsCharBoundary s) seam (IsCharBoundary-at_seam s (encode_utf8_all cs) (encode_utf8 c ++ rest) e u)
+
+    pub take-run : take (length s - width - left) s ≡ encode_utf8_all cs
+    take-run =
+        ap (take (length s - width - left)) e ∙ take_at (encode_utf8_all cs) (encode_utf8 c ++ rest) (length s - width - left) seam
+
+  -- what is written for it: the run as it is, c as it is escaped, and then the rest
+  pub run-written : IsUtf8 s → IsUtf8 rest → flat_map (escaped quote) cs ≡ cs → (old before now : List ℕ) → before ≡ old ++ encode_utf8_all cs → now ≡ before ++ encode_utf8_all (escaped quote c)
+      → now ++ encode_utf8_all (flat_map (escaped quote) (chars rest)) ≡ old ++ encode_utf8_all (flat_map (escaped quote) (chars s))
+  run-written u v plain old before now f g =
+      let after = flat_map (escaped quote) (chars rest) in
+      ap (λ bs. bs ++ encode_utf8_all after) (encodes-more old cs (escaped quote c) f g)
+      ∙ append_assoc old (encode_utf8_all (cs ++ escaped quote c)) (encode_utf8_all after)
+      ∙ ap (λ bs. old ++ bs) (sym (encodes-append (cs ++ escaped quote c) after))
+      ∙ ap (λ ds. old ++ encode_utf8_all ds)
+      (append_assoc cs (escaped quote c) after
+      ∙ ap (λ ds. ds ++ (escaped quote c ++ after)) (sym plain)
+      ∙ sym (flat_map-append (escaped quote) cs (c ∷ chars rest))
+      ∙ ap (flat_map (escaped quote)) (sym (chars-cut s cs rest c u v e)))

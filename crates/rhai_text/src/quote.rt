@@ -1,6 +1,7 @@
 // Texts and characters in quotation marks, with what does not print escaped.
-ghost use Rattle.std.specs.Prelude.{◌≡◌, ◌++◌, string_bytes, OnOk, OnErr};
+ghost use Rattle.std.specs.Prelude.{◌≡◌, [], ◌∷◌, ◌++◌, string_bytes, IsTrue, OnOk, OnErr};
 ghost use Rattle.std.specs.Char.Escape.{escape_unicode};
+ghost use Rattle.std.specs.List.{flat_map};
 ghost use Rattle.std.specs.Str.{chars, encode_utf8_all};
 ghost use Rattle.rhai_text.specs.Quote.{Extends, escaped, quoted, quoted_char, quoted_text};
 
@@ -57,16 +58,32 @@ fn append_quoted(text: &str, quote: char, out: &mut String) -> Result<(), AllocE
     }
 }
 
-// The next three append what is asked, or some beginning of it where memory runs out.
+// The next four append what is asked, or some beginning of it where memory runs out.
 fn push_quoted(text: &str, quote: char, out: &mut String) -> Result<(), AllocError>
     ensures ok { OnOk result (string_bytes out.new ≡ string_bytes out.old ++ encode_utf8_all (quoted quote (chars text.now))) }
     ensures err { OnErr result (Extends (string_bytes out.old) (string_bytes out.new)) }
 {
     out.push(quote)?;
-    for c in text.chars() {
-        push_escaped(c, quote, out)?;
-    }
+    push_runs(text, quote, out)?;
     out.push(quote)
+}
+
+// What stands as itself is appended a run at a time.
+fn push_runs(text: &str, quote: char, out: &mut String) -> Result<(), AllocError>
+    ensures ok { OnOk result (string_bytes out.new ≡ string_bytes out.old ++ encode_utf8_all (flat_map (escaped quote) (chars text.now))) }
+    ensures err { OnErr result (Extends (string_bytes out.old) (string_bytes out.new)) }
+{
+    let mut run = text;
+    let mut rest = text.chars();
+    while let Some(c) = rest.next() {
+        if !stands_as_itself(c, quote) {
+            let (plain, _) = run.split_at(run.len() - c.len_utf8() - rest.as_str().len());
+            out.push_str(plain)?;
+            push_escaped(c, quote, out)?;
+            run = rest.as_str();
+        }
+    }
+    out.push_str(run)
 }
 
 fn push_escaped(c: char, quote: char, out: &mut String) -> Result<(), AllocError>
@@ -95,4 +112,11 @@ fn push_code(c: char, out: &mut String) -> Result<(), AllocError>
         out.push(escape)?;
     }
     Ok(())
+}
+
+// Whether a character is not escaped.
+fn stands_as_itself(c: char, quote: char) -> bool
+    ensures { IsTrue result → escaped quote c ≡ c ∷ [] }
+{
+    !(c.is_ascii_control() || c == '\\' || c == quote)
 }

@@ -110,6 +110,7 @@ fn takes_characters_away(rt: HostRuntime) -> Result<(), Fail> {
         ("hello", 'x', "hello"),
         ("", 'x', ""),
         ("lll", 'l', ""),
+        ("lolllol", 'l', "oo"),
         ("é€😀é", 'é', "€😀"),
         ("é€😀é", '€', "é😀é"),
         ("é€😀é", '😀', "é€é"),
@@ -180,6 +181,7 @@ fn quotes_texts(rt: HostRuntime) -> Result<(), Fail> {
         ("a\"b\n\u{1}", r#""a\"b\n\u{1}""#),
         ("\0\t\n\r\\", r#""\0\t\n\r\\""#),
         ("'\u{1f}\u{7f}\u{10}", r#""'\u{1f}\u{7f}\u{10}""#),
+        ("é€\n😀a\\\\b€", r#""é€\n😀a\\\\b€""#),
         (
             " ~\u{80}\u{ad}é€😀\u{10ffff}",
             "\" ~\u{80}\u{ad}é€😀\u{10ffff}\"",

@@ -2,7 +2,7 @@
 use Rattle.std.proofs.Common.{◌≡◌, Option, None, ℕ, zero, suc, ◌+◌, ◌*◌, ◌<◌, ◌≤◌, Bool, true, false, List, [], ◌∷◌, length, get_or, Some, IfSome, sym, ap, arith}
 use Rattle.std.proofs.Math.Nat.{mul-le-mul_right}
 use Rattle.rhai_value.specs.declared.store.Cell.{Cell}
-use Rattle.rhai_value.specs.Tree.{Tree, nodes, nodes_trees, leaf, branch, holder, node, cell_of}
+use Rattle.rhai_value.specs.Tree.{Tree, nodes, nodes_trees, leaf, branch, fields, holder, node, cell_of}
 use Rattle.rhai_value.specs.Rows.{trees_of}
 use Rattle.rhai_value.specs.Store.{at, unmarked}
 use Rattle.rhai_value.specs.Walk.{entry, visit_of, opened, is_open}
@@ -34,6 +34,7 @@ read_of (Some u) false t e = sym e
 nodes_entered : (s : List Cell) (path : List ℕ) (v t : Tree) → Some t ≡ entry s path v → nodes t ≤ nodes_in s
 nodes_entered s path (node (leaf l) g m) t e = cc
 nodes_entered s path (node (branch k ts) g m) t e = cc
+nodes_entered s path (node (fields fs) g m) t e = cc
 nodes_entered s path (node (holder c) g m) t e = nodes_at s c t (read_of (at s c) (is_open c path) t e)
 
 fewer : (a b m k : ℕ) → a < b → k < m → a * m + k < b * m

@@ -1,11 +1,10 @@
 -- The text of a value by its parts.
 use Rattle.std.proofs.Common.{◌≡◌, ℕ, ℤ, ◌++◌, [], ◌∷◌, List, map, Result, OnOk, Some, None, IfSome, codes, refl, sym, ap, ap₂, ◌∙◌, subst}
-use Rattle.std.specs.List.{zip}
 use Rattle.std.specs.Str.{chars}
 use Rattle.rhai_value.specs.declared.access_mode.AccessMode.{AccessMode}
 use Rattle.rhai_value.specs.declared.store.Cell.{Cell}
-use Rattle.rhai_value.specs.Rows.{Rows, trees_of, keys, values}
-use Rattle.rhai_value.specs.Tree.{Tree, node, Leaf, leaf, branch, holder, array, fields, function, cell_of}
+use Rattle.rhai_value.specs.Rows.{Rows, trees_of, fields_of}
+use Rattle.rhai_value.specs.Tree.{Tree, node, Leaf, leaf, branch, fields, holder, array, function, cell_of}
 use Rattle.rhai_value.specs.Walk.{Visit, entered, barred, revisited, visit, visit_map, opened, entry}
 use Rattle.rhai_value.proofs.Walks.{walk_opens}
 use Rattle.rhai_show.proofs.Commas.{joined-map, further-map}
@@ -13,7 +12,7 @@ use Rattle.rhai_show.proofs.Pushed.{added_as}
 use Rattle.rhai_show.specs.declared.form.Form.{Form}
 use Rattle.rhai_show.specs.declared.form.Form.TheVariants.{Debug}
 use Rattle.rhai_show.specs.Leaves.{in_debug, leaf_printed}
-use Rattle.rhai_show.specs.Text.{joined, further, item_form, content_form, field_printed, name_printed, holder_printed, printed_of, all_printed, printed}
+use Rattle.rhai_show.specs.Text.{joined, further, item_form, content_form, field_printed, name_printed, holder_printed, printed_of, all_printed, fields_printed, printed}
 use Rattle.rhai_show.specs.Listed.{row_printed}
 
 -- what each holder's cell leads to
@@ -52,15 +51,18 @@ printed-opened s path next t u form c g m e some is =
 pub added_leaf : {A E : Type 0} (r : Result A E) (new old : List ℕ) (s : List Cell) (path : List ℕ) (t : Tree) (form : Form) (l : Leaf) (g : ℤ) (m : AccessMode) → t ≡ node (leaf l) g m → OnOk r (new ≡ old ++ leaf_printed form l) → OnOk r (new ≡ old ++ printed s path t form)
 added_leaf r new old s path t form l g m e h = added_as r new old (leaf_printed form l) (printed s path t form) (sym (by_parts s path t (node (leaf l) g m) form e)) h
 
--- the texts of children, and those of a map's values with their keys
+-- the texts of children, and those of a map's fields
 module _ (s : List Cell) (path : List ℕ) where
   each_printed : (xs : List Tree) → map (printed s path) xs ≡ all_printed path (within s path) (trees_of xs)
   each_printed [] = refl
   each_printed (x ∷ xs) = ap₂ (λ v vs. v ∷ vs) (printed_opens s path x) (each_printed xs)
 
-  rows_printed : (rs : Rows) → map (λ r. (chars r.0, printed s path r.1)) rs ≡ zip (keys rs) (all_printed path (within s path) (values rs))
+  abbrev row_text : List ℕ × Tree → Form → List ℕ
+  row_text r form = row_printed form (λ u. printed s path u form) r
+
+  rows_printed : (rs : Rows) → map row_text rs ≡ fields_printed path (within s path) (fields_of rs)
   rows_printed [] = refl
-  rows_printed (r ∷ rs) = ap₂ (λ v vs. (chars r.0, v) ∷ vs) (printed_opens s path r.1) (rows_printed rs)
+  rows_printed (r ∷ rs) = ap₂ (λ v vs. (λ form. field_printed form (chars r.0) (v form)) ∷ vs) (printed_opens s path r.1) (rows_printed rs)
 
   -- arrays, maps and function pointers
   pub printed-array : (t : Tree) (form own : Form) (xs items : List Tree) (g : ℤ) (m : AccessMode) → t ≡ node (branch array (trees_of items)) g m → own ≡ item_form form → xs ≡ items
@@ -70,13 +72,12 @@ module _ (s : List Cell) (path : List ℕ) where
       ∙ ap (λ x. codes "[" ++ x ++ codes "]") (sym (joined-map (λ v. v (item_form form)) (printed s path) items) ∙ ap (joined (λ v. v (item_form form))) (each_printed items))
       ∙ sym (by_parts s path t (node (branch array (trees_of items)) g m) form e)
 
-  pub printed-map : (t : Tree) (form own : Form) (rs : Rows) (g : ℤ) (m : AccessMode) → t ≡ node (branch (fields (keys rs)) (values rs)) g m → own ≡ item_form form
+  pub printed-map : (t : Tree) (form own : Form) (rs : Rows) (g : ℤ) (m : AccessMode) → t ≡ node (fields (fields_of rs)) g m → own ≡ item_form form
       → codes "#{" ++ joined (row_printed own (λ u. printed s path u own)) rs ++ codes "}" ≡ printed s path t form
   printed-map t form own rs g m e same =
-      let field = λ (r : List ℕ × (Form → List ℕ)). field_printed (item_form form) r.0 (r.1 (item_form form)) in
       ap (λ f. codes "#{" ++ joined (row_printed f (λ u. printed s path u f)) rs ++ codes "}") same
-      ∙ ap (λ x. codes "#{" ++ x ++ codes "}") (sym (joined-map field (λ r. (chars r.0, printed s path r.1)) rs) ∙ ap (joined field) (rows_printed rs))
-      ∙ sym (by_parts s path t (node (branch (fields (keys rs)) (values rs)) g m) form e)
+      ∙ ap (λ x. codes "#{" ++ x ++ codes "}") (sym (joined-map (λ v. v (item_form form)) row_text rs) ∙ ap (joined (λ v. v (item_form form))) (rows_printed rs))
+      ∙ sym (by_parts s path t (node (fields (fields_of rs)) g m) form e)
 
   pub printed-function : (t : Tree) (form : Form) (f : List ℕ) (items : List Tree) (g : ℤ) (m : AccessMode) → t ≡ node (branch (function f) (trees_of items)) g m
       → codes "Fn(" ++ name_printed form f ++ in_debug form (further (λ u. printed s path u Debug) items) [] ++ codes ")" ≡ printed s path t form

@@ -1,9 +1,9 @@
 -- How a value is printed.
 use Rattle.std.specs.Prelude.{ℕ, List, [], ◌∷◌, ◌++◌, codes}
-use Rattle.std.specs.List.{flat_map, join_by, zip}
+use Rattle.std.specs.List.{flat_map, join_by}
 use Rattle.rhai_text.specs.Quote.{quoted_text}
 use Rattle.rhai_value.specs.declared.store.Cell.{Cell}
-use Rattle.rhai_value.specs.Tree.{Tree, node, Content, leaf, branch, holder, Kind, array, fields, function, Trees, no_trees, tree_then}
+use Rattle.rhai_value.specs.Tree.{Tree, node, Content, leaf, branch, fields, holder, Kind, array, function, Trees, no_trees, tree_then, Fields, no_fields, field_then}
 use Rattle.rhai_value.specs.Walk.{Visit, entered, barred, revisited, walk}
 use Rattle.rhai_show.specs.Leaves.{in_debug, leaf_printed}
 use Rattle.rhai_show.specs.declared.form.Form.{Form}
@@ -41,11 +41,14 @@ name_printed form n = in_debug form (quoted_text n) n
 abbrev pub field_printed : Form → List ℕ → List ℕ → List ℕ
 field_printed form k v = name_printed form k ++ codes ": " ++ v
 
--- what holds other values, by the texts of these: an array, a map and a function pointer
+-- an array and a function pointer, by the texts of their children
 abbrev pub branch_printed : Form → Kind → List (Form → List ℕ) → List ℕ
 branch_printed form array vs = codes "[" ++ joined (λ v. v (item_form form)) vs ++ codes "]"
-branch_printed form (fields ks) vs = codes "#{" ++ joined (λ r. field_printed (item_form form) r.0 (r.1 (item_form form))) (zip ks vs) ++ codes "}"
 branch_printed form (function f) vs = codes "Fn(" ++ name_printed form f ++ in_debug form (further (λ v. v Debug) vs) [] ++ codes ")"
+
+-- a map, by the texts of its fields
+abbrev pub map_printed : Form → List (Form → List ℕ) → List ℕ
+map_printed form vs = codes "#{" ++ joined (λ v. v (item_form form)) vs ++ codes "}"
 
 -- a holder is its cell's content with a mark behind it; where the cell is open, marked or foreign, it is the mark alone
 abbrev pub holder_printed : Form → Visit (Form → List ℕ) → List ℕ
@@ -61,11 +64,16 @@ abbrev mutual
   pub content_printed : List ℕ → (ℕ → Visit (Form → List ℕ)) → Content → Form → List ℕ
   content_printed path go (leaf l) form = leaf_printed form l
   content_printed path go (branch k ts) form = branch_printed form k (all_printed path go ts)
+  content_printed path go (fields fs) form = map_printed form (fields_printed path go fs)
   content_printed path go (holder c) form = holder_printed form (go c)
 
   pub all_printed : List ℕ → (ℕ → Visit (Form → List ℕ)) → Trees → List (Form → List ℕ)
   all_printed path go no_trees = []
   all_printed path go (tree_then t ts) = printed_of path go t ∷ all_printed path go ts
+
+  pub fields_printed : List ℕ → (ℕ → Visit (Form → List ℕ)) → Fields → List (Form → List ℕ)
+  fields_printed path go no_fields = []
+  fields_printed path go (field_then k t fs) = (λ form. field_printed form k (printed_of path go t form)) ∷ fields_printed path go fs
 
 -- the characters of a value in a form, these cells being open
 unfoldable pub printed : List Cell → List ℕ → Tree → Form → List ℕ

@@ -28,7 +28,7 @@ fn add_value(
     ensures path { OnOk result (path.new ≡ path.old) }
 {
     match value.parts() {
-        Union::Unit(_, _) => add_unit(out, form),
+        Union::Unit(_, _, _) => add_unit(out, form),
         Union::Bool(_, _, value) => add_bool(out, *value),
         Union::Int(_, _, value) => add_int(out, value),
         Union::Char(_, _, value) => add_char(out, *value, form),

@@ -4,21 +4,23 @@ use Rattle.std.specs.Option.{option_eq}
 use Rattle.std.proofs.lemmas.Bool.Decides.{eqb_tells}
 use Rattle.std.proofs.lemmas.Option.{none-some, same_Some}
 use Rattle.rhai_value.specs.declared.access_mode.AccessMode.{AccessMode}
+use Rattle.rhai_value.specs.declared.chain.Site.{Site}
+use Rattle.rhai_value.specs.declared.chain.Site.TheVariants.{Own, InCell}
 use Rattle.rhai_value.specs.declared.store.Cell.{Cell}
-use Rattle.rhai_value.specs.Tree.{Tree, node, leaf, branch, holder, cell_of}
+use Rattle.rhai_value.specs.Tree.{Tree, node, leaf, branch, fields, holder, cell_of}
 use Rattle.rhai_value.specs.Store.{at}
 use Rattle.rhai_value.specs.Walk.{is_open, visit, visit_of, visit_map, unentered, walk_in}
-use Rattle.rhai_value.specs.End.{End, closed, end_at, end_from, end_of, end}
+use Rattle.rhai_value.specs.End.{End, held, closed, end_at, end_from, site_after, end_of, end}
 
 -- the end within n steps, where no account is kept of the cells that were passed
-abbrev pub chain : ℕ → List Cell → Option ℕ → Tree → End
-chain zero s place t = end_from place (λ c. unentered (visit s [] c)) t
-chain (suc n) s place t = end_from place (λ c. visit_map (chain n s (Some c)) (visit s [] c)) t
+abbrev pub chain : ℕ → List Cell → Site → Tree → End
+chain zero s site t = end_from site (λ c. unentered (visit s [] c)) t
+chain (suc n) s site t = end_from site (λ c. visit_map (chain n s (InCell c)) (visit s [] c)) t
 
 -- Where the chain from t closes within each count of steps up to n, so does the chain from a passed cell.
 abbrev Behind : List Cell → List ℕ → Tree → Type 0
 Behind s path t = (c : ℕ) (u : Tree) (n : ℕ) → is_open c path ≡ true → at s c ≡ Some u
-    → ((k : ℕ) → k ≤ n → chain k s (slice_get path 0) t ≡ closed) → chain n s (Some c) u ≡ closed
+    → ((k : ℕ) → k ≤ n → chain k s (site_after (slice_get path 0)) t ≡ closed) → chain n s (InCell c) u ≡ closed
 
 -- the cell that opens is passed too
 behind_next : (s : List Cell) (path : List ℕ) (c : ℕ) (u : Tree) (g : ℤ) (a : AccessMode)
@@ -32,14 +34,14 @@ behind_next s path c u g a some h d v n passed is shut =
       | inr apart ↦ h d v n (rw apart.0 at passed) is earlier
     ]
   where
-    earlier : (k : ℕ) → k ≤ n → chain k s (slice_get path 0) (node (holder c) g a) ≡ closed
+    earlier : (k : ℕ) → k ≤ n → chain k s (site_after (slice_get path 0)) (node (holder c) g a) ≡ closed
     earlier zero l = rw some refl
     earlier (suc k) l = rw some (shut k (omega arith))
 
 -- a chain that comes back to a passed cell never ends
 loops : (s : List Cell) (path : List ℕ) (c : ℕ) (u : Tree) (g : ℤ) (a : AccessMode)
     → at s c ≡ Some u → is_open c path ≡ true → Behind s path (node (holder c) g a)
-    → (n k : ℕ) → k ≤ n → chain k s (slice_get path 0) (node (holder c) g a) ≡ closed
+    → (n k : ℕ) → k ≤ n → chain k s (site_after (slice_get path 0)) (node (holder c) g a) ≡ closed
 loops s path c u g a some passed h n zero l = rw some refl
 loops s path c u g a some passed h zero (suc k) l = absurd (omega arith)
 loops s path c u g a some passed h (suc n) (suc k) l = rw some (h c u k passed some (λ j i. loops s path c u g a some passed h n j (omega arith)))
@@ -50,24 +52,26 @@ unentered_either (Some u) true = refl
 unentered_either (Some u) false = refl
 
 -- at each count of steps, the chain ends as the walk does that keeps the passed cells
-chain_walk : (n : ℕ) (s : List Cell) (path : List ℕ) (t : Tree) → Behind s path t → chain n s (slice_get path 0) t ≡ walk_in end_of n s path t
+chain_walk : (n : ℕ) (s : List Cell) (path : List ℕ) (t : Tree) → Behind s path t → chain n s (site_after (slice_get path 0)) t ≡ walk_in end_of n s path t
 chain_walk zero s path (node (leaf l) g a) h = refl
 chain_walk (suc n) s path (node (leaf l) g a) h = refl
 chain_walk zero s path (node (branch k ts) g a) h = refl
 chain_walk (suc n) s path (node (branch k ts) g a) h = refl
+chain_walk zero s path (node (fields fs) g a) h = refl
+chain_walk (suc n) s path (node (fields fs) g a) h = refl
 chain_walk zero s path (node (holder c) g a) h = ap (end_at (node (holder c) g a)) (unentered_either (at s c) (is_open c path))
 chain_walk (suc n) s path (node (holder c) g a) h = at_cell (chain_walk n s (c ∷ path)) (at s c) (is_open c path) refl refl
   where
-    at_cell : ((u : Tree) → Behind s (c ∷ path) u → chain n s (Some c) u ≡ walk_in end_of n s (c ∷ path) u)
+    at_cell : ((u : Tree) → Behind s (c ∷ path) u → chain n s (InCell c) u ≡ walk_in end_of n s (c ∷ path) u)
         → (o : Option Tree) (b : Bool) → at s c ≡ o → is_open c path ≡ b
-        → end_at (node (holder c) g a) (visit_map (chain n s (Some c)) (visit_of o false))
+        → end_at (node (holder c) g a) (visit_map (chain n s (InCell c)) (visit_of o false))
         ≡ end_at (node (holder c) g a) (visit_map (walk_in end_of n s (c ∷ path)) (visit_of o b))
     at_cell again None b some passed = refl
     at_cell again (Some u) true some passed = h c u n passed some (loops s path c u g a some passed h n)
     at_cell again (Some u) false some passed = again u (behind_next s path c u g a some h)
 
 -- as many steps as there are cells find the end
-pub chain-end : (s : List Cell) (t : Tree) → chain (length s) s None t ≡ end s [] t
+pub chain-end : (s : List Cell) (t : Tree) → chain (length s) s Own t ≡ end s [] t
 unfolding end
 chain-end s t = chain_walk (length s) s [] t (λ c u n passed. cc)
 
@@ -82,15 +86,17 @@ reaches_next s (suc n) t u w c h e is = (h.0, h.1, h.2, h.3, reaches_next s n h.
 
 -- a chain that comes back to a cell never ends
 comes_back : (s : List Cell) (c : ℕ) (v u : Tree) (j : ℕ) → at s c ≡ Some v → Reaches s j v u → cell_of u ≡ Some c
-    → (n k : ℕ) (place : Option ℕ) (t : Tree) → Reaches s k t u → chain n s place t ≡ closed
-comes_back s c v u j is round e zero zero place (node (holder d) g a) r = rw (same_Some d c (ap cell_of r ∙ e), is) refl
-comes_back s c v u j is round e (suc n) zero place (node (holder d) g a) r = rw (same_Some d c (ap cell_of r ∙ e), is) (comes_back s c v u j is round e n j (Some c) v round)
-comes_back s c v u j is round e zero (suc k) place (node (holder d) g a) r = rw (same_Some d r.0 r.2, r.3) refl
-comes_back s c v u j is round e (suc n) (suc k) place (node (holder d) g a) r = rw (same_Some d r.0 r.2, r.3) (comes_back s c v u j is round e n k (Some r.0) r.1 r.4)
-comes_back s c v u j is round e n zero place (node (leaf l) g a) r = absurd (none-some c (ap cell_of r ∙ e))
-comes_back s c v u j is round e n zero place (node (branch k ts) g a) r = absurd (none-some c (ap cell_of r ∙ e))
-comes_back s c v u j is round e n (suc k) place (node (leaf l) g a) r = absurd (none-some r.0 r.2)
-comes_back s c v u j is round e n (suc k) place (node (branch i ts) g a) r = absurd (none-some r.0 r.2)
+    → (n k : ℕ) (site : Site) (t : Tree) → Reaches s k t u → chain n s site t ≡ closed
+comes_back s c v u j is round e zero zero site (node (holder d) g a) r = rw (same_Some d c (ap cell_of r ∙ e), is) refl
+comes_back s c v u j is round e (suc n) zero site (node (holder d) g a) r = rw (same_Some d c (ap cell_of r ∙ e), is) (comes_back s c v u j is round e n j (InCell c) v round)
+comes_back s c v u j is round e zero (suc k) site (node (holder d) g a) r = rw (same_Some d r.0 r.2, r.3) refl
+comes_back s c v u j is round e (suc n) (suc k) site (node (holder d) g a) r = rw (same_Some d r.0 r.2, r.3) (comes_back s c v u j is round e n k (InCell r.0) r.1 r.4)
+comes_back s c v u j is round e n zero site (node (leaf l) g a) r = absurd (none-some c (ap cell_of r ∙ e))
+comes_back s c v u j is round e n zero site (node (branch k ts) g a) r = absurd (none-some c (ap cell_of r ∙ e))
+comes_back s c v u j is round e n zero site (node (fields fs) g a) r = absurd (none-some c (ap cell_of r ∙ e))
+comes_back s c v u j is round e n (suc k) site (node (leaf l) g a) r = absurd (none-some r.0 r.2)
+comes_back s c v u j is round e n (suc k) site (node (branch i ts) g a) r = absurd (none-some r.0 r.2)
+comes_back s c v u j is round e n (suc k) site (node (fields fs) g a) r = absurd (none-some r.0 r.2)
 
 -- the chain has come to t, some steps behind the content of the cell that is kept, if one is
 abbrev pub IsBehind : List Cell → Option ℕ → Tree → Type 0
@@ -105,12 +111,32 @@ pub behind_first : (s : List Cell) (w : Tree) (c : ℕ) → Some w ≡ at s c �
 behind_first s w c is = (w, 0, sym is, refl)
 
 -- where a chain has come back to the cell that is kept, it never ends
-pub behind_closed : (s : List Cell) (kept : Option ℕ) (t : Tree) (c n : ℕ) (place : Option ℕ) → IsBehind s kept t → true ≡ option_eq eqb kept (Some c) → Some c ≡ cell_of t → chain n s place t ≡ closed
-behind_closed s None t c n place h q e = cc
-behind_closed s (Some d) t c n place h q e = comes_back s d h.0 t h.1 h.2 h.3 (sym (ap Some (eqb-true d c (sym q)) ∙ e)) n 0 place t refl
+pub behind_closed : (s : List Cell) (kept : Option ℕ) (t : Tree) (c n : ℕ) (site : Site) → IsBehind s kept t → true ≡ option_eq eqb kept (Some c) → Some c ≡ cell_of t → chain n s site t ≡ closed
+behind_closed s None t c n site h q e = cc
+behind_closed s (Some d) t c n site h q e = comes_back s d h.0 t h.1 h.2 h.3 (sym (ap Some (eqb-true d c (sym q)) ∙ e)) n 0 site t refl
 
 -- a step into the cell of a holder
-pub chain_next : (s : List Cell) (t w : Tree) (c n m : ℕ) (place : Option ℕ) → Some c ≡ cell_of t → Some w ≡ at s c → n ≡ suc m → chain n s place t ≡ chain m s (Some c) w
-chain_next s (node (leaf l) g a) w c n m place e is next = cc
-chain_next s (node (branch k ts) g a) w c n m place e is next = cc
-chain_next s (node (holder d) g a) w c n m place e is next = rw (next, same_Some d c (sym e), ← is) refl
+pub chain_next : (s : List Cell) (t w : Tree) (c n m : ℕ) (site : Site) → Some c ≡ cell_of t → Some w ≡ at s c → n ≡ suc m → chain n s site t ≡ chain m s (InCell c) w
+chain_next s (node (leaf l) g a) w c n m site e is next = cc
+chain_next s (node (branch k ts) g a) w c n m site e is next = cc
+chain_next s (node (fields fs) g a) w c n m site e is next = cc
+chain_next s (node (holder d) g a) w c n m site e is next = rw (next, same_Some d c (sym e), ← is) refl
+
+chain_alone : (n : ℕ) (s : List Cell) (site : Site) (t : Tree) → None ≡ cell_of t → held site t ≡ chain n s site t
+chain_alone zero s site (node (leaf l) g a) e = refl
+chain_alone (suc n) s site (node (leaf l) g a) e = refl
+chain_alone zero s site (node (branch k ts) g a) e = refl
+chain_alone (suc n) s site (node (branch k ts) g a) e = refl
+chain_alone zero s site (node (fields fs) g a) e = refl
+chain_alone (suc n) s site (node (fields fs) g a) e = refl
+chain_alone zero s site (node (holder c) g a) e = cc
+chain_alone (suc n) s site (node (holder c) g a) e = cc
+
+-- a value that is no holder is held
+pub end_alone : (s : List Cell) (t : Tree) → None ≡ cell_of t → held Own t ≡ end s [] t
+end_alone s t e = chain_alone (length s) s Own t e ∙ chain-end s t
+
+-- so is the content of a holder's cell, if it is no holder
+pub end_near : (s : List Cell) (t w : Tree) (c : ℕ) → Some c ≡ cell_of t → Some w ≡ at s c → None ≡ cell_of w → held (InCell c) w ≡ end s [] t
+end_near [] t w c e is alone = cc
+end_near (x ∷ xs) t w c e is alone = chain_alone (length xs) (x ∷ xs) (InCell c) w alone ∙ sym (chain_next (x ∷ xs) t w c (length (x ∷ xs)) (length xs) Own e is refl) ∙ chain-end (x ∷ xs) t

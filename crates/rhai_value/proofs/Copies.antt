@@ -5,8 +5,8 @@ use Rattle.std.specs.BTreeMap.{insert_entry}
 use Rattle.std.specs.List.Sorted.{IsStrictlySortedBy}
 use Rattle.std.specs.Map.{keys_of}
 use Rattle.rhai_value.specs.CopiedRows.{copied_rows}
-use Rattle.rhai_value.specs.Rows.{Rows, bytes_cmp, Place, rows, row_in, trees_of, keys, values, tree_in, slot_at}
-use Rattle.rhai_value.specs.Tree.{Tree, tree_then, copy, copy_trees}
+use Rattle.rhai_value.specs.Rows.{Rows, bytes_cmp, Place, rows, row_in, trees_of, fields_of, tree_in, slot_at}
+use Rattle.rhai_value.specs.Tree.{Tree, tree_then, copy, copy_trees, copy_fields}
 use Rattle.rhai_value.specs.declared.map.Slot.{Slot}
 use Rattle.rhai_value.proofs.Taken.{insert_last, above_before}
 
@@ -14,13 +14,9 @@ pub copied_trees : (ts : List Tree) → trees_of (map copy ts) ≡ copy_trees (t
 copied_trees [] = refl
 copied_trees (t ∷ ts) = ap (tree_then (copy t)) (copied_trees ts)
 
-pub copied_keys : (rs : Rows) → keys (copied_rows rs) ≡ keys rs
-copied_keys [] = refl
-copied_keys (r ∷ rs) = rw (copied_keys rs) refl
-
-pub copied_values : (rs : Rows) → values (copied_rows rs) ≡ copy_trees (values rs)
-copied_values [] = refl
-copied_values (r ∷ rs) = rw (copied_values rs) refl
+pub copied_fields : (rs : Rows) → fields_of (copied_rows rs) ≡ copy_fields (fields_of rs)
+copied_fields [] = refl
+copied_fields (r ∷ rs) = rw (copied_fields rs) refl
 
 -- where the copies of the rows before a place are in the map, the copy of its row goes last
 pub copied_last : (es done : List Place) (e : Place) (left : List Place) (ts : List Slot) → es ≡ done ++ e ∷ left → IsStrictlySortedBy string_cmp (keys_of es)

@@ -4,10 +4,11 @@ use Rattle.std.proofs.lemmas.Bool.{or_cases}
 use Rattle.std.proofs.lemmas.Option.{slice_get_within}
 use Rattle.std.proofs.lemmas.Bool.Decides.{nat_tests}
 use Rattle.rhai_value.specs.declared.store.Cell.{Cell}
-use Rattle.rhai_value.specs.Tree.{Tree}
+use Rattle.rhai_value.specs.Tree.{Tree, node, leaf, branch, fields, holder}
 use Rattle.rhai_value.specs.Store.{added}
-use Rattle.rhai_value.specs.Relation.{Renaming, paired, Related, AllRelated, SameCells, IsOneToOne, new_pairs}
-use Rattle.rhai_value.proofs.SameTrees.{by_related}
+use Rattle.rhai_value.specs.Share.{shared_value, shared_store}
+use Rattle.rhai_value.specs.Relation.{Renaming, paired, Related, AllRelated, RelatedFields, SameCells, IsOneToOne, new_pairs, shared_pairs}
+use Rattle.rhai_value.proofs.SameTrees.{by_related, by_trees}
 use Rattle.rhai_value.proofs.Zips.{get_append, get_last}
 
 or_assoc : (a b c : Bool) → (a || b) || c ≡ a || (b || c)
@@ -22,7 +23,7 @@ pub paired_more : (r q : Renaming) (c d : ℕ) → paired r c d ≡ true → pai
 paired_more r q c d e = paired_append r q c d ∙ ap (λ b. b || paired q c d) e
 
 pub related_more : (r q : Renaming) (t u : Tree) → Related r t u → Related (r ++ q) t u
-related_more r q = by_related r (Related (r ++ q)) (AllRelated (r ++ q)) (λ l g m. (refl, refl, refl)) (λ k ts us g m e h. ((refl, h), refl, refl)) (λ c d g m p. (paired_more r q c d p, refl, refl)) tt (λ t u ts us p q. (p, q))
+related_more r q = by_related r (Related (r ++ q)) (AllRelated (r ++ q)) (RelatedFields (r ++ q)) (λ l g m. (refl, refl, refl)) (λ k ts us g m e h. ((refl, h), refl, refl)) (λ fs hs g m e h. (h, refl, refl)) (λ c d g m p. (paired_more r q c d p, refl, refl)) tt (λ t u ts us p q. (p, q)) tt (λ k t u fs hs p q. (refl, p, q))
 
 abbrev pub one_pair : ℕ → ℕ → Renaming
 one_pair n m = (n, m) ∷ []
@@ -99,3 +100,25 @@ pairs_join a b (suc j) k =
     let f : a + suc j ≡ a + 1 + j = omega arith in
     let g : b + suc j ≡ b + 1 + j = omega arith in
     rw (e, f, g) (ap (λ ps. (a, b) ∷ ps) (pairs_join (a + 1) (b + 1) j k))
+
+-- what moving related values into cells leaves
+append_none : (r : Renaming) → r ++ [] ≡ r
+append_none [] = refl
+append_none (p ∷ r) = ap (λ q. p ∷ q) (append_none r)
+
+pub one_more_shared : (r : Renaming) (s z : List Cell) (t : Tree) → IsOneToOne r → SameCells r s z → IsOneToOne (r ++ shared_pairs s z t)
+one_more_shared r s z (node (leaf l) g m) one cells = one_more r s z one cells
+one_more_shared r s z (node (branch k ts) g m) one cells = one_more r s z one cells
+one_more_shared r s z (node (fields fs) g m) one cells = one_more r s z one cells
+one_more_shared r s z (node (holder c) g m) one cells = rw (append_none r) one
+
+pub same_shared_value : (r : Renaming) (s z : List Cell) (t u : Tree) → Related r t u → Related (r ++ shared_pairs s z t) (shared_value s t) (shared_value z u)
+same_shared_value r s z = by_trees r (λ t u. Related (r ++ shared_pairs s z t) (shared_value s t) (shared_value z u))
+    (λ l g m. (new_last r (length s) (length z), refl, refl)) (λ k ts us g m e. (new_last r (length s) (length z), refl, refl)) (λ fs hs g m e. (new_last r (length s) (length z), refl, refl)) (λ c d g m e. (rw (append_none r) e, refl, refl))
+
+pub same_shared_store : (r : Renaming) (s z : List Cell) (t u : Tree) → SameCells r s z → Related r t u → SameCells (r ++ shared_pairs s z t) (shared_store s t) (shared_store z u)
+same_shared_store r s z t u cells = by_trees r (λ t u. SameCells (r ++ shared_pairs s z t) (shared_store s t) (shared_store z u))
+    (λ l g m. same_added r s z (node (leaf l) g m) (node (leaf l) g m) cells (refl, refl, refl))
+    (λ k ts us g m e. same_added r s z (node (branch k ts) g m) (node (branch k us) g m) cells ((refl, e), refl, refl))
+    (λ fs hs g m e. same_added r s z (node (fields fs) g m) (node (fields hs) g m) cells (e, refl, refl))
+    (λ c d g m e. rw (append_none r) cells) t u

@@ -1,37 +1,41 @@
 -- Marks that are set and cleared.
 use Rattle.std.proofs.Common.{◌≡◌, ℕ, zero, suc, ◌<◌, Bool, true, false, List, [], ◌∷◌, length, get_or, slice_set, Option, Some, None, option_map, refl, sym, ap, ◌∙◌, arith}
+use Rattle.rhai_value.specs.declared.chain.Site.{Site}
+use Rattle.rhai_value.specs.declared.chain.Site.TheVariants.{Own, InCell}
 use Rattle.rhai_value.specs.declared.store.Cell.{Cell}
-use Rattle.rhai_value.specs.Tree.{Tree, node, leaf, branch, holder, cell_of}
-use Rattle.rhai_value.specs.Store.{at, unmarked, mark_of, is_marked_at}
-use Rattle.rhai_value.specs.End.{end, place_of}
+use Rattle.rhai_value.specs.Tree.{Tree, node, leaf, branch, fields, holder, cell_of}
+use Rattle.rhai_value.specs.Store.{at, unmarked, put, mark_of, is_marked_at}
+use Rattle.rhai_value.specs.End.{end, site_of}
 use Rattle.rhai_value.specs.Marks.{set_mark, IsWithin}
-use Rattle.rhai_value.specs.First.{first, first_place}
+use Rattle.rhai_value.specs.Share.{shared_store}
+use Rattle.rhai_value.specs.First.{first, first_site, store_with_first}
 use Rattle.rhai_value.proofs.InStores.{cell_within}
 use Rattle.rhai_value.proofs.Stores.{changed_index}
 use Rattle.rhai_value.proofs.Walks.{at_within}
-use Rattle.rhai_value.proofs.SameCells.{get_unchanged}
+use Rattle.rhai_value.proofs.SameCells.{get_unchanged, marked_put, marked_added}
 
 -- a mark, by the index of its cell
 pub mark_at : (s : List Cell) (c : ℕ) (x : Cell) (b : Bool) → c < length s → x ≡ get_or s c x → slice_set s c (record { content = x.content; is_marked = b }) ≡ set_mark s c b
 mark_at s c x b = changed_index (λ y. record { content = y.content; is_marked = b }) s c x
 
 -- the cell in which the first content stands is one of the store's, and so is that in which the held value stands
-first_within_at : (s : List Cell) (c : ℕ) (o : Option Tree) → at s c ≡ o → IsWithin s (option_map (λ x. Some c) o)
+first_within_at : (s : List Cell) (c : ℕ) (o : Option Tree) → at s c ≡ o → IsWithin s (option_map (λ x. InCell c) o)
 first_within_at s c None e = tt
 first_within_at s c (Some t) e = at_within s c t e
 
-pub first_within : (s : List Cell) (t : Tree) → IsWithin s (first_place s t)
+pub first_within : (s : List Cell) (t : Tree) → IsWithin s (first_site s t)
 first_within s (node (leaf l) g m) = tt
 first_within s (node (branch k ts) g m) = tt
+first_within s (node (fields fs) g m) = tt
 first_within s (node (holder c) g m) = first_within_at s c (at s c) refl
 
-held_within_at : (s : List Cell) (t : Tree) (p : Option (Option ℕ)) → p ≡ place_of (end s [] t) → IsWithin s p
+held_within_at : (s : List Cell) (t : Tree) (p : Option Site) → p ≡ site_of (end s [] t) → IsWithin s p
 held_within_at s t None e = tt
-held_within_at s t (Some None) e = tt
-held_within_at s t (Some (Some c)) e = cell_within s t c e
+held_within_at s t (Some Own) e = tt
+held_within_at s t (Some (InCell c)) e = cell_within s t c e
 
-pub held_within : (s : List Cell) (t : Tree) → IsWithin s (place_of (end s [] t))
-held_within s t = held_within_at s t (place_of (end s [] t)) refl
+pub held_within : (s : List Cell) (t : Tree) → IsWithin s (site_of (end s [] t))
+held_within s t = held_within_at s t (site_of (end s [] t)) refl
 
 -- a cell has the mark that was set
 pub mark_stands : (s : List Cell) (c : ℕ) (b : Bool) → c < length s → is_marked_at (set_mark s c b) c ≡ b
@@ -49,6 +53,12 @@ cleared [] c v e = refl
 cleared (x ∷ s) zero v e = ap (λ b. record { content = x.content; is_marked = b } ∷ s) (sym (restored x.is_marked x.content v e))
 cleared (x ∷ s) (suc c) v e = ap (λ z. x ∷ z) (cleared s c v e)
 
+-- what is written while a cell is marked is there when the mark is cleared
+pub written_and_cleared : (s : List Cell) (c : ℕ) (v w : Tree) → at s c ≡ Some v → set_mark (put (set_mark s c true) c w) c false ≡ put s c w
+written_and_cleared [] c v w e = refl
+written_and_cleared (x ∷ s) zero v w e = ap (λ b. record { content = w; is_marked = b } ∷ s) (sym (restored x.is_marked x.content v e))
+written_and_cleared (x ∷ s) (suc c) v w e = ap (λ z. x ∷ z) (written_and_cleared s c v w e)
+
 -- a mark that is set or cleared on another cell keeps each mark
 pub others_marked : (s : List Cell) (c d : ℕ) (b : Bool) → (d ≡ c → ⊥) → is_marked_at (set_mark s c b) d ≡ is_marked_at s d
 others_marked s c d b h = ap mark_of (get_unchanged _ s c d h)
@@ -62,4 +72,17 @@ at_marked (x ∷ s) (suc c) = at_marked s c
 pub closed_by_mark : (s : List Cell) (t : Tree) (c : ℕ) → cell_of t ≡ Some c → first (set_mark s c true) t ≡ None
 closed_by_mark s (node (leaf l) g m) c e = cc
 closed_by_mark s (node (branch k ts) g m) c e = cc
+closed_by_mark s (node (fields fs) g m) c e = cc
 closed_by_mark s (node (holder d) g m) c e = let same : d ≡ c = cc in ap (at (set_mark s c true)) same ∙ at_marked s c
+
+pub marked_shared : (s : List Cell) (t : Tree) (d : ℕ) → is_marked_at (shared_store s t) d ≡ is_marked_at s d
+marked_shared s (node (leaf l) g m) d = marked_added s (node (leaf l) g m) d
+marked_shared s (node (branch k ts) g m) d = marked_added s (node (branch k ts) g m) d
+marked_shared s (node (fields fs) g m) d = marked_added s (node (fields fs) g m) d
+marked_shared s (node (holder c) g m) d = refl
+
+pub marked_with_first : (w : Tree) (s : List Cell) (t : Tree) (d : ℕ) → is_marked_at (store_with_first w s t) d ≡ is_marked_at s d
+marked_with_first w s (node (leaf l) g m) d = refl
+marked_with_first w s (node (branch k ts) g m) d = refl
+marked_with_first w s (node (fields fs) g m) d = refl
+marked_with_first w s (node (holder c) g m) d = marked_put s c d w

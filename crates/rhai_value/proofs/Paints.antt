@@ -5,8 +5,8 @@ use Rattle.rhai_value.specs.declared.map.Slot.{Slot}
 use Rattle.rhai_value.specs.declared.map.Slot.TheVariants.{Free, Held}
 use Rattle.rhai_value.specs.Held.{AreHeld}
 use Rattle.rhai_value.specs.Painted.{painted_slot}
-use Rattle.rhai_value.specs.Rows.{Place, rows, trees_of, keys, values, tree_in, slot_at, is_held}
-use Rattle.rhai_value.specs.Tree.{Tree, tree_then, paint, paint_trees}
+use Rattle.rhai_value.specs.Rows.{Place, rows, trees_of, fields_of, tree_in, slot_at, is_held}
+use Rattle.rhai_value.specs.Tree.{Tree, tree_then, paint, paint_trees, paint_fields}
 
 pub painted_trees : (m : AccessMode) (ts : List Tree) → trees_of (map (paint m) ts) ≡ paint_trees m (trees_of ts)
 painted_trees m [] = refl
@@ -21,12 +21,8 @@ tree_painted : (m : AccessMode) (s : Slot) → is_held s ≡ true → tree_in (p
 tree_painted m (Free next) h = cc
 tree_painted m (Held t) h = refl
 
-pub keys_painted : (es : List Place) (new old : List Slot) → keys (rows es new) ≡ keys (rows es old)
-keys_painted [] new old = refl
-keys_painted (e ∷ es) new old = rw (keys_painted es new old) refl
-
-pub values_painted : (m : AccessMode) (es : List Place) (ts : List Slot) → AreHeld es ts → values (rows es (map (painted_slot m) ts)) ≡ paint_trees m (values (rows es ts))
-values_painted m [] ts held = refl
-values_painted m (e ∷ es) ts held =
+pub fields_painted : (m : AccessMode) (es : List Place) (ts : List Slot) → AreHeld es ts → fields_of (rows es (map (painted_slot m) ts)) ≡ paint_fields m (fields_of (rows es ts))
+fields_painted m [] ts held = refl
+fields_painted m (e ∷ es) ts held =
     let here : tree_in (slot_at (map (painted_slot m) ts) e.1) ≡ paint m (tree_in (slot_at ts e.1)) = ap tree_in (slot_painted m ts e.1) ∙ tree_painted m (slot_at ts e.1) held.0 in
-    rw (here, values_painted m es ts held.1) refl
+    rw (here, fields_painted m es ts held.1) refl

@@ -5,7 +5,7 @@ use Rattle.std.proofs.lemmas.Bool.Decides.{nat_tests}
 use Rattle.std.specs.Ordering.{nat_cmp, is_eq}
 use Rattle.std.specs.BTreeSet.{BTreeSet, contains, UpdatesBy}
 use Rattle.rhai_value.specs.declared.store.Cell.{Cell}
-use Rattle.rhai_value.specs.Tree.{Tree, node, leaf, branch, holder, cell_of}
+use Rattle.rhai_value.specs.Tree.{Tree, node, leaf, branch, fields, holder, cell_of}
 use Rattle.rhai_value.specs.Store.{at}
 use Rattle.rhai_value.specs.Walk.{is_open, visit_of, opened, entry}
 use Rattle.rhai_value.specs.Opened.{IsOpened}
@@ -43,4 +43,5 @@ opened-less order shorter c cells fewer opened e u =
 pub entry-read : (s : List Cell) (path : List ℕ) (t u : Tree) (c : ℕ) (b : Bool) → Some c ≡ cell_of t → Some u ≡ at s c → is_open c path ≡ b → entry s path t ≡ opened (visit_of (Some u) b)
 entry-read s path (node (leaf l) g m) u c b e f h = cc
 entry-read s path (node (branch k ts) g m) u c b e f h = cc
+entry-read s path (node (fields fs) g m) u c b e f h = cc
 entry-read s path (node (holder d) g m) u c b e f h = let same : c ≡ d = cc in rw (← same) (rw (← f, h) refl)

@@ -2,14 +2,16 @@
 use Rattle.std.proofs.Common.{◌≡◌, ℕ, zero, suc, Bool, true, List, [], ◌∷◌, length, slice_get, Option, Some, None, refl, sym, ap, ◌∙◌, eqb-true, eq-eqb, inl, inr}
 use Rattle.std.proofs.lemmas.Bool.{cases_eq}
 use Rattle.std.proofs.lemmas.Option.{none-some, same_Some}
+use Rattle.rhai_value.specs.declared.chain.Site.{Site}
+use Rattle.rhai_value.specs.declared.chain.Site.TheVariants.{Own, InCell}
 use Rattle.rhai_value.specs.declared.store.Cell.{Cell}
 use Rattle.rhai_value.specs.Tree.{Tree, Leaf}
-use Rattle.rhai_value.specs.Parts.{part_of}
+use Rattle.rhai_value.specs.Parts.{leaf_part}
 use Rattle.rhai_value.specs.Store.{put, changed_at, is_marked_at, added}
 use Rattle.rhai_value.specs.End.{End, held, stuck, closed, held_part, value_after, store_after}
 use Rattle.rhai_value.specs.Marks.{set_mark}
 use Rattle.rhai_value.specs.Types.{end_type}
-use Rattle.rhai_value.specs.Relation.{Renaming, paired, Related, IsOneToOne, SameCell, SameCells, SameEnd}
+use Rattle.rhai_value.specs.Relation.{Renaming, paired, Related, Respect, Alike, IsOneToOne, SameCell, SameCells, SameEnd}
 use Rattle.rhai_value.proofs.SameTrees.{same_part, same_type}
 
 -- a cell that is changed, and the others
@@ -57,14 +59,14 @@ pub same_set_mark : (r : Renaming) (s z : List Cell) (a b : ℕ) (m : Bool) → 
 same_set_mark r s z a b m one cells p = same_changed _ _ r s z a b one cells p (λ x y h. (refl, h.1))
 
 -- the same ends are of one kind
-pub by_ends : (r : Renaming) (P : End → End → Type 0) → ((t u : Tree) → Related r t u → P (held None t) (held None u)) → ((c d : ℕ) (t u : Tree) → paired r c d ≡ true → Related r t u → P (held (Some c) t) (held (Some d) u))
+pub by_ends : (r : Renaming) (P : End → End → Type 0) → ((t u : Tree) → Related r t u → P (held Own t) (held Own u)) → ((c d : ℕ) (t u : Tree) → paired r c d ≡ true → Related r t u → P (held (InCell c) t) (held (InCell d) u))
     → ((t u : Tree) → Related r t u → P (stuck t) (stuck u)) → P closed closed → (e f : End) → SameEnd r e f → P e f
-by_ends r P own cell bars loops (held None t) (held None u) h = own t u h.1
-by_ends r P own cell bars loops (held (Some c) t) (held (Some d) u) h = cell c d t u h.0 h.1
+by_ends r P own cell bars loops (held Own t) (held Own u) h = own t u h.1
+by_ends r P own cell bars loops (held (InCell c) t) (held (InCell d) u) h = cell c d t u h.0 h.1
 by_ends r P own cell bars loops (stuck t) (stuck u) h = bars t u h
 by_ends r P own cell bars loops closed closed h = loops
-by_ends r P own cell bars loops (held None t) (held (Some d) u) h = absurd h.0
-by_ends r P own cell bars loops (held (Some c) t) (held None u) h = absurd h.0
+by_ends r P own cell bars loops (held Own t) (held (InCell d) u) h = absurd h.0
+by_ends r P own cell bars loops (held (InCell c) t) (held Own u) h = absurd h.0
 by_ends r P own cell bars loops (held p t) (stuck u) h = absurd h
 by_ends r P own cell bars loops (held p t) closed h = absurd h
 by_ends r P own cell bars loops (stuck t) (held q u) h = absurd h
@@ -73,26 +75,27 @@ by_ends r P own cell bars loops closed (held q u) h = absurd h
 by_ends r P own cell bars loops closed (stuck u) h = absurd h
 
 -- what is told of the same ends, and what becomes of values and stores that are written at them
-pub same_held_part : {A : Type 0} (r : Renaming) (part : Leaf → Option A) (e f : End) → SameEnd r e f → held_part (part_of part) e ≡ held_part (part_of part) f
-same_held_part r part = by_ends r (λ e f. held_part (part_of part) e ≡ held_part (part_of part) f) (same_part r part) (λ c d t u p. same_part r part t u) (λ t u h. refl) refl
+pub same_held_leaf : {A : Type 0} (r : Renaming) (part : Leaf → Option A) (e f : End) → SameEnd r e f → held_part (leaf_part part) e ≡ held_part (leaf_part part) f
+same_held_leaf r part = by_ends r (λ e f. held_part (leaf_part part) e ≡ held_part (leaf_part part) f) (same_part r part) (λ c d t u p. same_part r part t u) (λ t u h. refl) refl
+
+-- parts that related values have alike are held alike
+pub same_held_part : {A : Type 0} (r : Renaming) (R : A → A → Type 0) (part : Tree → Option A) → ((t u : Tree) → Related r t u → Alike R (part t) (part u))
+    → (e f : End) → SameEnd r e f → Alike R (held_part part e) (held_part part f)
+same_held_part r R part same = by_ends r (λ e f. Alike R (held_part part e) (held_part part f)) same (λ c d t u p h. same t u h) (λ t u h. tt) tt
 
 pub same_end_type : (r : Renaming) (e f : End) → SameEnd r e f → end_type e ≡ end_type f
 same_end_type r = by_ends r (λ e f. end_type e ≡ end_type f) (same_type r) (λ c d t u p. same_type r t u) (λ t u h. refl) refl
 
--- a change of values that takes related ones to related ones
-abbrev pub Respects : Renaming → (Tree → Tree) → Type 0
-Respects r f = (x y : Tree) → Related r x y → Related r (f x) (f y)
+pub same_value_after : (r : Renaming) (f g : Tree → Tree) (t u : Tree) → Respect r f g → Related r t u → (e o : End) → SameEnd r e o → Related r (value_after f e t) (value_after g o u)
+same_value_after r f g t u k h = by_ends r (λ e o. Related r (value_after f e t) (value_after g o u)) k (λ c d x y p q. h) (λ x y q. h) h
 
-pub same_value_after : (r : Renaming) (f : Tree → Tree) (t u : Tree) → Respects r f → Related r t u → (e o : End) → SameEnd r e o → Related r (value_after f e t) (value_after f o u)
-same_value_after r f t u k h = by_ends r (λ e o. Related r (value_after f e t) (value_after f o u)) k (λ c d x y p g. h) (λ x y g. h) h
-
-pub same_store_after : (r : Renaming) (f : Tree → Tree) (s z : List Cell) → Respects r f → IsOneToOne r → SameCells r s z → (e o : End) → SameEnd r e o → SameCells r (store_after f e s) (store_after f o z)
-same_store_after r f s z k one cells = by_ends r (λ e o. SameCells r (store_after f e s) (store_after f o z)) (λ t u h. cells) (λ c d t u p h. same_put r s z c d (f t) (f u) one cells p (k t u h)) (λ t u h. cells) cells
+pub same_store_after : (r : Renaming) (f g : Tree → Tree) (s z : List Cell) → Respect r f g → IsOneToOne r → SameCells r s z → (e o : End) → SameEnd r e o → SameCells r (store_after f e s) (store_after g o z)
+same_store_after r f g s z k one cells = by_ends r (λ e o. SameCells r (store_after f e s) (store_after g o z)) (λ t u h. cells) (λ c d t u p h. same_put r s z c d (f t) (g u) one cells p (k t u h)) (λ t u h. cells) cells
 
 -- a write where a chain ends makes no cell and sets no mark
 pub length_store_after : (f : Tree → Tree) (e : End) (s : List Cell) → length (store_after f e s) ≡ length s
-length_store_after f (held None v) s = refl
-length_store_after f (held (Some c) v) s = length_changed _ s c
+length_store_after f (held Own v) s = refl
+length_store_after f (held (InCell c) v) s = length_changed _ s c
 length_store_after f (stuck v) s = refl
 length_store_after f closed s = refl
 
@@ -104,8 +107,8 @@ marked_put (x ∷ s) (suc c) zero t = refl
 marked_put (x ∷ s) (suc c) (suc d) t = marked_put s c d t
 
 pub marked_store_after : (f : Tree → Tree) (e : End) (s : List Cell) (d : ℕ) → is_marked_at (store_after f e s) d ≡ is_marked_at s d
-marked_store_after f (held None v) s d = refl
-marked_store_after f (held (Some c) v) s d = marked_put s c d (f v)
+marked_store_after f (held Own v) s d = refl
+marked_store_after f (held (InCell c) v) s d = marked_put s c d (f v)
 marked_store_after f (stuck v) s d = refl
 marked_store_after f closed s d = refl
 

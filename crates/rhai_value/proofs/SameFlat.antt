@@ -1,19 +1,21 @@
 -- First contents, marks and flat values of related values, and a write that all holders of a cell see.
-use Rattle.std.proofs.Common.{◌≡◌, ℕ, zero, suc, Bool, true, false, List, [], ◌∷◌, slice_get, Option, Some, None, is_some, is_none, unwrap_or, ◌||◌, option_and_then, refl, sym, ap, ap₂, ◌∙◌, length}
+use Rattle.std.proofs.Common.{◌≡◌, ℕ, zero, suc, Bool, true, false, List, [], ◌∷◌, slice_get, Option, Some, None, is_some, is_none, unwrap_or, ◌||◌, option_and_then, option_map, refl, sym, ap, ap₂, ◌∙◌, length}
 use Rattle.rhai_value.specs.declared.store.Cell.{Cell}
-use Rattle.rhai_value.specs.Tree.{Tree, node, leaf, branch, holder, cell_of}
+use Rattle.rhai_value.specs.Tree.{Tree, node, leaf, branch, fields, holder, cell_of}
 use Rattle.rhai_value.specs.Store.{at, put, unmarked}
 use Rattle.rhai_value.specs.End.{End, end}
 use Rattle.rhai_value.specs.First.{first, value_with_first, store_with_first}
 use Rattle.rhai_value.specs.Flat.{flat, flattened, value_ahead, or_copy, flat_source}
-use Rattle.rhai_value.specs.Locked.{is_locked, is_one_locked}
-use Rattle.rhai_value.specs.Relation.{Renaming, Related, Alike, IsOneToOne, SameCells, SameEnd}
+use Rattle.rhai_value.specs.declared.chain.Site.TheVariants.{InCell}
+use Rattle.rhai_value.specs.Marks.{first_cell, held_cell, site_cell}
+use Rattle.rhai_value.specs.Locked.{is_locked, is_one_locked, is_field_locked}
+use Rattle.rhai_value.specs.Relation.{Renaming, paired, Related, Alike, IsOneToOne, SameCells, SameEnd}
 use Rattle.rhai_value.proofs.SameCells.{by_ends, get_unchanged, same_put, length_changed}
 use Rattle.rhai_value.proofs.SameTrees.{by_related, by_trees, same_copy}
 use Rattle.rhai_value.proofs.SameWalks.{same_at, same_end}
 
 pub same_first : (r : Renaming) (s z : List Cell) → SameCells r s z → (t u : Tree) → Related r t u → Alike (Related r) (first s t) (first z u)
-same_first r s z cells = by_trees r (λ t u. Alike (Related r) (first s t) (first z u)) (λ l g m. (refl, refl, refl)) (λ k ts us g m e. ((refl, e), refl, refl)) (λ c d g m p. same_at r s z c d cells p)
+same_first r s z cells = by_trees r (λ t u. Alike (Related r) (first s t) (first z u)) (λ l g m. (refl, refl, refl)) (λ k ts us g m e. ((refl, e), refl, refl)) (λ fs hs g m e. (e, refl, refl)) (λ c d g m p. same_at r s z c d cells p)
 
 -- where values are locked, related values are too
 same_none : {A B : Type 0} (R : A → B → Type 0) (o : Option A) (q : Option B) → Alike R o q → is_none o ≡ is_none q
@@ -23,8 +25,8 @@ same_none R None (Some b) h = absurd h
 same_none R (Some a) None h = absurd h
 
 pub same_locked : (r : Renaming) (s z : List Cell) → SameCells r s z → (t u : Tree) → Related r t u → is_locked s t ≡ is_locked z u
-same_locked r s z cells = by_related r (λ t u. is_locked s t ≡ is_locked z u) (λ ts us. is_one_locked s ts ≡ is_one_locked z us)
-    (λ l g m. refl) (λ k ts us g m e h. h) (λ c d g m p. same_none (Related r) (at s c) (at z d) (same_at r s z c d cells p)) refl (λ t u ts us p q. ap₂ (λ a b. a || b) p q)
+same_locked r s z cells = by_related r (λ t u. is_locked s t ≡ is_locked z u) (λ ts us. is_one_locked s ts ≡ is_one_locked z us) (λ fs hs. is_field_locked s fs ≡ is_field_locked z hs)
+    (λ l g m. refl) (λ k ts us g m e h. h) (λ fs hs g m e h. h) (λ c d g m p. same_none (Related r) (at s c) (at z d) (same_at r s z c d cells p)) refl (λ t u ts us p q. ap₂ (λ a b. a || b) p q) refl (λ k t u fs hs p q. ap₂ (λ a b. a || b) p q)
 
 same_value_ahead : (r : Renaming) (e f : End) → SameEnd r e f → Alike (Related r) (value_ahead e) (value_ahead f)
 same_value_ahead r = by_ends r (λ e f. Alike (Related r) (value_ahead e) (value_ahead f)) (λ x y k. k) (λ c d x y p k. k) (λ x y k. k) tt
@@ -40,7 +42,7 @@ same_flat r s z t u one cells h =
     same_copy r _ _ (same_or r t u _ _ h (same_value_ahead r (end s [] t) (end z [] u) (same_end r s z t u one cells h)))
 
 same_behind : (r : Renaming) (s z : List Cell) → SameCells r s z → (t u : Tree) → Related r t u → Alike (Related r) (option_and_then (at s) (cell_of t)) (option_and_then (at z) (cell_of u))
-same_behind r s z cells = by_trees r (λ t u. Alike (Related r) (option_and_then (at s) (cell_of t)) (option_and_then (at z) (cell_of u))) (λ l g m. tt) (λ k ts us g m e. tt) (λ c d g m p. same_at r s z c d cells p)
+same_behind r s z cells = by_trees r (λ t u. Alike (Related r) (option_and_then (at s) (cell_of t)) (option_and_then (at z) (cell_of u))) (λ l g m. tt) (λ k ts us g m e. tt) (λ fs hs g m e. tt) (λ c d g m p. same_at r s z c d cells p)
 
 both_or_none : (r : Renaming) (o q v w : Option Tree) → Alike (Related r) o q → Alike (Related r) v w → Alike (Related r) (option_and_then (λ x. v) o) (option_and_then (λ x. w) q)
 both_or_none r None None v w h k = tt
@@ -73,22 +75,40 @@ pub seen_by_all : (s : List Cell) (t u v w : Tree) → first s t ≡ Some v → 
 seen_by_all s (node (holder c) g m) (node (holder d) h n) v w e is same = let f : d ≡ c = cc in ap (at (put s c w)) f ∙ at_put s c v w e
 seen_by_all s (node (holder c) g m) (node (leaf k) h n) v w e is same = cc
 seen_by_all s (node (holder c) g m) (node (branch k ts) h n) v w e is same = cc
+seen_by_all s (node (holder c) g m) (node (fields fs) h n) v w e is same = cc
+seen_by_all s (node (fields fs) g m) u v w e is same = cc
 seen_by_all s (node (leaf l) g m) u v w e is same = cc
 seen_by_all s (node (branch k ts) g m) u v w e is same = cc
 
 pub others_stay : (s : List Cell) (t w : Tree) (c : ℕ) → (cell_of t ≡ Some c → ⊥) → slice_get (store_with_first w s t) c ≡ slice_get s c
 others_stay s (node (leaf l) g m) w c h = refl
 others_stay s (node (branch k ts) g m) w c h = refl
+others_stay s (node (fields fs) g m) w c h = refl
 others_stay s (node (holder d) g m) w c h = get_unchanged _ s d c (λ e. h (ap Some (sym e)))
 
 -- what is written over the first contents of related values leaves related values and stores
 pub same_value_with_first : (r : Renaming) (x y : Tree) → Related r x y → (t u : Tree) → Related r t u → Related r (value_with_first x t) (value_with_first y u)
-same_value_with_first r x y h = by_trees r (λ t u. Related r (value_with_first x t) (value_with_first y u)) (λ l g m. h) (λ k ts us g m e. h) (λ c d g m e. (e, refl, refl))
+same_value_with_first r x y h = by_trees r (λ t u. Related r (value_with_first x t) (value_with_first y u)) (λ l g m. h) (λ k ts us g m e. h) (λ fs hs g m e. h) (λ c d g m e. (e, refl, refl))
 
 pub same_store_with_first : (r : Renaming) (s z : List Cell) (x y : Tree) → IsOneToOne r → SameCells r s z → Related r x y → (t u : Tree) → Related r t u → SameCells r (store_with_first x s t) (store_with_first y z u)
-same_store_with_first r s z x y one cells h = by_trees r (λ t u. SameCells r (store_with_first x s t) (store_with_first y z u)) (λ l g m. cells) (λ k ts us g m e. cells) (λ c d g m e. same_put r s z c d x y one cells e h)
+same_store_with_first r s z x y one cells h = by_trees r (λ t u. SameCells r (store_with_first x s t) (store_with_first y z u)) (λ l g m. cells) (λ k ts us g m e. cells) (λ fs hs g m e. cells) (λ c d g m e. same_put r s z c d x y one cells e h)
 
 pub length_with_first : (x : Tree) (s : List Cell) (t : Tree) → length (store_with_first x s t) ≡ length s
 length_with_first x s (node (leaf l) g m) = refl
 length_with_first x s (node (branch k ts) g m) = refl
+length_with_first x s (node (fields fs) g m) = refl
 length_with_first x s (node (holder c) g m) = length_changed _ s c
+
+cell_alike : (r : Renaming) (o q : Option Tree) (c d : ℕ) → paired r c d ≡ true → Alike (Related r) o q
+    → Alike (λ a b. paired r a b ≡ true) (site_cell (option_map (λ x. InCell c) o)) (site_cell (option_map (λ x. InCell d) q))
+cell_alike r None None c d p h = tt
+cell_alike r (Some x) (Some y) c d p h = p
+cell_alike r None (Some y) c d p h = absurd h
+cell_alike r (Some x) None c d p h = absurd h
+
+pub same_first_cell : (r : Renaming) (s z : List Cell) (t u : Tree) → SameCells r s z → Related r t u → Alike (λ c d. paired r c d ≡ true) (first_cell s t) (first_cell z u)
+same_first_cell r s z t u cells = by_trees r (λ t u. Alike (λ c d. paired r c d ≡ true) (first_cell s t) (first_cell z u)) (λ l g m. tt) (λ k ts us g m e. tt) (λ fs hs g m e. tt)
+    (λ c d g m p. cell_alike r (at s c) (at z d) c d p (same_at r s z c d cells p)) t u
+
+pub same_held_cell : (r : Renaming) (e f : End) → SameEnd r e f → Alike (λ c d. paired r c d ≡ true) (held_cell e) (held_cell f)
+same_held_cell r = by_ends r (λ e f. Alike (λ c d. paired r c d ≡ true) (held_cell e) (held_cell f)) (λ t u h. tt) (λ c d t u p h. p) (λ t u h. tt) tt

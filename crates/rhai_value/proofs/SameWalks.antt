@@ -5,8 +5,8 @@ use Rattle.rhai_value.specs.declared.store.Cell.{Cell}
 use Rattle.rhai_value.specs.Tree.{Tree, node, holder}
 use Rattle.rhai_value.specs.Store.{at, unmarked}
 use Rattle.rhai_value.specs.Walk.{Visit, entered, barred, revisited, is_open, visit, visit_of, visit_map, unentered, walk_in, walk}
-use Rattle.rhai_value.specs.End.{End, end_at, end_of, end}
-use Rattle.rhai_value.specs.Relation.{Renaming, paired, Related, Alike, IsOneToOne, SameCells, SameEnd}
+use Rattle.rhai_value.specs.End.{End, end_at, site_after, end_of, end}
+use Rattle.rhai_value.specs.Relation.{Renaming, paired, Related, Alike, IsOneToOne, RelatedSite, SameCells, SameEnd}
 use Rattle.rhai_value.proofs.SameTrees.{by_trees}
 use Rattle.rhai_value.proofs.Zips.{zip_get}
 use Rattle.rhai_value.proofs.Walks.{more_room_by}
@@ -99,9 +99,15 @@ module _ {A B : Type 0} (r : Renaming) (shape : List ℕ → (ℕ → Visit A) �
 end_at_alike : (r : Renaming) (t u : Tree) (o q : Visit End) → Related r t u → AlikeVisit (SameEnd r) o q → SameEnd r (end_at t o) (end_at u q)
 end_at_alike r t u o q h k = by_visits (SameEnd r) (λ o q. SameEnd r (end_at t o) (end_at u q)) (λ e f same. same) h tt o q k
 
+site_alike : (r : Renaming) (o q : Option ℕ) → Alike (Paired r) o q → RelatedSite r (site_after o) (site_after q)
+site_alike r None None h = tt
+site_alike r (Some c) (Some d) h = h
+site_alike r None (Some d) h = absurd h
+site_alike r (Some c) None h = absurd h
+
 end_kept : (r : Renaming) → Keeps r end_of end_of (SameEnd r)
 end_kept r path road h k t u same to = by_trees r (λ t u. SameEnd r (end_of path h t) (end_of road k u))
-    (λ l g m. (zip_get (Paired r) path road 0 same, (refl, refl, refl))) (λ i ts us g m e. (zip_get (Paired r) path road 0 same, ((refl, e), refl, refl)))
+    (λ l g m. (site_alike r _ _ (zip_get (Paired r) path road 0 same), (refl, refl, refl))) (λ i ts us g m e. (site_alike r _ _ (zip_get (Paired r) path road 0 same), ((refl, e), refl, refl))) (λ fs hs g m e. (site_alike r _ _ (zip_get (Paired r) path road 0 same), (e, refl, refl)))
     (λ c d g m p. end_at_alike r (node (holder c) g m) (node (holder d) g m) (h c) (k d) (p, refl, refl) (to c d p)) t u
 
 -- the ends of the chains from related values are the same

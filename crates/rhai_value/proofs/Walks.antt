@@ -4,7 +4,7 @@ use mathlib.Core.Path.{fun_ext}
 use Rattle.std.proofs.lemmas.Option.{same_Some}
 use Rattle.std.proofs.lemmas.Bool.{cases_eq}
 use Rattle.rhai_value.specs.declared.store.Cell.{Cell}
-use Rattle.rhai_value.specs.Tree.{Tree, node, leaf, branch, holder, cell_of}
+use Rattle.rhai_value.specs.Tree.{Tree, node, leaf, branch, fields, holder, cell_of}
 use Rattle.rhai_value.specs.Store.{at}
 use Rattle.rhai_value.specs.Walk.{Visit, entered, barred, revisited, is_open, visit, visit_of, visit_map, opened, entry, unentered, walk_in, walk}
 
@@ -100,6 +100,7 @@ opened_entered revisited t e = cc
 pub unopened-entry : (s : List Cell) (path next : List ℕ) (v t : Tree) → Some t ≡ entry s path v → IfSome (cell_of v) (λ c. next ≡ c ∷ path) → unopened next (length s) < unopened path (length s)
 unopened-entry s path next (node (leaf l) g m) t e is = cc
 unopened-entry s path next (node (branch k ts) g m) t e is = cc
+unopened-entry s path next (node (fields fs) g m) t e is = cc
 unopened-entry s path next (node (holder c) g m) t e is =
     let o = opens s path c t (opened_entered (visit s path c) t e) in
     rw is (unopened_falls path c (length s) (at_within s c t o.0) o.1)

@@ -1,7 +1,7 @@
 -- Two values that differ in modes alone.
 use Rattle.std.specs.Prelude.{◌≡◌}
 use Rattle.rhai_value.specs.declared.access_mode.AccessMode.TheVariants.{ReadWrite}
-use Rattle.rhai_value.specs.Tree.{Tree, node, Content, leaf, branch, holder, Trees, no_trees, tree_then}
+use Rattle.rhai_value.specs.Tree.{Tree, node, Content, leaf, branch, fields, holder, Trees, no_trees, tree_then, Fields, no_fields, field_then}
 
 -- the same contents and tags, and holders of the same cells
 abbrev mutual
@@ -11,6 +11,7 @@ abbrev mutual
   pub SameContentButModes : Content → Content → Type 0
   SameContentButModes (leaf l) (leaf k) = l ≡ k
   SameContentButModes (branch k ts) (branch l us) = (k ≡ l) × AllSameButModes ts us
+  SameContentButModes (fields fs) (fields hs) = SameFieldsButModes fs hs
   SameContentButModes (holder c) (holder d) = c ≡ d
   SameContentButModes _ _ = ⊥
 
@@ -18,6 +19,11 @@ abbrev mutual
   AllSameButModes no_trees no_trees = Unit {0}
   AllSameButModes (tree_then t ts) (tree_then u us) = SameButModes t u × AllSameButModes ts us
   AllSameButModes _ _ = ⊥
+
+  pub SameFieldsButModes : Fields → Fields → Type 0
+  SameFieldsButModes no_fields no_fields = Unit {0}
+  SameFieldsButModes (field_then k t fs) (field_then j u hs) = (k ≡ j) × SameButModes t u × SameFieldsButModes fs hs
+  SameFieldsButModes _ _ = ⊥
 
 -- every mode is ReadWrite
 abbrev mutual
@@ -27,8 +33,13 @@ abbrev mutual
   pub IsWritableInside : Content → Type 0
   IsWritableInside (leaf l) = Unit {0}
   IsWritableInside (branch k ts) = AreWritable ts
+  IsWritableInside (fields fs) = AreFieldsWritable fs
   IsWritableInside (holder c) = Unit {0}
 
   pub AreWritable : Trees → Type 0
   AreWritable no_trees = Unit {0}
   AreWritable (tree_then t ts) = IsWritable t × AreWritable ts
+
+  pub AreFieldsWritable : Fields → Type 0
+  AreFieldsWritable no_fields = Unit {0}
+  AreFieldsWritable (field_then k t fs) = IsWritable t × AreFieldsWritable fs

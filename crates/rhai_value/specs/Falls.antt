@@ -9,7 +9,7 @@ use Rattle.rhai_value.specs.declared.union.Union.TheVariants as union
 use Rattle.rhai_value.specs.declared.dynamic.Dynamic.TheDeep.{deep-Union}
 
 pub falls : (u : Union) → deep-Union u ≤ 2 * nodes (tree_of u)
-falls (union.Unit g m) = omega arith
+falls (union.Unit g m u) = omega arith
 falls (union.Bool g m b) = omega arith
 falls (union.Str g m s) = omega arith
 falls (union.Char g m c) = omega arith

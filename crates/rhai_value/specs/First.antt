@@ -1,5 +1,7 @@
 -- The first content of a value, and what a write over it leaves.
-use Rattle.std.specs.Prelude.{ℕ, Bool, false, List, Option, Some, None, option_map}
+use Rattle.std.specs.Prelude.{Bool, false, List, Option, Some, None, option_map}
+use Rattle.rhai_value.specs.declared.chain.Site.{Site}
+use Rattle.rhai_value.specs.declared.chain.Site.TheVariants.{Own, InCell}
 use Rattle.rhai_value.specs.declared.store.Cell.{Cell}
 use Rattle.rhai_value.specs.Tree.{Tree, node, holder, mode_of, is_constant}
 use Rattle.rhai_value.specs.Store.{at, put}
@@ -9,10 +11,10 @@ abbrev pub first : List Cell → Tree → Option Tree
 first s (node (holder c) g m) = at s c
 first s t = Some t
 
--- where it stands: in the value itself, in a cell, or nowhere
-abbrev pub first_place : List Cell → Tree → Option (Option ℕ)
-first_place s (node (holder c) g m) = option_map (λ x. Some c) (at s c)
-first_place s t = Some None
+-- where it stands, if there is one
+abbrev pub first_site : List Cell → Tree → Option Site
+first_site s (node (holder c) g m) = option_map (λ x. InCell c) (at s c)
+first_site s t = Some Own
 
 -- a value, and a store, once w was written over the first content
 abbrev pub value_with_first : Tree → Tree → Tree

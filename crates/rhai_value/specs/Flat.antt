@@ -7,7 +7,7 @@ use Rattle.rhai_value.specs.End.{End, end, held, stuck, closed}
 
 -- the value at an end that isn't closed
 abbrev pub value_ahead : End → Option Tree
-value_ahead (held place v) = Some v
+value_ahead (held site v) = Some v
 value_ahead (stuck v) = Some v
 value_ahead closed = None
 

@@ -14,6 +14,7 @@ pub mod Store
 pub mod Walk
 pub mod End
 pub mod Types
+pub mod Kinds
 pub mod Into
 pub mod Opened
 pub mod Seen

@@ -1,7 +1,7 @@
 -- Values that hold a locked cell.
 use Rattle.std.specs.Prelude.{Bool, false, ◌||◌, List, is_none}
 use Rattle.rhai_value.specs.declared.store.Cell.{Cell}
-use Rattle.rhai_value.specs.Tree.{Tree, node, Content, leaf, branch, holder, Trees, no_trees, tree_then}
+use Rattle.rhai_value.specs.Tree.{Tree, node, Content, leaf, branch, fields, holder, Trees, no_trees, tree_then, Fields, no_fields, field_then}
 use Rattle.rhai_value.specs.Store.{at}
 
 -- Whether a holder of a cell that is marked, or no cell of the store, is the value or stands inside it, at any depth; cells
@@ -13,8 +13,13 @@ abbrev mutual
   pub is_locked_content : List Cell → Content → Bool
   is_locked_content s (leaf l) = false
   is_locked_content s (branch k ts) = is_one_locked s ts
+  is_locked_content s (fields fs) = is_field_locked s fs
   is_locked_content s (holder c) = is_none (at s c)
 
   pub is_one_locked : List Cell → Trees → Bool
   is_one_locked s no_trees = false
   is_one_locked s (tree_then t ts) = is_locked s t || is_one_locked s ts
+
+  pub is_field_locked : List Cell → Fields → Bool
+  is_field_locked s no_fields = false
+  is_field_locked s (field_then k t fs) = is_locked s t || is_field_locked s fs

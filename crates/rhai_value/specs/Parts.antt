@@ -1,8 +1,11 @@
 -- What a value has: the content of its kind.
-use Rattle.std.specs.Prelude.{ℕ, ℤ, Bool, Option, Some, None, List}
-use Rattle.rhai_value.specs.Tree.{Tree, node, Leaf, leaf, branch, unit, bool, int, char, text, blob, array, fields, function, Trees}
+use Rattle.std.specs.Prelude.{ℕ, ℤ, Bool, Option, Some, None, List, is_some, option_and_then, if◌then◌else◌}
+use Rattle.rhai_value.specs.declared.host.Host.{Host}
+use Rattle.rhai_value.specs.declared.type_id.TypeId.{TypeId}
+use Rattle.rhai_value.specs.Types.{host_at}
+use Rattle.rhai_value.specs.Tree.{Tree, node, Content, Leaf, leaf, branch, unit, bool, int, char, text, blob, host, array, fields, function, Trees, Fields}
 
--- what a leaf has: its unit, its boolean, its int, its character, its text, its bytes
+-- what a leaf has: its unit, its boolean, its int, its character, its text, its bytes, its value of the host's
 abbrev pub leaf_unit : Leaf → Option (Unit {0})
 leaf_unit unit = Some tt
 leaf_unit _ = None
@@ -27,37 +30,48 @@ abbrev pub leaf_blob : Leaf → Option (List ℕ)
 leaf_blob (blob bs) = Some bs
 leaf_blob _ = None
 
+abbrev pub leaf_host : Leaf → Option Host
+leaf_host (host h) = Some h
+leaf_host _ = None
+
 -- the same of a value that is a leaf
-abbrev pub part_of : {A : Type 0} → (Leaf → Option A) → Tree → Option A
-part_of part (node (leaf l) g m) = part l
-part_of part _ = None
+abbrev pub leaf_part : {A : Type 0} → (Leaf → Option A) → Tree → Option A
+leaf_part part (node (leaf l) g m) = part l
+leaf_part part _ = None
 
 abbrev pub unit_of : Tree → Option (Unit {0})
-unit_of t = part_of leaf_unit t
+unit_of t = leaf_part leaf_unit t
 
 abbrev pub bool_of : Tree → Option Bool
-bool_of t = part_of leaf_bool t
+bool_of t = leaf_part leaf_bool t
 
 abbrev pub int_of : Tree → Option ℤ
-int_of t = part_of leaf_int t
+int_of t = leaf_part leaf_int t
 
 abbrev pub char_of : Tree → Option ℕ
-char_of t = part_of leaf_char t
+char_of t = leaf_part leaf_char t
 
 abbrev pub text_of : Tree → Option (List ℕ)
-text_of t = part_of leaf_text t
+text_of t = leaf_part leaf_text t
 
 abbrev pub blob_of : Tree → Option (List ℕ)
-blob_of t = part_of leaf_blob t
+blob_of t = leaf_part leaf_blob t
+
+abbrev pub host_of : Tree → Option Host
+host_of t = leaf_part leaf_host t
+
+-- the same of one of the host's types
+abbrev pub typed_host_of : TypeId → Tree → Option Host
+typed_host_of k t = option_and_then (host_at k) (host_of t)
 
 -- the items of an array
 abbrev pub array_of : Tree → Option Trees
 array_of (node (branch array ts) g m) = Some ts
 array_of _ = None
 
--- the keys and the values of a map
-abbrev pub map_of : Tree → Option (List (List ℕ) × Trees)
-map_of (node (branch (fields ks) ts) g m) = Some (ks, ts)
+-- the fields of a map
+abbrev pub map_of : Tree → Option Fields
+map_of (node (fields fs) g m) = Some fs
 map_of _ = None
 
 -- the name and the curried values of a function pointer
@@ -65,38 +79,14 @@ abbrev pub function_of : Tree → Option (List ℕ × Trees)
 function_of (node (branch (function f) ts) g m) = Some (f, ts)
 function_of _ = None
 
--- a leaf with another int, text and bytes, where it has one
-abbrev pub leaf_with_int : ℤ → Leaf → Leaf
-leaf_with_int n (int k) = int n
-leaf_with_int n l = l
+-- the value with another content, tag and mode staying
+abbrev pub with_content : Content → Tree → Tree
+with_content c (node d g m) = node c g m
 
-abbrev pub leaf_with_text : List ℕ → Leaf → Leaf
-leaf_with_text s (text t) = text s
-leaf_with_text s l = l
+-- the same of a value that has such a part; any other value stays
+abbrev pub with_part : {A : Type 0} → (Tree → Option A) → Content → Tree → Tree
+with_part part c t = if is_some (part t) then with_content c t else t
 
-abbrev pub leaf_with_blob : List ℕ → Leaf → Leaf
-leaf_with_blob bs (blob cs) = blob bs
-leaf_with_blob bs l = l
-
--- the value with its leaf changed, tag and mode staying
-abbrev pub with_leaf : (Leaf → Leaf) → Tree → Tree
-with_leaf f (node (leaf l) g m) = node (leaf (f l)) g m
-with_leaf f t = t
-
--- the value with another int, text, bytes, items, or keys and values; a value that has none stays
+-- the value with another int, if it is one
 abbrev pub with_int : ℤ → Tree → Tree
-with_int n t = with_leaf (leaf_with_int n) t
-
-abbrev pub with_text : List ℕ → Tree → Tree
-with_text s t = with_leaf (leaf_with_text s) t
-
-abbrev pub with_blob : List ℕ → Tree → Tree
-with_blob bs t = with_leaf (leaf_with_blob bs) t
-
-abbrev pub with_array : Trees → Tree → Tree
-with_array ts (node (branch array us) g m) = node (branch array ts) g m
-with_array ts t = t
-
-abbrev pub with_map : List (List ℕ) → Trees → Tree → Tree
-with_map ks ts (node (branch (fields js) us) g m) = node (branch (fields ks) ts) g m
-with_map ks ts t = t
+with_int n t = with_part int_of (leaf (int n)) t

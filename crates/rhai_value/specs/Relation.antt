@@ -1,7 +1,9 @@
 -- Values and stores that are equal up to the numbers of their cells.
-use Rattle.std.specs.Prelude.{◌≡◌, ◌<◌, ℕ, zero, suc, ◌+◌, Bool, true, false, nat_eq, ◌||◌, ◌&&◌, List, [], ◌∷◌, slice_get, Option, Some, None}
+use Rattle.std.specs.Prelude.{◌≡◌, ◌<◌, ℕ, zero, suc, ◌+◌, Bool, true, false, nat_eq, ◌||◌, ◌&&◌, List, [], ◌∷◌, length, slice_get, Option, Some, None}
+use Rattle.rhai_value.specs.declared.chain.Site.{Site}
+use Rattle.rhai_value.specs.declared.chain.Site.TheVariants.{Own, InCell}
 use Rattle.rhai_value.specs.declared.store.Cell.{Cell}
-use Rattle.rhai_value.specs.Tree.{Tree, node, Content, leaf, branch, holder, Trees, no_trees, tree_then}
+use Rattle.rhai_value.specs.Tree.{Tree, node, Content, leaf, branch, fields, holder, Trees, no_trees, tree_then, Fields, no_fields, field_then}
 use Rattle.rhai_value.specs.End.{End, held, stuck, closed}
 
 -- pairs of a cell of one store and a cell of another
@@ -21,6 +23,7 @@ abbrev mutual
   pub SameContent : Renaming → Content → Content → Type 0
   SameContent r (leaf l) (leaf k) = l ≡ k
   SameContent r (branch k ts) (branch l us) = (k ≡ l) × AllRelated r ts us
+  SameContent r (fields fs) (fields hs) = RelatedFields r fs hs
   SameContent r (holder c) (holder d) = paired r c d ≡ true
   SameContent r _ _ = ⊥
 
@@ -28,6 +31,19 @@ abbrev mutual
   AllRelated r no_trees no_trees = Unit {0}
   AllRelated r (tree_then t ts) (tree_then u us) = Related r t u × AllRelated r ts us
   AllRelated r _ _ = ⊥
+
+  pub RelatedFields : Renaming → Fields → Fields → Type 0
+  RelatedFields r no_fields no_fields = Unit {0}
+  RelatedFields r (field_then k t fs) (field_then j u hs) = (k ≡ j) × Related r t u × RelatedFields r fs hs
+  RelatedFields r _ _ = ⊥
+
+-- the same names, and related children
+abbrev pub SameNamed : {A : Type 0} → Renaming → A × Trees → A × Trees → Type 0
+SameNamed r x y = (x.0 ≡ y.0) × AllRelated r x.1 y.1
+
+-- what f makes of a value and g of a related one is related
+abbrev pub Respect : Renaming → (Tree → Tree) → (Tree → Tree) → Type 0
+Respect r f g = (x y : Tree) → Related r x y → Related r (f x) (g y)
 
 -- both are none, or both are there and related
 abbrev pub Alike : {A B : Type 0} → (A → B → Type 0) → Option A → Option B → Type 0
@@ -52,6 +68,11 @@ abbrev pub new_pairs : ℕ → ℕ → ℕ → Renaming
 new_pairs a b zero = []
 new_pairs a b (suc k) = (a, b) ∷ new_pairs (a + 1) (b + 1) k
 
+-- the pair of the cells that are made where values are moved into cells of their own; a holder stays as it is
+abbrev pub shared_pairs : List Cell → List Cell → Tree → Renaming
+shared_pairs s z (node (holder c) g m) = []
+shared_pairs s z t = new_pairs (length s) (length z) 1
+
 -- each cell number in a value is below n
 abbrev mutual
   pub Below : ℕ → Tree → Type 0
@@ -60,18 +81,29 @@ abbrev mutual
   pub ContentBelow : ℕ → Content → Type 0
   ContentBelow n (leaf l) = Unit {0}
   ContentBelow n (branch k ts) = AllBelow n ts
+  ContentBelow n (fields fs) = FieldsBelow n fs
   ContentBelow n (holder c) = c < n
 
   pub AllBelow : ℕ → Trees → Type 0
   AllBelow n no_trees = Unit {0}
   AllBelow n (tree_then t ts) = Below n t × AllBelow n ts
 
+  pub FieldsBelow : ℕ → Fields → Type 0
+  FieldsBelow n no_fields = Unit {0}
+  FieldsBelow n (field_then k t fs) = Below n t × FieldsBelow n fs
+
 abbrev pub CellBelow : ℕ → Cell → Type 0
 CellBelow n x = Below n x.content
 
--- two ends of the same kind, in paired cells or in none, with related values
+-- both are the value itself, or paired cells
+abbrev pub RelatedSite : Renaming → Site → Site → Type 0
+RelatedSite r Own Own = Unit {0}
+RelatedSite r (InCell c) (InCell d) = paired r c d ≡ true
+RelatedSite r _ _ = ⊥
+
+-- two ends of the same kind, at related sites, with related values
 abbrev pub SameEnd : Renaming → End → End → Type 0
-SameEnd r (held p t) (held q u) = Alike (λ c d. paired r c d ≡ true) p q × Related r t u
+SameEnd r (held p t) (held q u) = RelatedSite r p q × Related r t u
 SameEnd r (stuck t) (stuck u) = Related r t u
 SameEnd r closed closed = Unit {0}
 SameEnd r _ _ = ⊥

@@ -8,7 +8,7 @@ use Rattle.std.specs.Vec.{with_item}
 use Rattle.std.specs.declared.cmp.Ordering.{Ordering}
 use Rattle.std.specs.declared.alloc.Global.{Global}
 use Rattle.std.specs.declared.boxed.Box.{Box}
-use Rattle.rhai_value.specs.Tree.{Tree, Trees, no_trees, tree_then, fresh, unit, nodes_trees}
+use Rattle.rhai_value.specs.Tree.{Tree, Trees, no_trees, tree_then, Fields, no_fields, field_then, fresh, unit, nodes_fields}
 use Rattle.rhai_value.specs.declared.map.Slot.{Slot}
 use Rattle.rhai_value.specs.declared.map.Slot.TheVariants.{Free, Held}
 use Rattle.rhai_value.specs.declared.map.Parts.{Parts}
@@ -25,12 +25,10 @@ abbrev pub trees_of : List Tree → Trees
 trees_of [] = no_trees
 trees_of (t ∷ ts) = tree_then t (trees_of ts)
 
--- the keys of a map, as characters, and its values
-abbrev pub keys : Rows → List (List ℕ)
-keys rs = map (λ r. chars r.0) rs
-
-abbrev pub values : Rows → Trees
-values rs = trees_of (map (λ r. r.1) rs)
+-- the rows of a map, as fields
+abbrev pub fields_of : Rows → Fields
+fields_of [] = no_fields
+fields_of (r ∷ rs) = field_then (chars r.0) r.1 (fields_of rs)
 
 -- a key and the place of its value
 abbrev pub Place : Type 0
@@ -105,4 +103,4 @@ ArePlacedIn None = ⊤
 ArePlacedIn (Some p) = IsPlaced p.value
 
 abbrev pub map_size : Rows → ℕ
-map_size rs = 2 * nodes_trees (values rs) + 1
+map_size rs = 2 * nodes_fields (fields_of rs) + 1

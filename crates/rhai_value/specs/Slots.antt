@@ -5,8 +5,8 @@ use Rattle.std.proofs.lemmas.Bool.Decides.{nat_tests}
 use Rattle.std.specs.declared.alloc.Global.{Global}
 use Rattle.std.specs.declared.boxed.Box.{Box}
 use denote.Param.Weighed.{most}
-use Rattle.rhai_value.specs.Tree.{Tree, nodes, nodes_trees}
-use Rattle.rhai_value.specs.Rows.{Place, rows, rows_in, trees_of, values, tree_in, slot_at, is_place, is_held, map_size, ArePlaced, ArePlacedIn}
+use Rattle.rhai_value.specs.Tree.{Tree, nodes, nodes_trees, nodes_fields}
+use Rattle.rhai_value.specs.Rows.{Place, rows, rows_in, trees_of, fields_of, tree_in, slot_at, is_place, is_held, map_size, ArePlaced, ArePlacedIn}
 use Rattle.rhai_value.specs.declared.map.Slot.{Slot}
 use Rattle.rhai_value.specs.declared.map.Slot.TheVariants.{Free, Held}
 use Rattle.rhai_value.specs.declared.map.Parts.{Parts}
@@ -32,7 +32,7 @@ most_le f (x ∷ xs) n h =
     omega (arith, most_le f xs n (λ i. h (suc i)))
 
 -- a value that stands at a place has at most the nodes of all rows
-pub nodes_placed : (es : List Place) (ts : List Slot) (i : ℕ) → is_place i es ≡ true → nodes (tree_in (slot_at ts i)) ≤ nodes_trees (values (rows es ts))
+pub nodes_placed : (es : List Place) (ts : List Slot) (i : ℕ) → is_place i es ≡ true → nodes (tree_in (slot_at ts i)) ≤ nodes_fields (fields_of (rows es ts))
 nodes_placed [] ts i h = cc
 nodes_placed (e ∷ es) ts i h = elim (or_true _ _ h) [
   | inl here ↦ (let same : i ≡ e.1 = same_nat i e.1 here in rw same (omega arith))
@@ -45,7 +45,7 @@ slot_le n (Held t) h = omega (arith, h refl)
 
 most_placed : (es : List Place) (ts : List Slot) → ArePlaced es ts → most deep-Slot ts ≤ map_size (rows es ts)
 most_placed es ts placed = most_le deep-Slot ts (map_size (rows es ts)) (λ i.
-    let one = slot_le (nodes_trees (values (rows es ts))) (slot_at ts i) (λ held. nodes_placed es ts i (placed.others i held)) in
+    let one = slot_le (nodes_fields (fields_of (rows es ts))) (slot_at ts i) (λ held. nodes_placed es ts i (placed.others i held)) in
     omega (arith, one))
 
 -- no value of a map has more nodes than all rows have

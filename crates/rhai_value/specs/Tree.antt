@@ -14,11 +14,9 @@ pub data Leaf : Type 0 where
   blob : List ℕ → Leaf
   host : Host → Leaf
 
--- what a content is that holds other values, its children: an array of these items, a map with these keys, which rise and
--- stand each for one child, or a function of this name with these curried values
+-- what a content with children is: an array of these items, or a function of this name with these curried values
 pub data Kind : Type 0 where
   array : Kind
-  fields : List (List ℕ) → Kind
   function : List ℕ → Kind
 
 mutual
@@ -26,15 +24,21 @@ mutual
   pub data Tree : Type 0 where
     node : Content → ℤ → AccessMode → Tree
 
-  -- a leaf, children, or a holder of the cell of a number
+  -- a leaf, children, the fields of a map, or a holder of the cell of a number
   pub data Content : Type 0 where
     leaf : Leaf → Content
     branch : Kind → Trees → Content
+    fields : Fields → Content
     holder : ℕ → Content
 
   pub data Trees : Type 0 where
     no_trees : Trees
     tree_then : Tree → Trees → Trees
+
+  -- each key, as its characters, with its value
+  pub data Fields : Type 0 where
+    no_fields : Fields
+    field_then : List ℕ → Tree → Fields → Fields
 
 -- a value that is made anew: tag 0, ReadWrite
 abbrev pub made : Content → Tree
@@ -69,11 +73,16 @@ abbrev mutual
   pub copy_content : Content → Content
   copy_content (leaf l) = leaf l
   copy_content (branch k ts) = branch k (copy_trees ts)
+  copy_content (fields fs) = fields (copy_fields fs)
   copy_content (holder c) = holder c
 
   pub copy_trees : Trees → Trees
   copy_trees no_trees = no_trees
   copy_trees (tree_then t ts) = tree_then (copy t) (copy_trees ts)
+
+  pub copy_fields : Fields → Fields
+  copy_fields no_fields = no_fields
+  copy_fields (field_then k t fs) = field_then k (copy t) (copy_fields fs)
 
 -- the same with the mode m, through arrays and maps; not in curried values
 abbrev mutual
@@ -83,13 +92,17 @@ abbrev mutual
   pub paint_content : AccessMode → Content → Content
   paint_content m (leaf l) = leaf l
   paint_content m (branch array ts) = branch array (paint_trees m ts)
-  paint_content m (branch (fields ks) ts) = branch (fields ks) (paint_trees m ts)
   paint_content m (branch (function f) ts) = branch (function f) ts
+  paint_content m (fields fs) = fields (paint_fields m fs)
   paint_content m (holder c) = holder c
 
   pub paint_trees : AccessMode → Trees → Trees
   paint_trees m no_trees = no_trees
   paint_trees m (tree_then t ts) = tree_then (paint m t) (paint_trees m ts)
+
+  pub paint_fields : AccessMode → Fields → Fields
+  paint_fields m no_fields = no_fields
+  paint_fields m (field_then k t fs) = field_then k (paint m t) (paint_fields m fs)
 
 -- how many constructors a value has; a holder is one
 abbrev mutual
@@ -99,11 +112,16 @@ abbrev mutual
   pub nodes_content : Content → ℕ
   nodes_content (leaf l) = 0
   nodes_content (branch k ts) = nodes_trees ts
+  nodes_content (fields fs) = nodes_fields fs
   nodes_content (holder c) = 0
 
   pub nodes_trees : Trees → ℕ
   nodes_trees no_trees = 0
   nodes_trees (tree_then t ts) = nodes t + nodes_trees ts
+
+  pub nodes_fields : Fields → ℕ
+  nodes_fields no_fields = 0
+  nodes_fields (field_then k t fs) = nodes t + nodes_fields fs
 
 -- the same with the tag h
 abbrev pub with_tag : ℤ → Tree → Tree
@@ -124,4 +142,5 @@ abbrev pub TakesNoMemory : Tree → Type 0
 TakesNoMemory (node (leaf (text s)) g m) = ⊥
 TakesNoMemory (node (leaf (blob bs)) g m) = ⊥
 TakesNoMemory (node (branch k ts) g m) = ⊥
+TakesNoMemory (node (fields fs) g m) = ⊥
 TakesNoMemory _ = Unit {0}

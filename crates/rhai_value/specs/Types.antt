@@ -1,13 +1,13 @@
 -- The types of values, and their names.
-use Rattle.std.specs.Prelude.{ℕ, Bool, List, codes}
+use Rattle.std.specs.Prelude.{ℕ, Bool, true, false, List, Option, Some, None, codes, if◌then◌else◌}
 use denote.Enum.Bare.{sameb}
 use Rattle.rhai_value.specs.contracts.type_id.TypeId as type_id
 use Rattle.rhai_value.specs.declared.host.Host.{Host}
 use Rattle.rhai_value.specs.declared.host.Host.TheVariants as host_kind
 use Rattle.rhai_value.specs.declared.type_id.TypeId.{TypeId}
 use Rattle.rhai_value.specs.declared.type_id.TypeId.TheVariants as id
-use Rattle.rhai_value.specs.Tree.{Tree, node, Content, leaf, branch, holder, Leaf, unit, bool, int, char, text, blob, host, Kind, array, fields, function}
-use Rattle.rhai_value.specs.End.{End, held, stuck, closed}
+use Rattle.rhai_value.specs.Tree.{Tree, node, Content, content_of, leaf, branch, holder, Leaf, unit, bool, int, char, text, blob, host, Kind, array, fields, function}
+use Rattle.rhai_value.specs.End.{End, held_in}
 
 abbrev pub host_type : Host → TypeId
 host_type (host_kind.U8 n) = id.U8
@@ -33,22 +33,25 @@ leaf_type (host h) = host_type h
 
 abbrev pub kind_type : Kind → TypeId
 kind_type array = id.Array
-kind_type (fields ks) = id.Map
 kind_type (function f) = id.FnPtr
 
 abbrev pub content_type : Content → TypeId
 content_type (leaf l) = leaf_type l
 content_type (branch k ts) = kind_type k
+content_type (fields fs) = id.Map
 content_type (holder c) = id.Shared
 
 abbrev pub tree_type : Tree → TypeId
 tree_type (node c g m) = content_type c
 
+-- the type of what may be there: of nothing it is that of what can't be looked into
+abbrev pub type_of : Option Tree → TypeId
+type_of None = id.Shared
+type_of (Some t) = tree_type t
+
 -- the type that is held
 abbrev pub end_type : End → TypeId
-end_type (held place t) = tree_type t
-end_type (stuck t) = id.Shared
-end_type closed = id.Shared
+end_type e = type_of (held_in e)
 
 abbrev pub type_name : TypeId → List ℕ
 type_name id.Unit = codes "()"
@@ -82,3 +85,33 @@ is_type a b = sameb type_id.the_type a b
 -- the name of the type that is held
 abbrev pub end_name : End → List ℕ
 end_name e = type_name (end_type e)
+
+-- whether a type is that of a constructor: not that of a `String`, of any value, or of a holder
+abbrev pub is_content_type : TypeId → Bool
+is_content_type id.String = false
+is_content_type id.Dynamic = false
+is_content_type id.Shared = false
+is_content_type _ = true
+
+-- whether a type is one of the host's
+abbrev pub is_host_type : TypeId → Bool
+is_host_type id.U8 = true
+is_host_type id.U16 = true
+is_host_type id.U32 = true
+is_host_type id.U64 = true
+is_host_type id.U128 = true
+is_host_type id.I8 = true
+is_host_type id.I16 = true
+is_host_type id.I32 = true
+is_host_type id.I128 = true
+is_host_type id.ExclusiveRange = true
+is_host_type id.InclusiveRange = true
+is_host_type _ = false
+
+-- the content of a value that is of this type
+abbrev pub content_at : TypeId → Tree → Option Content
+content_at k t = if is_type k (tree_type t) then Some (content_of t) else None
+
+-- what is of this type of the host's
+abbrev pub host_at : TypeId → Host → Option Host
+host_at k h = if is_type k (host_type h) then Some h else None

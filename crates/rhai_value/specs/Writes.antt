@@ -1,11 +1,8 @@
 -- What is left behind when a part of a value was written through a reference.
-use Rattle.std.specs.Prelude.{ℕ, List, []}
+use Rattle.std.specs.Prelude.{[]}
 use mir.Syntax.{named}
 use denote.RattleType.{RattleType}
 use Rattle.std.specs.Borrow.{u8}
-use Rattle.std.specs.declared.alloc.Global.{Global}
-use Rattle.std.specs.declared.vec.Vec.{Vec}
-use Rattle.rhai_value.specs.Rows.{Rows}
 use Rattle.rhai_value.specs.Tree.{Tree}
 use Rattle.rhai_value.specs.End.{End, end, value_after, store_after}
 use Rattle.rhai_value.specs.First.{value_with_first, store_with_first}
@@ -15,25 +12,6 @@ use Rattle.std.specs.contracts.alloc.Global as global
 use Rattle.std.specs.contracts.vec.Vec as vec
 use Rattle.std.specs.contracts.impls.GlobalAllocator.TheImpl.{ghosts}
 use Rattle.rhai_value.specs.declared.in_store.InStore.{InStore}
-use Rattle.rhai_value.specs.declared.union.Union.{Union}
-use Rattle.rhai_value.specs.declared.union.Union.TheVariants.{Str, Blob, Array, Map}
-
--- the union with another content, where it is of that kind
-abbrev pub union_with_text : Union → List ℕ → Union
-union_with_text (Str g m s) t = Str g m t
-union_with_text u t = u
-
-abbrev pub union_with_blob : Union → Vec ℕ Global → Union
-union_with_blob (Blob g m v) w = Blob g m w
-union_with_blob u w = u
-
-abbrev pub union_with_array : Union → Vec Tree Global → Union
-union_with_array (Array g m v) w = Array g m w
-union_with_array u w = u
-
-abbrev pub union_with_map : Union → Rows → Union
-union_with_map (Map g m v) w = Map g m w
-union_with_map u w = u
 
 -- a value in its store, f being applied to what is held
 abbrev pub written_at : End → InStore → (Tree → Tree) → InStore

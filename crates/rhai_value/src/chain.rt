@@ -1,52 +1,86 @@
 //! Where a chain of holders ends.
 ghost use Rattle.std.specs.Prelude.{◌≡◌, [], option_copied};
-ghost use Rattle.rhai_value.specs.End.{end, held_in, place_of};
-ghost use Rattle.rhai_value.specs.Seen.{end_seen, place_seen};
+ghost use Rattle.rhai_value.specs.End.{end, held_in, site_of};
+ghost use Rattle.rhai_value.specs.Seen.{end_seen};
+ghost use Rattle.rhai_value.specs.Types.{end_type};
 
 use crate::dynamic::Dynamic;
 use crate::store::Store;
+use crate::type_id::TypeId;
 
-/// Where a chain ends, and there what is held, and in which cell it stands, if in one.
+/// Where a value stands that a chain leads to: it is the first of the chain itself, or in a cell. Contracts name it; no public
+/// call hands one out.
+#[derive(Copy, Clone)]
+pub enum Site {
+    /// The first value itself.
+    Own,
+    /// The cell of this number.
+    InCell(usize),
+}
+
+/// Where a chain ends, and there what is held, and where it stands.
 pub(crate) enum ChainEnd<'s> {
-    Held(Option<usize>, &'s Dynamic),
+    Held(Site, &'s Dynamic),
     Stuck(&'s Dynamic),
     Closed,
 }
 
-/// The place of a held value: the value itself, a cell, or none.
-pub(crate) enum Place {
-    Own,
-    Cell(usize),
-    None,
-}
-
 impl Dynamic {
     /// Where the held value stands.
-    pub(crate) fn held_place(&self, s: &Store) -> Place
-        ensures { place_seen result ≡ place_of (end s.now [] self.now) }
+    pub(crate) fn held_site(&self, s: &Store) -> Option<Site>
+        ensures { result ≡ site_of (end s.now [] self.now) }
     {
         match self.chain_end(s) {
-            ChainEnd::Held(None, _) => Place::Own,
-            ChainEnd::Held(Some(index), _) => Place::Cell(index),
-            ChainEnd::Stuck(_) | ChainEnd::Closed => Place::None,
+            ChainEnd::Held(site, _) => Some(site),
+            ChainEnd::Stuck(_) | ChainEnd::Closed => None,
         }
+    }
+
+    /// Where the held value stands, and the held type.
+    pub(crate) fn held_site_and_type(&self, s: &Store) -> (Option<Site>, TypeId)
+        ensures site { result.0 ≡ site_of (end s.now [] self.now) }
+        ensures kind { result.1 ≡ end_type (end s.now [] self.now) }
+    {
+        match self.chain_end(s) {
+            ChainEnd::Held(site, value) => (Some(site), value.own_type()),
+            ChainEnd::Stuck(_) | ChainEnd::Closed => (None, TypeId::Shared),
+        }
+    }
+
+    /// Where the chain ends. Most chains have one holder or none, and their end is found without an account of what was passed.
+    #[inline(always)]
+    #[tactic(auto, using(crate::proofs::Chains::end_alone, crate::proofs::Chains::end_near))]
+    pub(crate) fn chain_end<'s>(&'s self, s: &'s Store) -> ChainEnd<'s>
+        ensures { end_seen result ≡ end s.now [] self.now }
+    {
+        let Some(cell) = self.cell() else {
+            return ChainEnd::Held(Site::Own, self);
+        };
+        if let Some(content) = s.read(cell) {
+            let None = content.cell() else {
+                return self.long_chain_end(s);
+            };
+            return ChainEnd::Held(Site::InCell(cell.index), content);
+        }
+        self.long_chain_end(s)
     }
 
     /// Follows holders from cell to cell. Of the cells that were passed one is kept, and another after 1, 2, 4, 8 and so on steps,
     /// so that a chain which comes back to a cell soon comes back to the one that is kept (Brent's way). A chain of more holders
     /// than there are cells is closed in any case.
-    pub(crate) fn chain_end<'s>(&'s self, s: &'s Store) -> ChainEnd<'s>
+    #[inline(never)]
+    fn long_chain_end<'s>(&'s self, s: &'s Store) -> ChainEnd<'s>
         ensures { end_seen result ≡ end s.now [] self.now }
     {
         let mut at = self;
-        let mut place = None;
+        let mut site = Site::Own;
         let mut left = s.cells.len();
         let mut kept = None;
         let mut steps = 0usize;
         let mut turn = 1usize;
         loop {
             let Some(cell) = at.cell() else {
-                return ChainEnd::Held(place, at);
+                return ChainEnd::Held(site, at);
             };
             let Some(next) = s.read(cell) else {
                 return ChainEnd::Stuck(at);
@@ -65,7 +99,7 @@ impl Dynamic {
                 steps -= 1;
             }
             left -= 1;
-            place = Some(cell.index);
+            site = Site::InCell(cell.index);
             at = next;
         }
     }

@@ -11,7 +11,7 @@ impl Dynamic {
 
     /// The unit value.
     pub const UNIT: Dynamic = Dynamic {
-        union: Union::Unit(0, AccessMode::ReadWrite),
+        union: Union::Unit(0, AccessMode::ReadWrite, ()),
     };
 
     /// The boolean `true`.

@@ -38,14 +38,14 @@ fn copied(value: &Dynamic, alloc: Global) -> Result<Dynamic, AllocError>
 }
 
 #[cycle(copy)]
-#[tactic(auto, using(crate::proofs::Copies::copied_trees, crate::proofs::Copies::copied_keys, crate::proofs::Copies::copied_values))]
+#[tactic(auto, using(crate::proofs::Copies::copied_trees, crate::proofs::Copies::copied_fields))]
 fn copied_union(union: &Union, alloc: Global) -> Result<Union, AllocError>
     ensures value { IfOk result (λ u. tree_of u ≡ copy (tree_of union.now)) }
     ensures free { TakesNoMemory (tree_of union.now) → IsOk result }
 {
     let mode = AccessMode::ReadWrite;
     match union {
-        Union::Unit(tag, _) => Ok(Union::Unit(*tag, mode)),
+        Union::Unit(tag, _, value) => Ok(Union::Unit(*tag, mode, *value)),
         Union::Bool(tag, _, value) => Ok(Union::Bool(*tag, mode, *value)),
         Union::Str(tag, _, text) => Ok(Union::Str(*tag, mode, text.copy(alloc)?)),
         Union::Char(tag, _, value) => Ok(Union::Char(*tag, mode, *value)),
@@ -72,7 +72,7 @@ pub(crate) fn copied_items(items: &Vec<Dynamic>, alloc: Global) -> Result<Vec<Dy
 }
 
 #[cycle(copy)]
-fn copied_function(f: &FnPtr, alloc: Global) -> Result<FnPtr, AllocError>
+pub(crate) fn copied_function(f: &FnPtr, alloc: Global) -> Result<FnPtr, AllocError>
     ensures name { IfOk result (λ g. g.name ≡ f.now.name) }
     ensures curry { IfOk result (λ g. g.curry.items ≡ map copy f.now.curry.items) }
 {
@@ -82,7 +82,7 @@ fn copied_function(f: &FnPtr, alloc: Global) -> Result<FnPtr, AllocError>
 }
 
 #[cycle(copy)]
-fn copied_map(map: &Map, alloc: Global) -> Result<Map, AllocError>
+pub(crate) fn copied_map(map: &Map, alloc: Global) -> Result<Map, AllocError>
     ensures { IfOk result (λ m. m ≡ copied_rows map.now) }
 {
     match &map.parts {

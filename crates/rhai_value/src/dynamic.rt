@@ -45,7 +45,7 @@ impl Model for Dynamic {
 impl Dynamic {
     ghost use Rattle.std.specs.Prelude.{◌≡◌, IfOk};
     ghost use Rattle.std.specs.Str.{chars};
-    ghost use Rattle.rhai_value.specs.Rows.{trees_of, keys, values};
+    ghost use Rattle.rhai_value.specs.Rows.{trees_of, fields_of};
     ghost use Rattle.rhai_value.specs.Tree.{made, fresh, bool, int, char, text, blob, branch, array, fields};
 
     /// A boolean, with tag 0 and mode ReadWrite. (`Dynamic::from_bool`)
@@ -104,7 +104,7 @@ impl Dynamic {
     /// A map of these values, which keep their tags and modes; with tag 0 and mode ReadWrite. Takes no memory.
     /// (`Dynamic::from_map`)
     pub fn from_map(map: Map) -> Dynamic
-        ensures { result ≡ made (branch (fields (keys map)) (values map)) }
+        ensures { result ≡ made (fields (fields_of map)) }
     {
         Dynamic {
             union: Union::Map(0, AccessMode::ReadWrite, map),
@@ -153,7 +153,6 @@ impl Dynamic {
 /// Tag, mode, and what the value itself is.
 impl Dynamic {
     ghost use Rattle.std.specs.Prelude.{◌≡◌, option_map, is_some};
-    ghost use Rattle.rhai_value.specs.Parts.{int_of, with_int};
     ghost use Rattle.rhai_value.specs.Tree.{fresh, unit, tag_of, mode_of, cell_of, with_tag, is_host};
 
     /// The tag, which the host is free to use. (`Dynamic::tag`)
@@ -161,7 +160,7 @@ impl Dynamic {
         ensures { result ≡ tag_of self.now }
     {
         match &self.union {
-            Union::Unit(tag, _)
+            Union::Unit(tag, _, _)
             | Union::Bool(tag, _, _)
             | Union::Str(tag, _, _)
             | Union::Char(tag, _, _)
@@ -180,7 +179,7 @@ impl Dynamic {
         ensures { self.new ≡ with_tag tag self.old }
     {
         match &mut self.union {
-            Union::Unit(own, _) => *own = tag,
+            Union::Unit(own, _, _) => *own = tag,
             Union::Bool(own, _, _) => *own = tag,
             Union::Str(own, _, _) => *own = tag,
             Union::Char(own, _, _) => *own = tag,
@@ -199,7 +198,7 @@ impl Dynamic {
         ensures { result ≡ mode_of self.now }
     {
         match &self.union {
-            Union::Unit(_, mode)
+            Union::Unit(_, mode, _)
             | Union::Bool(_, mode, _)
             | Union::Str(_, mode, _)
             | Union::Char(_, mode, _)
@@ -242,20 +241,6 @@ impl Dynamic {
         match &self.union {
             Union::Shared(_, _, cell) => Some(*cell),
             _ => None,
-        }
-    }
-
-    /// Writes over the value's own int, and says whether there is one.
-    pub(crate) fn set_own_int(&mut self, value: INT) -> bool
-        ensures is_int { result ≡ is_some (int_of self.old) }
-        ensures after { self.new ≡ with_int value self.old }
-    {
-        match &mut self.union {
-            Union::Int(_, _, own) => {
-                *own = value;
-                true
-            }
-            _ => false,
         }
     }
 }

@@ -1,8 +1,8 @@
 //! Values without their holders.
-ghost use Rattle.std.specs.Prelude.{◌≡◌, IfOk, IfErr, IsOk, [], option_copied};
+ghost use Rattle.std.specs.Prelude.{◌≡◌, IfOk, IfErr, IsOk, None, [], option_copied};
 ghost use Rattle.rhai_value.specs.End.{end};
 ghost use Rattle.rhai_value.specs.Flat.{flat, flat_source, flattened, value_ahead};
-ghost use Rattle.rhai_value.specs.Tree.{TakesNoMemory};
+ghost use Rattle.rhai_value.specs.Tree.{TakesNoMemory, cell_of};
 
 use crate::chain::ChainEnd;
 use crate::dynamic::Dynamic;
@@ -28,6 +28,7 @@ impl Dynamic {
         ensures ok { IfOk result (λ d. d ≡ flattened s.now self) }
         ensures err { IfErr result (λ back. back ≡ self) }
         ensures free { TakesNoMemory (flattened s.now self) → IsOk result }
+        ensures unshared { cell_of self ≡ None → IsOk result }
     {
         let copied = match self.flat_source(s) {
             None => return Ok(self),

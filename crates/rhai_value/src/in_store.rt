@@ -1,23 +1,26 @@
-//! A value with the store whose cells its holders name, to write to what it holds.
+//! A value together with its store, both to write: the lender of references into what the value holds.
 ghost use Rattle.std.specs.Prelude.{◌≡◌, [], IfOk, IfErr, Some, None, option_map};
 ghost use Rattle.std.specs.Borrow.{sem, LendsIf, LendsIfOk};
 ghost use Rattle.rhai_text.specs.contracts.immutable_string.ImmutableString as text_type;
 ghost use Rattle.rhai_value.specs.contracts.dynamic.Dynamic as dynamic_type;
 ghost use Rattle.rhai_value.specs.contracts.map.Map as map_type;
-ghost use Rattle.rhai_value.specs.End.{end, held_in, text_held, blob_held, array_held, map_held};
-ghost use Rattle.rhai_value.specs.Parts.{with_text, with_blob, with_array, with_map};
-ghost use Rattle.rhai_value.specs.Rows.{trees_of, keys, values};
+ghost use Rattle.rhai_value.specs.End.{end, held_in, held_part, site_of};
+ghost use Rattle.rhai_value.specs.First.{first};
+ghost use Rattle.rhai_value.specs.Parts.{text_of, blob_of, array_of, map_of, with_content};
+ghost use Rattle.rhai_value.specs.Rows.{trees_of, fields_of};
+ghost use Rattle.rhai_value.specs.Tree.{leaf, branch, text, blob, array, fields};
 ghost use Rattle.rhai_value.specs.Types.{end_name};
-ghost use Rattle.rhai_value.specs.Writes.{written, in_store_row, array_row, blob_row};
+ghost use Rattle.rhai_value.specs.Writes.{written, first_written, in_store_row, array_row, blob_row};
 
-use crate::chain::Place;
+use crate::chain::Site;
 use crate::dynamic::Dynamic;
 use crate::map::Map;
 use crate::store::Store;
 use crate::union::{Array, Blob};
 use rhai_text::ImmutableString;
 
-/// A value and its store, both to write.
+/// A value and its store, both to write. A reference that may come from the one or from the other is lent from the pair, so that
+/// its contract can say what both are once it was written.
 #[derive(Drop)]
 pub struct InStore<'a> {
     /// The value.
@@ -27,11 +30,16 @@ pub struct InStore<'a> {
 }
 
 impl<'a> InStore<'a> {
-    /// The name of the held type.
-    fn type_name(&self) -> &'static str
-        ensures { result.now ≡ end_name (end self.now.store.now [] self.now.value.now) }
+    /// The value itself, or what the cell of a holder has, to write; `None` where that cell is marked or no cell of the store.
+    /// Takes no memory.
+    pub fn whole_mut(&mut self) -> Option<&mut Dynamic>
+        ensures* writes_back { sem 𝓛 (LendsIf in_store_row dynamic_type.the_row self.entry result (first_written self.old) self.old) }
+        ensures value { option_map (λ d. d.now) result ≡ first self.old.store.now self.old.value.now }
     {
-        self.value.type_name(self.store)
+        match self.value.first_site(self.store)? {
+            Site::Own => Some(&mut *self.value),
+            Site::InCell(index) => Some(self.store.content_mut(index)),
+        }
     }
 
     /// The held value, to write; `None` where the chain is stuck or closed. Takes no memory.
@@ -39,86 +47,62 @@ impl<'a> InStore<'a> {
         ensures* writes_back { sem 𝓛 (LendsIf in_store_row dynamic_type.the_row self.entry result (λ w. written self.old (λ _. w)) self.old) }
         ensures value { option_map (λ d. d.now) result ≡ held_in (end self.old.store.now [] self.old.value.now) }
     {
-        match self.value.held_place(self.store) {
-            Place::Own => Some(&mut *self.value),
-            Place::Cell(index) => Some(self.store.content_mut(index)),
-            Place::None => None,
+        let site = self.value.held_site(self.store);
+        self.held_at_mut(site)
+    }
+
+    /// The same, where the held value stands being known.
+    pub(crate) fn held_at_mut(&mut self, site: Option<Site>) -> Option<&mut Dynamic>
+        requires { site ≡ site_of (end self.old.store.now [] self.old.value.now) }
+        ensures* writes_back { sem 𝓛 (LendsIf in_store_row dynamic_type.the_row self.entry result (λ w. written self.old (λ _. w)) self.old) }
+        ensures value { option_map (λ d. d.now) result ≡ held_in (end self.old.store.now [] self.old.value.now) }
+    {
+        match site? {
+            Site::Own => Some(&mut *self.value),
+            Site::InCell(index) => Some(self.store.content_mut(index)),
         }
     }
+}
 
-    /// The held text, to write, or the name of the held type. Takes no memory.
+/// The held content of one kind, to write, or the name of the held type. Each takes no memory.
+impl<'a> InStore<'a> {
+    /// The held text.
     pub fn immutable_string_mut(&mut self) -> Result<&mut ImmutableString, &'static str>
-        ensures* writes_back { sem 𝓛 (LendsIfOk in_store_row text_type.the_row self.entry result (λ w. written self.old (with_text w)) self.old) }
-        ensures ok { IfOk result (λ v. text_held (end self.old.store.now [] self.old.value.now) ≡ Some v.now) }
-        ensures err { IfErr result (λ name. (text_held (end self.old.store.now [] self.old.value.now) ≡ None)
+        ensures* writes_back { sem 𝓛 (LendsIfOk in_store_row text_type.the_row self.entry result (λ w. written self.old (with_content (leaf (text w)))) self.old) }
+        ensures ok { IfOk result (λ v. held_part text_of (end self.old.store.now [] self.old.value.now) ≡ Some v.now) }
+        ensures err { IfErr result (λ name. (held_part text_of (end self.old.store.now [] self.old.value.now) ≡ None)
             × (name.now ≡ end_name (end self.old.store.now [] self.old.value.now))) }
     {
-        let Ok(_) = self.value.as_immutable_string_ref(self.store) else {
-            return Err(self.type_name());
-        };
-        let Some(held) = self.held_mut() else {
-            unreachable!();
-        };
-        let Some(value) = held.own_text_mut() else {
-            unreachable!();
-        };
-        Ok(value)
+        Ok(self.part_mut::<ImmutableString>()?)
     }
 
-    /// The held array, to write, or the name of the held type. Takes no memory.
+    /// The held array.
     pub fn array_mut(&mut self) -> Result<&mut Array, &'static str>
-        ensures* writes_back { sem 𝓛 (LendsIfOk in_store_row array_row self.entry result (λ w. written self.old (with_array (trees_of w.items))) self.old) }
-        ensures ok { IfOk result (λ v. array_held (end self.old.store.now [] self.old.value.now) ≡ Some (trees_of v.now.items)) }
-        ensures err { IfErr result (λ name. (array_held (end self.old.store.now [] self.old.value.now) ≡ None)
+        ensures* writes_back { sem 𝓛 (LendsIfOk in_store_row array_row self.entry result (λ w. written self.old (with_content (branch array (trees_of w.items)))) self.old) }
+        ensures ok { IfOk result (λ v. held_part array_of (end self.old.store.now [] self.old.value.now) ≡ Some (trees_of v.now.items)) }
+        ensures err { IfErr result (λ name. (held_part array_of (end self.old.store.now [] self.old.value.now) ≡ None)
             × (name.now ≡ end_name (end self.old.store.now [] self.old.value.now))) }
     {
-        let Ok(_) = self.value.as_array_ref(self.store) else {
-            return Err(self.type_name());
-        };
-        let Some(held) = self.held_mut() else {
-            unreachable!();
-        };
-        let Some(value) = held.own_array_mut() else {
-            unreachable!();
-        };
-        Ok(value)
+        Ok(self.part_mut::<Array>()?)
     }
 
-    /// The held blob, to write, or the name of the held type. Takes no memory.
+    /// The held blob.
     pub fn blob_mut(&mut self) -> Result<&mut Blob, &'static str>
-        ensures* writes_back { sem 𝓛 (LendsIfOk in_store_row blob_row self.entry result (λ w. written self.old (with_blob w.items)) self.old) }
-        ensures ok { IfOk result (λ v. blob_held (end self.old.store.now [] self.old.value.now) ≡ Some v.now.items) }
-        ensures err { IfErr result (λ name. (blob_held (end self.old.store.now [] self.old.value.now) ≡ None)
+        ensures* writes_back { sem 𝓛 (LendsIfOk in_store_row blob_row self.entry result (λ w. written self.old (with_content (leaf (blob w.items)))) self.old) }
+        ensures ok { IfOk result (λ v. held_part blob_of (end self.old.store.now [] self.old.value.now) ≡ Some v.now.items) }
+        ensures err { IfErr result (λ name. (held_part blob_of (end self.old.store.now [] self.old.value.now) ≡ None)
             × (name.now ≡ end_name (end self.old.store.now [] self.old.value.now))) }
     {
-        let Ok(_) = self.value.as_blob_ref(self.store) else {
-            return Err(self.type_name());
-        };
-        let Some(held) = self.held_mut() else {
-            unreachable!();
-        };
-        let Some(value) = held.own_blob_mut() else {
-            unreachable!();
-        };
-        Ok(value)
+        Ok(self.part_mut::<Blob>()?)
     }
 
-    /// The held map, to write, or the name of the held type. Takes no memory.
+    /// The held map.
     pub fn map_mut(&mut self) -> Result<&mut Map, &'static str>
-        ensures* writes_back { sem 𝓛 (LendsIfOk in_store_row map_type.the_row self.entry result (λ w. written self.old (with_map (keys w) (values w))) self.old) }
-        ensures ok { IfOk result (λ v. map_held (end self.old.store.now [] self.old.value.now) ≡ Some (keys v.now, values v.now)) }
-        ensures err { IfErr result (λ name. (map_held (end self.old.store.now [] self.old.value.now) ≡ None)
+        ensures* writes_back { sem 𝓛 (LendsIfOk in_store_row map_type.the_row self.entry result (λ w. written self.old (with_content (fields (fields_of w)))) self.old) }
+        ensures ok { IfOk result (λ v. held_part map_of (end self.old.store.now [] self.old.value.now) ≡ Some (fields_of v.now)) }
+        ensures err { IfErr result (λ name. (held_part map_of (end self.old.store.now [] self.old.value.now) ≡ None)
             × (name.now ≡ end_name (end self.old.store.now [] self.old.value.now))) }
     {
-        let Ok(_) = self.value.as_map_ref(self.store) else {
-            return Err(self.type_name());
-        };
-        let Some(held) = self.held_mut() else {
-            unreachable!();
-        };
-        let Some(value) = held.own_map_mut() else {
-            unreachable!();
-        };
-        Ok(value)
+        Ok(self.part_mut::<Map>()?)
     }
 }

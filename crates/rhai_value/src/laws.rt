@@ -1,19 +1,21 @@
 //! Laws of the definitions: each is the contract of a function that does nothing.
-ghost use Rattle.std.specs.Prelude.{◌≡◌, ◌∷◌, [], ◌++◌, ℕ, Bool, true, false, List, length, Some, None, is_some, slice_get};
+ghost use Rattle.std.specs.Prelude.{◌≡◌, ◌↔◌, ◌∷◌, [], ◌++◌, ℕ, ℤ, Bool, true, false, List, length, Some, None, is_some, slice_get};
 ghost use Rattle.rhai_value.specs.declared.access_mode.AccessMode.{AccessMode};
 ghost use Rattle.rhai_value.specs.declared.store.Cell.{Cell};
-ghost use Rattle.rhai_value.specs.Parts.{with_leaf};
-ghost use Rattle.rhai_value.specs.Tree.{Tree, Leaf, cell_of, copy, paint};
+ghost use Rattle.rhai_value.specs.declared.type_id.TypeId.{TypeId};
+ghost use Rattle.rhai_value.specs.Parts.{unit_of, bool_of, int_of, char_of, text_of, blob_of, host_of, array_of, map_of, function_of, with_content, with_int};
+ghost use Rattle.rhai_value.specs.Tree.{Tree, Content, cell_of, tag_of, mode_of, copy, paint, with_tag};
 ghost use Rattle.rhai_value.specs.Copied.{SameButModes, IsWritable};
 ghost use Rattle.rhai_value.specs.Store.{at, put, added, is_marked_at};
-ghost use Rattle.rhai_value.specs.First.{first, store_with_first};
+ghost use Rattle.rhai_value.specs.First.{first, value_with_first, store_with_first};
 ghost use Rattle.rhai_value.specs.Locked.{is_locked};
-ghost use Rattle.rhai_value.specs.Marks.{set_mark};
+ghost use Rattle.rhai_value.specs.Marks.{set_mark, first_cell, held_cell};
 ghost use Rattle.rhai_value.specs.Flat.{flat, flattened};
+ghost use Rattle.rhai_value.specs.Share.{shared_value, shared_store};
 ghost use Rattle.rhai_value.specs.Walk.{visit, visit_map};
-ghost use Rattle.rhai_value.specs.End.{End, end_of, end, unit_held, bool_held, int_held, char_held, text_held, blob_held, value_after, store_after};
-ghost use Rattle.rhai_value.specs.Types.{end_type};
-ghost use Rattle.rhai_value.specs.Relation.{Renaming, paired, Related, Alike, IsOneToOne, SameCells, SameEnd};
+ghost use Rattle.rhai_value.specs.End.{End, end_of, end, held_part, value_after, store_after};
+ghost use Rattle.rhai_value.specs.Types.{end_type, is_type};
+ghost use Rattle.rhai_value.specs.Relation.{Renaming, paired, Related, SameContent, AllRelated, RelatedFields, SameNamed, Alike, Respect, IsOneToOne, SameCells, SameEnd, shared_pairs};
 
 /// Where a chain ends, by its parts: a value that is no holder is held, a holder is stuck, closes, or leads on to its cell's content.
 /// No length of the store is in it.
@@ -59,23 +61,67 @@ pub fn added_is_renamed()
         → SameCells (r ++ (length s, length z) ∷ []) (added s t) (added z u) }
 {}
 
-/// Ends that are alike have the same type, and the same unit, boolean, int, character, text and bytes.
-pub fn held_parts_are_renamed()
-    ensures int { (r : Renaming) (e f : End) → SameEnd r e f → int_held e ≡ int_held f }
-    ensures character { (r : Renaming) (e f : End) → SameEnd r e f → char_held e ≡ char_held f }
-    ensures text { (r : Renaming) (e f : End) → SameEnd r e f → text_held e ≡ text_held f }
-    ensures held_type { (r : Renaming) (e f : End) → SameEnd r e f → end_type e ≡ end_type f }
-    ensures unit { (r : Renaming) (e f : End) → SameEnd r e f → unit_held e ≡ unit_held f }
-    ensures boolean { (r : Renaming) (e f : End) → SameEnd r e f → bool_held e ≡ bool_held f }
-    ensures bytes { (r : Renaming) (e f : End) → SameEnd r e f → blob_held e ≡ blob_held f }
+/// Related values stay related where more pairs join the renaming.
+pub fn more_pairs_relate()
+    ensures { (r q : Renaming) (t u : Tree) → Related r t u → Related (r ++ q) t u }
 {}
 
-/// What a write leaves where chains end alike stays the same up to the renaming: the values, and the stores.
+/// What moves related values into cells leaves related values and the same stores, up to the renaming with the pair of the new
+/// cells, if there are any.
+pub fn sharing_is_renamed()
+    ensures one { (r : Renaming) (s z : List Cell) (t : Tree) → IsOneToOne r → SameCells r s z → IsOneToOne (r ++ shared_pairs s z t) }
+    ensures value { (r : Renaming) (s z : List Cell) (t u : Tree) → Related r t u
+        → Related (r ++ shared_pairs s z t) (shared_value s t) (shared_value z u) }
+    ensures store { (r : Renaming) (s z : List Cell) (t u : Tree) → SameCells r s z → Related r t u
+        → SameCells (r ++ shared_pairs s z t) (shared_store s t) (shared_store z u) }
+{}
+
+/// Related values have the same tag and mode, and stay related with another tag, and with related contents.
+pub fn parts_are_renamed()
+    ensures tag { (r : Renaming) (t u : Tree) → Related r t u → tag_of t ≡ tag_of u }
+    ensures mode { (r : Renaming) (t u : Tree) → Related r t u → mode_of t ≡ mode_of u }
+    ensures with_tag { (r : Renaming) (h : ℤ) → Respect r (with_tag h) (with_tag h) }
+    ensures with_content { (r : Renaming) (c d : Content) → SameContent r c d → Respect r (with_content c) (with_content d) }
+    ensures with_int { (r : Renaming) (n : ℤ) → Respect r (with_int n) (with_int n) }
+{}
+
+/// Ends that are alike have the same type, the same unit, boolean, int, character, text, bytes and value of the host's, and related
+/// items, fields and curried values.
+pub fn held_parts_are_renamed()
+    ensures held_type { (r : Renaming) (e f : End) → SameEnd r e f → end_type e ≡ end_type f }
+    ensures unit { (r : Renaming) (e f : End) → SameEnd r e f → held_part unit_of e ≡ held_part unit_of f }
+    ensures boolean { (r : Renaming) (e f : End) → SameEnd r e f → held_part bool_of e ≡ held_part bool_of f }
+    ensures int { (r : Renaming) (e f : End) → SameEnd r e f → held_part int_of e ≡ held_part int_of f }
+    ensures character { (r : Renaming) (e f : End) → SameEnd r e f → held_part char_of e ≡ held_part char_of f }
+    ensures text { (r : Renaming) (e f : End) → SameEnd r e f → held_part text_of e ≡ held_part text_of f }
+    ensures bytes { (r : Renaming) (e f : End) → SameEnd r e f → held_part blob_of e ≡ held_part blob_of f }
+    ensures host { (r : Renaming) (e f : End) → SameEnd r e f → held_part host_of e ≡ held_part host_of f }
+    ensures items { (r : Renaming) (e f : End) → SameEnd r e f → Alike (AllRelated r) (held_part array_of e) (held_part array_of f) }
+    ensures fields { (r : Renaming) (e f : End) → SameEnd r e f → Alike (RelatedFields r) (held_part map_of e) (held_part map_of f) }
+    ensures function { (r : Renaming) (e f : End) → SameEnd r e f → Alike (SameNamed r) (held_part function_of e) (held_part function_of f) }
+{}
+
+/// What writes where chains end alike leave stays the same up to the renaming, the values and the stores, whatever takes related
+/// values to related ones.
 pub fn writes_are_renamed()
-    ensures value { (r : Renaming) (f : Leaf → Leaf) (t u : Tree) (e o : End) → Related r t u → SameEnd r e o
-        → Related r (value_after (with_leaf f) e t) (value_after (with_leaf f) o u) }
-    ensures store { (r : Renaming) (f : Leaf → Leaf) (s z : List Cell) (e o : End) → IsOneToOne r → SameCells r s z → SameEnd r e o
-        → SameCells r (store_after (with_leaf f) e s) (store_after (with_leaf f) o z) }
+    ensures value { (r : Renaming) (f g : Tree → Tree) (t u : Tree) (e o : End) → Respect r f g → Related r t u → SameEnd r e o
+        → Related r (value_after f e t) (value_after g o u) }
+    ensures store { (r : Renaming) (f g : Tree → Tree) (s z : List Cell) (e o : End) → Respect r f g → IsOneToOne r → SameCells r s z → SameEnd r e o
+        → SameCells r (store_after f e s) (store_after g o z) }
+{}
+
+/// The same of writes over first contents.
+pub fn first_writes_are_renamed()
+    ensures value { (r : Renaming) (v w t u : Tree) → Related r v w → Related r t u → Related r (value_with_first v t) (value_with_first w u) }
+    ensures store { (r : Renaming) (s z : List Cell) (v w t u : Tree) → IsOneToOne r → SameCells r s z → Related r v w → Related r t u
+        → SameCells r (store_with_first v s t) (store_with_first w z u) }
+{}
+
+/// The cells in which first contents and held values of related values stand are paired, or there are none.
+pub fn sites_are_renamed()
+    ensures first { (r : Renaming) (s z : List Cell) (t u : Tree) → SameCells r s z → Related r t u
+        → Alike (λ c d. paired r c d ≡ true) (first_cell s t) (first_cell z u) }
+    ensures held { (r : Renaming) (e f : End) → SameEnd r e f → Alike (λ c d. paired r c d ≡ true) (held_cell e) (held_cell f) }
 {}
 
 /// First contents of related values are related, or neither has one.
@@ -111,9 +157,10 @@ pub fn write_is_seen_by_all_holders()
         → slice_get (store_with_first w s t) c ≡ slice_get s c }
 {}
 
-/// A mark that is set on a cell and cleared leaves the store as it was.
+/// A mark that is set on a cell and cleared leaves the store as it was, or with what was written while it was marked.
 pub fn mark_is_cleared()
-    ensures { (s : List Cell) (c : ℕ) (v : Tree) → at s c ≡ Some v → set_mark (set_mark s c true) c false ≡ s }
+    ensures alone { (s : List Cell) (c : ℕ) (v : Tree) → at s c ≡ Some v → set_mark (set_mark s c true) c false ≡ s }
+    ensures written { (s : List Cell) (c : ℕ) (v w : Tree) → at s c ≡ Some v → set_mark (put (set_mark s c true) c w) c false ≡ put s c w }
 {}
 
 /// No holder of a marked cell has a first content.
@@ -121,8 +168,16 @@ pub fn mark_closes_the_cell()
     ensures { (s : List Cell) (t : Tree) (c : ℕ) → cell_of t ≡ Some c → first (set_mark s c true) t ≡ None }
 {}
 
-/// Marks stay where a content is written, and where the mark of another cell is set or cleared.
+/// Marks stay where a value is written or moved into a cell, and where the mark of another cell is set or cleared.
 pub fn marks_stay()
     ensures written { (s : List Cell) (c d : ℕ) (t : Tree) → is_marked_at (put s c t) d ≡ is_marked_at s d }
+    ensures at_end { (s : List Cell) (f : Tree → Tree) (e : End) (d : ℕ) → is_marked_at (store_after f e s) d ≡ is_marked_at s d }
+    ensures over_first { (s : List Cell) (t w : Tree) (d : ℕ) → is_marked_at (store_with_first w s t) d ≡ is_marked_at s d }
+    ensures shared { (s : List Cell) (t : Tree) (d : ℕ) → is_marked_at (shared_store s t) d ≡ is_marked_at s d }
     ensures others { (s : List Cell) (c d : ℕ) (b : Bool) → (d ≡ c → ⊥) → is_marked_at (set_mark s c b) d ≡ is_marked_at s d }
+{}
+
+/// The comparison of types is equality.
+pub fn types_compare_as_equal()
+    ensures { (a b : TypeId) → (is_type a b ≡ true) ↔ (a ≡ b) }
 {}

@@ -1,8 +1,8 @@
 //! Values that hold a locked cell.
 ghost use Rattle.std.specs.Prelude.{◌≡◌};
 ghost use Rattle.rhai_value.specs.Held.{AreHeld};
-ghost use Rattle.rhai_value.specs.Locked.{is_locked, is_one_locked};
-ghost use Rattle.rhai_value.specs.Rows.{rows, trees_of, values};
+ghost use Rattle.rhai_value.specs.Locked.{is_locked, is_one_locked, is_field_locked};
+ghost use Rattle.rhai_value.specs.Rows.{rows, trees_of, fields_of};
 
 use crate::dynamic::Dynamic;
 use crate::map::{Map, Parts, Slot};
@@ -48,7 +48,7 @@ fn locks_items(items: &Vec<Dynamic>, s: &Store) -> bool
 
 #[cycle(locks)]
 fn locks_map(map: &Map, s: &Store) -> bool
-    ensures { result ≡ is_one_locked s.now (values map.now) }
+    ensures { result ≡ is_field_locked s.now (fields_of map.now) }
 {
     match &map.parts {
         None => false,
@@ -62,7 +62,7 @@ fn locks_map(map: &Map, s: &Store) -> bool
 #[cycle(locks)]
 fn locks_places(places: &BTreeMap<String, usize>, slots: &Vec<Slot>, s: &Store) -> bool
     requires { AreHeld places.now.entries slots.now.items }
-    ensures { result ≡ is_one_locked s.now (values (rows places.now.entries slots.now.items)) }
+    ensures { result ≡ is_field_locked s.now (fields_of (rows places.now.entries slots.now.items)) }
 {
     for (_, place) in places.iter() {
         if locks(value_at(slots, *place), s) {

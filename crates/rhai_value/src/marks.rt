@@ -4,11 +4,10 @@ ghost use Rattle.std.specs.Borrow.{Lends, sem};
 ghost use Rattle.rhai_value.specs.contracts.dynamic.Dynamic as dynamic_type;
 ghost use Rattle.rhai_value.specs.contracts.store.Store as store_type;
 ghost use Rattle.rhai_value.specs.End.{end};
-ghost use Rattle.rhai_value.specs.Marks.{set_mark, marked_with, content_at, first_cell, held_cell, cell_of_place, IsWithin};
-ghost use Rattle.rhai_value.specs.Seen.{place_seen};
+ghost use Rattle.rhai_value.specs.Marks.{set_mark, marked_with, content_at, first_cell, held_cell, site_cell, IsWithin};
 ghost use Rattle.rhai_value.specs.Store.{put, is_marked_at};
 
-use crate::chain::Place;
+use crate::chain::Site;
 use crate::dynamic::Dynamic;
 use crate::store::Store;
 use std::marker::Model;
@@ -35,7 +34,7 @@ impl Store {
         ensures after { self.new ≡ marked_with (first_cell self.old d.now) self.old }
         ensures marked { IfSome result (λ t. is_marked_at self.new t ≡ true) }
     {
-        self.mark_place(d.first_place(self))
+        self.mark_at(d.first_site(self))
     }
 
     /// Marks the cell in which the held value of a holder stands; `None`, with nothing changed, for a value that is no holder and
@@ -45,22 +44,21 @@ impl Store {
         ensures after { self.new ≡ marked_with (held_cell (end self.old [] d.now)) self.old }
         ensures marked { IfSome result (λ t. is_marked_at self.new t ≡ true) }
     {
-        self.mark_place(d.held_place(self))
+        self.mark_at(d.held_site(self))
     }
 
-    fn mark_place(&mut self, place: Place) -> Option<WriteToken>
-        requires { IsWithin self.old (place_seen place) }
-        ensures which { result ≡ cell_of_place (place_seen place) }
-        ensures after { self.new ≡ marked_with (cell_of_place (place_seen place)) self.old }
+    fn mark_at(&mut self, site: Option<Site>) -> Option<WriteToken>
+        requires { IsWithin self.old site }
+        ensures which { result ≡ site_cell site }
+        ensures after { self.new ≡ marked_with (site_cell site) self.old }
         ensures marked { IfSome result (λ t. is_marked_at self.new t ≡ true) }
     {
-        match place {
-            Place::Cell(cell) => {
+        match site? {
+            Site::Own => None,
+            Site::InCell(cell) => {
                 self.set_mark(cell, true);
                 Some(WriteToken { cell })
             }
-            Place::Own => None,
-            Place::None => None,
         }
     }
 

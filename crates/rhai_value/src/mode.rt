@@ -1,7 +1,7 @@
 //! Setting the mode of a value and of what it holds.
 ghost use Rattle.std.specs.Prelude.{◌≡◌, map};
-ghost use Rattle.rhai_value.specs.Tree.{paint, paint_trees};
-ghost use Rattle.rhai_value.specs.Rows.{keys, values};
+ghost use Rattle.rhai_value.specs.Tree.{paint, paint_fields};
+ghost use Rattle.rhai_value.specs.Rows.{fields_of};
 ghost use Rattle.rhai_value.specs.Painted.{with_mode, painted_slot};
 ghost use Rattle.rhai_value.specs.declared.access_mode.AccessMode.TheVariants.{ReadOnly};
 
@@ -34,7 +34,7 @@ fn set_own_mode(value: &mut Dynamic, mode: AccessMode)
     ensures { value.new ≡ with_mode mode value.old }
 {
     match &mut value.union {
-        Union::Unit(_, own) => *own = mode,
+        Union::Unit(_, own, _) => *own = mode,
         Union::Bool(_, own, _) => *own = mode,
         Union::Str(_, own, _) => *own = mode,
         Union::Char(_, own, _) => *own = mode,
@@ -72,8 +72,7 @@ fn paint_items(items: &mut Vec<Dynamic>, mode: AccessMode)
 
 #[cycle(paint)]
 fn paint_map(map: &mut Map, mode: AccessMode)
-    ensures same { keys map.new ≡ keys map.old }
-    ensures painted { values map.new ≡ paint_trees mode (values map.old) }
+    ensures { fields_of map.new ≡ paint_fields mode (fields_of map.old) }
 {
     let Some(mut parts) = map.parts.take() else {
         return;

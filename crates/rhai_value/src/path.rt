@@ -1,5 +1,5 @@
 //! The cells that are open on a walk.
-ghost use Rattle.std.specs.Prelude.{◌≡◌, ◌<◌, ◌∷◌, [], length, drop, IfOk, IfSome, IfNone, OnErr, option_copied};
+ghost use Rattle.std.specs.Prelude.{◌≡◌, ◌<◌, ◌∷◌, [], length, drop, IfOk, IfSome, IfNone, IsOk, None, OnErr, option_copied};
 ghost use Rattle.rhai_value.specs.Walk.{entry};
 ghost use Rattle.rhai_value.specs.Tree.{cell_of};
 
@@ -50,6 +50,7 @@ impl Path {
             (λ c. self.new ≡ c ∷ self.old))) }
         ensures stays { IfOk result (λ o. IfNone o (self.new ≡ self.old)) }
         ensures err { OnErr result (self.new ≡ self.old) }
+        ensures free { cell_of value.now ≡ None → IsOk result }
     {
         let Some(cell) = value.cell() else {
             return Ok(None);

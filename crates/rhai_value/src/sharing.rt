@@ -1,6 +1,7 @@
 //! Values in cells.
-ghost use Rattle.std.specs.Prelude.{◌≡◌, IfOk, IfErr};
+ghost use Rattle.std.specs.Prelude.{◌≡◌, true, IfOk, IfErr, IsOk, is_some};
 ghost use Rattle.rhai_value.specs.Share.{shared_value, shared_store};
+ghost use Rattle.rhai_value.specs.Tree.{cell_of};
 
 use crate::dynamic::Dynamic;
 use crate::store::Store;
@@ -13,6 +14,7 @@ impl Dynamic {
         ensures ok { IfOk result (λ d. (d ≡ shared_value m.old self)
             × (m.new ≡ shared_store m.old self)) }
         ensures err { IfErr result (λ d. (d ≡ self) × (m.new ≡ m.old)) }
+        ensures free { is_some (cell_of self) ≡ true → IsOk result }
     {
         if self.is_shared() {
             return Ok(self);

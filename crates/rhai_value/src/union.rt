@@ -25,7 +25,7 @@ pub type Blob = Vec<u8>;
 #[derive(Drop)]
 pub enum Union {
     /// The unit value.
-    Unit(Tag, AccessMode),
+    Unit(Tag, AccessMode, ()),
     /// A boolean.
     Bool(Tag, AccessMode, bool),
     /// A text.

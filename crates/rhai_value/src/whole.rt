@@ -1,17 +1,12 @@
 //! The first content of a value: the value itself, or what the cell of a holder has.
 ghost use Rattle.std.specs.Prelude.{◌≡◌, [], option_map, option_copied, IfSome, None};
-ghost use Rattle.std.specs.Borrow.{sem, LendsIf};
-ghost use Rattle.rhai_value.specs.contracts.dynamic.Dynamic as dynamic_type;
-ghost use Rattle.rhai_value.specs.End.{end, held_in};
-ghost use Rattle.rhai_value.specs.First.{first, first_place, constant_in};
-ghost use Rattle.rhai_value.specs.Seen.{place_seen};
+ghost use Rattle.rhai_value.specs.End.{end, held_in, site_of};
+ghost use Rattle.rhai_value.specs.First.{first, first_site, constant_in};
 ghost use Rattle.rhai_value.specs.Tree.{cell_of, is_constant, mode_of};
-ghost use Rattle.rhai_value.specs.Writes.{first_written, in_store_row};
 
 use crate::access_mode::AccessMode;
-use crate::chain::Place;
+use crate::chain::Site;
 use crate::dynamic::Dynamic;
-use crate::in_store::InStore;
 use crate::store::Store;
 
 impl Dynamic {
@@ -34,10 +29,9 @@ impl Dynamic {
         ensures value { option_map (λ d. d.now) result ≡ first m.old self.old }
         ensures own { IfSome result (λ d. cell_of self.old ≡ None → d.ghost_name ≡ self.entry.ghost_name) }
     {
-        match self.first_place(m) {
-            Place::Own => Some(self),
-            Place::Cell(index) => Some(m.content_mut(index)),
-            Place::None => None,
+        match self.first_site(m)? {
+            Site::Own => Some(self),
+            Site::InCell(index) => Some(m.content_mut(index)),
         }
     }
 
@@ -49,23 +43,36 @@ impl Dynamic {
         ensures value { option_map (λ d. d.now) result ≡ held_in (end m.old [] self.old) }
         ensures own { IfSome result (λ d. cell_of self.old ≡ None → d.ghost_name ≡ self.entry.ghost_name) }
     {
-        match self.held_place(m) {
-            Place::Own => Some(self),
-            Place::Cell(index) => Some(m.content_mut(index)),
-            Place::None => None,
+        let site = self.held_site(m);
+        self.held_at_mut(m, site)
+    }
+
+    /// The same, where the held value stands being known.
+    pub(crate) fn held_at_mut<'s>(
+        &'s mut self,
+        m: &'s mut Store,
+        site: Option<Site>,
+    ) -> Option<&'s mut Dynamic>
+        requires { site ≡ site_of (end m.old [] self.old) }
+        ensures value { option_map (λ d. d.now) result ≡ held_in (end m.old [] self.old) }
+        ensures own { IfSome result (λ d. cell_of self.old ≡ None → d.ghost_name ≡ self.entry.ghost_name) }
+    {
+        match site? {
+            Site::Own => Some(self),
+            Site::InCell(index) => Some(m.content_mut(index)),
         }
     }
 
     /// Where the first content stands.
-    pub(crate) fn first_place(&self, s: &Store) -> Place
-        ensures { place_seen result ≡ first_place s.now self.now }
+    pub(crate) fn first_site(&self, s: &Store) -> Option<Site>
+        ensures { result ≡ first_site s.now self.now }
     {
-        match self.cell() {
-            None => Place::Own,
-            Some(cell) => match s.read(cell) {
-                None => Place::None,
-                Some(_) => Place::Cell(cell.index),
-            },
+        let Some(cell) = self.cell() else {
+            return Some(Site::Own);
+        };
+        match s.read(cell) {
+            None => None,
+            Some(_) => Some(Site::InCell(cell.index)),
         }
     }
 
@@ -86,21 +93,6 @@ impl Dynamic {
         match self.access_mode() {
             AccessMode::ReadWrite => false,
             AccessMode::ReadOnly => true,
-        }
-    }
-}
-
-impl<'a> InStore<'a> {
-    /// The value itself, or what the cell of a holder has, to write; `None` where that cell is marked or no cell of the store.
-    /// Takes no memory.
-    pub fn whole_mut(&mut self) -> Option<&mut Dynamic>
-        ensures* writes_back { sem 𝓛 (LendsIf in_store_row dynamic_type.the_row self.entry result (first_written self.old) self.old) }
-        ensures value { option_map (λ d. d.now) result ≡ first self.old.store.now self.old.value.now }
-    {
-        match self.value.first_place(self.store) {
-            Place::Own => Some(&mut *self.value),
-            Place::Cell(index) => Some(self.store.content_mut(index)),
-            Place::None => None,
         }
     }
 }

@@ -3,8 +3,8 @@ use Rattle.std.specs.Str.{chars}
 use Rattle.std.specs.Map.Iter.{deref_pair}
 use Rattle.std.proofs.lemmas.Map.Iter.{rest_more, rest_all}
 use Rattle.std.proofs.lemmas.Option.{MatchOption-at_some}
-use Rattle.rhai_value.specs.Rows.{values}
-use Rattle.rhai_value.specs.Tree.{Tree, nodes, nodes_trees, unit, bool, int, char, text, blob, host, cell_of}
+use Rattle.rhai_value.specs.Rows.{fields_of}
+use Rattle.rhai_value.specs.Tree.{Tree, nodes, nodes_fields, unit, bool, int, char, text, blob, host, cell_of}
 use Rattle.rhai_value.specs.View.{tree_of}
 use Rattle.rhai_value.specs.Walk.{entry}
 use Rattle.rhai_show.specs.declared.form.Form.TheVariants.{Debug}
@@ -65,7 +65,7 @@ add_items-loop-item-preserved t c =
 pub add_fields-add_value-requires : goal.add_fields-add_value-requires
 add_fields-add_value-requires t c =
     let next = rest_more deref_pair c.loop-key.key-iterator c.next.new.self c.next.result (c.in-Some.key, c.in-Some.value) c.in-Some.is c.next.ensures.steps in
-    let few = ap (λ rs. nodes_trees (values rs)) next in
+    let few = ap (λ rs. nodes_fields (fields_of rs)) next in
     let same = ap (left_in c.args.store.now) c.loop-key.invariant.path in
     (omega arith, tt)
 
@@ -81,7 +81,7 @@ pub add_fields-loop-key-preserved : goal.add_fields-loop-key-preserved
 add_fields-loop-key-preserved t c =
     let f = row_printed c.args.form (λ u. printed c.args.store.now c.args.path.now u c.args.form) in
     let next = rest_more deref_pair c.loop-key.key-iterator c.next.new.self c.next.result (c.in-Some.key, c.in-Some.value) c.in-Some.is c.next.ensures.steps in
-    let few = ap (λ rs. nodes_trees (values rs)) next in
+    let few = ap (λ rs. nodes_fields (fields_of rs)) next in
     let more = chars (string_bytes c.add_comma.new.out) in
     let colon = added_fixed (chars (string_bytes c.add_text.new.out)) (chars (string_bytes c.add_name.new.out)) (codes ": ") refl c.in_ok-add_text.ensures in
     let value = c.in_ok-add_value.ensures.text ∙ ap (λ p. chars (string_bytes c.add_text.new.out) ++ printed c.args.store.now p c.in-Some.value.now c.args.form) c.loop-key.invariant.path in

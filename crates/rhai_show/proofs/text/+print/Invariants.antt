@@ -1,7 +1,7 @@
 use Rattle.std.proofs.Common.{◌≡◌, ◌+◌, ◌*◌, ◌≤◌, ◌++◌, true, drop, string_bytes}
 use Rattle.std.specs.Str.{chars}
-use Rattle.rhai_value.specs.Tree.{Tree, nodes, nodes_trees}
-use Rattle.rhai_value.specs.Rows.{trees_of, values}
+use Rattle.rhai_value.specs.Tree.{Tree, nodes, nodes_trees, nodes_fields}
+use Rattle.rhai_value.specs.Rows.{trees_of, fields_of}
 use Rattle.rhai_show.specs.Text.{printed}
 use Rattle.rhai_show.specs.Listed.{listed, row_printed}
 use Rattle.rhai_show.proofs.Measures.{left_in}
@@ -17,10 +17,10 @@ abbrev pub decreases-add_items : goal.decreases-add_items
 decreases-add_items l = left_in l.store.now l.path.now + (4 * nodes_trees (trees_of l.items.now) + 1)
 
 abbrev pub decreases-add_map : goal.decreases-add_map
-decreases-add_map l = left_in l.store.now l.path.now + (4 * nodes_trees (values l.map.now) + 2)
+decreases-add_map l = left_in l.store.now l.path.now + (4 * nodes_fields (fields_of l.map.now) + 2)
 
 abbrev pub decreases-add_fields : goal.decreases-add_fields
-decreases-add_fields l = left_in l.store.now l.path.now + (4 * nodes_trees (values l.map.now) + 1)
+decreases-add_fields l = left_in l.store.now l.path.now + (4 * nodes_fields (fields_of l.map.now) + 1)
 
 abbrev pub decreases-add_function : goal.decreases-add_function
 decreases-add_function l = left_in l.store.now l.path.now + (4 * nodes_trees (trees_of l.function.now.curry.items) + 3)
@@ -44,5 +44,5 @@ invariant-add_fields-loop-key l =
     record {
       text : chars (string_bytes l.out) ++ listed f l.is_first l.key-iterator ≡ chars (string_bytes l.fn.out) ++ listed f true l.map;
       path : l.path ≡ l.fn.path;
-      nodes_left : nodes_trees (values l.key-iterator) ≤ nodes_trees (values l.map);
+      nodes_left : nodes_fields (fields_of l.key-iterator) ≤ nodes_fields (fields_of l.map);
     }

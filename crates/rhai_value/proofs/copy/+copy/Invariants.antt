@@ -1,8 +1,8 @@
 use Rattle.std.proofs.Common.{◌≡◌, ◌+◌, ◌*◌, ◌≤◌, List, ◌++◌, map, take, drop}
 use Rattle.rhai_value.specs.CopiedRows.{copied_rows}
 use Rattle.rhai_value.specs.Held.{AreHeld}
-use Rattle.rhai_value.specs.Rows.{Place, rows, trees_of, values}
-use Rattle.rhai_value.specs.Tree.{copy, nodes, nodes_trees}
+use Rattle.rhai_value.specs.Rows.{Place, rows, trees_of, fields_of}
+use Rattle.rhai_value.specs.Tree.{copy, nodes, nodes_trees, nodes_fields}
 use Rattle.rhai_value.specs.View.{tree_of}
 use Rattle.rhai_value.proofs.copy.+copy.Given as goal
 
@@ -15,7 +15,7 @@ invariant-copied_items-loop-item l = record {
 abbrev pub invariant-copied_places-loop-key : goal.invariant-copied_places-loop-key
 invariant-copied_places-loop-key l = record {
   held : AreHeld l.key-iterator l.slots.items;
-  fewer : nodes_trees (values (rows l.key-iterator l.slots.items)) ≤ nodes_trees (values (rows l.places.entries l.slots.items));
+  fewer : nodes_fields (fields_of (rows l.key-iterator l.slots.items)) ≤ nodes_fields (fields_of (rows l.places.entries l.slots.items));
   done : List Place;
   all : l.places.entries ≡ done ++ l.key-iterator;
   copied : l.copies ≡ copied_rows (rows done l.slots.items);
@@ -34,7 +34,7 @@ abbrev pub decreases-copied_function : goal.decreases-copied_function
 decreases-copied_function l = 4 * nodes_trees (trees_of l.f.now.curry.items) + 3
 
 abbrev pub decreases-copied_map : goal.decreases-copied_map
-decreases-copied_map l = 4 * nodes_trees (values l.map.now) + 3
+decreases-copied_map l = 4 * nodes_fields (fields_of l.map.now) + 3
 
 abbrev pub decreases-copied_places : goal.decreases-copied_places
-decreases-copied_places l = 4 * nodes_trees (values (rows l.places.now.entries l.slots.now.items)) + 2
+decreases-copied_places l = 4 * nodes_fields (fields_of (rows l.places.now.entries l.slots.now.items)) + 2

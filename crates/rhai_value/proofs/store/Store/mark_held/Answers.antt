@@ -1,5 +1,5 @@
 use Rattle.rhai_value.proofs.MarkedCells.{held_within}
 use Rattle.rhai_value.proofs.store.Store.mark_held.Goals as goal
 
-pub mark_place-requires : goal.mark_place-requires
-mark_place-requires c = rw c.held_place.ensures (held_within c.args.self.now c.args.d.now)
+pub mark_at-requires : goal.mark_at-requires
+mark_at-requires c = rw c.held_site.ensures (held_within c.args.self.now c.args.d.now)

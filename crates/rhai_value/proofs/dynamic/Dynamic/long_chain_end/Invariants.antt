@@ -1,10 +1,10 @@
 use Rattle.std.proofs.Common.{◌≡◌, []}
 use Rattle.rhai_value.specs.End.{end}
 use Rattle.rhai_value.proofs.Chains.{chain, IsBehind}
-use Rattle.rhai_value.proofs.dynamic.Dynamic.chain_end.Given as goal
+use Rattle.rhai_value.proofs.dynamic.Dynamic.long_chain_end.Given as goal
 
 abbrev pub invariant-loop-cell : goal.invariant-loop-cell
-invariant-loop-cell l = (chain l.left l.s l.place l.at ≡ end l.s [] l.self) × IsBehind l.s l.kept l.at
+invariant-loop-cell l = (chain l.left l.s l.site l.at ≡ end l.s [] l.self) × IsBehind l.s l.kept l.at
 
 abbrev pub decreases-loop-cell : goal.decreases-loop-cell
 decreases-loop-cell l = l.left

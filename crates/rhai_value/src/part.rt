@@ -1,0 +1,167 @@
+//! Parts of values: the Rust types of which a value may have one, each the content of one constructor.
+ghost use Rattle.std.specs.Prelude.{◌≡◌, [], true, Option, Some, None, option_map, IfOk, IfErr};
+ghost use Rattle.std.specs.Borrow.{sem, LendsIf, LendsIfOk};
+ghost use Rattle.rhai_value.specs.contracts.dynamic.Dynamic as dynamic_type;
+ghost use Rattle.rhai_value.specs.declared.type_id.TypeId.{TypeId};
+ghost use Rattle.rhai_value.specs.End.{end, held_part, site_of, value_after, store_after};
+ghost use Rattle.rhai_value.specs.Parts.{with_content, with_part};
+ghost use Rattle.rhai_value.specs.Tree.{Tree, Content, made, copy_content};
+ghost use Rattle.rhai_value.specs.Types.{end_name, content_at, is_content_type};
+ghost use Rattle.rhai_value.specs.Writes.{written, in_store_row};
+
+use crate::chain::Site;
+use crate::dynamic::Dynamic;
+use crate::in_store::InStore;
+use crate::store::Store;
+use crate::type_id::TypeId;
+use std::alloc::{AllocError, Global};
+use std::mem;
+
+/// A type of which a value may have one, as the content of one constructor.
+pub trait Part: Sized + Drop {
+    /// The type of the values that have one.
+    const KIND: TypeId;
+
+    ghost KIND: { TypeId };
+
+    // What contracts see of one.
+    ghost Meaning: { Type 0 };
+
+    ghost meaning: { Self → Meaning };
+
+    // The content that it makes.
+    ghost content: { Meaning → Content };
+
+    // What a value has.
+    ghost part_of: { Tree → Option Meaning };
+
+    /// What the value itself has.
+    fn own(value: &Dynamic) -> Option<&Self>
+        ensures { option_map (λ r. meaning r.now) result ≡ part_of value.now };
+
+    /// The same, to write.
+    fn own_mut(value: &mut Dynamic) -> Option<&mut Self>
+        ensures* writes_back { sem 𝓛 (LendsIf dynamic_type.the_row Self.row value.entry result (λ w. with_content (content (meaning w)) value.old) value.old) }
+        ensures value { option_map (λ r. meaning r.now) result ≡ part_of value.old };
+
+    /// The value with this content, tag 0 and mode ReadWrite.
+    fn make(self) -> Dynamic
+        ensures { result ≡ made (content (meaning self)) };
+
+    /// What the value itself has, moved out of it; a value that has none comes back.
+    fn take_out(value: Dynamic) -> Result<Self, Dynamic>
+        ensures ok { IfOk result (λ x. part_of value ≡ Some (meaning x)) }
+        ensures err { IfErr result (λ back. (back ≡ value) × (part_of value ≡ None)) };
+
+    /// One more, with the copy of the content.
+    fn again(&self, alloc: Global) -> Result<Self, AllocError>
+        ensures { IfOk result (λ x. content (meaning x) ≡ copy_content (content (meaning self.now))) };
+
+    // The type is that of a constructor.
+    ghost constructs: { is_content_type KIND ≡ true };
+
+    // A value that is made of one has it.
+    ghost made_has: { (x : Self) → part_of (made (content (meaning x))) ≡ Some (meaning x) };
+
+    // A value has one exactly where it is of the type, and then this is its content.
+    ghost reads: { (t : Tree) → option_map content (part_of t) ≡ content_at KIND t };
+}
+
+/// What is held, if it is of one kind.
+impl Dynamic {
+    /// What is held, if it is of this kind. Takes no memory.
+    pub fn held_part<'s, T: Part>(&'s self, s: &'s Store) -> Option<&'s T>
+        ensures { option_map (λ r. T.meaning r.now) result ≡ held_part T.part_of (end s.now [] self.now) }
+    {
+        T::own(self.held(s)?)
+    }
+
+    /// What is held, if it is of this kind, or the name of the held type. Takes no memory.
+    pub fn as_part<'s, T: Part>(&'s self, s: &'s Store) -> Result<&'s T, &'static str>
+        ensures ok { IfOk result (λ v. held_part T.part_of (end s.now [] self.now) ≡ Some (T.meaning v.now)) }
+        ensures err { IfErr result (λ name. (held_part T.part_of (end s.now [] self.now) ≡ None)
+            × (name.now ≡ end_name (end s.now [] self.now))) }
+    {
+        let Some(value) = self.held(s) else {
+            return Err(TypeId::Shared.name());
+        };
+        match T::own(value) {
+            Some(part) => Ok(part),
+            None => Err(value.own_type().name()),
+        }
+    }
+
+    /// What is held, if it is of this kind, to write, or the name of the held type. Takes no memory. What value and store are once
+    /// it was written is said by `InStore::part_mut`.
+    pub fn as_part_mut<'s, T: Part>(
+        &'s mut self,
+        m: &'s mut Store,
+    ) -> Result<&'s mut T, &'static str>
+        ensures ok { IfOk result (λ v. held_part T.part_of (end m.old [] self.old) ≡ Some (T.meaning v.now)) }
+        ensures err { IfErr result (λ name. (held_part T.part_of (end m.old [] self.old) ≡ None)
+            × (name.now ≡ end_name (end m.old [] self.old))) }
+    {
+        let (site, kind) = self.held_site_and_type(m);
+        match self.part_at_mut::<T>(m, site) {
+            Some(part) => Ok(part),
+            None => Err(kind.name()),
+        }
+    }
+
+    /// What is held becomes this, if it is of this kind, tag and mode staying, and what was there comes back; else this comes back,
+    /// and nothing changes. Takes no memory.
+    pub fn put_part<T: Part>(&mut self, m: &mut Store, part: T) -> Result<T, T>
+        ensures ok { IfOk result (λ old. held_part T.part_of (end m.old [] self.old) ≡ Some (T.meaning old)) }
+        ensures own { self.new ≡ value_after (with_part T.part_of (T.content (T.meaning part))) (end m.old [] self.old) self.old }
+        ensures store { m.new ≡ store_after (with_part T.part_of (T.content (T.meaning part))) (end m.old [] self.old) m.old }
+        ensures err { IfErr result (λ back. (back ≡ part) × (self.new ≡ self.old) × (m.new ≡ m.old) × (held_part T.part_of (end m.old [] self.old) ≡ None)) }
+    {
+        let mut place = InStore {
+            value: self,
+            store: m,
+        };
+        match place.part_mut::<T>() {
+            Ok(held) => Ok(mem::replace(held, part)),
+            Err(_) => Err(part),
+        }
+    }
+
+    fn part_at_mut<'s, T: Part>(
+        &'s mut self,
+        m: &'s mut Store,
+        site: Option<Site>,
+    ) -> Option<&'s mut T>
+        requires { site ≡ site_of (end m.old [] self.old) }
+        ensures { option_map (λ v. T.meaning v.now) result ≡ held_part T.part_of (end m.old [] self.old) }
+    {
+        T::own_mut(self.held_at_mut(m, site)?)
+    }
+}
+
+/// What is held in a store, if it is of one kind, to write.
+impl<'a> InStore<'a> {
+    /// What is held, if it is of this kind, to write, or the name of the held type. Takes no memory.
+    pub fn part_mut<T: Part>(&mut self) -> Result<&mut T, &'static str>
+        ensures* writes_back { sem 𝓛 (LendsIfOk in_store_row T.row self.entry result (λ w. written self.old (with_content (T.content (T.meaning w)))) self.old) }
+        ensures ok { IfOk result (λ v. held_part T.part_of (end self.old.store.now [] self.old.value.now) ≡ Some (T.meaning v.now)) }
+        ensures err { IfErr result (λ name. (held_part T.part_of (end self.old.store.now [] self.old.value.now) ≡ None)
+            × (name.now ≡ end_name (end self.old.store.now [] self.old.value.now))) }
+    {
+        let (site, kind) = self.value.held_site_and_type(self.store);
+        match self.part_at_mut::<T>(site) {
+            Some(part) => Ok(part),
+            None => Err(kind.name()),
+        }
+    }
+
+    fn part_at_mut<T: Part>(&mut self, site: Option<Site>) -> Option<&mut T>
+        requires { site ≡ site_of (end self.old.store.now [] self.old.value.now) }
+        ensures* writes_back { sem 𝓛 (LendsIf in_store_row T.row self.entry result (λ w. written self.old (with_content (T.content (T.meaning w)))) self.old) }
+        ensures value { option_map (λ v. T.meaning v.now) result ≡ held_part T.part_of (end self.old.store.now [] self.old.value.now) }
+    {
+        match T::own_mut(self.held_at_mut(site)?) {
+            Some(part) => Some(part),
+            None => None,
+        }
+    }
+}

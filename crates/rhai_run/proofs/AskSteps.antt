@@ -3,13 +3,13 @@ use Rattle.std.proofs.Common.{◌≡◌, ℕ, List, [], ◌∷◌, Option, Some,
 use Rattle.std.proofs.lemmas.Option.{same_Some}
 use Rattle.rhai_value.specs.declared.store.Cell.{Cell}
 use Rattle.rhai_value.specs.Tree.{Tree, is_constant}
-use Rattle.rhai_value.specs.Parts.{leaf_unit, leaf_bool, leaf_int, leaf_char}
-use Rattle.rhai_value.specs.End.{End, end, unit_held, int_held, bool_held, char_held}
+use Rattle.rhai_value.specs.Parts.{leaf_unit, leaf_bool, leaf_int, leaf_char, unit_of, bool_of, int_of, char_of}
+use Rattle.rhai_value.specs.End.{End, end, held_part}
 use Rattle.rhai_value.specs.First.{constant_in}
 use Rattle.rhai_value.specs.Types.{type_name, end_type, is_type}
 use Rattle.rhai_value.specs.Relation.{Renaming, Related, Alike, IsOneToOne, SameCells}
 use Rattle.rhai_value.proofs.SameTrees.{same_tag, same_mode, same_host, same_shared}
-use Rattle.rhai_value.proofs.SameCells.{same_held_part, same_end_type}
+use Rattle.rhai_value.proofs.SameCells.{same_held_leaf, same_end_type}
 use Rattle.rhai_value.proofs.SameFlat.{same_first, same_locked}
 use Rattle.rhai_value.proofs.SameWalks.{same_end}
 use Rattle.rhai_show.specs.declared.form.Form.{Form}
@@ -54,10 +54,10 @@ same_asked r s z t u one cells h = by
     by question.Locked = ap truth (same_locked r s z cells t u h)
     by question.TypeName = ap (λ k. told (type_name k)) kind
     by (question.Held k) = ap (λ x. truth (is_type k x)) kind
-    by question.Unit = same_named (λ u. done) (unit_held e) (unit_held f) e f (same_held_part r leaf_unit e f (same_end r s z t u one cells h)) kind
-    by question.Int = same_named number (int_held e) (int_held f) e f (same_held_part r leaf_int e f (same_end r s z t u one cells h)) kind
-    by question.Bool = same_named truth (bool_held e) (bool_held f) e f (same_held_part r leaf_bool e f (same_end r s z t u one cells h)) kind
-    by question.Char = same_named (λ c. told (c ∷ [])) (char_held e) (char_held f) e f (same_held_part r leaf_char e f (same_end r s z t u one cells h)) kind
+    by question.Unit = same_named (λ u. done) (held_part unit_of e) (held_part unit_of f) e f (same_held_leaf r leaf_unit e f (same_end r s z t u one cells h)) kind
+    by question.Int = same_named number (held_part int_of e) (held_part int_of f) e f (same_held_leaf r leaf_int e f (same_end r s z t u one cells h)) kind
+    by question.Bool = same_named truth (held_part bool_of e) (held_part bool_of f) e f (same_held_leaf r leaf_bool e f (same_end r s z t u one cells h)) kind
+    by question.Char = same_named (λ c. told (c ∷ [])) (held_part char_of e) (held_part char_of f) e f (same_held_leaf r leaf_char e f (same_end r s z t u one cells h)) kind
 
 module _ (r : Renaming) (w v : State) (h : SameStates r w v) where
   pub same_ask : (i : ℕ) (q : Question) → Matches r w v (step_ask w i q) (step_ask v i q)

@@ -1,10 +1,10 @@
 -- Steps that change values, on two states that are the same up to a renaming.
 use Rattle.std.proofs.Common.{◌≡◌, ℕ, ℤ, pos, Bool, true, false, cond, List, [], ◌∷◌, ◌++◌, length, slice_set, Option, Some, None, is_some, refl, ap, length-append}
 use Rattle.rhai_value.specs.declared.access_mode.AccessMode.TheVariants.{ReadOnly}
-use Rattle.rhai_value.specs.Tree.{Tree, node, leaf, branch, holder, mode_of}
-use Rattle.rhai_value.specs.Parts.{leaf_int, with_int, leaf_with_int}
+use Rattle.rhai_value.specs.Tree.{Tree, node, leaf, branch, fields, holder, mode_of}
+use Rattle.rhai_value.specs.Parts.{leaf_int, int_of, with_int}
 use Rattle.rhai_value.specs.Store.{added}
-use Rattle.rhai_value.specs.End.{End, end}
+use Rattle.rhai_value.specs.End.{End, end, held_part}
 use Rattle.rhai_value.specs.First.{first}
 use Rattle.rhai_value.specs.Types.{type_name}
 use Rattle.rhai_value.specs.Share.{shared_value, shared_store}
@@ -12,15 +12,15 @@ use Rattle.rhai_value.specs.Relation.{Renaming, Related, SameEnd}
 use Rattle.rhai_value.proofs.Zips.{zip_set, zip_weaker}
 use Rattle.rhai_value.proofs.Grow.{one_pair, paired_more, related_more, one_more, same_added, new_last}
 use Rattle.rhai_value.proofs.SameWalks.{Paired, same_end}
-use Rattle.rhai_value.proofs.SameTrees.{by_trees, same_paint, same_with_tag, same_mode, same_with_leaf}
-use Rattle.rhai_value.proofs.SameCells.{same_held_part, same_end_type, same_value_after, same_store_after, length_store_after, marked_added, marked_store_after}
+use Rattle.rhai_value.proofs.SameTrees.{by_trees, same_paint, same_with_tag, same_mode, same_with_int}
+use Rattle.rhai_value.proofs.SameCells.{same_held_leaf, same_end_type, same_value_after, same_store_after, length_store_after, marked_added, marked_store_after}
+use Rattle.rhai_value.proofs.MarkedCells.{marked_with_first}
 use Rattle.rhai_value.proofs.SameFlat.{same_first, same_flattened, same_value_with_first, same_store_with_first, length_with_first}
 use Rattle.rhai_run.specs.State.{State, with_cells, moved_from}
 use Rattle.rhai_run.specs.Reply.{done, refused, mismatch, fault, data_race}
 use Rattle.rhai_run.specs.Outcome.{Outcome}
 use Rattle.rhai_run.specs.Change.{step_share, step_flatten, step_make_read_only, step_set_tag, int_written, step_write_int, nowhere, step_write}
 use Rattle.rhai_run.specs.Correspondence.{SameEntry, SameStates}
-use Rattle.rhai_run.proofs.FromBelow.{marked_with_first}
 use Rattle.rhai_run.proofs.Outcome.{Matches, same_marked, m_stays, m_given, m_value, m_two, m_cells, m_replaced, m_hand, set_hand, moved_hand}
 
 abbrev share_at : State → ℕ → Tree → Outcome
@@ -58,6 +58,7 @@ module _ (r : Renaming) (w v : State) (h : SameStates r w v) where
   same_share i = m_value r w v h i _ _ (by_trees r (λ t u. Matches r w v (share_at w i t) (share_at v i u))
       (λ l g m. new_cell i (node (leaf l) g m) (node (leaf l) g m) (refl, refl, refl))
       (λ k ts us g m e. new_cell i (node (branch k ts) g m) (node (branch k us) g m) ((refl, e), refl, refl))
+      (λ fs hs g m e. new_cell i (node (fields fs) g m) (node (fields hs) g m) (e, refl, refl))
       (λ c d g m p. m_hand r w v h _ _ (set_hand r w v h i (node (holder c) g m) (node (holder d) g m) (p, refl, refl))))
 
   pub same_flatten : (i : ℕ) → Matches r w v (step_flatten w i) (step_flatten v i)
@@ -71,15 +72,12 @@ module _ (r : Renaming) (w v : State) (h : SameStates r w v) where
 
   int_at_end : (i : ℕ) (n : ℤ) (t u : Tree) (e f : End) → Related r t u → SameEnd r e f → Matches r w v (int_written w i n t e) (int_written v i n u f)
   int_at_end i n t u e f k o =
-      by (is_some (leaf_held e)) (is_some (leaf_held f)) (ap is_some (same_held_part r leaf_int e f o))
+      by (is_some (held_part int_of e)) (is_some (held_part int_of f)) (ap is_some (same_held_leaf r leaf_int e f o))
       (m_cells r w v h _ _ _ _ (length_store_after (with_int n) e w.store) (length_store_after (with_int n) f v.store) (marked_store_after (with_int n) e w.store)
-      (same_store_after r (with_int n) w.store v.store (same_with_leaf r (leaf_with_int n)) h.one h.cells e f o)
-      (set_hand r w v h i _ _ (same_value_after r (with_int n) t u (same_with_leaf r (leaf_with_int n)) k e f o)))
+      (same_store_after r (with_int n) (with_int n) w.store v.store (same_with_int r n) h.one h.cells e f o)
+      (set_hand r w v h i _ _ (same_value_after r (with_int n) (with_int n) t u (same_with_int r n) k e f o)))
       (m_stays r w v h _ _ (ap (λ k. refused (mismatch (type_name k))) (same_end_type r e f o)))
     where
-      leaf_held : End → Option ℤ
-      leaf_held x = Rattle.rhai_value.specs.End.int_held x
-
       by : (b d : Bool) {o p q s : Outcome} → b ≡ d → Matches r w v o p → Matches r w v q s → Matches r w v (cond b o q) (cond d p s)
       by true true e m n = m
       by false false e m n = n

@@ -3,7 +3,7 @@ use Rattle.std.proofs.Common.{◌≡◌, ◌<◌, ℕ, zero, suc, true, false, L
 use Rattle.std.proofs.lemmas.List.{set-set}
 use Rattle.std.proofs.lemmas.Option.{same_Some, slice_get_within}
 use Rattle.rhai_value.specs.declared.store.Cell.{Cell}
-use Rattle.rhai_value.specs.Tree.{Tree, node, leaf, branch, holder, cell_of}
+use Rattle.rhai_value.specs.Tree.{Tree, node, leaf, branch, fields, holder, cell_of}
 use Rattle.rhai_value.specs.Flat.{flattened}
 use Rattle.rhai_value.specs.Share.{shared_value, shared_store}
 use Rattle.rhai_run.specs.State.{State, with_hand, with_cells}
@@ -62,6 +62,7 @@ holder_stays : (s : List Cell) (t : Tree) → is_some (cell_of t) ≡ true → (
 holder_stays s (node (holder c) g m) f = (refl, refl)
 holder_stays s (node (leaf l) g m) f = cc
 holder_stays s (node (branch k ts) g m) f = cc
+holder_stays s (node (fields fs) g m) f = cc
 
 pub share_stays : (w : State) (i : ℕ) (t : Tree) → slice_get w.hand i ≡ Some t → is_some (cell_of t) ≡ true → (done ≡ (step_share w i).0) × (w ≡ (step_share w i).1)
 share_stays w i t e f =

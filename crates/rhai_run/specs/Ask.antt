@@ -2,7 +2,8 @@
 use Rattle.std.specs.Prelude.{ℕ, List, [], ◌∷◌, Option, Some, None, is_some}
 use Rattle.rhai_value.specs.declared.store.Cell.{Cell}
 use Rattle.rhai_value.specs.Tree.{Tree, tag_of, cell_of, is_host}
-use Rattle.rhai_value.specs.End.{End, end, unit_held, int_held, bool_held, char_held}
+use Rattle.rhai_value.specs.Parts.{unit_of, int_of, bool_of, char_of}
+use Rattle.rhai_value.specs.End.{End, end, held_part}
 use Rattle.rhai_value.specs.First.{first, constant_in}
 use Rattle.rhai_value.specs.Locked.{is_locked}
 use Rattle.rhai_value.specs.Types.{end_type, end_name, is_type}
@@ -19,9 +20,9 @@ abbrev pub held_or_named : {A : Type 0} → (A → Reply) → Option A → End �
 held_or_named reply (Some a) e = reply a
 held_or_named reply None e = refused (mismatch (end_name e))
 
--- what is asked of the end of a chain
-abbrev pub asked_of_end : {A : Type 0} → (A → Reply) → (End → Option A) → End → Reply
-asked_of_end reply part e = held_or_named reply (part e) e
+-- what is asked of a part of what is held
+abbrev pub asked_of_held : {A : Type 0} → (A → Reply) → (Tree → Option A) → End → Reply
+asked_of_held reply part e = held_or_named reply (held_part part e) e
 
 -- the first five questions are of the value itself, the others of what is held
 abbrev pub asked : List Cell → Tree → Question → Reply
@@ -32,10 +33,10 @@ asked s t question.ReadOnly = truth (constant_in (first s t))
 asked s t question.Locked = truth (is_locked s t)
 asked s t question.TypeName = told (end_name (end s [] t))
 asked s t (question.Held kind) = truth (is_type kind (end_type (end s [] t)))
-asked s t question.Unit = asked_of_end (λ u. done) unit_held (end s [] t)
-asked s t question.Int = asked_of_end number int_held (end s [] t)
-asked s t question.Bool = asked_of_end truth bool_held (end s [] t)
-asked s t question.Char = asked_of_end (λ c. told (c ∷ [])) char_held (end s [] t)
+asked s t question.Unit = asked_of_held (λ u. done) unit_of (end s [] t)
+asked s t question.Int = asked_of_held number int_of (end s [] t)
+asked s t question.Bool = asked_of_held truth bool_of (end s [] t)
+asked s t question.Char = asked_of_held (λ c. told (c ∷ [])) char_of (end s [] t)
 
 abbrev pub step_ask : State → ℕ → Question → Outcome
 step_ask w i q = answered w i (λ t. asked w.store t q)

@@ -2,8 +2,8 @@
 use Rattle.std.specs.Prelude.{[], ℕ, ℤ, if◌then◌else◌, slice_set, is_some}
 use Rattle.rhai_value.specs.declared.access_mode.AccessMode.TheVariants.{ReadOnly}
 use Rattle.rhai_value.specs.Tree.{Tree, paint, with_tag}
-use Rattle.rhai_value.specs.Parts.{with_int}
-use Rattle.rhai_value.specs.End.{End, end, int_held, value_after, store_after}
+use Rattle.rhai_value.specs.Parts.{int_of, with_int}
+use Rattle.rhai_value.specs.End.{End, end, held_part, value_after, store_after}
 use Rattle.rhai_value.specs.First.{first, value_with_first, store_with_first}
 use Rattle.rhai_value.specs.Flat.{flattened}
 use Rattle.rhai_value.specs.Types.{end_name}
@@ -30,7 +30,7 @@ step_set_tag w i g = replaced w i (with_tag g)
 -- the int n is written where the chain from t, which stands at i, ends; tag and mode stay
 abbrev pub int_written : State → ℕ → ℤ → Tree → End → Outcome
 int_written w i n t e =
-    if is_some (int_held e)
+    if is_some (held_part int_of e)
     then (done, with_cells w (store_after (with_int n) e w.store) (slice_set w.hand i (value_after (with_int n) e t)))
     else refuse (mismatch (end_name e)) w
 

@@ -4,7 +4,7 @@ use Rattle.std.specs.BTreeMap.{insert_entry}
 use Rattle.std.specs.Str.{encode_utf8_all}
 use Rattle.rhai_value.specs.declared.host.Host.TheVariants as host_kind
 use Rattle.rhai_value.specs.Tree.{Tree, made, fresh, unit, bool, int, char, text, blob, host, branch, array, fields, function}
-use Rattle.rhai_value.specs.Rows.{Rows, bytes_cmp, trees_of, keys, values}
+use Rattle.rhai_value.specs.Rows.{Rows, bytes_cmp, trees_of, fields_of}
 use Rattle.rhai_run.specs.declared.command.Literal.{Literal}
 use Rattle.rhai_run.specs.declared.command.Literal.TheVariants as literal
 
@@ -36,7 +36,7 @@ rows_of_keys ks = rows_with [] ks (map (λ k. fresh unit) ks)
 
 -- the map of the keys to the values; of equal keys the last value stands
 abbrev pub map_tree : List (List ℕ) → List Tree → Tree
-map_tree ks ts = let rs = rows_with [] ks ts in made (branch (fields (keys rs)) (values rs))
+map_tree ks ts = made (fields (fields_of (rows_with [] ks ts)))
 
 -- the function pointer of the name with these curried values
 abbrev pub function_tree : List ℕ → List Tree → Tree

@@ -1,7 +1,11 @@
-pub mod Names
-pub mod Moves
-pub mod Maps
-pub mod Asks
-pub mod Steps
+pub mod FromBelow
+pub mod Outcome
+pub mod HandSteps
+pub mod ChangeSteps
+pub mod ScopeSteps
+pub mod AskSteps
+pub mod Step
 pub mod Fitting
 pub mod Runs
+pub mod Moves
+pub mod MapRows

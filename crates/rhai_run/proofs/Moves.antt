@@ -1,59 +1,74 @@
--- What moves of values come to in the machine.
-use Rattle.std.proofs.Common.{◌≡◌, ℕ, ℤ, zero, suc, false, List, [], ◌∷◌, slice_get, slice_set, Some, is_some, refl, sym, ap, ap₂, ◌∙◌}
+-- A value is taken out of its place in the hand, changed by move and put back.
+use Rattle.std.proofs.Common.{◌≡◌, ◌<◌, ℕ, zero, suc, true, false, List, [], ◌∷◌, length, slice_get, slice_set, Option, Some, Result, Ok, Err, IfOk, IfErr, IsOk, IsErr, is_some, refl, sym, ap, ap₂, ◌∙◌}
 use Rattle.std.proofs.lemmas.List.{set-set}
-use Rattle.std.proofs.lemmas.Option.{same_Some}
+use Rattle.std.proofs.lemmas.Option.{same_Some, slice_get_within}
 use Rattle.rhai_value.specs.declared.store.Cell.{Cell}
-use Rattle.rhai_value.specs.Tree.{Tree}
-use Rattle.rhai_value.specs.End.{end, int_held}
-use Rattle.rhai_value.specs.Types.{end_name}
+use Rattle.rhai_value.specs.Tree.{Tree, node, leaf, branch, fields, holder, cell_of}
 use Rattle.rhai_value.specs.Flat.{flattened}
 use Rattle.rhai_value.specs.Share.{shared_value, shared_store}
 use Rattle.rhai_run.specs.State.{State, with_hand, with_cells}
-use Rattle.rhai_run.specs.Reply.{Reply, done, refused, mismatch}
-use Rattle.rhai_run.specs.Step.{Outcome, with_value, shared, flatten_at, write_int, int_written}
+use Rattle.rhai_run.specs.Reply.{Reply, done}
+use Rattle.rhai_run.specs.Cost.{keeps_all, is_refused, share_cost}
+use Rattle.rhai_run.specs.Outcome.{Outcome, with_value}
+use Rattle.rhai_run.specs.Change.{step_share, step_flatten}
 
--- a value written over itself
-pub set_own : (ts : List Tree) (i : ℕ) (t : Tree) → slice_get ts i ≡ Some t → slice_set ts i t ≡ ts
-set_own [] i t e = refl
-set_own (x ∷ ts) zero t e = ap (λ y. y ∷ ts) (sym (same_Some x t e))
-set_own (x ∷ ts) (suc i) t e = ap (λ ys. x ∷ ys) (set_own ts i t e)
+-- what became of a value that was put back, by the answer of putting it back
+pub changed_ok : {X E : Type 0} (changed : Result Tree Tree) (back : Result X E) (x : X) {New Put : Tree → Type 0} → back ≡ Ok x → IfOk changed New → IfOk changed (λ d. IsOk back × Put d) → IfErr changed (λ d. IsErr back × Put d) → (d : Tree) × New d × Put d
+changed_ok (Ok d) back x e new ok err = (d, new, ok.1)
+changed_ok (Err d) back x e new ok err = let h = rw e at err.0 in cc
 
--- the world of a store and a hand
-abbrev pub world : State → List Cell → List Tree → State
-world w s ts = with_cells w s ts
+pub changed_err : {X E : Type 0} (changed : Result Tree Tree) (back : Result X E) (x : E) {Same Put : Tree → Type 0} → back ≡ Err x → IfErr changed Same → IfOk changed (λ d. IsOk back × Put d) → IfErr changed (λ d. IsErr back × Put d) → (d : Tree) × Same d × Put d
+changed_err (Ok d) back x e same ok err = let h = rw e at ok.0 in cc
+changed_err (Err d) back x e same ok err = (d, same, err.1)
 
 -- an outcome of a value that is there
 at_value : (w : State) (i : ℕ) (go : Tree → Outcome) (t : Tree) (a : Reply) (v : State) → slice_get w.hand i ≡ Some t → (a ≡ (go t).0) × (v ≡ (go t).1) → (a ≡ (with_value w i go).0) × (v ≡ (with_value w i go).1)
 at_value w i go t a v e h = rw e h
 
--- a value is taken out of its place, and another comes there
-pub moved_in : (ts us : List Tree) (i : ℕ) (u d t : Tree) → d ≡ t → us ≡ slice_set (slice_set ts i u) i d → us ≡ slice_set ts i t
+-- another value comes into a place that a value was taken from
+moved_in : (ts us : List Tree) (i : ℕ) (u d t : Tree) → d ≡ t → us ≡ slice_set (slice_set ts i u) i d → us ≡ slice_set ts i t
 moved_in ts us i u d t e h = h ∙ set-set ts i u d ∙ ap (slice_set ts i) e
 
--- so a holder of its new cell, or what it is without its holders
 pub share_done : (w : State) (i : ℕ) (t u d : Tree) (s : List Cell) (ts : List Tree) → slice_get w.hand i ≡ Some t → (d ≡ shared_value w.store t) × (s ≡ shared_store w.store t) → ts ≡ slice_set (slice_set w.hand i u) i d
-    → (done ≡ (shared w i).0) × (world w s ts ≡ (shared w i).1)
+    → (done ≡ (step_share w i).0) × (with_cells w s ts ≡ (step_share w i).1)
 share_done w i t u d s ts e h k =
-    at_value w i (λ x. (done, world w (shared_store w.store x) (slice_set w.hand i (shared_value w.store x)))) t done (world w s ts) e
-    (refl, ap₂ (world w) h.1 (moved_in w.hand ts i u d (shared_value w.store t) h.0 k))
+    at_value w i (λ x. (done, with_cells w (shared_store w.store x) (slice_set w.hand i (shared_value w.store x)))) t done (with_cells w s ts) e
+    (refl, ap₂ (with_cells w) h.1 (moved_in w.hand ts i u d (shared_value w.store t) h.0 k))
 
 pub flatten_done : (w : State) (i : ℕ) (t u d : Tree) (ts : List Tree) → slice_get w.hand i ≡ Some t → d ≡ flattened w.store t → ts ≡ slice_set (slice_set w.hand i u) i d
-    → (done ≡ (flatten_at w i).0) × (world w w.store ts ≡ (flatten_at w i).1)
+    → (done ≡ (step_flatten w i).0) × (with_hand w ts ≡ (step_flatten w i).1)
 flatten_done w i t u d ts e h k =
-    at_value w i (λ x. (done, with_hand w (slice_set w.hand i (flattened w.store x)))) t done (world w w.store ts) e (refl, ap (with_hand w) (moved_in w.hand ts i u d (flattened w.store t) h k))
+    at_value w i (λ x. (done, with_hand w (slice_set w.hand i (flattened w.store x)))) t done (with_hand w ts) e (refl, ap (with_hand w) (moved_in w.hand ts i u d (flattened w.store t) h k))
 
--- a value is taken out of its place and put back
-pub put_back : (w : State) (i : ℕ) (t u d : Tree) (s : List Cell) (ts : List Tree) → slice_get w.hand i ≡ Some t → (d ≡ t) × (s ≡ w.store) → ts ≡ slice_set (slice_set w.hand i u) i d → world w s ts ≡ w
-put_back w i t u d s ts e h k = ap₂ (world w) h.1 (k ∙ set-set w.hand i u d ∙ ap (slice_set w.hand i) h.0 ∙ set_own w.hand i t e)
+-- a value written over itself
+set_own : (ts : List Tree) (i : ℕ) (t : Tree) → slice_get ts i ≡ Some t → slice_set ts i t ≡ ts
+set_own [] i t e = refl
+set_own (x ∷ ts) zero t e = ap (λ y. y ∷ ts) (sym (same_Some x t e))
+set_own (x ∷ ts) (suc i) t e = ap (λ ys. x ∷ ys) (set_own ts i t e)
 
-not_written : (w : State) (i : ℕ) (n : ℤ) (t : Tree) (a : Reply) (v : State) → is_some (int_held (end w.store [] t)) ≡ false → a ≡ refused (mismatch (end_name (end w.store [] t))) → v ≡ w
-    → (a ≡ (int_written w i n t (end w.store [] t)).0) × (v ≡ (int_written w i n t (end w.store [] t)).1)
-not_written w i n t a v missed f g = rw missed (f, g)
+-- the value itself comes back
+pub came_back : (w : State) (i : ℕ) (t u d : Tree) (s : List Cell) (ts : List Tree) → slice_get w.hand i ≡ Some t → (d ≡ t) × (s ≡ w.store) → ts ≡ slice_set (slice_set w.hand i u) i d → with_cells w s ts ≡ w
+came_back w i t u d s ts e h k = ap₂ (with_cells w) h.1 (moved_in w.hand ts i u d t h.0 k ∙ set_own w.hand i t e)
 
--- no int is held, and nothing is written
-pub write_refused : (w : State) (i : ℕ) (n : ℤ) (t u x : Tree) (s : List Cell) (name : List ℕ) → slice_get w.hand i ≡ Some t → is_some (int_held (end w.store [] t)) ≡ false → (u ≡ t) × (s ≡ w.store) → x ≡ u → name ≡ end_name (end s [] x)
-    → (refused (mismatch name) ≡ (write_int w i n).0) × (world w s (slice_set w.hand i u) ≡ (write_int w i n).1)
-write_refused w i n t u x s name e missed h same named =
-    at_value w i (λ y. int_written w i n y (end w.store [] y)) t _ _ e
-    (not_written w i n t _ _ missed (ap (λ k. refused (mismatch k)) (named ∙ ap₂ (λ z y. end_name (end z [] y)) h.1 (same ∙ h.0)))
-    (ap₂ (world w) h.1 (ap (slice_set w.hand i) h.0 ∙ set_own w.hand i t e)))
+-- a value that is there refuses neither
+pub share_wants : (w : State) (i : ℕ) (t : Tree) → slice_get w.hand i ≡ Some t → is_some (cell_of t) ≡ false → (share_cost (slice_get w.hand i) ≡ keeps_all) × (is_refused (step_share w i).0 ≡ false)
+share_wants w i t e f = rw e (rw f (refl, refl))
+
+pub flatten_wants : (w : State) (i : ℕ) (t : Tree) → slice_get w.hand i ≡ Some t → is_refused (step_flatten w i).0 ≡ false
+flatten_wants w i t e = rw e refl
+
+-- a holder stays
+holder_stays : (s : List Cell) (t : Tree) → is_some (cell_of t) ≡ true → (shared_store s t ≡ s) × (shared_value s t ≡ t)
+holder_stays s (node (holder c) g m) f = (refl, refl)
+holder_stays s (node (leaf l) g m) f = cc
+holder_stays s (node (branch k ts) g m) f = cc
+holder_stays s (node (fields fs) g m) f = cc
+
+pub share_stays : (w : State) (i : ℕ) (t : Tree) → slice_get w.hand i ≡ Some t → is_some (cell_of t) ≡ true → (done ≡ (step_share w i).0) × (w ≡ (step_share w i).1)
+share_stays w i t e f =
+    at_value w i (λ x. (done, with_cells w (shared_store w.store x) (slice_set w.hand i (shared_value w.store x)))) t done w e
+    (refl, sym (ap₂ (with_cells w) (holder_stays w.store t f).0 (ap (slice_set w.hand i) (holder_stays w.store t f).1 ∙ set_own w.hand i t e)))
+
+-- a hand position with a value
+pub hand_within : (w v : State) (i : ℕ) (t : Tree) → w ≡ v → slice_get w.hand i ≡ Some t → i < length v.hand
+hand_within w v i t e h = slice_get_within v.hand i t (ap (λ (x : State). slice_get x.hand i) (sym e) ∙ h)

@@ -1,10 +1,10 @@
 -- The values that commands make.
-use Rattle.std.specs.Prelude.{ℕ, List, [], ◌∷◌}
+use Rattle.std.specs.Prelude.{ℕ, List, [], ◌∷◌, map}
 use Rattle.std.specs.BTreeMap.{insert_entry}
 use Rattle.std.specs.Str.{encode_utf8_all}
 use Rattle.rhai_value.specs.declared.host.Host.TheVariants as host_kind
 use Rattle.rhai_value.specs.Tree.{Tree, made, fresh, unit, bool, int, char, text, blob, host, branch, array, fields, function}
-use Rattle.rhai_value.specs.Rows.{Rows, bytes_cmp, trees_of, keys, values}
+use Rattle.rhai_value.specs.Rows.{Rows, bytes_cmp, trees_of, fields_of}
 use Rattle.rhai_run.specs.declared.command.Literal.{Literal}
 use Rattle.rhai_run.specs.declared.command.Literal.TheVariants as literal
 
@@ -15,7 +15,7 @@ literal_tree (literal.Bool b) = fresh (bool b)
 literal_tree (literal.Int n) = fresh (int n)
 literal_tree (literal.Char c) = fresh (char c)
 literal_tree (literal.Text s) = fresh (text s)
-literal_tree (literal.Blob bs) = fresh (blob bs.items)
+literal_tree (literal.Blob bytes) = fresh (blob bytes)
 literal_tree (literal.Host h) = fresh (host h)
 literal_tree (literal.Range r) = fresh (host (host_kind.ExclusiveRange r))
 literal_tree (literal.RangeEq r) = fresh (host (host_kind.InclusiveRange r))
@@ -26,12 +26,17 @@ array_tree ts = made (branch array (trees_of ts))
 
 -- the rows once each key was given its value, one after another
 abbrev pub rows_with : Rows → List (List ℕ) → List Tree → Rows
+rows_with rs [] ts = rs
+rows_with rs (k ∷ ks) [] = rs
 rows_with rs (k ∷ ks) (t ∷ ts) = rows_with (insert_entry bytes_cmp rs (encode_utf8_all k) t) ks ts
-rows_with rs ks ts = rs
+
+-- the rows of the keys alone, each with unit
+abbrev pub rows_of_keys : List (List ℕ) → Rows
+rows_of_keys ks = rows_with [] ks (map (λ k. fresh unit) ks)
 
 -- the map of the keys to the values; of equal keys the last value stands
 abbrev pub map_tree : List (List ℕ) → List Tree → Tree
-map_tree ks ts = let rs = rows_with [] ks ts in made (branch (fields (keys rs)) (values rs))
+map_tree ks ts = made (fields (fields_of (rows_with [] ks ts)))
 
 -- the function pointer of the name with these curried values
 abbrev pub function_tree : List ℕ → List Tree → Tree

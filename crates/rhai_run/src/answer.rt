@@ -5,9 +5,9 @@ use rhai_text::EvalAltResult;
 /// Why a command was refused. A refused command changes nothing.
 #[derive(Drop)]
 pub enum Refusal {
-    /// No value stands at a position, or too few stand in the hand.
+    /// No value stands at a hand position, or too few stand in the hand.
     NoValue,
-    /// Two positions that must differ are the same.
+    /// Two hand positions that must differ are the same.
     SameValue,
     /// The scope has no entry of the name.
     NoEntry,

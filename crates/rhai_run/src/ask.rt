@@ -1,45 +1,39 @@
 //! Commands that tell of a value.
-ghost use Rattle.std.specs.Prelude.{◌≡◌, ◌∷◌, [], IfOk, string_bytes};
+ghost use Rattle.std.specs.Prelude.{◌≡◌, IfOk};
 ghost use Rattle.std.specs.Str.{chars};
 ghost use Rattle.rhai_show.specs.declared.form.Form.TheVariants.{Display, Debug};
-ghost use Rattle.rhai_run.specs.Asked.{asked};
+ghost use Rattle.rhai_run.specs.Ask.{asked, step_ask, step_show};
+ghost use Rattle.rhai_run.specs.Cost.{keeps_all, question_cost};
 ghost use Rattle.rhai_run.specs.Reply.{reply_of, told as a_text};
-ghost use Rattle.rhai_run.specs.Step.{ask, shown};
-ghost use Rattle.rhai_run.specs.Does.{Does};
+ghost use Rattle.rhai_run.specs.Does.{Does, Tells};
 
 use crate::answer::{Answer, Refusal};
 use crate::command::Question;
 use crate::desk::Desk;
+use crate::not_done::NotDone;
 use rhai_show::{debug_text, display_text};
 use rhai_value::{Dynamic, Store};
 use std::alloc::{AllocError, Global};
 
 impl Desk {
-    pub(crate) fn show(&self, i: usize) -> Result<Answer, AllocError>
-        ensures { Does result self.now self.now (shown self.now i Display) }
+    pub(crate) fn show(&self, i: usize) -> Result<Answer, NotDone>
+        ensures { Does keeps_all result self.now self.now (step_show Display self.now i) }
     {
-        match self.hand.get(i) {
-            None => Ok(Answer::Refused(Refusal::NoValue)),
-            Some(value) => Ok(Answer::Text(display_text(self.alloc, value, &self.store)?)),
-        }
+        let text = display_text(self.alloc, self.value(i)?, &self.store)?;
+        Ok(Answer::Text(text))
     }
 
-    pub(crate) fn debug(&self, i: usize) -> Result<Answer, AllocError>
-        ensures { Does result self.now self.now (shown self.now i Debug) }
+    pub(crate) fn debug(&self, i: usize) -> Result<Answer, NotDone>
+        ensures { Does keeps_all result self.now self.now (step_show Debug self.now i) }
     {
-        match self.hand.get(i) {
-            None => Ok(Answer::Refused(Refusal::NoValue)),
-            Some(value) => Ok(Answer::Text(debug_text(self.alloc, value, &self.store)?)),
-        }
+        let text = debug_text(self.alloc, self.value(i)?, &self.store)?;
+        Ok(Answer::Text(text))
     }
 
-    pub(crate) fn ask(&self, i: usize, question: &Question) -> Result<Answer, AllocError>
-        ensures { Does result self.now self.now (ask self.now i question.now) }
+    pub(crate) fn ask(&self, i: usize, question: &Question) -> Result<Answer, NotDone>
+        ensures { Does (question_cost question.now) result self.now self.now (step_ask self.now i question.now) }
     {
-        match self.hand.get(i) {
-            None => Ok(Answer::Refused(Refusal::NoValue)),
-            Some(value) => answer_to(self.alloc, value, &self.store, question),
-        }
+        answer_to(self.alloc, self.value(i)?, &self.store, question)
     }
 }
 
@@ -48,8 +42,8 @@ fn answer_to(
     value: &Dynamic,
     s: &Store,
     question: &Question,
-) -> Result<Answer, AllocError>
-    ensures { IfOk result (λ a. reply_of a ≡ asked s.now value.now question.now) }
+) -> Result<Answer, NotDone>
+    ensures { Tells (question_cost question.now) result (asked s.now value.now question.now) }
 {
     match question {
         Question::Tag => Ok(Answer::Int(i128::from(value.tag()))),
@@ -57,24 +51,24 @@ fn answer_to(
         Question::Shared => Ok(Answer::Bool(value.is_shared())),
         Question::ReadOnly => Ok(Answer::Bool(value.is_read_only(s))),
         Question::Locked => Ok(Answer::Bool(value.is_locked(s))),
-        Question::TypeName => told(alloc, value.type_name(s)),
+        Question::TypeName => Ok(told(alloc, value.type_name(s))?),
         Question::Held(kind) => Ok(Answer::Bool(value.type_id(s) == *kind)),
-        Question::Unit => match value.as_unit(s) {
-            Ok(()) => Ok(Answer::Done),
-            Err(name) => Ok(Answer::Refused(Refusal::Mismatch(name))),
-        },
-        Question::Int => match value.as_int(s) {
-            Ok(int) => Ok(Answer::Int(i128::from(int))),
-            Err(name) => Ok(Answer::Refused(Refusal::Mismatch(name))),
-        },
-        Question::Bool => match value.as_bool(s) {
-            Ok(truth) => Ok(Answer::Bool(truth)),
-            Err(name) => Ok(Answer::Refused(Refusal::Mismatch(name))),
-        },
-        Question::Char => match value.as_char(s) {
-            Ok(character) => told(alloc, character.encode_utf8(&mut [0; 4])),
-            Err(name) => Ok(Answer::Refused(Refusal::Mismatch(name))),
-        },
+        Question::Unit => {
+            value.as_unit(s).map_err(Refusal::Mismatch)?;
+            Ok(Answer::Done)
+        }
+        Question::Int => {
+            let int = value.as_int(s).map_err(Refusal::Mismatch)?;
+            Ok(Answer::Int(i128::from(int)))
+        }
+        Question::Bool => {
+            let truth = value.as_bool(s).map_err(Refusal::Mismatch)?;
+            Ok(Answer::Bool(truth))
+        }
+        Question::Char => {
+            let character = value.as_char(s).map_err(Refusal::Mismatch)?;
+            Ok(told(alloc, character.encode_utf8(&mut [0; 4]))?)
+        }
     }
 }
 

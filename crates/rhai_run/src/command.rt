@@ -1,7 +1,8 @@
 //! What a world is told to do.
 
+use crate::lists::{Bytes, Names};
 use rhai_text::ImmutableString;
-use rhai_value::{Blob, ExclusiveRange, Host, INT, InclusiveRange, Tag, TypeId};
+use rhai_value::{ExclusiveRange, Host, INT, InclusiveRange, Tag, TypeId};
 
 /// A value that a command makes.
 #[derive(Drop)]
@@ -17,7 +18,7 @@ pub enum Literal {
     /// A text.
     Text(ImmutableString),
     /// A blob.
-    Blob(Blob),
+    Blob(Bytes),
     /// A value of the host's own types.
     Host(Host),
     /// A range without its end.
@@ -53,7 +54,7 @@ pub enum Question {
     Char,
 }
 
-/// One command. Positions in the hand count from 0, and new values go to its end.
+/// One command. Hand positions count from 0, and new values go to the end of the hand.
 #[derive(Drop)]
 pub enum Command {
     /// Appends a value that is made anew.
@@ -62,41 +63,47 @@ pub enum Command {
     MakeArray(usize),
     /// Takes as many values off the end of the hand as there are keys, and appends the map of these to those in order; of equal
     /// keys the last value stands.
-    MakeMap(Vec<ImmutableString>),
+    MakeMap(Names),
     /// Takes this many values off the end of the hand, and appends the function pointer of the name with these curried in order.
     MakeFn(ImmutableString, usize),
-    /// Appends a copy of the value at the position.
+    /// Appends a copy of the value at the hand position.
     Copy(usize),
-    /// Moves the value at the position to the end, and leaves unit.
+    /// Moves the value at the hand position to the end, and leaves unit.
     Take(usize),
     /// Drops the last value.
     Drop,
-    /// Moves the value at the position into a new cell, and leaves a holder of it; a holder stays.
+    /// Moves the value at the hand position into a new cell, and leaves a holder of it; a holder stays.
     Share(usize),
-    /// Puts in the place of a holder what is held, without its holders.
+    /// Puts in the place of a holder at the hand position what is held, without its holders.
     Flatten(usize),
-    /// Appends a copy of the value at the position without its holders.
+    /// Appends a copy of the value at the hand position without its holders.
     FlattenClone(usize),
-    /// Makes the value at the position a constant.
+    /// Makes the value at the hand position a constant.
     MakeReadOnly(usize),
-    /// Sets the tag of the value at the position.
+    /// Sets the tag of the value at the hand position.
     SetTag(usize, Tag),
-    /// Asks a question of the value at the position.
+    /// Asks a question of the value at the hand position.
     Ask(usize, Question),
-    /// Writes over the int that is held at the position.
+    /// Writes over the int that is held at the hand position.
     WriteInt(usize, INT),
-    /// Writes the value at the second position over the first content of the one at the first, and leaves unit at the second.
+    /// Writes the value at the second hand position over the first content of the one at the first, and leaves unit at the second.
     Write(usize, usize),
-    /// Moves the value at the position into a new entry of the name, and leaves unit.
+    /// Moves the value at the hand position into a new entry of the name, and leaves unit.
     Push(ImmutableString, usize),
     /// Drops the last entry.
     Pop,
     /// Keeps as many entries as the number says, the first ones.
     Rewind(usize),
+    /// Drops all entries.
+    Clear,
+    /// Answers whether there is no entry.
+    IsEmpty,
+    /// Answers whether an entry has the name.
+    Contains(ImmutableString),
     /// Appends a copy of the value of the last entry of the name.
     Get(ImmutableString),
-    /// Answers the text of the value at the position, as it is displayed.
+    /// Answers the text of the value at the hand position, as it is displayed.
     Show(usize),
-    /// Answers the text of the value at the position, as it is debugged.
+    /// Answers the text of the value at the hand position, as it is debugged.
     Debug(usize),
 }

@@ -1,19 +1,23 @@
-//! What a world keeps, and which call does each command.
-ghost use Rattle.std.specs.Prelude.{◌≡◌, IsOk};
+//! The state of a world in memory, and which call does each command.
+ghost use Rattle.std.specs.Prelude.{◌≡◌, ◌≤◌, ◌<◌, length, slice_get, Some, None, IfOk, IfErr, OnOk};
+ghost use Rattle.rhai_run.specs.declared.answer.Refusal.TheVariants.{NoValue};
+ghost use Rattle.rhai_run.specs.declared.not_done.NotDone.TheVariants.{Refused};
 ghost use Rattle.rhai_run.specs.State.{empty_state};
-ghost use Rattle.rhai_run.specs.Step.{step, IsFree, Moves};
-ghost use Rattle.rhai_run.specs.Does.{DoesOrLoses};
+ghost use Rattle.rhai_run.specs.Step.{step};
+ghost use Rattle.rhai_run.specs.Cost.{cost};
+ghost use Rattle.rhai_run.specs.Fits.{Fits};
+ghost use Rattle.rhai_run.specs.Does.{Does};
 
-use crate::answer::Answer;
+use crate::answer::{Answer, Refusal};
 use crate::command::Command;
+use crate::not_done::NotDone;
 use crate::scope::Entry;
 use rhai_text::Limits;
 use rhai_value::{Dynamic, Store};
-use std::alloc::{AllocError, Global};
+use std::alloc::Global;
 use std::marker::Model;
 
-/// The parts of a world. A command makes its growths before it writes, so that one without memory leaves all as it was; only
-/// `MakeMap` may lose values that it moves.
+/// The state of a world. A command makes its growths before it writes, so that one without memory leaves all as it was.
 #[derive(Drop)]
 pub(crate) struct Desk {
     pub(crate) alloc: Global,
@@ -24,16 +28,15 @@ pub(crate) struct Desk {
 }
 
 impl Model for Desk {
-    ghost use Rattle.std.specs.Prelude.{[]};
     ghost use Rattle.rhai_run.specs.State.{State};
 
     ghost Value = { State };
 
-    ghost use Rattle.rhai_run.specs.StateCode.{state_code};
+    ghost use Rattle.rhai_run.specs.StateCode.{state_code, state_of};
 
     ghost coded = { state_code };
 
-    ghost view = { λ d. record { store = d.store; entries = d.entries.items; marks = []; hand = d.hand.items; limits = d.limits } };
+    ghost view = { λ d. state_of d.store d.entries.items d.hand.items d.limits };
 }
 
 impl Desk {
@@ -49,10 +52,32 @@ impl Desk {
         }
     }
 
+    /// The value at a hand position.
+    pub(crate) fn value(&self, i: usize) -> Result<&Dynamic, NotDone>
+        ensures ok { IfOk result (λ v. slice_get self.now.hand i ≡ Some v.now) }
+        ensures err { IfErr result (λ e. (e ≡ Refused NoValue) × (slice_get self.now.hand i ≡ None)) }
+    {
+        match self.hand.get(i) {
+            None => Err(NotDone::Refused(Refusal::NoValue)),
+            Some(value) => Ok(value),
+        }
+    }
+
+    /// Whether the hand has so many values.
+    pub(crate) fn has_values(&self, n: usize) -> Result<(), NotDone>
+        ensures ok { OnOk result (n ≤ length self.now.hand) }
+        ensures err { IfErr result (λ e. (e ≡ Refused NoValue) × (length self.now.hand < n)) }
+    {
+        if n > self.hand.len() {
+            return Err(NotDone::Refused(Refusal::NoValue));
+        }
+        Ok(())
+    }
+
     /// Does one command.
-    pub(crate) fn apply(&mut self, command: &Command) -> Result<Answer, AllocError>
-        ensures does { DoesOrLoses (Moves self.old command.now) result self.old self.new (step self.old command.now) }
-        ensures free { IsFree command.now → IsOk result }
+    pub(crate) fn apply(&mut self, command: &Command) -> Result<Answer, NotDone>
+        requires { Fits self.old }
+        ensures { Does (cost self.old command.now) result self.old self.new (step self.old command.now) }
     {
         match command {
             Command::Put(literal) => self.put(literal),
@@ -61,18 +86,21 @@ impl Desk {
             Command::MakeFn(name, n) => self.make_fn(name, *n),
             Command::Copy(i) => self.copy(*i),
             Command::Take(i) => self.take(*i),
-            Command::Drop => Ok(self.drop_last()),
+            Command::Drop => self.drop_last(),
             Command::Share(i) => self.share(*i),
             Command::Flatten(i) => self.flatten(*i),
             Command::FlattenClone(i) => self.flatten_clone(*i),
-            Command::MakeReadOnly(i) => Ok(self.make_read_only(*i)),
-            Command::SetTag(i, tag) => Ok(self.set_tag(*i, *tag)),
+            Command::MakeReadOnly(i) => self.make_read_only(*i),
+            Command::SetTag(i, tag) => self.set_tag(*i, *tag),
             Command::Ask(i, question) => self.ask(*i, question),
-            Command::WriteInt(i, value) => Ok(self.write_int(*i, *value)),
-            Command::Write(i, j) => Ok(self.write_whole(*i, *j)),
+            Command::WriteInt(i, value) => self.write_int(*i, *value),
+            Command::Write(i, j) => self.write(*i, *j),
             Command::Push(name, i) => self.push(name, *i),
-            Command::Pop => Ok(self.pop()),
-            Command::Rewind(n) => Ok(self.rewind(*n)),
+            Command::Pop => self.pop(),
+            Command::Rewind(n) => self.rewind(*n),
+            Command::Clear => self.clear(),
+            Command::IsEmpty => self.is_empty(),
+            Command::Contains(name) => self.contains(name),
             Command::Get(name) => self.get(name),
             Command::Show(i) => self.show(*i),
             Command::Debug(i) => self.debug(*i),

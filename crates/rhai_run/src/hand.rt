@@ -1,20 +1,21 @@
-//! Commands that make values, and move them in the hand.
-ghost use Rattle.std.specs.Prelude.{◌≡◌, ◌≤◌, ◌+◌, length};
-ghost use Rattle.rhai_run.specs.Step.{put, make_array, make_map, make_fn, copied, taken, dropped, flat_copied};
-ghost use Rattle.rhai_run.specs.Does.{Does, DoesOrLoses, Gives};
+//! Commands that put values into the hand, and move them there.
+ghost use Rattle.rhai_run.specs.Cost.{free, keeps_all};
+ghost use Rattle.rhai_run.specs.Hand.{step_put, step_make_array, step_make_map, step_make_fn, step_copy, step_flatten_clone, step_take, step_drop};
+ghost use Rattle.rhai_run.specs.Does.{Does};
 
 use crate::answer::{Answer, Refusal};
 use crate::command::Literal;
 use crate::desk::Desk;
+use crate::lists::Names;
+use crate::maps::{map_of_keys, move_to_keys};
+use crate::not_done::NotDone;
 use crate::places::{push_in_room, replace_at, take_last};
-use crate::take_map::take_map;
 use rhai_text::ImmutableString;
 use rhai_value::{Dynamic, FnPtr};
-use std::alloc::AllocError;
 
 impl Desk {
-    pub(crate) fn put(&mut self, literal: &Literal) -> Result<Answer, AllocError>
-        ensures { Does result self.old self.new (put self.old literal.now) }
+    pub(crate) fn put(&mut self, literal: &Literal) -> Result<Answer, NotDone>
+        ensures { Does keeps_all result self.old self.new (step_put self.old literal.now) }
     {
         let value = match literal {
             Literal::Unit => Dynamic::UNIT,
@@ -22,7 +23,10 @@ impl Desk {
             Literal::Int(value) => Dynamic::from_int(*value),
             Literal::Char(value) => Dynamic::from_char(*value),
             Literal::Text(text) => Dynamic::from(text.copy(self.alloc)?),
-            Literal::Blob(bytes) => Dynamic::from_blob(Vec::from_slice(self.alloc, bytes)?),
+            Literal::Blob(bytes) => Dynamic::from_blob(Vec::from_slice(
+                self.alloc,
+                bytes.as_slice(),
+            )?),
             Literal::Host(host) => Dynamic::from(*host),
             Literal::Range(range) => Dynamic::from(*range),
             Literal::RangeEq(range) => Dynamic::from(*range),
@@ -31,81 +35,67 @@ impl Desk {
         Ok(Answer::Done)
     }
 
-    pub(crate) fn make_array(&mut self, n: usize) -> Result<Answer, AllocError>
-        ensures { Does result self.old self.new (make_array self.old n) }
+    pub(crate) fn make_array(&mut self, n: usize) -> Result<Answer, NotDone>
+        ensures { Does keeps_all result self.old self.new (step_make_array self.old n) }
     {
-        let Some(items) = take_last(&mut self.hand, n)? else {
-            return Ok(Answer::Refused(Refusal::NoValue));
-        };
+        self.has_values(n)?;
+        let items = take_last(&mut self.hand, n)?;
         push_in_room(&mut self.hand, Dynamic::from_array(items));
         Ok(Answer::Done)
     }
 
-    pub(crate) fn make_map(&mut self, keys: &[ImmutableString]) -> Result<Answer, AllocError>
-        ensures { DoesOrLoses (λ k. length self.old.hand ≤ k + length keys.now) result self.old self.new (make_map self.old keys.now) }
+    pub(crate) fn make_map(&mut self, keys: &Names) -> Result<Answer, NotDone>
+        ensures { Does keeps_all result self.old self.new (step_make_map self.old keys.now) }
     {
-        let Some(map) = take_map(self.alloc, &mut self.hand, keys)? else {
-            return Ok(Answer::Refused(Refusal::NoValue));
-        };
+        let keys = keys.as_slice();
+        self.has_values(keys.len())?;
+        let mut map = map_of_keys(self.alloc, keys)?;
+        let values = take_last(&mut self.hand, keys.len())?;
+        move_to_keys(&mut map, keys, values);
         push_in_room(&mut self.hand, Dynamic::from_map(map));
         Ok(Answer::Done)
     }
 
-    pub(crate) fn make_fn(&mut self, name: &ImmutableString, n: usize) -> Result<Answer, AllocError>
-        ensures { Does result self.old self.new (make_fn self.old name.now n) }
+    pub(crate) fn make_fn(&mut self, name: &ImmutableString, n: usize) -> Result<Answer, NotDone>
+        ensures { Does keeps_all result self.old self.new (step_make_fn self.old name.now n) }
     {
+        self.has_values(n)?;
         let name = name.copy(self.alloc)?;
-        let Some(curry) = take_last(&mut self.hand, n)? else {
-            return Ok(Answer::Refused(Refusal::NoValue));
-        };
+        let curry = take_last(&mut self.hand, n)?;
         push_in_room(&mut self.hand, Dynamic::from(FnPtr::new(name, curry)));
         Ok(Answer::Done)
     }
 
-    pub(crate) fn copy(&mut self, i: usize) -> Result<Answer, AllocError>
-        ensures { Does result self.old self.new (copied self.old i) }
+    pub(crate) fn copy(&mut self, i: usize) -> Result<Answer, NotDone>
+        ensures { Does keeps_all result self.old self.new (step_copy self.old i) }
     {
-        match self.hand.get(i) {
-            None => Ok(Answer::Refused(Refusal::NoValue)),
-            Some(value) => {
-                let value = value.copy(self.alloc)?;
-                self.hand.push(value)?;
-                Ok(Answer::Done)
-            }
-        }
+        let value = self.value(i)?.copy(self.alloc)?;
+        self.hand.push(value)?;
+        Ok(Answer::Done)
     }
 
-    pub(crate) fn flatten_clone(&mut self, i: usize) -> Result<Answer, AllocError>
-        ensures { Does result self.old self.new (flat_copied self.old i) }
+    pub(crate) fn flatten_clone(&mut self, i: usize) -> Result<Answer, NotDone>
+        ensures { Does keeps_all result self.old self.new (step_flatten_clone self.old i) }
     {
-        match self.hand.get(i) {
-            None => Ok(Answer::Refused(Refusal::NoValue)),
-            Some(value) => {
-                let value = value.flatten_clone(self.alloc, &self.store)?;
-                self.hand.push(value)?;
-                Ok(Answer::Done)
-            }
-        }
+        let value = self.value(i)?.flatten_clone(self.alloc, &self.store)?;
+        self.hand.push(value)?;
+        Ok(Answer::Done)
     }
 
-    pub(crate) fn take(&mut self, i: usize) -> Result<Answer, AllocError>
-        ensures { Does result self.old self.new (taken self.old i) }
+    pub(crate) fn take(&mut self, i: usize) -> Result<Answer, NotDone>
+        ensures { Does keeps_all result self.old self.new (step_take self.old i) }
     {
-        if i >= self.hand.len() {
-            return Ok(Answer::Refused(Refusal::NoValue));
-        }
+        self.value(i)?;
         self.hand.reserve(1)?;
         let value = replace_at(&mut self.hand, i, Dynamic::UNIT);
         push_in_room(&mut self.hand, value);
         Ok(Answer::Done)
     }
 
-    pub(crate) fn drop_last(&mut self) -> Answer
-        ensures { Gives result self.old self.new (dropped self.old) }
+    pub(crate) fn drop_last(&mut self) -> Result<Answer, NotDone>
+        ensures { Does free result self.old self.new (step_drop self.old) }
     {
-        if self.hand.pop().is_none() {
-            return Answer::Refused(Refusal::NoValue);
-        }
-        Answer::Done
+        self.hand.pop().ok_or(Refusal::NoValue)?;
+        Ok(Answer::Done)
     }
 }

@@ -1,24 +1,36 @@
 //! Laws of the machine: each is the contract of a function that does nothing.
-ghost use Rattle.std.specs.Prelude.{List};
+ghost use Rattle.std.specs.Prelude.{List, length};
 ghost use Rattle.rhai_text.specs.declared.limits.Limits.{Limits};
-ghost use Rattle.rhai_value.specs.Relation.{Renaming};
+ghost use Rattle.rhai_value.specs.Tree.{Tree};
+ghost use Rattle.rhai_value.specs.Store.{added};
+ghost use Rattle.rhai_value.specs.Relation.{Renaming, new_pairs};
 ghost use Rattle.rhai_run.specs.declared.command.Command.{Command};
-ghost use Rattle.rhai_run.specs.State.{State, empty_state};
+ghost use Rattle.rhai_run.specs.State.{State, empty_state, with_store};
 ghost use Rattle.rhai_run.specs.Step.{step};
 ghost use Rattle.rhai_run.specs.Fits.{Fits};
 ghost use Rattle.rhai_run.specs.Correspondence.{Corresponds, RunAlike};
 
-/// The empty world fits.
+/// The state of a new world fits.
 pub fn empty_state_fits()
     ensures { (limits : Limits) → Fits (empty_state limits) }
 {}
 
-/// Each command keeps a world fitting.
+/// Each command keeps a state fitting.
 pub fn steps_fit()
     ensures { (w : State) (c : Command) → Fits w → Fits (step w c).1 }
 {}
 
-/// Runs over worlds that correspond give the same answers and end in worlds that correspond.
+/// A state that fits corresponds to itself, each cell being paired with itself.
+pub fn states_correspond_to_themselves()
+    ensures { (w : State) → Fits w → Corresponds (new_pairs 0 0 (length w.store)) w w }
+{}
+
+/// A state corresponds to the same state with one more cell, whatever stands in it: nothing reaches that cell.
+pub fn unreached_cells_are_not_seen()
+    ensures { (w : State) (t : Tree) → Fits w → Fits (with_store w (added w.store t)) → Corresponds (new_pairs 0 0 (length w.store)) w (with_store w (added w.store t)) }
+{}
+
+/// Runs over states that correspond give the same answers and end in states that correspond.
 pub fn runs_are_alike()
     ensures { (r : Renaming) (w v : State) (commands : List Command) → Corresponds r w v → RunAlike r w v commands }
 {}

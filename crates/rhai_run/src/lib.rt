@@ -6,16 +6,18 @@ mod ask;
 mod change;
 pub mod command;
 mod desk;
-mod entries;
 mod hand;
 pub mod laws;
+pub mod lists;
+mod maps;
+mod not_done;
 mod places;
-pub mod scope;
-mod take_map;
+mod scope;
 pub mod world;
 
 pub use answer::{Answer, Refusal};
 pub use command::{Command, Literal, Question};
+pub use lists::{Bytes, Names};
 pub use world::{Stopped, World, apply, run};
 
 #[cfg(test)]

@@ -1,11 +1,26 @@
-//! Writes to places of vectors.
-ghost use Rattle.std.specs.Prelude.{◌≡◌, ◌<◌, ◌++◌, ◌∷◌, [], ◌+◌, ◌≤◌, length, slice_get, slice_set, vec_len, vec_capacity, is_some, Some, true, IfOk, OnErr, IfSome, IfNone};
+//! Hand positions, and writes to places of vectors.
+ghost use Rattle.std.specs.Prelude.{◌≡◌, ◌<◌, ◌++◌, ◌∷◌, [], ◌+◌, ◌≤◌, length, slice_get, slice_set, vec_len, vec_capacity, is_some, Some, true, false, nat_eq, IfOk, IfErr, OnOk, OnErr, IsOk, IsErr};
 ghost use Rattle.rhai_value.specs.First.{first, value_with_first, store_with_first};
+ghost use Rattle.rhai_run.specs.declared.answer.Refusal.TheVariants.{SameValue};
+ghost use Rattle.rhai_run.specs.declared.not_done.NotDone.TheVariants.{Refused};
 ghost use Rattle.rhai_run.specs.State.{last_values, values_before};
 
+use crate::answer::Refusal;
+use crate::not_done::NotDone;
 use rhai_value::{Dynamic, InStore, Store};
 use std::alloc::AllocError;
 use std::mem;
+
+/// Whether two hand positions differ.
+pub(crate) fn differ(i: usize, j: usize) -> Result<(), NotDone>
+    ensures ok { OnOk result (nat_eq i j ≡ false) }
+    ensures err { IfErr result (λ e. (e ≡ Refused SameValue) × (nat_eq i j ≡ true)) }
+{
+    if i == j {
+        return Err(NotDone::Refused(Refusal::SameValue));
+    }
+    Ok(())
+}
 
 /// Adds an item where there is room for it.
 pub(crate) fn push_in_room<T: Drop>(items: &mut Vec<T>, item: T)
@@ -30,24 +45,38 @@ pub(crate) fn replace_at(values: &mut Vec<Dynamic>, i: usize, left: Dynamic) -> 
     mem::replace(&mut values[i], left)
 }
 
-/// Takes the last values off, if there are as many, and leaves room for one.
-pub(crate) fn take_last(
+/// Puts what became of a value into the place that it was taken from: another value, or itself where memory was refused.
+pub(crate) fn put_back(
     values: &mut Vec<Dynamic>,
-    n: usize,
-) -> Result<Option<Vec<Dynamic>>, AllocError>
-    ensures taken { IfOk result (λ o. IfSome o (λ v. (n ≤ length values.old.items)
-        × (v.items ≡ last_values n values.old.items)
-        × (values.new.items ≡ values_before n values.old.items)
-        × (vec_len values.new < vec_capacity values.new))) }
-    ensures few { IfOk result (λ o. IfNone o ((length values.old.items < n) × (values.new ≡ values.old))) }
+    i: usize,
+    changed: Result<Dynamic, Dynamic>,
+) -> Result<(), AllocError>
+    requires { i < vec_len values.old }
+    ensures ok { IfOk changed (λ value. IsOk result × (values.new.items ≡ slice_set values.old.items i value)) }
+    ensures err { IfErr changed (λ value. IsErr result × (values.new.items ≡ slice_set values.old.items i value)) }
+{
+    match changed {
+        Ok(value) => {
+            values[i] = value;
+            Ok(())
+        }
+        Err(value) => {
+            values[i] = value;
+            Err(AllocError)
+        }
+    }
+}
+
+/// Takes the last values off, and leaves room for one.
+pub(crate) fn take_last(values: &mut Vec<Dynamic>, n: usize) -> Result<Vec<Dynamic>, AllocError>
+    requires { n ≤ vec_len values.old }
+    ensures taken { IfOk result (λ v. v.items ≡ last_values n values.old.items) }
+    ensures left { OnOk result ((values.new.items ≡ values_before n values.old.items) × (vec_len values.new < vec_capacity values.new)) }
     ensures err { OnErr result (values.new.items ≡ values.old.items) }
 {
-    if n > values.len() {
-        return Ok(None);
-    }
     values.reserve(1)?;
     let before = values.len() - n;
-    Ok(Some(values.split_off(before)?))
+    Ok(values.split_off(before)?)
 }
 
 /// Writes over the first content of a value.

@@ -4,9 +4,9 @@ use std::alloc::{AllocError, Global};
 
 mod asks;
 mod cells;
-mod entries;
 mod gathers;
 mod refusals;
+mod scope;
 mod stops;
 mod worlds;
 
@@ -50,12 +50,12 @@ fn name(alloc: Global, text: &str) -> Result<ImmutableString, AllocError> {
     ImmutableString::from_str(alloc, text)
 }
 
-fn keys(alloc: Global, texts: &[&str]) -> Result<Vec<ImmutableString>, AllocError> {
+fn keys(alloc: Global, texts: &[&str]) -> Result<Names, AllocError> {
     let mut keys = Vec::new(alloc);
     for text in texts {
         keys.push(name(alloc, text)?)?;
     }
-    Ok(keys)
+    Ok(Names::new(keys))
 }
 
 /// Runs the commands, and tells the answers in one line.

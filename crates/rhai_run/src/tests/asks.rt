@@ -14,7 +14,7 @@ fn each_kind(alloc: Global) -> Result<Vec<Command>, AllocError> {
         Command::MakeArray(0),
         Command::MakeMap(keys(alloc, &[])?),
         Command::MakeFn(name(alloc, "f")?, 0),
-        Command::Put(Literal::Blob(vec![in alloc; 1]?)),
+        Command::Put(Literal::Blob(Bytes::new(vec![in alloc; 1]?))),
         Command::Put(Literal::Range(ExclusiveRange { start: 1, end: 3 })),
         Command::Put(Literal::RangeEq(InclusiveRange { start: 1, end: 3 })),
         Command::Put(Literal::Int(9)),

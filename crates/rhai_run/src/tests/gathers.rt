@@ -33,7 +33,7 @@ fn texts_and_characters_are_shown(rt: HostRuntime) -> Result<(), Fail> {
 fn blobs_numbers_and_ranges_are_shown(rt: HostRuntime) -> Result<(), Fail> {
     let alloc = rt.alloc();
     let commands = vec![in alloc;
-        Command::Put(Literal::Blob(vec![in alloc; 1, 2, 3, 4, 5, 6, 7, 8, 9]?)),
+        Command::Put(Literal::Blob(Bytes::new(vec![in alloc; 1, 2, 3, 4, 5, 6, 7, 8, 9]?))),
         Command::Show(0),
         Command::Put(Literal::Host(Host::U8(200))),
         Command::Show(1),

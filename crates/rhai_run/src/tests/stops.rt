@@ -25,17 +25,17 @@ fn name_at_last(alloc: Global, text: &str) -> Result<ImmutableString, AllocError
     }
 }
 
-fn keys_at_last(alloc: Global, texts: &[&str]) -> Result<Vec<ImmutableString>, AllocError> {
+fn keys_at_last(alloc: Global, texts: &[&str]) -> Result<Names, AllocError> {
     match keys(alloc, texts) {
         Ok(keys) => Ok(keys),
         Err(_) => keys(alloc, texts),
     }
 }
 
-fn bytes_at_last(alloc: Global, bytes: &[u8]) -> Result<Vec<u8>, AllocError> {
+fn bytes_at_last(alloc: Global, bytes: &[u8]) -> Result<Bytes, AllocError> {
     match Vec::from_slice(alloc, bytes) {
-        Ok(bytes) => Ok(bytes),
-        Err(_) => Ok(Vec::from_slice(alloc, bytes)?),
+        Ok(bytes) => Ok(Bytes::new(bytes)),
+        Err(_) => Ok(Bytes::new(Vec::from_slice(alloc, bytes)?)),
     }
 }
 
@@ -120,9 +120,9 @@ fn a_stopped_run_goes_on(rt: HostRuntime) -> Result<(), Fail> {
     Ok(())
 }
 
-/// Passes too where a growth of the run is refused: a map that is stopped may leave units for values.
+/// Passes too where a growth of the run is refused: a map that is stopped keeps the values that it was to take.
 #[test]
-fn a_stopped_map_may_lose_what_it_takes(rt: HostRuntime) -> Result<(), Fail> {
+fn a_stopped_map_loses_nothing(rt: HostRuntime) -> Result<(), Fail> {
     let alloc = rt.alloc();
     let commands = [
         Command::Put(Literal::Int(0)),
@@ -132,12 +132,7 @@ fn a_stopped_map_may_lose_what_it_takes(rt: HostRuntime) -> Result<(), Fail> {
         Command::Debug(0),
         Command::Debug(1),
     ];
-    let whole = "#{\"a\": 1, \"b\": 2}";
-    let lost = [
-        "#{\"a\": (), \"b\": 2}",
-        "#{\"a\": 1, \"b\": ()}",
-        "#{\"a\": (), \"b\": ()}",
-    ];
+    let expected = ["ok", "ok", "ok", "ok", "0", "#{\"a\": 1, \"b\": 2}"];
     let mut world = World::new(alloc, UNLIMITED);
     let told_in_parts = answers_at_last(alloc, &mut world, &commands);
     world.close();
@@ -145,14 +140,37 @@ fn a_stopped_map_may_lose_what_it_takes(rt: HostRuntime) -> Result<(), Fail> {
         return Err("memory was refused twice".into());
     };
     assert_eq!(rt; first.len() + rest.len(), commands.len());
-    let is_map_stopped = first.len() == 3;
-    for (i, answer) in first.iter().chain(&rest).enumerate() {
-        let text = told(answer);
-        match i {
-            4 => assert_eq!(rt; text, "0"),
-            5 => assert!(rt; text == whole || is_map_stopped && lost.contains(&text)),
-            _ => assert_eq!(rt; text, "ok", "at {i}"),
-        }
+    for (i, (answer, text)) in first.iter().chain(&rest).zip(&expected).enumerate() {
+        assert_eq!(rt; told(answer), *text, "at {i}");
     }
+    Ok(())
+}
+
+/// A command that is refused is refused also where memory is: it passes with each growth of the run refused.
+#[test]
+fn refusals_need_no_memory(rt: HostRuntime) -> Result<(), Fail> {
+    let alloc = rt.alloc();
+    let commands = [
+        Command::Take(0),
+        Command::Copy(0),
+        Command::Share(0),
+        Command::Flatten(0),
+        Command::FlattenClone(0),
+        Command::MakeArray(1),
+        Command::MakeMap(keys_at_last(alloc, &["a"])?),
+        Command::MakeFn(name_at_last(alloc, "f")?, 1),
+        Command::Push(name_at_last(alloc, "x")?, 0),
+        Command::Get(name_at_last(alloc, "x")?),
+        Command::Ask(0, Question::Char),
+        Command::Show(0),
+        Command::Debug(0),
+    ];
+    let mut world = World::new(alloc, UNLIMITED);
+    let mut are_refused = true;
+    for command in &commands {
+        are_refused = are_refused && matches!(apply(&mut world, command), Ok(Answer::Refused(_)));
+    }
+    world.close();
+    assert!(rt; are_refused);
     Ok(())
 }

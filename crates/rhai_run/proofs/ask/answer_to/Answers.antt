@@ -1,21 +1,29 @@
-use Rattle.std.proofs.Common.{◌≡◌, [], ◌∷◌, IfOk, sym, ap, ◌∙◌, subst}
+use Rattle.std.proofs.Common.{◌≡◌, [], ◌∷◌, Result, Ok, Err, IfOk, MatchResult, sym, ap, ◌∙◌, subst}
 use Rattle.std.specs.Str.{chars}
 use Rattle.rhai_text.proofs.Texts.{chars-one}
 use Rattle.rhai_value.specs.End.{end}
 use Rattle.rhai_value.specs.Types.{end_type}
-use Rattle.rhai_run.specs.Asked.{asked, held_or_named}
-use Rattle.rhai_run.specs.Reply.{reply_of, told}
-use Rattle.rhai_run.proofs.Asks.{chars_type_name}
+use Rattle.rhai_run.specs.Ask.{asked, held_or_named}
+use Rattle.rhai_run.specs.Reply.{told}
+use Rattle.rhai_run.proofs.FromBelow.{chars_type_name}
 use Rattle.rhai_run.proofs.ask.answer_to.Goals as goal
 
-pub returns-in-TypeName : goal.returns-in-TypeName
-returns-in-TypeName c =
+pub returns-in_ok-told-in-TypeName : goal.returns-in_ok-told-in-TypeName
+returns-in_ok-told-in-TypeName c =
     let e = end c.args.s.now [] c.args.value.now in
-    subst (λ x. IfOk c.told.result (λ a. reply_of a ≡ x)) (ap told (ap chars c.type_name.ensures ∙ chars_type_name (end_type e)) ∙ ap (asked c.args.s.now c.args.value.now) (sym c.in-TypeName.is)) c.told.ensures
+    c.in_ok-told-in-TypeName.ensures ∙ ap told (ap chars c.type_name.ensures ∙ chars_type_name (end_type e)) ∙ ap (asked c.args.s.now c.args.value.now) (sym c.in-TypeName.is)
 
-pub returns-in-Ok-as_char : goal.returns-in-Ok-as_char
-returns-in-Ok-as_char c =
+-- what holds of an answer holds of it behind `map_err`
+abbrev gives : {X : Type 0} (F : Type 0) → X → Result X F
+gives F x = Ok x
+
+read : {X E : Type 0} (F : Type 0) (r : Result X E) (x : X) (P : X → Type 0) (Z : E → Type 0) → MatchResult r (λ y. gives F x ≡ Ok y) Z → ((e : E) → Z e → ⊥) → IfOk r P → P x
+read F (Ok y) x P Z h n p = let e : y ≡ x = cc in subst P e p
+read F (Err e) x P Z h n p = absurd (n e h)
+
+pub returns-in_ok-told-in-Char : goal.returns-in_ok-told-in-Char
+returns-in_ok-told-in-Char c =
     let e = end c.args.s.now [] c.args.value.now in
-    subst (λ x. IfOk c.told-in-Ok-as_char.result (λ a. reply_of a ≡ x))
-    (ap told (chars-one c.encode_utf8.result.now c.in-Ok-as_char.character c.encode_utf8.utf8 c.encode_utf8.ensures.value)
-    ∙ ap (λ o. held_or_named (λ k. told (k ∷ [])) o e) (sym c.in-Ok-as_char.ensures.ok) ∙ ap (asked c.args.s.now c.args.value.now) (sym c.in-Char.is)) c.told-in-Ok-as_char.ensures
+    let character = c.in_ok-character-in-Char.character in
+    c.in_ok-told-in-Char.ensures ∙ ap told (chars-one c.encode_utf8.result.now character c.encode_utf8.utf8 c.encode_utf8.ensures.value)
+    ∙ ap (λ o. held_or_named (λ k. told (k ∷ [])) o e) (sym (read _ c.as_char.result character _ _ c.in_ok-character-in-Char.ensures.cases (λ e z. z) c.as_char.ensures.ok)) ∙ ap (asked c.args.s.now c.args.value.now) (sym c.in-Char.is)

@@ -1,5 +1,5 @@
 use Rattle.std.proofs.Common.{◌≡◌, ◌≤◌, length, drop, None}
-use Rattle.rhai_run.specs.State.{last_position}
+use Rattle.rhai_run.specs.Scope.{last_position}
 use Rattle.rhai_run.proofs.scope.search.Given as goal
 
 abbrev pub invariant-loop-i : goal.invariant-loop-i

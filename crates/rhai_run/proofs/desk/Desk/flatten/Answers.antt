@@ -1,21 +1,27 @@
-use Rattle.std.proofs.Common.{◌≡◌, [], subst, refl}
+use Rattle.std.proofs.Common.{◌≡◌, refl, subst}
+use Rattle.std.proofs.lemmas.Result.{err_from_is_err_and}
 use Rattle.rhai_value.specs.Tree.{fresh, unit}
-use Rattle.rhai_run.specs.State.{State}
+use Rattle.rhai_run.specs.State.{State, with_hand}
+use Rattle.rhai_run.specs.StateCode.{state_of}
 use Rattle.rhai_run.specs.Reply.{done}
-use Rattle.rhai_run.specs.Step.{flatten_at}
-use Rattle.rhai_run.proofs.Moves.{world, flatten_done, put_back}
+use Rattle.rhai_run.specs.Change.{step_flatten}
+use Rattle.rhai_run.proofs.Moves.{changed_ok, changed_err, flatten_done, came_back, flatten_wants}
 use Rattle.rhai_run.proofs.desk.Desk.flatten.Goals as goal
 
-pub returns-in-Ok : goal.returns-in-Ok
-returns-in-Ok c =
-    let w : State = record { store = c.self.inside.store; entries = c.self.inside.entries.items; marks = []; hand = c.self.inside.hand.items; limits = c.self.inside.limits } in
-    subst (λ v. (done ≡ (flatten_at v c.args.i).0) × (world w w.store c.replace_at.new.values.items ≡ (flatten_at v c.args.i).1)) c.self.view_is
-    (flatten_done w c.args.i c.replace_at-value.result (fresh unit) c.in-Ok.flat c.replace_at.new.values.items c.replace_at-value.ensures.value c.in-Ok.ensures.ok
-    (rw (← c.replace_at-value.ensures.after) c.replace_at.ensures.after))
+pub returns-in_err-put_back : goal.returns-in_err-put_back
+returns-in_err-put_back c =
+    let w : State = state_of c.self.inside.store c.self.inside.entries.items c.self.inside.hand.items c.self.inside.limits in
+    let p = err_from_is_err_and c.from_residual-in_err-put_back.result c.from_residual-in_err-put_back.ensures.1 in
+    let m = changed_err c.flatten-flat.result c.put_back.result c.in_err-put_back.field-0.0 c.in_err-put_back.was c.flatten-flat.ensures.err c.put_back.ensures.ok c.put_back.ensures.err in
+    rw (p.1, p.2) (
+      (refl, flatten_wants c.args.self.now c.args.i c.in_ok-value.field-0.now c.in_ok-value.ensures.ok),
+      subst (λ v. with_hand w c.put_back.new.values.items ≡ v) c.self.view_is
+          (came_back w c.args.i c.replace_at-value.result (fresh unit) m.0 w.store c.put_back.new.values.items c.replace_at-value.ensures.value (m.1, refl) (rw (← c.replace_at-value.ensures.after) m.2)),
+    )
 
-pub returns-in-Err : goal.returns-in-Err
-returns-in-Err c =
-    let w : State = record { store = c.self.inside.store; entries = c.self.inside.entries.items; marks = []; hand = c.self.inside.hand.items; limits = c.self.inside.limits } in
-    subst (λ v. world w w.store c.replace_at-in-Err.new.values.items ≡ v) c.self.view_is
-    (put_back w c.args.i c.replace_at-value.result (fresh unit) c.in-Err.value w.store c.replace_at-in-Err.new.values.items c.replace_at-value.ensures.value (c.in-Err.ensures.err, refl)
-    (rw (← c.replace_at-value.ensures.after) c.replace_at-in-Err.ensures.after))
+pub returns : goal.returns
+returns c =
+    let w : State = state_of c.self.inside.store c.self.inside.entries.items c.self.inside.hand.items c.self.inside.limits in
+    let m = changed_ok c.flatten-flat.result c.put_back.result c.in_ok-put_back.field-0 c.in_ok-put_back.was c.flatten-flat.ensures.ok c.put_back.ensures.ok c.put_back.ensures.err in
+    subst (λ v. (done ≡ (step_flatten v c.args.i).0) × (with_hand w c.put_back.new.values.items ≡ (step_flatten v c.args.i).1)) c.self.view_is
+    (flatten_done w c.args.i c.replace_at-value.result (fresh unit) m.0 c.put_back.new.values.items c.replace_at-value.ensures.value m.1 (rw (← c.replace_at-value.ensures.after) m.2))

@@ -1,21 +1,39 @@
-use Rattle.std.proofs.Common.{◌≡◌, [], subst}
+use Rattle.std.proofs.Common.{◌≡◌, ◌<◌, sym, ◌∙◌, subst, arith}
+use Rattle.std.proofs.lemmas.Option.{slice_get_within}
+use Rattle.std.proofs.lemmas.Result.{err_from_is_err_and}
 use Rattle.rhai_value.specs.Tree.{fresh, unit}
-use Rattle.rhai_run.specs.State.{State}
+use Rattle.rhai_run.specs.State.{State, with_cells}
+use Rattle.rhai_run.specs.StateCode.{state_of}
 use Rattle.rhai_run.specs.Reply.{done}
-use Rattle.rhai_run.specs.Step.{shared}
-use Rattle.rhai_run.proofs.Moves.{world, share_done, put_back}
+use Rattle.rhai_run.specs.Change.{step_share}
+use Rattle.rhai_run.proofs.Moves.{changed_ok, changed_err, share_done, came_back, share_wants, share_stays, hand_within}
 use Rattle.rhai_run.proofs.desk.Desk.share.Goals as goal
 
-pub returns-in-Ok : goal.returns-in-Ok
-returns-in-Ok c =
-    let w : State = record { store = c.self.inside.store; entries = c.self.inside.entries.items; marks = []; hand = c.self.inside.hand.items; limits = c.self.inside.limits } in
-    subst (λ v. (done ≡ (shared v c.args.i).0) × (world w c.into_shared.new.m c.replace_at.new.values.items ≡ (shared v c.args.i).1)) c.self.view_is
-    (share_done w c.args.i c.replace_at-value.result (fresh unit) c.in-Ok.holder c.into_shared.new.m c.replace_at.new.values.items c.replace_at-value.ensures.value c.in-Ok.ensures.ok
-    (rw (← c.replace_at-value.ensures.after) c.replace_at.ensures.after))
+pub returns-then-is_shared : goal.returns-then-is_shared
+returns-then-is_shared c = share_stays c.args.self.now c.args.i c.in_ok-value.field-0.now c.in_ok-value.ensures.ok (sym c.is_shared.ensures ∙ c.if-is_shared.true)
 
-pub returns-in-Err : goal.returns-in-Err
-returns-in-Err c =
-    let w : State = record { store = c.self.inside.store; entries = c.self.inside.entries.items; marks = []; hand = c.self.inside.hand.items; limits = c.self.inside.limits } in
-    subst (λ v. world w c.into_shared.new.m c.replace_at-in-Err.new.values.items ≡ v) c.self.view_is
-    (put_back w c.args.i c.replace_at-value.result (fresh unit) c.in-Err.value c.into_shared.new.m c.replace_at-in-Err.new.values.items c.replace_at-value.ensures.value c.in-Err.ensures.err
-    (rw (← c.replace_at-value.ensures.after) c.replace_at-in-Err.ensures.after))
+pub replace_at-value-requires : goal.replace_at-value-requires
+replace_at-value-requires c =
+    let w : State = state_of c.self.inside.store c.self.inside.entries.items c.self.inside.hand.items c.self.inside.limits in
+    omega (arith, hand_within c.args.self.now w c.args.i c.in_ok-value.field-0.now (sym c.self.view_is) c.in_ok-value.ensures.ok)
+
+pub put_back-requires : goal.put_back-requires
+put_back-requires c = omega (arith, c.replace_at-value.ensures.len, slice_get_within c.self.inside.hand.items c.args.i c.replace_at-value.result c.replace_at-value.ensures.value)
+
+pub returns-in_err-put_back : goal.returns-in_err-put_back
+returns-in_err-put_back c =
+    let w : State = state_of c.self.inside.store c.self.inside.entries.items c.self.inside.hand.items c.self.inside.limits in
+    let p = err_from_is_err_and c.from_residual-in_err-put_back.result c.from_residual-in_err-put_back.ensures.1 in
+    let m = changed_err c.into_shared-holder.result c.put_back.result c.in_err-put_back.field-0.0 c.in_err-put_back.was c.into_shared-holder.ensures.err c.put_back.ensures.ok c.put_back.ensures.err in
+    rw (p.1, p.2) (
+      share_wants c.args.self.now c.args.i c.in_ok-value.field-0.now c.in_ok-value.ensures.ok (sym c.is_shared.ensures ∙ c.if-is_shared.false),
+      subst (λ v. with_cells w c.into_shared-holder.new.m c.put_back.new.values.items ≡ v) c.self.view_is
+          (came_back w c.args.i c.replace_at-value.result (fresh unit) m.0 c.into_shared-holder.new.m c.put_back.new.values.items c.replace_at-value.ensures.value m.1 (rw (← c.replace_at-value.ensures.after) m.2)),
+    )
+
+pub returns : goal.returns
+returns c =
+    let w : State = state_of c.self.inside.store c.self.inside.entries.items c.self.inside.hand.items c.self.inside.limits in
+    let m = changed_ok c.into_shared-holder.result c.put_back.result c.in_ok-put_back.field-0 c.in_ok-put_back.was c.into_shared-holder.ensures.ok c.put_back.ensures.ok c.put_back.ensures.err in
+    subst (λ v. (done ≡ (step_share v c.args.i).0) × (with_cells w c.into_shared-holder.new.m c.put_back.new.values.items ≡ (step_share v c.args.i).1)) c.self.view_is
+    (share_done w c.args.i c.replace_at-value.result (fresh unit) m.0 c.into_shared-holder.new.m c.put_back.new.values.items c.replace_at-value.ensures.value m.1 (rw (← c.replace_at-value.ensures.after) m.2))

@@ -1,0 +1,95 @@
+-- Steps that change values, on two states that are the same up to a renaming.
+use Rattle.std.proofs.Common.{◌≡◌, ℕ, ℤ, pos, Bool, true, false, cond, List, [], ◌∷◌, ◌++◌, length, slice_set, Option, Some, None, is_some, refl, ap, length-append}
+use Rattle.rhai_value.specs.declared.access_mode.AccessMode.TheVariants.{ReadOnly}
+use Rattle.rhai_value.specs.Tree.{Tree, node, leaf, branch, fields, holder, mode_of}
+use Rattle.rhai_value.specs.Parts.{leaf_int, int_of, with_int}
+use Rattle.rhai_value.specs.Store.{added}
+use Rattle.rhai_value.specs.End.{End, end, held_part}
+use Rattle.rhai_value.specs.First.{first}
+use Rattle.rhai_value.specs.Types.{type_name}
+use Rattle.rhai_value.specs.Share.{shared_value, shared_store}
+use Rattle.rhai_value.specs.Relation.{Renaming, Related, SameEnd}
+use Rattle.rhai_value.proofs.Zips.{zip_set, zip_weaker}
+use Rattle.rhai_value.proofs.Grow.{one_pair, paired_more, related_more, one_more, same_added, new_last}
+use Rattle.rhai_value.proofs.SameWalks.{Paired, same_end}
+use Rattle.rhai_value.proofs.SameTrees.{by_trees, same_paint, same_with_tag, same_mode, same_with_int}
+use Rattle.rhai_value.proofs.SameCells.{same_held_leaf, same_end_type, same_value_after, same_store_after, length_store_after, marked_added, marked_store_after}
+use Rattle.rhai_value.proofs.MarkedCells.{marked_with_first}
+use Rattle.rhai_value.proofs.SameFlat.{same_first, same_flattened, same_value_with_first, same_store_with_first, length_with_first}
+use Rattle.rhai_run.specs.State.{State, with_cells, moved_from}
+use Rattle.rhai_run.specs.Reply.{done, refused, mismatch, fault, data_race}
+use Rattle.rhai_run.specs.Outcome.{Outcome}
+use Rattle.rhai_run.specs.Change.{step_share, step_flatten, step_make_read_only, step_set_tag, int_written, step_write_int, nowhere, step_write}
+use Rattle.rhai_run.specs.Correspondence.{SameEntry, SameStates}
+use Rattle.rhai_run.proofs.Outcome.{Matches, same_marked, m_stays, m_given, m_value, m_two, m_cells, m_replaced, m_hand, set_hand, moved_hand}
+
+abbrev share_at : State → ℕ → Tree → Outcome
+share_at w i t = (done, with_cells w (shared_store w.store t) (slice_set w.hand i (shared_value w.store t)))
+
+module _ (r : Renaming) (w v : State) (h : SameStates r w v) where
+  -- one more pair, and new values at a hand position
+  shared_states : (i : ℕ) (t u x y : Tree) → Related r t u → Related (r ++ one_pair (length w.store) (length v.store)) x y
+      → SameStates (r ++ one_pair (length w.store) (length v.store)) (with_cells w (added w.store t) (slice_set w.hand i x)) (with_cells v (added v.store u) (slice_set v.hand i y))
+  shared_states i t u x y e k =
+      let q : Renaming = one_pair (length w.store) (length v.store) in
+      record {
+        one = one_more r w.store v.store h.one h.cells;
+        cells = same_added r w.store v.store t u h.cells e;
+        entries = zip_weaker (SameEntry r) (SameEntry (r ++ q)) (λ a b n. (n.0, n.1, related_more r q a.value b.value n.2)) w.entries v.entries h.entries;
+        marks = zip_weaker (Paired r) (Paired (r ++ q)) (paired_more r q) w.marks v.marks h.marks;
+        hand = zip_set (Related (r ++ q)) w.hand v.hand i x y (zip_weaker (Related r) (Related (r ++ q)) (related_more r q) w.hand v.hand h.hand) k;
+        limits = h.limits;
+      }
+
+  -- a value goes into a new cell of each state
+  new_cell : (i : ℕ) (t u : Tree) → Related r t u
+      → Matches r w v (done, with_cells w (added w.store t) (slice_set w.hand i (node (holder (length w.store)) (pos 0) (mode_of t)))) (done, with_cells v (added v.store u) (slice_set v.hand i (node (holder (length v.store)) (pos 0) (mode_of u))))
+  new_cell i t u e =
+      record {
+        reply = refl;
+        made = 1;
+        first = length-append w.store _;
+        second = length-append v.store _;
+        after = shared_states i t u _ _ e (new_last r (length w.store) (length v.store), refl, same_mode r t u e);
+        keeps = same_marked w.store _ w.marks (marked_added w.store t);
+      }
+
+  pub same_share : (i : ℕ) → Matches r w v (step_share w i) (step_share v i)
+  same_share i = m_value r w v h i _ _ (by_trees r (λ t u. Matches r w v (share_at w i t) (share_at v i u))
+      (λ l g m. new_cell i (node (leaf l) g m) (node (leaf l) g m) (refl, refl, refl))
+      (λ k ts us g m e. new_cell i (node (branch k ts) g m) (node (branch k us) g m) ((refl, e), refl, refl))
+      (λ fs hs g m e. new_cell i (node (fields fs) g m) (node (fields hs) g m) (e, refl, refl))
+      (λ c d g m p. m_hand r w v h _ _ (set_hand r w v h i (node (holder c) g m) (node (holder d) g m) (p, refl, refl))))
+
+  pub same_flatten : (i : ℕ) → Matches r w v (step_flatten w i) (step_flatten v i)
+  same_flatten i = m_replaced r w v h i _ _ (λ t u. same_flattened r w.store v.store t u h.one h.cells)
+
+  pub same_make_read_only : (i : ℕ) → Matches r w v (step_make_read_only w i) (step_make_read_only v i)
+  same_make_read_only i = m_replaced r w v h i _ _ (same_paint r ReadOnly)
+
+  pub same_set_tag : (i : ℕ) (g : ℤ) → Matches r w v (step_set_tag w i g) (step_set_tag v i g)
+  same_set_tag i g = m_replaced r w v h i _ _ (same_with_tag r g)
+
+  int_at_end : (i : ℕ) (n : ℤ) (t u : Tree) (e f : End) → Related r t u → SameEnd r e f → Matches r w v (int_written w i n t e) (int_written v i n u f)
+  int_at_end i n t u e f k o =
+      by (is_some (held_part int_of e)) (is_some (held_part int_of f)) (ap is_some (same_held_leaf r leaf_int e f o))
+      (m_cells r w v h _ _ _ _ (length_store_after (with_int n) e w.store) (length_store_after (with_int n) f v.store) (marked_store_after (with_int n) e w.store)
+      (same_store_after r (with_int n) (with_int n) w.store v.store (same_with_int r n) h.one h.cells e f o)
+      (set_hand r w v h i _ _ (same_value_after r (with_int n) (with_int n) t u (same_with_int r n) k e f o)))
+      (m_stays r w v h _ _ (ap (λ k. refused (mismatch (type_name k))) (same_end_type r e f o)))
+    where
+      by : (b d : Bool) {o p q s : Outcome} → b ≡ d → Matches r w v o p → Matches r w v q s → Matches r w v (cond b o q) (cond d p s)
+      by true true e m n = m
+      by false false e m n = n
+      by true false e m n = cc
+      by false true e m n = cc
+
+  pub same_write_int : (i : ℕ) (n : ℤ) → Matches r w v (step_write_int w i n) (step_write_int v i n)
+  same_write_int i n = m_value r w v h i _ _ (λ t u e. int_at_end i n t u (end w.store [] t) (end v.store [] u) e (same_end r w.store v.store t u h.one h.cells e))
+
+  pub same_write : (i j : ℕ) → Matches r w v (step_write w i j) (step_write v i j)
+  same_write i j =
+      m_two r w v h i j _ _ (λ t u x y e d. m_given r w v h (Related r) (fault (data_race nowhere)) (first w.store t) (first v.store u) _ _ (same_first r w.store v.store h.cells t u e) (λ a b c.
+      m_cells r w v h _ _ _ _ (length_with_first x w.store t) (length_with_first y v.store u) (marked_with_first x w.store t)
+      (same_store_with_first r w.store v.store x y h.one h.cells d t u e)
+      (zip_set (Related r) _ _ i _ _ (moved_hand r w v h j) (same_value_with_first r x y d t u e))))

@@ -1,0 +1,108 @@
+-- What a command owes on two states that are the same up to a renaming, and one lemma for each thing that steps are made of.
+use Rattle.std.proofs.Common.{◌≡◌, ℕ, ◌+◌, ◌-◌, Bool, true, false, cond, nat_eq, nat_le, List, [], ◌∷◌, ◌++◌, length, take, drop, slice_get, slice_set, Option, Some, None, refl, sym, ap, ◌∙◌, subst, arith, append-nil, count_by}
+use Rattle.std.specs.List.{AllZip}
+use Rattle.rhai_value.specs.declared.store.Cell.{Cell}
+use Rattle.rhai_value.specs.Tree.{Tree, unit, fresh}
+use Rattle.rhai_value.specs.Store.{is_marked_at}
+use Rattle.rhai_value.specs.Relation.{Renaming, Related, SameCells, Alike}
+use Rattle.rhai_value.proofs.Zips.{zip_get, zip_append, zip_set, zip_take, zip_drop, zip_length}
+use Rattle.rhai_run.specs.State.{Entry, State, with_hand, with_entries, with_cells, appended, moved_from, last_values, values_before, without_last}
+use Rattle.rhai_run.specs.Reply.{Reply, done, refused, Reason, no_value, same_value}
+use Rattle.rhai_run.specs.Outcome.{Outcome, refuse, unless, given, with_value, with_two, answered, replaced, gathered}
+use Rattle.rhai_run.specs.Correspondence.{SameEntry, SameStates, grown}
+
+-- the marks are the marked cells, each once
+abbrev pub MarksAre : List Cell → List ℕ → Type 0
+MarksAre s ms = (c : ℕ) → count_by (nat_eq c) ms ≡ cond (is_marked_at s c) 1 0
+
+-- x has the marked cells as its marks where w has
+abbrev pub Keeps : State → State → Type 0
+Keeps w x = MarksAre w.store w.marks → MarksAre x.store x.marks
+
+-- the same cells are marked
+pub same_marked : (s z : List Cell) (ms : List ℕ) → ((c : ℕ) → is_marked_at z c ≡ is_marked_at s c) → MarksAre s ms → MarksAre z ms
+same_marked s z ms e h = λ c. h c ∙ ap (λ b. cond b 1 0) (sym (e c))
+
+-- Equal answers and as many new cells; the states after it are the same up to the grown renaming, and marks stay the marked cells.
+pub record Matches (r : Renaming) (w v : State) (o p : Outcome) : Type 0 where
+  pub reply : o.0 ≡ p.0
+  pub made : ℕ
+  pub first : length o.1.store ≡ length w.store + made
+  pub second : length p.1.store ≡ length v.store + made
+  pub after : SameStates (grown r w v made) o.1 p.1
+  pub keeps : Keeps w o.1
+
+pub same_without_last : {X : Type 0} (R : X → X → Type 0) (xs ys : List X) → AllZip R xs ys → AllZip R (without_last xs) (without_last ys)
+same_without_last R xs ys h = subst (λ n. AllZip R (take (length xs - 1) xs) (take (n - 1) ys)) (zip_length R xs ys h) (zip_take R (length xs - 1) xs ys h)
+
+module _ (r : Renaming) (w v : State) (h : SameStates r w v) where
+  -- no cell is made
+  pub no_cell : (x y : State) (a b : Reply) → a ≡ b → length x.store ≡ length w.store → length y.store ≡ length v.store → SameStates r x y → Keeps w x → Matches r w v (a, x) (b, y)
+  no_cell x y a b e f g s k = record { reply = e; made = 0; first = omega arith; second = omega arith; after = subst (λ q. SameStates q x y) (sym (append-nil r)) s; keeps = k }
+
+  -- nothing changes
+  pub m_stays : (a b : Reply) → a ≡ b → Matches r w v (a, w) (b, v)
+  m_stays a b e = no_cell w v a b e refl refl h (λ k. k)
+
+  pub m_unless : (why : Reason) (b d : Bool) (o p : Outcome) → b ≡ d → Matches r w v o p → Matches r w v (unless b why w o) (unless d why v p)
+  m_unless why true true o p e k = m_stays (refused why) (refused why) refl
+  m_unless why false false o p e k = k
+  m_unless why true false o p e k = cc
+  m_unless why false true o p e k = cc
+
+  pub m_given : {X : Type 0} (R : X → X → Type 0) (why : Reason) (o p : Option X) (f g : X → Outcome) → Alike R o p → ((t u : X) → R t u → Matches r w v (f t) (g u)) → Matches r w v (given o why w f) (given p why v g)
+  m_given R why None None f g a k = m_stays (refused why) (refused why) refl
+  m_given R why (Some t) (Some u) f g a k = k t u a
+  m_given R why None (Some u) f g a k = absurd a
+  m_given R why (Some t) None f g a k = absurd a
+
+  pub m_value : (i : ℕ) (f g : Tree → Outcome) → ((t u : Tree) → Related r t u → Matches r w v (f t) (g u)) → Matches r w v (with_value w i f) (with_value v i g)
+  m_value i f g k = m_given (Related r) no_value (slice_get w.hand i) (slice_get v.hand i) f g (zip_get (Related r) w.hand v.hand i h.hand) k
+
+  pub m_two : (i j : ℕ) (f g : Tree → Tree → Outcome) → ((t u x y : Tree) → Related r t u → Related r x y → Matches r w v (f t x) (g u y)) → Matches r w v (with_two w i j f) (with_two v i j g)
+  m_two i j f g k = m_value i _ _ (λ t u e. m_value j _ _ (λ x y d. m_unless same_value (nat_eq i j) (nat_eq i j) _ _ refl (k t u x y e d)))
+
+  pub m_answered : (i : ℕ) (f g : Tree → Reply) → ((t u : Tree) → Related r t u → f t ≡ g u) → Matches r w v (answered w i f) (answered v i g)
+  m_answered i f g k = m_value i _ _ (λ t u e. m_stays (f t) (g u) (k t u e))
+
+  -- another hand, other entries
+  pub m_hand : (ts us : List Tree) → AllZip (Related r) ts us → Matches r w v (done, with_hand w ts) (done, with_hand v us)
+  m_hand ts us e = no_cell _ _ done done refl refl refl (record { one = h.one; cells = h.cells; entries = h.entries; marks = h.marks; hand = e; limits = h.limits }) (λ k. k)
+
+  pub m_entries : (es fs : List Entry) → AllZip (SameEntry r) es fs → Matches r w v (done, with_entries w es) (done, with_entries v fs)
+  m_entries es fs e = no_cell _ _ done done refl refl refl (record { one = h.one; cells = h.cells; entries = e; marks = h.marks; hand = h.hand; limits = h.limits }) (λ k. k)
+
+  -- another store of as many cells and the same marks, and another hand
+  pub m_cells : (s z : List Cell) (ts us : List Tree) → length s ≡ length w.store → length z ≡ length v.store → ((c : ℕ) → is_marked_at s c ≡ is_marked_at w.store c) → SameCells r s z → AllZip (Related r) ts us
+      → Matches r w v (done, with_cells w s ts) (done, with_cells v z us)
+  m_cells s z ts us f g m c e =
+      no_cell _ _ done done refl f g (record { one = h.one; cells = c; entries = h.entries; marks = h.marks; hand = e; limits = h.limits }) (same_marked w.store s w.marks m)
+
+  -- hands after a value was put into a place, moved from it, or put at the end
+  pub set_hand : (i : ℕ) (t u : Tree) → Related r t u → AllZip (Related r) (slice_set w.hand i t) (slice_set v.hand i u)
+  set_hand i t u e = zip_set (Related r) w.hand v.hand i t u h.hand e
+
+  pub moved_hand : (i : ℕ) → AllZip (Related r) (moved_from w.hand i) (moved_from v.hand i)
+  moved_hand i = set_hand i (fresh unit) (fresh unit) (refl, refl, refl)
+
+  pub m_appended : (t u : Tree) → Related r t u → Matches r w v (done, appended w t) (done, appended v u)
+  m_appended t u e = m_hand _ _ (zip_append (Related r) w.hand (t ∷ []) v.hand (u ∷ []) h.hand (e, tt))
+
+  pub m_replaced : (i : ℕ) (f g : Tree → Tree) → ((t u : Tree) → Related r t u → Related r (f t) (g u)) → Matches r w v (replaced w i f) (replaced v i g)
+  m_replaced i f g k = m_value i _ _ (λ t u e. m_hand _ _ (set_hand i (f t) (g u) (k t u e)))
+
+  pub m_gathered : (n : ℕ) (make : List Tree → Tree) → ((ts us : List Tree) → AllZip (Related r) ts us → Related r (make ts) (make us)) → Matches r w v (gathered w n make) (gathered v n make)
+  m_gathered n make k =
+      let long = zip_length (Related r) w.hand v.hand h.hand in
+      let last : AllZip (Related r) (last_values n w.hand) (last_values n v.hand) =
+      subst (λ m. AllZip (Related r) (last_values n w.hand) (drop (m - n) v.hand)) long (zip_drop (Related r) (length w.hand - n) w.hand v.hand h.hand) in
+      let before : AllZip (Related r) (values_before n w.hand) (values_before n v.hand) =
+      subst (λ m. AllZip (Related r) (values_before n w.hand) (take (m - n) v.hand)) long (zip_take (Related r) (length w.hand - n) w.hand v.hand h.hand) in
+      by (nat_le n (length w.hand)) (nat_le n (length v.hand)) (ap (nat_le n) long)
+      (m_hand _ _ (zip_append (Related r) (values_before n w.hand) _ (values_before n v.hand) _ before (k (last_values n w.hand) (last_values n v.hand) last, tt)))
+    where
+      by : (b d : Bool) {o p : Outcome} → b ≡ d → Matches r w v o p → Matches r w v (cond b o (refuse no_value w)) (cond d p (refuse no_value v))
+      by true true e m = m
+      by false false e m = m_stays (refused no_value) (refused no_value) refl
+      by true false e m = cc
+      by false true e m = cc

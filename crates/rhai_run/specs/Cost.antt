@@ -1,0 +1,68 @@
+-- Which commands take memory.
+use Rattle.std.specs.Prelude.{Bool, true, false, if◌then◌else◌, Option, Some, None, is_some, slice_get}
+use Rattle.rhai_value.specs.Tree.{Tree, cell_of}
+use Rattle.rhai_run.specs.declared.command.Command.{Command}
+use Rattle.rhai_run.specs.declared.command.Command.TheVariants as command
+use Rattle.rhai_run.specs.declared.command.Question.{Question}
+use Rattle.rhai_run.specs.declared.command.Question.TheVariants as question
+use Rattle.rhai_run.specs.State.{State}
+use Rattle.rhai_run.specs.Reply.{Reply, done, truth, number, told, refused}
+
+-- A command is free where it takes no memory. Else it may want memory, and keeps then all as it was.
+pub data Cost : Type 0 where
+  free : Cost
+  keeps_all : Cost
+
+-- a question takes memory for a text
+abbrev pub question_cost : Question → Cost
+question_cost question.Tag = free
+question_cost question.Variant = free
+question_cost question.Shared = free
+question_cost question.ReadOnly = free
+question_cost question.Locked = free
+question_cost question.TypeName = keeps_all
+question_cost (question.Held kind) = free
+question_cost question.Unit = free
+question_cost question.Int = free
+question_cost question.Bool = free
+question_cost question.Char = keeps_all
+
+-- a holder is not shared again
+abbrev pub share_cost : Option Tree → Cost
+share_cost None = free
+share_cost (Some t) = if is_some (cell_of t) then free else keeps_all
+
+-- the cost of a command that isn't refused
+abbrev pub cost : State → Command → Cost
+cost w (command.Put literal) = keeps_all
+cost w (command.MakeArray n) = keeps_all
+cost w (command.MakeMap keys) = keeps_all
+cost w (command.MakeFn name n) = keeps_all
+cost w (command.Copy i) = keeps_all
+cost w (command.Take i) = keeps_all
+cost w command.Drop = free
+cost w (command.Share i) = share_cost (slice_get w.hand i)
+cost w (command.Flatten i) = keeps_all
+cost w (command.FlattenClone i) = keeps_all
+cost w (command.MakeReadOnly i) = free
+cost w (command.SetTag i tag) = free
+cost w (command.Ask i question) = question_cost question
+cost w (command.WriteInt i n) = free
+cost w (command.Write i j) = free
+cost w (command.Push name i) = keeps_all
+cost w command.Pop = free
+cost w (command.Rewind n) = free
+cost w command.Clear = free
+cost w command.IsEmpty = free
+cost w (command.Contains name) = free
+cost w (command.Get name) = keeps_all
+cost w (command.Show i) = keeps_all
+cost w (command.Debug i) = keeps_all
+
+-- a command that is refused takes no memory
+abbrev pub is_refused : Reply → Bool
+is_refused done = false
+is_refused (truth b) = false
+is_refused (number n) = false
+is_refused (told text) = false
+is_refused (refused why) = true

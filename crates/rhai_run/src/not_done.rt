@@ -1,0 +1,37 @@
+//! Why a command is not done.
+ghost use Rattle.std.specs.Prelude.{◌≡◌};
+ghost use Rattle.rhai_run.specs.declared.not_done.NotDone.TheVariants.{Refused, Memory as no_memory};
+
+use crate::answer::Refusal;
+use std::alloc::{AllocError, AllocFailed};
+
+/// Why a command is not done: it is refused, or memory is.
+#[derive(Drop)]
+pub(crate) enum NotDone {
+    Refused(Refusal),
+    Memory,
+}
+
+impl From<Refusal> for NotDone {
+    ghost from_gives = { λ why result. result ≡ Refused why };
+
+    fn from(why: Refusal) -> NotDone {
+        NotDone::Refused(why)
+    }
+}
+
+impl From<AllocError> for NotDone {
+    ghost from_gives = { λ error result. result ≡ no_memory };
+
+    fn from(_error: AllocError) -> NotDone {
+        NotDone::Memory
+    }
+}
+
+impl<T: Drop> From<AllocFailed<T>> for NotDone {
+    ghost from_gives = { λ error result. result ≡ no_memory };
+
+    fn from(_error: AllocFailed<T>) -> NotDone {
+        NotDone::Memory
+    }
+}

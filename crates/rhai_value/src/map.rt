@@ -127,9 +127,10 @@ impl Map {
     }
 
     /// Puts a value at a key, and returns the value that was there. The time grows with the logarithm of the number of
-    /// entries; now and then the list of values grows, which takes time in their number.
+    /// entries; now and then the list of slots grows, which takes time in their number.
     ///
-    /// A key that is there keeps its own text, and its entry takes no more memory.
+    /// A key that is there keeps its own text, and is never refused. A map has at most one slot more than it has had keys at
+    /// once.
     ///
     /// # Errors
     ///

@@ -1,16 +1,17 @@
 -- Copies of lists of values and of rows.
-use Rattle.std.proofs.Common.{◌≡◌, ℕ, List, [], ◌∷◌, ◌++◌, map, Less, Greater, string_bytes, string_cmp, refl, ap, sym, ◌∙◌, subst}
+use Rattle.std.proofs.Common.{◌≡◌, ℕ, zero, suc, ◌||◌, nat_eq, List, [], ◌∷◌, ◌++◌, map, Less, Greater, string_bytes, string_cmp, refl, ap, ap₂, sym, ◌∙◌, subst}
 use Rattle.std.proofs.lemmas.Cmp.{nat_list_cmp_total}
 use Rattle.std.proofs.lemmas.List.{map-append}
 use Rattle.std.specs.BTreeMap.{insert_entry}
-use Rattle.std.specs.List.{AllByRecursion}
+use Rattle.std.specs.List.{AllByRecursion, AllZip}
 use Rattle.std.specs.List.Sorted.{IsStrictlySortedBy}
 use Rattle.std.specs.Map.{keys_of}
 use Rattle.std.specs.Ordering.{ordering_reverse}
 use Rattle.rhai_value.specs.Rows.{copied_rows, Rows, bytes_cmp, trees_of, fields_of}
-use Rattle.rhai_value.specs.Slots.{KeySlot, rows, row_in, tree_in, slot_at}
+use Rattle.rhai_value.specs.Slots.{KeySlot, rows, row_in, tree_in, slot_at, is_named, is_taken, AreApart, AreWhole, SameKeySlot, copied_slot}
 use Rattle.rhai_value.specs.Tree.{Tree, tree_then, copy, copy_trees, copy_fields}
 use Rattle.rhai_value.specs.declared.map.Slot.{Slot}
+use Rattle.rhai_value.specs.declared.map.Slot.TheVariants.{Vacant, Taken}
 
 pub copied_trees : (ts : List Tree) → trees_of (map copy ts) ≡ copy_trees (trees_of ts)
 copied_trees [] = refl
@@ -47,3 +48,60 @@ copied_last es done e left ts is sorted =
     let above = above_before copy done e left ts (subst (λ xs. IsStrictlySortedBy string_cmp (keys_of xs)) is sorted) in
     let split = ap copied_rows (map-append (row_in ts) done (e ∷ [])) ∙ map-append (λ r. (r.0, copy r.1)) (rows done ts) (rows (e ∷ []) ts) in
     insert_last (copied_rows (rows done ts)) (string_bytes e.0) (copy (tree_in (slot_at ts e.1))) above ∙ sym split
+
+-- ---- the copy of an index with that of its slots
+
+slot_copied : (ts : List Slot) (p : ℕ) → slot_at (map copied_slot ts) p ≡ copied_slot (slot_at ts p)
+slot_copied [] p = refl
+slot_copied (t ∷ ts) zero = refl
+slot_copied (t ∷ ts) (suc p) = slot_copied ts p
+
+tree_copied : (s : Slot) → tree_in (copied_slot s) ≡ copy (tree_in s)
+tree_copied (Vacant next) = refl
+tree_copied (Taken t) = refl
+
+taken_copied : (s : Slot) → is_taken (copied_slot s) ≡ is_taken s
+taken_copied (Vacant next) = refl
+taken_copied (Taken t) = refl
+
+pub rows_cloned : (es fs : List KeySlot) (ts : List Slot) → AllZip SameKeySlot es fs → rows fs (map copied_slot ts) ≡ copied_rows (rows es ts)
+rows_cloned [] [] ts h = refl
+rows_cloned (e ∷ es) (f ∷ fs) ts h =
+    let value = ap (λ n. tree_in (slot_at (map copied_slot ts) n)) h.0.1 ∙ ap tree_in (slot_copied ts e.1) ∙ tree_copied (slot_at ts e.1) in
+    ap₂ (λ r rs. r ∷ rs) (ap₂ (λ k t. (k, t)) h.0.0 value) (rows_cloned es fs ts h.1)
+rows_cloned [] (f ∷ fs) ts h = absurd h
+rows_cloned (e ∷ es) [] ts h = absurd h
+
+named_cloned : (es fs : List KeySlot) (p : ℕ) → AllZip SameKeySlot es fs → is_named p fs ≡ is_named p es
+named_cloned [] [] p h = refl
+named_cloned (e ∷ es) (f ∷ fs) p h = ap₂ (λ a b. a || b) (ap (nat_eq p) h.0.1) (named_cloned es fs p h.1)
+named_cloned [] (f ∷ fs) p h = absurd h
+named_cloned (e ∷ es) [] p h = absurd h
+
+apart_cloned : (es fs : List KeySlot) → AllZip SameKeySlot es fs → AreApart es → AreApart fs
+apart_cloned [] [] h apart = tt
+apart_cloned (e ∷ es) (f ∷ fs) h apart = (ap (λ n. is_named n fs) h.0.1 ∙ named_cloned es fs e.1 h.1 ∙ apart.0, apart_cloned es fs h.1 apart.1)
+apart_cloned [] (f ∷ fs) h apart = absurd h
+apart_cloned (e ∷ es) [] h apart = absurd h
+
+below_cloned : (e f : KeySlot) (es fs : List KeySlot) → SameKeySlot e f → AllZip SameKeySlot es fs → AllByRecursion (λ y. string_cmp e.0 y ≡ Less) (keys_of es) → AllByRecursion (λ y. string_cmp f.0 y ≡ Less) (keys_of fs)
+below_cloned e f [] [] same h all = tt
+below_cloned e f (x ∷ es) (y ∷ fs) same h all = (ap₂ bytes_cmp same.0 h.0.0 ∙ all.0, below_cloned e f es fs same h.1 all.1)
+below_cloned e f [] (y ∷ fs) same h all = absurd h
+below_cloned e f (x ∷ es) [] same h all = absurd h
+
+rising_cloned : (es fs : List KeySlot) → AllZip SameKeySlot es fs → IsStrictlySortedBy string_cmp (keys_of es) → IsStrictlySortedBy string_cmp (keys_of fs)
+unfolding IsStrictlySortedBy
+rising_cloned [] [] h rising = tt
+rising_cloned (e ∷ es) (f ∷ fs) h rising = (below_cloned e f es fs h.0 h.1 rising.0, rising_cloned es fs h.1 rising.1)
+rising_cloned [] (f ∷ fs) h rising = absurd h
+rising_cloned (e ∷ es) [] h rising = absurd h
+
+pub whole_cloned : (es fs : List KeySlot) (ts : List Slot) → AllZip SameKeySlot es fs → AreWhole es ts → AreWhole fs (map copied_slot ts)
+whole_cloned es fs ts h whole = record {
+  matched = record {
+    apart = apart_cloned es fs h whole.matched.apart;
+    same = λ p. ap is_taken (slot_copied ts p) ∙ taken_copied (slot_at ts p) ∙ whole.matched.same p ∙ sym (named_cloned es fs p h);
+  };
+  rising = rising_cloned es fs h whole.rising;
+}

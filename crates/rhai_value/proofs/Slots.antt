@@ -3,7 +3,7 @@ use Rattle.std.proofs.Common.{◌≡◌, ℕ, zero, suc, ◌<◌, Bool, true, fa
 use Rattle.std.proofs.lemmas.Bool.Decides.{nat_tests}
 use Rattle.std.proofs.lemmas.List.{get_or-set_same, get_or-set_other, get_or_default}
 use Rattle.std.specs.declared.boxed.Box.{Box}
-use Rattle.rhai_value.specs.Slots.{KeySlot, rows, rows_in, slot_at, is_named, is_taken, AreMatched, AreTaken, IsStored, IsWholeIn}
+use Rattle.rhai_value.specs.Slots.{KeySlot, rows, rows_in, slot_at, is_named, is_taken, AreMatched, AreTaken, IsStored, IsWhole, IsWholeIn, rows_of}
 use Rattle.rhai_value.specs.Falls.{same_nat}
 use Rattle.rhai_value.specs.Tree.{Tree}
 use Rattle.rhai_value.specs.declared.map.MapParts.{MapParts}
@@ -88,6 +88,9 @@ matched_taken es ts matched = all_taken es ts (λ p named. matched.same p ∙ na
 -- where a map has parts, its rows are theirs, and each of its keys has a slot that is taken
 pub parts_opened : (m : Option (Box MapParts Global)) (b : Box MapParts Global) (p : MapParts) → Some b ≡ m → p ≡ b.value → IsWholeIn m → (rows p.index.entries p.slots.items ≡ rows_in m) × AreTaken p.index.entries p.slots.items
 parts_opened m b p some is whole = (rw is (ap rows_in some), rw is (matched_taken _ _ (rw (sym some) at whole).matched))
+
+pub whole_opened : (m : Option (Box MapParts Global)) (b : Box MapParts Global) (p : MapParts) → Some b ≡ m → p ≡ b.value → IsWholeIn m → (rows_of p ≡ rows_in m) × IsWhole p
+whole_opened m b p some is whole = (rw is (ap rows_in some), rw is (rw (sym some) at whole))
 
 -- ---- a value that is stored in a vacant slot
 

@@ -47,7 +47,7 @@ slot_le : (n : ℕ) (s : Slot) → (is_taken s ≡ true → nodes (tree_in s) �
 slot_le n (Vacant next) h = omega arith
 slot_le n (Taken t) h = omega (arith, h refl)
 
-most_matched : (es : List KeySlot) (ts : List Slot) → AreMatched es ts → most deep-Slot ts ≤ map_size (rows es ts)
+pub most_matched : (es : List KeySlot) (ts : List Slot) → AreMatched es ts → most deep-Slot ts ≤ map_size (rows es ts)
 most_matched es ts matched = most_le deep-Slot ts (map_size (rows es ts)) (λ i.
     let one = slot_le (nodes_fields (fields_of (rows es ts))) (slot_at ts i) (λ taken. nodes_named es ts i (sym (matched.same i) ∙ taken)) in
     omega (arith, one))

@@ -7,7 +7,7 @@ use Rattle.std.specs.Vec.{with_item}
 use Rattle.std.specs.declared.alloc.Global.{Global}
 use Rattle.std.specs.declared.boxed.Box.{Box}
 use Rattle.rhai_value.specs.Rows.{Rows, bytes_cmp, fields_of}
-use Rattle.rhai_value.specs.Tree.{Tree, fresh, unit, nodes_fields, paint}
+use Rattle.rhai_value.specs.Tree.{Tree, fresh, unit, nodes_fields, copy, paint}
 use Rattle.rhai_value.specs.declared.access_mode.AccessMode.{AccessMode}
 use Rattle.rhai_value.specs.declared.map.Slot.{Slot}
 use Rattle.rhai_value.specs.declared.map.Slot.TheVariants.{Vacant, Taken}
@@ -114,7 +114,15 @@ abbrev pub AreTakenIn : Option Rest → Type 0
 AreTakenIn None = ⊤
 AreTakenIn (Some a) = AreTaken a.index a.slots.now.items
 
--- a slot whose value is painted
+-- keys of the same bytes, with the same slot
+abbrev pub SameKeySlot : KeySlot → KeySlot → Type 0
+SameKeySlot e f = (string_bytes f.0 ≡ string_bytes e.0) × (f.1 ≡ e.1)
+
+-- a slot whose value is copied, and one whose value is painted
+abbrev pub copied_slot : Slot → Slot
+copied_slot (Vacant next) = Vacant next
+copied_slot (Taken t) = Taken (copy t)
+
 abbrev pub painted_slot : AccessMode → Slot → Slot
 painted_slot m (Vacant next) = Vacant next
 painted_slot m (Taken t) = Taken (paint m t)

@@ -1,7 +1,7 @@
 //! Deep copies.
-ghost use Rattle.std.specs.Prelude.{◌≡◌, IfOk, IsOk, map};
+ghost use Rattle.std.specs.Prelude.{◌≡◌, ◌++◌, ◌∷◌, [], if◌then◌else◌, IfOk, IfSome, IsOk, map};
 ghost use Rattle.rhai_value.specs.Rows.{copied_rows};
-ghost use Rattle.rhai_value.specs.Slots.{AreTaken, rows};
+ghost use Rattle.rhai_value.specs.Slots.{AreTaken, IsWhole, rows, rows_of, copied_slot};
 ghost use Rattle.rhai_value.specs.Tree.{TakesNoMemory, copy};
 ghost use Rattle.rhai_value.specs.View.{tree_of};
 
@@ -16,8 +16,8 @@ use std::collections::BTreeMap;
 
 impl Dynamic {
     /// The same value once more, with all that it holds, every mode being ReadWrite; the copy of a holder names the same cell.
-    /// The time grows with what is copied: a text shares its bytes, an array or a blob takes its room once, and the keys of a
-    /// map are inserted one by one. A text wants memory only where the count of its copies is at its limit. An `Err` comes
+    /// The time grows with what is copied: a text shares its bytes, an array, a blob or the slots of a map take their room
+    /// once; the keys of a map of which more than half of the slots are vacant are inserted one by one. A text wants memory only where the count of its copies is at its limit. An `Err` comes
     /// where memory is refused, and what was copied so far is gone then. (`Clone` of rhai's `Dynamic`)
     pub fn copy(&self, alloc: Global) -> Result<Dynamic, AllocError>
         ensures value { IfOk result (λ d. d ≡ copy self.now) }
@@ -27,15 +27,36 @@ impl Dynamic {
     }
 }
 
+// What is most often copied and takes no memory, made by the caller in its place.
+#[inline(always)]
+fn copied_without_memory(union: &Union) -> Option<Union>
+    ensures { IfSome result (λ u. tree_of u ≡ copy (tree_of union.now)) }
+{
+    let mode = AccessMode::ReadWrite;
+    match union {
+        Union::Unit(tag, _, value) => Some(Union::Unit(*tag, mode, *value)),
+        Union::Bool(tag, _, value) => Some(Union::Bool(*tag, mode, *value)),
+        Union::Char(tag, _, value) => Some(Union::Char(*tag, mode, *value)),
+        Union::Int(tag, _, value) => Some(Union::Int(*tag, mode, *value)),
+        Union::Shared(tag, _, cell) => Some(Union::Shared(*tag, mode, *cell)),
+        _ => None,
+    }
+}
+
+#[inline(always)]
 #[cycle(copy)]
 fn copied(value: &Dynamic, alloc: Global) -> Result<Dynamic, AllocError>
     ensures value { IfOk result (λ d. d ≡ copy value.now) }
     ensures free { TakesNoMemory value.now → IsOk result }
 {
+    if let Some(union) = copied_without_memory(&value.union) {
+        return Ok(Dynamic { union });
+    }
     let union = copied_union(&value.union, alloc)?;
     Ok(Dynamic { union })
 }
 
+#[inline(never)]
 #[cycle(copy)]
 #[tactic(auto, using(crate::proofs::Copies::copied_trees, crate::proofs::Copies::copied_fields))]
 fn copied_union(union: &Union, alloc: Global) -> Result<Union, AllocError>
@@ -58,6 +79,32 @@ fn copied_union(union: &Union, alloc: Global) -> Result<Union, AllocError>
     }
 }
 
+// Adds the copy of what arrays hold most often, each kind by a write of its own; says whether it did.
+#[inline(always)]
+fn push_without_memory(copies: &mut Vec<Dynamic>, union: &Union) -> Result<bool, AllocError>
+    ensures { IfOk result (λ done. copies.new.items ≡ (if done then copies.old.items ++ copy (tree_of union.now) ∷ [] else copies.old.items)) }
+{
+    let mode = AccessMode::ReadWrite;
+    match union {
+        Union::Int(tag, _, value) => {
+            let union = Union::Int(*tag, mode, *value);
+            copies.push(Dynamic { union })?;
+            Ok(true)
+        }
+        Union::Bool(tag, _, value) => {
+            let union = Union::Bool(*tag, mode, *value);
+            copies.push(Dynamic { union })?;
+            Ok(true)
+        }
+        Union::Shared(tag, _, cell) => {
+            let union = Union::Shared(*tag, mode, *cell);
+            copies.push(Dynamic { union })?;
+            Ok(true)
+        }
+        _ => Ok(false),
+    }
+}
+
 // The copies of the items, for which room is taken once.
 #[cycle(copy)]
 pub(crate) fn copied_items(items: &Vec<Dynamic>, alloc: Global) -> Result<Vec<Dynamic>, AllocError>
@@ -65,7 +112,9 @@ pub(crate) fn copied_items(items: &Vec<Dynamic>, alloc: Global) -> Result<Vec<Dy
 {
     let mut copies = Vec::with_capacity(alloc, items.len())?;
     for item in items {
-        copies.push(copied(item, alloc)?)?;
+        if !push_without_memory(&mut copies, &item.union)? {
+            copies.push(copied(item, alloc)?)?;
+        }
     }
     Ok(copies)
 }
@@ -87,8 +136,53 @@ pub(crate) fn copied_map(map: &Map, alloc: Global) -> Result<Map, AllocError>
         None => Ok(Map::new(alloc)),
         Some(parts) => {
             let parts: &MapParts = parts;
-            copied_entries(&parts.index, &parts.slots, alloc)
+            // a map with few keys for its slots is copied without those that are vacant
+            if parts.slots.len() / 2 > parts.index.len() {
+                return copied_entries(&parts.index, &parts.slots, alloc);
+            }
+            let parts = Box::new(alloc, copied_parts(parts, alloc)?)?;
+            Ok(Map {
+                parts: Some(parts),
+                alloc,
+            })
         }
+    }
+}
+
+// The index as a whole, and the slots one by one.
+#[cycle(copy)]
+fn copied_parts(parts: &MapParts, alloc: Global) -> Result<MapParts, AllocError>
+    requires { IsWhole parts.now }
+    ensures rows { IfOk result (λ p. rows_of p ≡ copied_rows (rows_of parts.now)) }
+    ensures whole { IfOk result (λ p. IsWhole p) }
+{
+    let index = parts.index.clone()?;
+    let slots = copied_slots(&parts.slots, alloc)?;
+    Ok(MapParts {
+        index,
+        slots,
+        vacant: parts.vacant,
+    })
+}
+
+#[cycle(copy)]
+fn copied_slots(slots: &Vec<Slot>, alloc: Global) -> Result<Vec<Slot>, AllocError>
+    ensures { IfOk result (λ v. v.items ≡ map copied_slot slots.now.items) }
+{
+    let mut copies = Vec::with_capacity(alloc, slots.len())?;
+    for slot in slots {
+        copies.push(slot_copy(slot, alloc)?)?;
+    }
+    Ok(copies)
+}
+
+#[cycle(copy)]
+fn slot_copy(slot: &Slot, alloc: Global) -> Result<Slot, AllocError>
+    ensures { IfOk result (λ s. s ≡ copied_slot slot.now) }
+{
+    match slot {
+        Slot::Vacant(next) => Ok(Slot::Vacant(*next)),
+        Slot::Taken(value) => Ok(Slot::Taken(copied(value, alloc)?)),
     }
 }
 

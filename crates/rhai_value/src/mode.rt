@@ -12,7 +12,8 @@ use crate::union::Union;
 
 impl Dynamic {
     /// Sets the mode of the value and of all that it holds through arrays and maps. Curried values keep their modes, and so
-    /// does what is in a cell. Takes no memory; the time grows with the number of values inside. (`Dynamic::set_access_mode`)
+    /// does what is in a cell. Takes no memory; the time grows with the number of values inside, and of the slots of maps.
+    /// (`Dynamic::set_access_mode`)
     pub fn set_access_mode(&mut self, mode: AccessMode)
         ensures { self.new ≡ paint mode self.old }
     {

@@ -153,3 +153,51 @@ fn many_changes_take_no_more_slots(rt: HostRuntime) -> Result<(), Fail> {
     }
     Ok(())
 }
+
+/// The map inside a value, to write.
+fn map_in(value: &mut Dynamic) -> Option<&mut Map> {
+    match &mut value.union {
+        Union::Map(_, _, map) => Some(map),
+        _ => None,
+    }
+}
+
+#[test]
+fn copies_have_the_same_entries(rt: HostRuntime) -> Result<(), Fail> {
+    let mut value = Dynamic::from_map(sample(rt.alloc())?);
+    for (gone, left, copied_slots) in [("b", 4, 5), ("", 3, 5), ("é", 2, 5), ("a", 1, 1)] {
+        let mut copy = value.copy(rt.alloc())?;
+        let (Some(map), Some(other)) = (map_in(&mut value), map_in(&mut copy)) else {
+            assert!(rt; false, "no map");
+            return Ok(());
+        };
+        assert!(rt;
+            other.remove(gone).is_some() && map.len() == left + 1,
+            "{gone}"
+        );
+        assert!(rt;
+            map.remove(gone).is_some() && !map.contains_key(gone),
+            "{gone}"
+        );
+        for (key, item) in map.iter() {
+            assert!(rt;
+                other.get(key).and_then(int_of) == int_of(item),
+                "{gone} {key}"
+            );
+        }
+        assert!(rt;
+            other.len() == left && put(other, gone, 7)?.is_none(),
+            "{gone}"
+        );
+        assert!(rt;
+            other.get(gone).and_then(int_of) == Some(7) && slots(other) == 5,
+            "{gone}"
+        );
+        let mut last = value.copy(rt.alloc())?;
+        if let Some(map) = map_in(&mut last) {
+            assert!(rt; map.len() == left && slots(map) == copied_slots, "{gone}");
+        }
+    }
+    assert!(rt; map_in(&mut value).is_some_and(|map| has_entries(map, &[("ba", 3)])));
+    Ok(())
+}

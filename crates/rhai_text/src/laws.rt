@@ -5,6 +5,8 @@ ghost use Rattle.std.specs.Ordering.{nat_cmp};
 ghost use Rattle.std.specs.Str.{encode_utf8_all};
 ghost use Rattle.rhai_text.specs.Text.{minus, with_slice};
 
+use crate::position::Position;
+
 /// Where a text begins with the pattern, `minus` goes on with what is left after it.
 pub fn minus_drops_the_pattern()
     ensures { (pattern rest : List ℕ) → minus (pattern ++ rest) pattern ≡ minus rest pattern }
@@ -31,4 +33,9 @@ pub fn slice_places_stop_at_the_end()
 /// Texts stand in the same order by their UTF-8 bytes as by their characters.
 pub fn byte_order_is_character_order()
     ensures { (a b : List ℕ) → slice_cmp nat_cmp (encode_utf8_all a) (encode_utf8_all b) ≡ slice_cmp nat_cmp a b }
+{}
+
+/// No place has line 0 and position 0.
+pub fn no_position_is_zero()
+    ensures { Position.NONE ≡ record { line = 0; position = 0 } }
 {}

@@ -43,14 +43,13 @@ fn answer_line<W: Write>(
     let Ok(command) = command(alloc, line) else {
         return Err(LinesFault::Memory);
     };
-    let written = match command {
-        None => write_bad_line(writer),
-        Some(command) => match apply(world, &command) {
-            Ok(answer) => write_answer(&answer, writer),
-            Err(_) => return Err(LinesFault::Memory),
-        },
+    let Some(command) = command else {
+        return write_bad_line(writer).map_err(LinesFault::Write);
     };
-    written.map_err(LinesFault::Write)
+    let Ok(answer) = apply(world, &command) else {
+        return Err(LinesFault::Memory);
+    };
+    write_answer(&answer, writer).map_err(LinesFault::Write)
 }
 
 /// Takes bytes of the input: each line that they complete is answered, and what is left is kept for the next ones.

@@ -1,12 +1,14 @@
 -- A name is ASCII, so its bytes are its characters.
-use Rattle.std.proofs.Common.{◌≡◌, ℕ, ◌<◌, Bool, true, false, ◌&&◌, if◌then◌else◌, nat_lt, List, [], ◌∷◌, length, Some, None, refl, sym, ap, ◌∙◌, subst, codes, arith}
+use Rattle.std.proofs.Common.{◌≡◌, ℕ, ◌<◌, Bool, true, false, ◌&&◌, if◌then◌else◌, nat_lt, List, [], ◌∷◌, length, Some, None, refl, sym, ap, ap₂, ◌∙◌, arith}
 use Rattle.std.specs.List.{list_all, AllByRecursion}
 use Rattle.std.specs.Str.{chars}
 use Rattle.std.proofs.lemmas.Bool.Decides.{nat_tests}
 use Rattle.std.proofs.lemmas.List.Elements.{All-from_recursion}
 use Rattle.std.proofs.lemmas.Str.{chars-IsAscii}
 use Rattle.std.proofs.lemmas.Str.Ascii.{IsAscii-from_all}
-use Rattle.rhai_world.specs.Line.{is_name_byte, is_name, name_of, position_of, push_of, said_of_two, SaysNamed}
+use Rattle.std.proofs.lemmas.Option.{same_Some}
+use Rattle.std.specs.Option.{option_map}
+use Rattle.rhai_world.specs.Line.{Left, word_of, left_of, asked, is_name_byte, is_name, name_of}
 
 both : (s t : Bool) → (s && t) ≡ true → (s ≡ true) × (t ≡ true)
 both true t e = (refl, e)
@@ -24,7 +26,9 @@ name-chars word e =
     let h = both (nat_lt 0 (length word)) (list_all is_name_byte word) e in
     ap (λ t. if t then Some word else None) e ∙ ap Some (sym (chars-IsAscii word (IsAscii-from_all word (All-from_recursion (λ b. b < 128) word (each_below_128 word h.1)))))
 
-pub said_of_two-named : (verb first second : List ℕ) (i : ℕ) → verb ≡ codes "push" → is_name first ≡ true → position_of second ≡ Some i → SaysNamed (said_of_two verb first second)
-said_of_two-named verb first second i v n p =
-    subst (λ x. SaysNamed (said_of_two x first second)) (sym v)
-    (subst (λ o. SaysNamed (push_of (name_of first) o)) (sym p) (subst (λ t. SaysNamed (push_of (if t then Some first else None) (Some i))) (sym n) refl))
+-- a word that is a name is read as its characters
+pub name-asked : (left : Left) (word : List ℕ) (rest : Left) → asked (λ w. Some w) left ≡ Some (word, rest) → is_name word ≡ true → asked name_of left ≡ Some (chars word, rest)
+name-asked None word rest e n = cc
+name-asked (Some text) word rest e n =
+    let p = same_Some (word_of text, left_of text) (word, rest) e in
+    ap₂ (λ w l. option_map (λ a. (a, l)) (name_of w)) (ap (λ x. x.0) p) (ap (λ x. x.1) p) ∙ ap (option_map (λ a. (a, rest))) (name-chars word n)

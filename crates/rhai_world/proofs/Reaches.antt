@@ -4,7 +4,7 @@ use Rattle.std.specs.Io.KnownBytes.{Appends, Consumes, IsAtEnd, Keeps}
 use Rattle.std.proofs.lemmas.Option.{same_Some}
 use Rattle.rhai_run.specs.State.{State}
 use Rattle.rhai_world.specs.Output.{output_from, output_of_first_from}
-use Rattle.rhai_world.specs.Fed.{Fed, Feeds, StopsWithin, Completes}
+use Rattle.rhai_world.specs.Fed.{Fed, Feeds, StopsWithin, Completes, AnswersWhatIsRead}
 use Rattle.rhai_world.proofs.Feeds.{fed_start, fed_first, fed_kept}
 
 -- Where the input is known, what is left of it is known too, and the lines before that are answered.
@@ -71,3 +71,14 @@ reached_stop_within (Some input) left next bytes {partial} {start} {now} {old} {
     let a = h input refl in
     let s = split_read left next bytes a.0 c a.1 in
     f input s.0 start old (subst (λ xs. Fed input xs partial start now old written) s.2 a.2)
+
+-- the reader fails here: the whole lines of what it gave are answered
+pub reached_read : (known left next : Option (List ℕ)) {partial : List ℕ} {start now : State} {old written : Option (List ℕ)} (more : Option (List ℕ)) → Reached known left partial start now old written → Keeps left next → more ≡ written → IfSome known (λ input. AnswersWhatIsRead start input next old more)
+reached_read None left next more h k e = tt
+reached_read (Some input) left next {partial} {start} {now} {old} more h k e =
+    let a = reached_kept (Some input) left next h k input refl in
+    (a.0, partial, now, a.1, subst (λ m. Fed input a.0 partial start now old m) (sym e) a.2)
+
+pub keeps_itself : (o : Option (List ℕ)) → Keeps o o
+keeps_itself None = tt
+keeps_itself (Some xs) = refl

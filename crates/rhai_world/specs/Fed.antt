@@ -1,5 +1,5 @@
 -- How far an input is answered.
-use Rattle.std.specs.Prelude.{◌≡◌, ℕ, false, List, [], ◌++◌, Option, All, ◌==◌}
+use Rattle.std.specs.Prelude.{◌≡◌, ℕ, false, List, [], ◌++◌, Option, Some, All, ◌==◌}
 use Rattle.std.specs.Io.KnownBytes.{Appends}
 use Rattle.rhai_run.specs.State.{State}
 use Rattle.rhai_world.specs.Output.{lines_of, answers_to_lines, state_after_lines, output_from, output_of_first_from}
@@ -27,3 +27,7 @@ StopsWithin bytes partial now written more =
 abbrev pub Completes : List ℕ → State → Option (List ℕ) → Option (List ℕ) → Type 0
 Completes partial now written more =
     (input : List ℕ) (start : State) (old : Option (List ℕ)) → Fed input [] partial start now old written → Appends old more (output_from start input)
+
+-- The rest of the input is left in the reader, and of what it gave the whole lines have their answers: only a partial line has none.
+abbrev pub AnswersWhatIsRead : State → List ℕ → Option (List ℕ) → Option (List ℕ) → Option (List ℕ) → Type 0
+AnswersWhatIsRead start input left old new = (rest : List ℕ) × (partial : List ℕ) × (now : State) × (left ≡ Some rest) × Fed input rest partial start now old new

@@ -1,4 +1,5 @@
 pub mod Line
+pub mod Cursor
 pub mod Output
 pub mod Fed
 pub mod Faults

@@ -1,22 +1,29 @@
 -- The command that a line says, if it says one.
 use Rattle.std.specs.Prelude.{ℕ, ◌^◌, ℤ, pos, negsuc, neg_ℤ, Bool, true, false, ◌&&◌, ◌||◌, ◌==◌, nat_lt, if◌then◌else◌, List, [], ◌∷◌, length, Option, Some, None, option_map, option_and_then, IsSomeAnd, IsTrue, codes, bytes_eq}
-use Rattle.std.specs.List.{list_all, slice_split}
+use Rattle.std.specs.List.{list_all, position_or_len, before_first, after_first}
 use Rattle.std.specs.Char.{is_ascii_digit, is_ascii_alphanumeric}
 use Rattle.std.specs.Str.{is_utf8}
 use Rattle.std.specs.Str.Parse.{digits_value}
-use Rattle.std.specs.Borrow.{Bor}
 use Rattle.rhai_run.specs.declared.command.Command.{Command}
 use Rattle.rhai_run.specs.declared.command.Command.TheVariants.{Put, Copy, Drop, Share, WriteInt, Push, Pop, Rewind, Get, Show}
+use Rattle.rhai_run.specs.declared.command.Command.TheVariants as command
+use Rattle.rhai_run.specs.declared.command.Literal.{Literal}
+use Rattle.rhai_run.specs.declared.command.Literal.TheVariants as literal
 use Rattle.rhai_run.specs.declared.command.Literal.TheVariants.{Unit, Bool as Truth, Int}
 
--- the words, which stand one space (32) apart
-abbrev pub words_of : List ℕ → List (List ℕ)
-words_of line = slice_split (λ b. b == 32) line
+-- What is left of a line behind its first words: nothing, or the text behind a space (32).
+abbrev pub Left : Type 0
+Left = Option (List ℕ)
 
--- those of what follows a word
-abbrev pub words_after : Option (Bor (List ℕ)) → List (List ℕ)
-words_after None = []
-words_after (Some rest) = words_of rest.now
+-- the first word of a text, and what is left behind it
+abbrev pub is_space : ℕ → Bool
+is_space b = b == 32
+
+abbrev pub word_of : List ℕ → List ℕ
+word_of text = before_first is_space text
+
+abbrev pub left_of : List ℕ → Left
+left_of text = if nat_lt (position_or_len is_space text) (length text) then Some (after_first is_space text) else None
 
 -- one or more decimal digits, as a whole number
 abbrev pub whole_number_of : List ℕ → Option ℕ
@@ -68,57 +75,86 @@ bool_of word =
     if bytes_eq word (codes "false") then Some false else
     None
 
--- a position and an int, or a name and a position, as a command
-abbrev pub write_of : Option ℕ → Option ℤ → Option Command
-write_of position number = option_and_then (λ i. option_map (WriteInt i) number) position
+-- what the next word says, and what is left behind it
+abbrev pub asked : {A : Type 0} → (List ℕ → Option A) → Left → Option (A × Left)
+asked says None = None
+asked says (Some text) = option_map (λ a. (a, left_of text)) (says (word_of text))
 
-abbrev pub push_of : Option (List ℕ) → Option ℕ → Option Command
-push_of name position = option_and_then (λ i. option_map (λ called. Push called i) name) position
+-- what is made of an answer and of what is left
+abbrev pub told : {A : Type 0} → Option (A × Left) → (A → Left → Option Command) → Option Command
+told None go = None
+told (Some p) go = go p.0 p.1
 
--- what the lines of one word say
-abbrev pub said_alone : List ℕ → Option Command
-said_alone verb =
-    if bytes_eq verb (codes "unit") then Some (Put Unit) else
-    if bytes_eq verb (codes "drop") then Some Drop else
-    if bytes_eq verb (codes "pop") then Some Pop else
+-- the command of a line that ends here
+abbrev pub ended : Left → Command → Option Command
+ended None c = Some c
+ended (Some text) c = None
+
+-- the command of a line that has one word, or two, behind the verb
+abbrev pub of_one : {A : Type 0} → (List ℕ → Option A) → Left → (A → Command) → Option Command
+of_one says left make = told (asked says left) (λ a rest. ended rest (make a))
+
+abbrev pub of_two : {A B : Type 0} → (List ℕ → Option A) → (List ℕ → Option B) → Left → (A → B → Command) → Option Command
+of_two says also left make = told (asked says left) (λ a rest. told (asked also rest) (λ b more. ended more (make a b)))
+
+-- what a verb and what is left behind it say
+abbrev pub said : List ℕ → Left → Option Command
+said verb left =
+    if bytes_eq verb (codes "unit") then ended left (Put Unit) else
+    if bytes_eq verb (codes "bool") then of_one bool_of left (λ b. Put (Truth b)) else
+    if bytes_eq verb (codes "int") then of_one int_of left (λ n. Put (Int n)) else
+    if bytes_eq verb (codes "copy") then of_one position_of left Copy else
+    if bytes_eq verb (codes "drop") then ended left Drop else
+    if bytes_eq verb (codes "share") then of_one position_of left Share else
+    if bytes_eq verb (codes "write") then of_two position_of int_of left WriteInt else
+    if bytes_eq verb (codes "push") then of_two name_of position_of left Push else
+    if bytes_eq verb (codes "pop") then ended left Pop else
+    if bytes_eq verb (codes "rewind") then of_one position_of left Rewind else
+    if bytes_eq verb (codes "get") then of_one name_of left Get else
+    if bytes_eq verb (codes "show") then of_one position_of left Show else
     None
-
--- those of a word and another
-abbrev pub said_of_one : List ℕ → List ℕ → Option Command
-said_of_one verb w =
-    if bytes_eq verb (codes "bool") then option_map (λ b. Put (Truth b)) (bool_of w) else
-    if bytes_eq verb (codes "int") then option_map (λ n. Put (Int n)) (int_of w) else
-    if bytes_eq verb (codes "copy") then option_map Copy (position_of w) else
-    if bytes_eq verb (codes "share") then option_map Share (position_of w) else
-    if bytes_eq verb (codes "rewind") then option_map Rewind (position_of w) else
-    if bytes_eq verb (codes "get") then option_map Get (name_of w) else
-    if bytes_eq verb (codes "show") then option_map Show (position_of w) else
-    None
-
--- those of a word and two others
-abbrev pub said_of_two : List ℕ → List ℕ → List ℕ → Option Command
-said_of_two verb v w =
-    if bytes_eq verb (codes "write") then write_of (position_of v) (int_of w) else
-    if bytes_eq verb (codes "push") then push_of (name_of v) (position_of w) else
-    None
-
--- what words say
-abbrev pub said : List (List ℕ) → Option Command
-said [] = None
-said (verb ∷ []) = said_alone verb
-said (verb ∷ w ∷ []) = said_of_one verb w
-said (verb ∷ v ∷ w ∷ []) = said_of_two verb v w
-said (verb ∷ v ∷ w ∷ x ∷ more) = None
 
 -- what a line says; one that is no text says nothing
 abbrev pub command_of : List ℕ → Option Command
-command_of line = if is_utf8 line then said (words_of line) else None
+command_of line = if is_utf8 line then said (word_of line) (left_of line) else None
 
--- the commands that carry a name
+-- the commands that carry a name or a text
+abbrev pub is_named_literal : Literal → Bool
+is_named_literal literal.Unit = false
+is_named_literal (literal.Bool b) = false
+is_named_literal (literal.Int n) = false
+is_named_literal (literal.Char c) = false
+is_named_literal (literal.Text t) = true
+is_named_literal (literal.Blob bytes) = true
+is_named_literal (literal.Host h) = false
+is_named_literal (literal.Range r) = false
+is_named_literal (literal.RangeEq r) = false
+
 abbrev pub is_named : Command → Bool
-is_named (Push name i) = true
-is_named (Get name) = true
-is_named c = false
+is_named (command.Put literal) = is_named_literal literal
+is_named (command.MakeArray n) = false
+is_named (command.MakeMap keys) = true
+is_named (command.MakeFn name n) = true
+is_named (command.Copy i) = false
+is_named (command.Take i) = false
+is_named command.Drop = false
+is_named (command.Share i) = false
+is_named (command.Flatten i) = false
+is_named (command.FlattenClone i) = false
+is_named (command.MakeReadOnly i) = false
+is_named (command.SetTag i tag) = false
+is_named (command.Ask i question) = false
+is_named (command.WriteInt i n) = false
+is_named (command.Write i j) = false
+is_named (command.Push name i) = true
+is_named command.Pop = false
+is_named (command.Rewind n) = false
+is_named command.Clear = false
+is_named command.IsEmpty = false
+is_named (command.Contains name) = true
+is_named (command.Get name) = true
+is_named (command.Show i) = false
+is_named (command.Debug i) = false
 
 abbrev pub SaysNamed : Option Command → Type 0
 SaysNamed said = IsSomeAnd said (λ c. IsTrue (is_named c))

@@ -1,11 +1,29 @@
 //! The command that a line says.
-ghost use Rattle.std.specs.Prelude.{◌≡◌, ◌∷◌, ◌^◌, ◌==◌, nat_lt, if◌then◌else◌, Some, None, option_and_then, IfOk, OnErr, IsTrue};
-ghost use Rattle.rhai_world.specs.Line.{words_of, words_after, whole_number_of, below_2_64, position_of, int_of, is_name, name_of, bool_of, said_alone, said_of_one, said_of_two, command_of, SaysNamed};
+ghost use Rattle.std.specs.Prelude.{◌≡◌, ◌∷◌, ◌^◌, ◌==◌, nat_lt, if◌then◌else◌, Some, None, option_and_then, option_map, IfOk, IfErr, OnOk, OnErr, IsTrue, is_some};
+ghost use Rattle.std.specs.Str.{chars};
+ghost use Rattle.rhai_world.specs.declared.line.NoCommand.TheVariants.{BadLine, Memory as no_memory};
+ghost use Rattle.rhai_world.specs.Line.{word_of, left_of, whole_number_of, below_2_64, position_of, int_of, is_name, name_of, bool_of, asked, said, command_of, SaysNamed};
+ghost use Rattle.rhai_world.specs.Cursor.{left_in, Reads, Says};
 
 use rhai_run::{Command, Literal};
 use rhai_text::ImmutableString;
 use rhai_value::INT;
 use std::alloc::{AllocError, Global};
+
+/// Why a line gives no command: it says none, or memory is refused.
+#[derive(Drop)]
+enum NoCommand {
+    BadLine,
+    Memory,
+}
+
+impl From<AllocError> for NoCommand {
+    ghost from_gives = { λ error result. result ≡ no_memory };
+
+    fn from(_error: AllocError) -> NoCommand {
+        NoCommand::Memory
+    }
+}
 
 /// The whole number that the digits say, where it is below 2^64.
 fn whole_number(digits: &[u8]) -> Option<u64>
@@ -26,7 +44,7 @@ fn whole_number(digits: &[u8]) -> Option<u64>
 }
 
 /// A position or a count.
-fn position(word: &str) -> Option<usize>
+fn position_in(word: &str) -> Option<usize>
     ensures { result ≡ position_of word.now }
 {
     match word.as_bytes() {
@@ -39,7 +57,7 @@ fn position(word: &str) -> Option<usize>
 }
 
 /// An int. It is reached from 0 on either side, since no `i64` is 2^63.
-fn int(word: &str) -> Option<INT>
+fn int_in(word: &str) -> Option<INT>
     ensures { result ≡ int_of word.now }
 {
     match word.as_bytes() {
@@ -48,7 +66,7 @@ fn int(word: &str) -> Option<INT>
     }
 }
 
-fn truth(word: &str) -> Option<bool>
+fn truth_in(word: &str) -> Option<bool>
     ensures { result ≡ bool_of word.now }
 {
     match word {
@@ -73,78 +91,149 @@ fn is_name(word: &[u8]) -> bool
     true
 }
 
-/// A name. It takes memory where the word is one.
-fn name(alloc: Global, word: &str) -> Result<Option<ImmutableString>, AllocError>
-    ensures name { IfOk result (λ o. o ≡ name_of word.now) }
-    ensures memory { OnErr result (IsTrue (is_name word.now)) }
-{
-    if is_name(word.as_bytes()) {
-        let name = ImmutableString::from_str(alloc, word)?;
-        Ok(Some(name))
-    } else {
-        Ok(None)
-    }
-}
-
-/// The text before the first space, and that after it where there is a space.
+/// The first word of a text, and what is left behind it.
 fn first_word(text: &str) -> (&str, Option<&str>)
-    ensures { words_of text.now ≡ result.0.now ∷ words_after result.1 }
+    ensures word { result.0.now ≡ word_of text.now }
+    ensures left { left_in result.1 ≡ left_of text.now }
 {
     match text.split_once(' ') {
-        Some((word, rest)) => (word, Some(rest)),
+        Some((word, left)) => (word, Some(left)),
         None => (text, None),
     }
 }
 
-/// The command of a line of one word.
-fn command_alone(verb: &str) -> Option<Command>
-    ensures { result ≡ said_alone verb.now }
+/// The next word of what is left of a line.
+fn word(left: Option<&str>) -> Result<(&str, Option<&str>), NoCommand>
+    ensures ok { IfOk result (λ p. asked (λ w. Some w) (left_in left.entry) ≡ Some (p.0.now, left_in p.1)) }
+    ensures err { IfErr result (λ e. (e ≡ BadLine) × (left_in left.entry ≡ None)) }
 {
-    match verb {
-        "unit" => Some(Command::Put(Literal::Unit)),
-        "drop" => Some(Command::Drop),
-        "pop" => Some(Command::Pop),
-        _ => None,
+    match left {
+        Some(text) => Ok(first_word(text)),
+        None => Err(NoCommand::BadLine),
     }
 }
 
-/// The command of a line of two words.
-fn command_of_one(alloc: Global, verb: &str, word: &str) -> Result<Option<Command>, AllocError>
-    ensures command { IfOk result (λ o. o ≡ said_of_one verb.now word.now) }
-    ensures memory { OnErr result (SaysNamed (said_of_one verb.now word.now)) }
+/// A position or a count, and what is left behind it.
+fn position(left: Option<&str>) -> Result<(usize, Option<&str>), NoCommand>
+    ensures { Reads result (asked position_of (left_in left.entry)) }
 {
-    match verb {
-        "bool" => Ok(truth(word).map(|b| Command::Put(Literal::Bool(b)))),
-        "int" => Ok(int(word).map(|n| Command::Put(Literal::Int(n)))),
-        "copy" => Ok(position(word).map(Command::Copy)),
-        "share" => Ok(position(word).map(Command::Share)),
-        "rewind" => Ok(position(word).map(Command::Rewind)),
-        "get" => Ok(name(alloc, word)?.map(Command::Get)),
-        "show" => Ok(position(word).map(Command::Show)),
-        _ => Ok(None),
+    let (word, left) = word(left)?;
+    match position_in(word) {
+        Some(i) => Ok((i, left)),
+        None => Err(NoCommand::BadLine),
     }
 }
 
-/// The command of a line of three words.
-fn command_of_two(
-    alloc: Global,
-    verb: &str,
-    first: &str,
-    second: &str,
-) -> Result<Option<Command>, AllocError>
-    ensures command { IfOk result (λ o. o ≡ said_of_two verb.now first.now second.now) }
-    ensures memory { OnErr result (SaysNamed (said_of_two verb.now first.now second.now)) }
+/// An int.
+fn int(left: Option<&str>) -> Result<(INT, Option<&str>), NoCommand>
+    ensures { Reads result (asked int_of (left_in left.entry)) }
+{
+    let (word, left) = word(left)?;
+    match int_in(word) {
+        Some(n) => Ok((n, left)),
+        None => Err(NoCommand::BadLine),
+    }
+}
+
+/// A boolean.
+fn truth(left: Option<&str>) -> Result<(bool, Option<&str>), NoCommand>
+    ensures { Reads result (asked bool_of (left_in left.entry)) }
+{
+    let (word, left) = word(left)?;
+    match truth_in(word) {
+        Some(b) => Ok((b, left)),
+        None => Err(NoCommand::BadLine),
+    }
+}
+
+/// A name, which is no text of its own yet.
+fn name(left: Option<&str>) -> Result<(&str, Option<&str>), NoCommand>
+    ensures ok { IfOk result (λ p. asked name_of (left_in left.entry) ≡ Some (chars p.0.now, left_in p.1)) }
+    ensures err { IfErr result (λ e. (e ≡ BadLine) × (asked name_of (left_in left.entry) ≡ None)) }
+{
+    let (word, left) = word(left)?;
+    if !is_name(word.as_bytes()) {
+        return Err(NoCommand::BadLine);
+    }
+    Ok((word, left))
+}
+
+/// The end of the line.
+fn end(left: Option<&str>) -> Result<(), NoCommand>
+    ensures ok { OnOk result (left_in left.entry ≡ None) }
+    ensures err { IfErr result (λ e. (e ≡ BadLine) × IsTrue (is_some (left_in left.entry))) }
+{
+    match left {
+        None => Ok(()),
+        Some(_) => Err(NoCommand::BadLine),
+    }
+}
+
+/// The command of a verb and what is left behind it. It takes memory for a name, once all else is read.
+fn command_by(alloc: Global, verb: &str, left: Option<&str>) -> Result<Command, NoCommand>
+    ensures { Says result (said verb.now (left_in left.entry)) }
 {
     match verb {
-        "write" => match (position(first), int(second)) {
-            (Some(place), Some(number)) => Ok(Some(Command::WriteInt(place, number))),
-            _ => Ok(None),
-        },
-        "push" => match position(second) {
-            Some(place) => Ok(name(alloc, first)?.map(|name| Command::Push(name, place))),
-            None => Ok(None),
-        },
-        _ => Ok(None),
+        "unit" => {
+            end(left)?;
+            Ok(Command::Put(Literal::Unit))
+        }
+        "bool" => {
+            let (b, left) = truth(left)?;
+            end(left)?;
+            Ok(Command::Put(Literal::Bool(b)))
+        }
+        "int" => {
+            let (n, left) = int(left)?;
+            end(left)?;
+            Ok(Command::Put(Literal::Int(n)))
+        }
+        "copy" => {
+            let (i, left) = position(left)?;
+            end(left)?;
+            Ok(Command::Copy(i))
+        }
+        "drop" => {
+            end(left)?;
+            Ok(Command::Drop)
+        }
+        "share" => {
+            let (i, left) = position(left)?;
+            end(left)?;
+            Ok(Command::Share(i))
+        }
+        "write" => {
+            let (i, left) = position(left)?;
+            let (n, left) = int(left)?;
+            end(left)?;
+            Ok(Command::WriteInt(i, n))
+        }
+        "push" => {
+            let (name, left) = name(left)?;
+            let (i, left) = position(left)?;
+            end(left)?;
+            Ok(Command::Push(ImmutableString::from_str(alloc, name)?, i))
+        }
+        "pop" => {
+            end(left)?;
+            Ok(Command::Pop)
+        }
+        "rewind" => {
+            let (n, left) = position(left)?;
+            end(left)?;
+            Ok(Command::Rewind(n))
+        }
+        "get" => {
+            let (name, left) = name(left)?;
+            end(left)?;
+            Ok(Command::Get(ImmutableString::from_str(alloc, name)?))
+        }
+        "show" => {
+            let (i, left) = position(left)?;
+            end(left)?;
+            Ok(Command::Show(i))
+        }
+        _ => Err(NoCommand::BadLine),
     }
 }
 
@@ -156,16 +245,10 @@ pub fn command(alloc: Global, line: &[u8]) -> Result<Option<Command>, AllocError
     let Ok(text) = str::from_utf8(line) else {
         return Ok(None);
     };
-    let (verb, rest) = first_word(text);
-    let Some(rest) = rest else {
-        return Ok(command_alone(verb));
-    };
-    let (first, rest) = first_word(rest);
-    let Some(rest) = rest else {
-        return command_of_one(alloc, verb, first);
-    };
-    match first_word(rest) {
-        (second, None) => command_of_two(alloc, verb, first, second),
-        (_, Some(_)) => Ok(None),
+    let (verb, left) = first_word(text);
+    match command_by(alloc, verb, left) {
+        Ok(command) => Ok(Some(command)),
+        Err(NoCommand::BadLine) => Ok(None),
+        Err(NoCommand::Memory) => Err(AllocError),
     }
 }

@@ -2,9 +2,9 @@
 ghost use Rattle.std.specs.Prelude.{◌≡◌, ℕ, List, Option, [], ◌∷◌, ◌++◌, take, Some, OnOk, OnErr, IfErr, IfSome};
 ghost use Rattle.std.specs.Io.KnownBytes.{Appends};
 ghost use Rattle.rhai_run.specs.State.{State};
-ghost use Rattle.rhai_world.specs.Output.{line_answer, line_state, output_from, output_of_first_from, output, output_of_first};
-ghost use Rattle.rhai_world.specs.Fed.{Feeds, StopsWithin, Completes};
-ghost use Rattle.rhai_world.specs.Faults.{IsNoWriteFault};
+ghost use Rattle.rhai_world.specs.Output.{line_answer, line_state, output_from, output_of_first_from, new_world, output, output_of_first};
+ghost use Rattle.rhai_world.specs.Fed.{Feeds, StopsWithin, Completes, AnswersWhatIsRead};
+ghost use Rattle.rhai_world.specs.Faults.{IsNoWriteFault, IsReadFault, IsNoReadFault};
 
 use crate::line::command;
 use crate::print::{write_answer, write_bad_line};
@@ -39,18 +39,18 @@ fn answer_line<W: Write>(
     ensures state { OnOk result (world.new ≡ line_state world.old line.now) }
     ensures answer { OnOk result (Appends (W.contents writer.old) (W.contents writer.new) (line_answer world.old line.now)) }
     ensures fault { IfErr result (λ e. IsNoWriteFault e → W.contents writer.new ≡ W.contents writer.old) }
+    ensures kind { IfErr result IsNoReadFault }
 {
     let Ok(command) = command(alloc, line) else {
         return Err(LinesFault::Memory);
     };
-    let written = match command {
-        None => write_bad_line(writer),
-        Some(command) => match apply(world, &command) {
-            Ok(answer) => write_answer(&answer, writer),
-            Err(_) => return Err(LinesFault::Memory),
-        },
+    let Some(command) = command else {
+        return write_bad_line(writer).map_err(LinesFault::Write);
     };
-    written.map_err(LinesFault::Write)
+    let Ok(answer) = apply(world, &command) else {
+        return Err(LinesFault::Memory);
+    };
+    write_answer(&answer, writer).map_err(LinesFault::Write)
 }
 
 /// Takes bytes of the input: each line that they complete is answered, and what is left is kept for the next ones.
@@ -63,6 +63,7 @@ fn feed<W: Write>(
 ) -> Result<(), LinesFault>
     ensures fed { OnOk result (Feeds bytes.now partial.old.items world.old (W.contents writer.old) partial.new.items world.new (W.contents writer.new)) }
     ensures fault { IfErr result (λ e. IsNoWriteFault e → StopsWithin bytes.now partial.old.items world.old (W.contents writer.old) (W.contents writer.new)) }
+    ensures kind { IfErr result IsNoReadFault }
 {
     for byte in bytes {
         if *byte == b'\n' {
@@ -84,6 +85,7 @@ fn finish<W: Write>(
 ) -> Result<(), LinesFault>
     ensures done { OnOk result (Completes partial.now world.old (W.contents writer.old) (W.contents writer.new)) }
     ensures fault { IfErr result (λ e. IsNoWriteFault e → W.contents writer.new ≡ W.contents writer.old) }
+    ensures kind { IfErr result IsNoReadFault }
 {
     if partial.is_empty() {
         return Ok(());
@@ -102,6 +104,7 @@ fn answer_input<R: Read, W: Write>(
     ensures done { OnOk result (IfSome (R.remaining reader.old) (λ input. Appends (W.contents writer.old) (W.contents writer.new) (output_from world.old input))) }
     ensures end { OnOk result (IfSome (R.remaining reader.old) (λ _. R.remaining reader.new ≡ Some [])) }
     ensures fault { IfErr result (λ e. IsNoWriteFault e → IfSome (R.remaining reader.old) (λ input. (n : ℕ) × Appends (W.contents writer.old) (W.contents writer.new) (output_of_first_from world.old n input))) }
+    ensures read { IfErr result (λ e. IsReadFault e → IfSome (R.remaining reader.old) (λ input. AnswersWhatIsRead world.old input (R.remaining reader.new) (W.contents writer.old) (W.contents writer.new))) }
 {
     let mut partial = Vec::new(alloc);
     let mut buffer = [0; 4096];
@@ -137,6 +140,7 @@ pub fn run_lines<R: Read, W: Write>(
     ensures done { OnOk result (IfSome (R.remaining reader.old) (λ input. Appends (W.contents writer.old) (W.contents writer.new) (output input))) }
     ensures end { OnOk result (IfSome (R.remaining reader.old) (λ _. R.remaining reader.new ≡ Some [])) }
     ensures fault { IfErr result (λ e. IsNoWriteFault e → IfSome (R.remaining reader.old) (λ input. (n : ℕ) × Appends (W.contents writer.old) (W.contents writer.new) (output_of_first n input))) }
+    ensures read { IfErr result (λ e. IsReadFault e → IfSome (R.remaining reader.old) (λ input. AnswersWhatIsRead new_world input (R.remaining reader.new) (W.contents writer.old) (W.contents writer.new))) }
 {
     let mut world = World::new(alloc, Limits { text: 0, items: 0 });
     let outcome = answer_input(alloc, &mut world, reader, writer);

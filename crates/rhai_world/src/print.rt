@@ -20,7 +20,7 @@ fn write_reason<W: Write>(refusal: &Refusal, writer: &mut W) -> io::Result<()>
             writer.write_all(b"Mismatch ")?;
             writer.write_all(name.as_bytes())
         }
-        _ => writer.write_all(b"BadLine"),
+        Refusal::SameValue | Refusal::Fault(_) => writer.write_all(b"BadLine"),
     }
 }
 
@@ -35,7 +35,7 @@ fn write_reply<W: Write>(answer: &Answer, writer: &mut W) -> io::Result<()>
             writer.write_all(b"refused ")?;
             write_reason(refusal, writer)
         }
-        _ => writer.write_all(b"refused BadLine"),
+        Answer::Bool(_) | Answer::Int(_) => writer.write_all(b"refused BadLine"),
     }
 }
 

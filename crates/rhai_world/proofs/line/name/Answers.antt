@@ -1,6 +1,10 @@
-use Rattle.std.proofs.Common.{◌∙◌, Some, sym, ap, rules}
-use Rattle.rhai_world.proofs.Names.{name-chars}
+use Rattle.std.proofs.Common.{◌≡◌, true, rules}
+use Rattle.rhai_world.specs.Line.{is_name}
+use Rattle.rhai_world.specs.Cursor.{left_in}
+use Rattle.rhai_world.proofs.Names.{name-asked}
 use Rattle.rhai_world.proofs.line.name.Goals as goal
 
-pub returns-in_ok-name-clause-name : goal.returns-in_ok-name-clause-name
-returns-in_ok-name-clause-name c = ap Some c.in_ok-name.ensures.characters ∙ sym (name-chars c.args.word.now (search rules))
+pub returns-clause-ok : goal.returns-clause-ok
+returns-clause-ok c =
+    let n : is_name c.in_ok-word.word.now ≡ true = search rules in
+    name-asked (left_in c.args.left) c.in_ok-word.word.now (left_in c.in_ok-word.left) c.in_ok-word.ensures.ok n

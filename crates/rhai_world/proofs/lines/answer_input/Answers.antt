@@ -1,6 +1,6 @@
 use Rattle.std.proofs.Common.{take, refl}
 use Rattle.std.proofs.lemmas.Result.{err_from_is_err_and, IfErr-weaker}
-use Rattle.rhai_world.proofs.Reaches.{reached_stop, reached_stop_within, reached_more, reached_written}
+use Rattle.rhai_world.proofs.Reaches.{reached_stop, reached_stop_within, reached_more, reached_written, reached_read, keeps_itself}
 use Rattle.rhai_world.proofs.lines.answer_input.Goals as goal
 use Rattle.rhai_world.proofs.lines.answer_input.Goals.{then-contains+in_ok-map_err, else-contains}
 
@@ -26,3 +26,11 @@ loop-turn-preserved g c =
 
 pub returns-clause-fault : goal.returns-clause-fault
 returns-clause-fault g c = λ _. reached_stop _ (g.R.Read.remaining c.loop-turn.reader) (g.W.Write.contents c.loop-turn.writer) c.loop-turn.invariant refl
+
+pub returns-in-Err-2-clause-read : goal.returns-in-Err-2-clause-read
+returns-in-Err-2-clause-read g c =
+    λ _. reached_read _ (g.R.Read.remaining c.loop-turn.reader) (g.R.Read.remaining c.read.new.self) (g.W.Write.contents c.loop-turn.writer) c.loop-turn.invariant c.in-Err-2.ensures.bytes refl
+
+pub returns-clause-read : goal.returns-clause-read
+returns-clause-read g c =
+    λ _. reached_read _ (g.R.Read.remaining c.loop-turn.reader) (g.R.Read.remaining c.loop-turn.reader) (g.W.Write.contents c.loop-turn.writer) c.loop-turn.invariant (keeps_itself (g.R.Read.remaining c.loop-turn.reader)) refl

@@ -12,8 +12,8 @@ ghost use Rattle.rhai_value.specs.Locked.{is_locked};
 ghost use Rattle.rhai_value.specs.Marks.{set_mark, first_cell, held_cell};
 ghost use Rattle.rhai_value.specs.Flat.{flat, flattened};
 ghost use Rattle.rhai_value.specs.Share.{shared_value, shared_store};
-ghost use Rattle.rhai_value.specs.Walk.{visit, visit_map};
-ghost use Rattle.rhai_value.specs.End.{End, end_of, end, held_part, value_after, store_after};
+ghost use Rattle.rhai_value.specs.Walk.{is_open, visit, visit_map};
+ghost use Rattle.rhai_value.specs.End.{End, held, stuck, closed, site_after, end_of, end, held_part, value_after, store_after};
 ghost use Rattle.rhai_value.specs.Types.{end_type, is_type};
 ghost use Rattle.rhai_value.specs.Relation.{Renaming, paired, Related, SameContent, AllRelated, RelatedFields, SameNamed, Alike, Respect, IsOneToOne, SameCells, SameEnd, shared_pairs};
 
@@ -22,6 +22,15 @@ ghost use Rattle.rhai_value.specs.Relation.{Renaming, paired, Related, SameConte
 pub fn end_opens()
     ensures { (s : List Cell) (path : List ℕ) (t : Tree)
         → end s path t ≡ end_of path (λ c. visit_map (end s (c ∷ path)) (visit s path c)) t }
+{}
+
+/// Where a chain ends, case by case: a value that is no holder is held; a holder of a marked or foreign cell is stuck; the chain
+/// closes at a cell that was passed, and else goes on with what its cell has.
+pub fn end_by_cases()
+    ensures unshared { (s : List Cell) (path : List ℕ) (t : Tree) → cell_of t ≡ None → end s path t ≡ held (site_after (slice_get path 0)) t }
+    ensures barred { (s : List Cell) (path : List ℕ) (t : Tree) (c : ℕ) → cell_of t ≡ Some c → at s c ≡ None → end s path t ≡ stuck t }
+    ensures closes { (s : List Cell) (path : List ℕ) (t u : Tree) (c : ℕ) → cell_of t ≡ Some c → at s c ≡ Some u → is_open c path ≡ true → end s path t ≡ closed }
+    ensures goes_on { (s : List Cell) (path : List ℕ) (t u : Tree) (c : ℕ) → cell_of t ≡ Some c → at s c ≡ Some u → is_open c path ≡ false → end s path t ≡ end s (c ∷ path) u }
 {}
 
 /// Chains from related values, in stores that are the same up to the numbers of their cells, end alike.

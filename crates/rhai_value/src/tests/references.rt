@@ -35,18 +35,18 @@ fn nothing_is_lent_of_another_kind(rt: HostRuntime) {
 }
 
 #[test]
-fn nothing_is_lent_of_a_marked_cell(rt: HostRuntime) {
+fn nothing_is_lent_of_a_stuck_chain(rt: HostRuntime) {
     let alloc = rt.alloc();
     let mut store = Store::new(alloc);
-    let mut holder = cell_of(&rt, Dynamic::from_array(Vec::new(alloc)), &mut store);
-    let mut outer = cell_of(&rt, holder.copy(alloc).expect(&rt, "a holder"), &mut store);
-    let token = store.mark(&holder).expect(&rt, "an unmarked cell");
-    lends_none(&rt, &mut holder, &mut store, "<shared>");
-    lends_none(&rt, &mut outer, &mut store, "<shared>");
-    assert!(rt; holder.write_whole(&mut store).is_none() && holder.held_mut(&mut store).is_none());
-    assert!(rt; outer.held_mut(&mut store).is_none() && outer.write_whole(&mut store).is_some());
-    store.release(token);
-    assert!(rt; holder.is_array(&store) && outer.is_array(&store));
+    let mut other = Store::new(alloc);
+    let mut holder = cell_of(&rt, Dynamic::ONE, &mut store);
+    let again = holder.copy(alloc).expect(&rt, "a holder");
+    let mut outer = cell_of(&rt, again, &mut store);
+    lends_none(&rt, &mut holder, &mut other, "<shared>");
+    lends_none(&rt, &mut outer, &mut other, "<shared>");
+    assert!(rt; holder.write_whole(&mut other).is_none() && holder.held_mut(&mut other).is_none());
+    assert!(rt; holder.is_locked(&other) && !holder.is_locked(&store));
+    assert!(rt; holder.is_int(&store) && outer.is_int(&store));
 }
 
 #[test]

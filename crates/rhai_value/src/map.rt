@@ -189,7 +189,8 @@ impl Map {
         self.parts = None;
     }
 
-    /// The entries, by rising keys. It takes no memory; the whole walk takes time in the number of entries.
+    /// The entries, by rising keys. It takes no memory; the whole walk takes time in the number of entries. The values lie in
+    /// the order of their insertion, so that a walk through many entries reads memory here and there.
     pub fn iter(&self) -> Entries<'_>
         ensures entries { result ≡ self.now }
         ensures ordered { AreRising self.now }

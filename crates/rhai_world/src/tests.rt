@@ -3,6 +3,7 @@ ghost use Rattle.rhai_world.specs.Output.{output};
 
 use crate::lines::{LinesFault, run_lines, status};
 use std::alloc::{AllocError, Global};
+use std::cell::Cell;
 use std::io;
 use std::io::{ErrorKind, Read, Write};
 use std::test::Fail;
@@ -204,5 +205,81 @@ fn writes_may_fail(rt: HostRuntime) -> Result<(), Fail> {
         assert_eq!(rt; status(&outcome), u8::from(failed), "at {calls}");
         assert!(rt; OUTPUT.starts_with(&writer.bytes), "at {calls}");
     }
+    Ok(())
+}
+
+/// A line that comes a byte a call, in more than a million calls.
+#[test]
+fn a_slow_reader_is_read_to_its_end(rt: HostRuntime) -> Result<(), Fail> {
+    let mut input = b"show ".to_vec(rt.alloc())?;
+    for _ in 0..1_000_001 {
+        input.push(b'0').map_err(AllocError::from)?;
+    }
+    let mut reader = ByteReader {
+        bytes: &input,
+        calls: 10,
+        error: ErrorKind::Interrupted,
+    };
+    let mut out = Vec::new(rt.alloc());
+    let outcome = run_lines(rt.alloc(), &mut reader, &mut out);
+    assert_eq!(rt; status(&outcome), 0);
+    assert_eq!(rt; out.as_slice(), b"refused NoValue\n".as_slice());
+    Ok(())
+}
+
+/// Gives a byte a call, as a person who types and waits for each answer, and fails where an answer is kept back.
+#[derive(Drop)]
+struct WaitingReader<'a> {
+    bytes: &'a [u8],
+    is_kept_back: &'a Cell<bool>,
+}
+
+impl Read for WaitingReader<'_> {
+    fn read(&mut self, buf: &mut [u8]) -> io::Result<usize> {
+        if self.is_kept_back.get() {
+            return Err(io::Error::other("an answer is kept back"));
+        }
+        match (self.bytes, buf) {
+            ([byte, rest @ ..], [place, ..]) => {
+                *place = *byte;
+                self.bytes = rest;
+                Ok(1)
+            }
+            _ => Ok(0),
+        }
+    }
+}
+
+/// Knows whether all that was written is flushed.
+#[derive(Drop)]
+struct FlushedWriter<'a> {
+    is_kept_back: &'a Cell<bool>,
+}
+
+impl Write for FlushedWriter<'_> {
+    fn write(&mut self, buf: &[u8]) -> io::Result<usize> {
+        self.is_kept_back.set(true);
+        Ok(buf.len())
+    }
+
+    fn flush(&mut self) -> io::Result<()> {
+        self.is_kept_back.set(false);
+        Ok(())
+    }
+}
+
+#[test]
+fn answers_are_flushed_before_the_next_read(rt: HostRuntime) -> Result<(), Fail> {
+    let is_kept_back = Cell::new(false);
+    let mut reader = WaitingReader {
+        bytes: INPUT,
+        is_kept_back: &is_kept_back,
+    };
+    let mut writer = FlushedWriter {
+        is_kept_back: &is_kept_back,
+    };
+    let outcome = run_lines(rt.alloc(), &mut reader, &mut writer);
+    assert_eq!(rt; status(&outcome), 0);
+    assert!(rt; !is_kept_back.get());
     Ok(())
 }

@@ -62,7 +62,7 @@ end_own s path (node (holder c) g m) e = cc
 module _ (s : List Cell) (path : List ℕ) (g : ℤ) (m : AccessMode) where
   end_of_holder : (c : ℕ) (o : Option Tree) (b : Bool) → at s c ≡ o → is_open c path ≡ b
       → end s path (node (holder c) g m) ≡ end_at (node (holder c) g m) (visit_map (end s (c ∷ path)) (visit_of o b))
-  end_of_holder c o b some open = end_opens s path (node (holder c) g m) ∙ ap₂ (λ x y. end_at (node (holder c) g m) (visit_map (end s (c ∷ path)) (visit_of x y))) some open
+  end_of_holder c o b some again = end_opens s path (node (holder c) g m) ∙ ap₂ (λ x y. end_at (node (holder c) g m) (visit_map (end s (c ∷ path)) (visit_of x y))) some again
 
 pub end_stuck : (s : List Cell) (path : List ℕ) (t : Tree) (c : ℕ) → cell_of t ≡ Some c → at s c ≡ None → end s path t ≡ stuck t
 end_stuck s path (node (holder d) g m) c e none = let same : d ≡ c = cc in end_of_holder s path g m d None (is_open d path) (ap (at s) same ∙ none) refl

@@ -146,31 +146,35 @@ fn a_stopped_map_loses_nothing(rt: HostRuntime) -> Result<(), Fail> {
     Ok(())
 }
 
+fn are_refused(world: &mut World, commands: &[Command]) -> bool {
+    for command in commands {
+        let Ok(Answer::Refused(_)) = apply(world, command) else {
+            return false;
+        };
+    }
+    true
+}
+
 /// A command that is refused is refused also where memory is: it passes with each growth of the run refused.
 #[test]
 fn refusals_need_no_memory(rt: HostRuntime) -> Result<(), Fail> {
     let alloc = rt.alloc();
+    let x = name_at_last(alloc, "x")?;
+    let y = name_at_last(alloc, "y")?;
+    let keys = keys_at_last(alloc, &["a"])?;
     let commands = [
         Command::Take(0),
         Command::Copy(0),
-        Command::Share(0),
         Command::Flatten(0),
-        Command::FlattenClone(0),
         Command::MakeArray(1),
-        Command::MakeMap(keys_at_last(alloc, &["a"])?),
-        Command::MakeFn(name_at_last(alloc, "f")?, 1),
-        Command::Push(name_at_last(alloc, "x")?, 0),
-        Command::Get(name_at_last(alloc, "x")?),
-        Command::Ask(0, Question::Char),
+        Command::MakeMap(keys),
+        Command::MakeFn(x, 1),
+        Command::Get(y),
         Command::Show(0),
-        Command::Debug(0),
     ];
     let mut world = World::new(alloc, UNLIMITED);
-    let mut are_refused = true;
-    for command in &commands {
-        are_refused = are_refused && matches!(apply(&mut world, command), Ok(Answer::Refused(_)));
-    }
+    let is_right = are_refused(&mut world, &commands);
     world.close();
-    assert!(rt; are_refused);
+    assert!(rt; is_right);
     Ok(())
 }

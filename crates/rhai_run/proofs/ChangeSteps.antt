@@ -1,5 +1,5 @@
 -- Steps that change values, on two states that are the same up to a renaming.
-use Rattle.std.proofs.Common.{◌≡◌, ℕ, ℤ, pos, Bool, true, false, cond, List, [], ◌∷◌, ◌++◌, length, slice_set, Option, Some, None, is_some, refl, ap, length-append}
+use Rattle.std.proofs.Common.{◌≡◌, ℕ, ℤ, pos, Bool, true, false, cond, [], ◌++◌, length, slice_set, is_some, refl, ap, length-append}
 use Rattle.rhai_value.specs.declared.access_mode.AccessMode.TheVariants.{ReadOnly}
 use Rattle.rhai_value.specs.Tree.{Tree, node, leaf, branch, fields, holder, mode_of}
 use Rattle.rhai_value.specs.Parts.{leaf_int, int_of, with_int}
@@ -16,7 +16,7 @@ use Rattle.rhai_value.proofs.SameTrees.{by_trees, same_paint, same_with_tag, sam
 use Rattle.rhai_value.proofs.SameCells.{same_held_leaf, same_end_type, same_value_after, same_store_after, length_store_after, marked_added, marked_store_after}
 use Rattle.rhai_value.proofs.MarkedCells.{marked_with_first}
 use Rattle.rhai_value.proofs.SameFlat.{same_first, same_flattened, same_value_with_first, same_store_with_first, length_with_first}
-use Rattle.rhai_run.specs.State.{State, with_cells, moved_from}
+use Rattle.rhai_run.specs.State.{State, with_cells}
 use Rattle.rhai_run.specs.Reply.{done, refused, mismatch, fault, data_race}
 use Rattle.rhai_run.specs.Outcome.{Outcome}
 use Rattle.rhai_run.specs.Change.{step_share, step_flatten, step_make_read_only, step_set_tag, int_written, step_write_int, nowhere, step_write}

@@ -1,5 +1,5 @@
 -- A value is taken out of its place in the hand, changed by move and put back.
-use Rattle.std.proofs.Common.{◌≡◌, ◌<◌, ℕ, zero, suc, true, false, List, [], ◌∷◌, length, slice_get, slice_set, Option, Some, Result, Ok, Err, IfOk, IfErr, IsOk, IsErr, is_some, refl, sym, ap, ap₂, ◌∙◌}
+use Rattle.std.proofs.Common.{◌≡◌, ◌<◌, ℕ, zero, suc, true, false, List, [], ◌∷◌, length, slice_get, slice_set, Some, Result, Ok, Err, IfOk, IfErr, IsOk, IsErr, is_some, refl, sym, ap, ap₂, ◌∙◌}
 use Rattle.std.proofs.lemmas.List.{set-set}
 use Rattle.std.proofs.lemmas.Option.{same_Some, slice_get_within}
 use Rattle.rhai_value.specs.declared.store.Cell.{Cell}

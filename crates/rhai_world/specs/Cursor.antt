@@ -1,5 +1,5 @@
 -- What the reader of a line owes.
-use Rattle.std.specs.Prelude.{◌≡◌, ℕ, List, Option, Some, None, option_map, Result, Ok, Err}
+use Rattle.std.specs.Prelude.{◌≡◌, ℕ, List, Option, Some, None, Result, Ok, Err}
 use Rattle.std.specs.Borrow.{Bor}
 use Rattle.rhai_run.specs.declared.command.Command.{Command}
 use Rattle.rhai_world.specs.declared.line.NoCommand.{NoCommand}

@@ -1,6 +1,5 @@
 use Rattle.std.proofs.Common.{◌≡◌, ◌-◌, suc, drop, None, nat_eq, ap, sym, ◌∙◌, subst, arith}
 use Rattle.std.specs.Cmp.Lexicographic.{pointwise}
-use Rattle.rhai_run.specs.State.{Entry}
 use Rattle.rhai_run.specs.Scope.{last_position}
 use Rattle.rhai_run.proofs.ScopeSteps.{last_position-here}
 use Rattle.rhai_run.proofs.scope.search.Goals as goal

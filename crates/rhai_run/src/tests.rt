@@ -5,6 +5,7 @@ use std::alloc::{AllocError, Global};
 mod asks;
 mod cells;
 mod gathers;
+mod readme;
 mod refusals;
 mod scope;
 mod stops;

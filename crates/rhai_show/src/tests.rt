@@ -1,3 +1,5 @@
+mod readme;
+
 use super::*;
 use rhai_text::ImmutableString;
 use rhai_value::{Dynamic, ExclusiveRange, FnPtr, Host, InclusiveRange, Map, Store};

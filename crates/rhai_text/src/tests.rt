@@ -1,4 +1,6 @@
 // What no clause says: that the definitions mean what is wanted, shown on values worked out by hand, and that calls succeed.
+mod readme;
+
 use super::*;
 use std::alloc::{AllocError, Global};
 use std::cmp::Ordering;

@@ -8,6 +8,7 @@ ghost use Rattle.rhai_value.specs.Writes.{first_written};
 mod callers;
 mod containers;
 mod maps;
+mod readme;
 mod references;
 
 use super::*;

@@ -7,11 +7,8 @@ use Rattle.rhai_value.specs.Parts.{leaf_unit, leaf_bool, leaf_int, leaf_char, un
 use Rattle.rhai_value.specs.End.{End, end, held_part}
 use Rattle.rhai_value.specs.First.{constant_in}
 use Rattle.rhai_value.specs.Types.{type_name, end_type, is_type}
-use Rattle.rhai_value.specs.Relation.{Renaming, Related, Alike, IsOneToOne, SameCells}
-use Rattle.rhai_value.proofs.SameTrees.{same_tag, same_mode, same_host, same_shared}
-use Rattle.rhai_value.proofs.SameCells.{same_held_leaf, same_end_type}
-use Rattle.rhai_value.proofs.SameFlat.{same_first, same_locked}
-use Rattle.rhai_value.proofs.SameWalks.{same_end}
+use Rattle.rhai_value.specs.Relation.{Renaming, Related, Alike, IsOneToOne, RelatedCells}
+use Rattle.rhai_value.proofs.ForCallers.{same_tag, same_mode, same_host, same_shared, same_held_leaf, same_end_type, same_first, same_locked, same_end}
 use Rattle.rhai_show.specs.declared.form.Form.{Form}
 use Rattle.rhai_show.proofs.SamePrinted.{same_printed}
 use Rattle.rhai_run.specs.declared.command.Question.{Question}
@@ -19,7 +16,7 @@ use Rattle.rhai_run.specs.declared.command.Question.TheVariants as question
 use Rattle.rhai_run.specs.State.{State}
 use Rattle.rhai_run.specs.Ask.{asked, held_or_named, step_ask, step_show}
 use Rattle.rhai_run.specs.Reply.{Reply, done, truth, number, told, refused, mismatch}
-use Rattle.rhai_run.specs.Correspondence.{SameStates}
+use Rattle.rhai_run.specs.Correspondence.{RelatedStates}
 use Rattle.rhai_run.proofs.Outcome.{Matches, m_answered}
 
 same_named : {A : Type 0} (reply : A → Reply) (o q : Option A) (e f : End) → o ≡ q → end_type e ≡ end_type f → held_or_named reply o e ≡ held_or_named reply q f
@@ -34,7 +31,7 @@ same_constant r (Some t) (Some u) h = ap is_constant (same_mode r t u h)
 same_constant r None (Some u) h = absurd h
 same_constant r (Some t) None h = absurd h
 
-same_asked : (r : Renaming) (s z : List Cell) (t u : Tree) → IsOneToOne r → SameCells r s z → Related r t u → (q : Question) → asked s t q ≡ asked z u q
+same_asked : (r : Renaming) (s z : List Cell) (t u : Tree) → IsOneToOne r → RelatedCells r s z → Related r t u → (q : Question) → asked s t q ≡ asked z u q
 same_asked r s z t u one cells h = by
   where
     e : End
@@ -59,7 +56,7 @@ same_asked r s z t u one cells h = by
     by question.Bool = same_named truth (held_part bool_of e) (held_part bool_of f) e f (same_held_leaf r leaf_bool e f (same_end r s z t u one cells h)) kind
     by question.Char = same_named (λ c. told (c ∷ [])) (held_part char_of e) (held_part char_of f) e f (same_held_leaf r leaf_char e f (same_end r s z t u one cells h)) kind
 
-module _ (r : Renaming) (w v : State) (h : SameStates r w v) where
+module _ (r : Renaming) (w v : State) (h : RelatedStates r w v) where
   pub same_ask : (i : ℕ) (q : Question) → Matches r w v (step_ask w i q) (step_ask v i q)
   same_ask i q = m_answered r w v h i _ _ (λ t u e. same_asked r w.store v.store t u h.one h.cells e q)
 

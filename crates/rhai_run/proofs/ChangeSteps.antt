@@ -8,34 +8,28 @@ use Rattle.rhai_value.specs.End.{End, end, held_part}
 use Rattle.rhai_value.specs.First.{first}
 use Rattle.rhai_value.specs.Types.{type_name}
 use Rattle.rhai_value.specs.Share.{shared_value, shared_store}
-use Rattle.rhai_value.specs.Relation.{Renaming, Related, SameEnd}
-use Rattle.rhai_value.proofs.Zips.{zip_set, zip_weaker}
-use Rattle.rhai_value.proofs.Grow.{one_pair, paired_more, related_more, one_more, same_added, new_last}
-use Rattle.rhai_value.proofs.SameWalks.{Paired, same_end}
-use Rattle.rhai_value.proofs.SameTrees.{by_trees, same_paint, same_with_tag, same_mode, same_with_int}
-use Rattle.rhai_value.proofs.SameCells.{same_held_leaf, same_end_type, same_value_after, same_store_after, length_store_after, marked_added, marked_store_after}
-use Rattle.rhai_value.proofs.MarkedCells.{marked_with_first}
-use Rattle.rhai_value.proofs.SameFlat.{same_first, same_flattened, same_value_with_first, same_store_with_first, length_with_first}
+use Rattle.rhai_value.specs.Relation.{Renaming, Related, RelatedEnds}
+use Rattle.rhai_value.proofs.ForCallers.{zip_set, zip_weaker, one_pair, paired_more, related_more, one_more, same_added, new_last, Paired, same_end, by_trees, same_paint, same_with_tag, same_mode, same_with_int, same_held_leaf, same_end_type, same_value_after, same_store_after, length_store_after, marked_added, marked_store_after, marked_with_first, same_first, same_flattened, same_value_with_first, same_store_with_first, length_with_first}
 use Rattle.rhai_run.specs.State.{State, with_cells}
 use Rattle.rhai_run.specs.Reply.{done, refused, mismatch, fault, data_race}
 use Rattle.rhai_run.specs.Outcome.{Outcome}
 use Rattle.rhai_run.specs.Change.{step_share, step_flatten, step_make_read_only, step_set_tag, int_written, step_write_int, nowhere, step_write}
-use Rattle.rhai_run.specs.Correspondence.{SameEntry, SameStates}
+use Rattle.rhai_run.specs.Correspondence.{RelatedEntry, RelatedStates}
 use Rattle.rhai_run.proofs.Outcome.{Matches, same_marked, m_stays, m_given, m_value, m_two, m_cells, m_replaced, m_hand, set_hand, moved_hand}
 
 abbrev share_at : State → ℕ → Tree → Outcome
 share_at w i t = (done, with_cells w (shared_store w.store t) (slice_set w.hand i (shared_value w.store t)))
 
-module _ (r : Renaming) (w v : State) (h : SameStates r w v) where
+module _ (r : Renaming) (w v : State) (h : RelatedStates r w v) where
   -- one more pair, and new values at a hand position
   shared_states : (i : ℕ) (t u x y : Tree) → Related r t u → Related (r ++ one_pair (length w.store) (length v.store)) x y
-      → SameStates (r ++ one_pair (length w.store) (length v.store)) (with_cells w (added w.store t) (slice_set w.hand i x)) (with_cells v (added v.store u) (slice_set v.hand i y))
+      → RelatedStates (r ++ one_pair (length w.store) (length v.store)) (with_cells w (added w.store t) (slice_set w.hand i x)) (with_cells v (added v.store u) (slice_set v.hand i y))
   shared_states i t u x y e k =
       let q : Renaming = one_pair (length w.store) (length v.store) in
       record {
         one = one_more r w.store v.store h.one h.cells;
         cells = same_added r w.store v.store t u h.cells e;
-        entries = zip_weaker (SameEntry r) (SameEntry (r ++ q)) (λ a b n. (n.0, n.1, related_more r q a.value b.value n.2)) w.entries v.entries h.entries;
+        entries = zip_weaker (RelatedEntry r) (RelatedEntry (r ++ q)) (λ a b n. (n.0, n.1, related_more r q a.value b.value n.2)) w.entries v.entries h.entries;
         marks = zip_weaker (Paired r) (Paired (r ++ q)) (paired_more r q) w.marks v.marks h.marks;
         hand = zip_set (Related (r ++ q)) w.hand v.hand i x y (zip_weaker (Related r) (Related (r ++ q)) (related_more r q) w.hand v.hand h.hand) k;
         limits = h.limits;
@@ -70,7 +64,7 @@ module _ (r : Renaming) (w v : State) (h : SameStates r w v) where
   pub same_set_tag : (i : ℕ) (g : ℤ) → Matches r w v (step_set_tag w i g) (step_set_tag v i g)
   same_set_tag i g = m_replaced r w v h i _ _ (same_with_tag r g)
 
-  int_at_end : (i : ℕ) (n : ℤ) (t u : Tree) (e f : End) → Related r t u → SameEnd r e f → Matches r w v (int_written w i n t e) (int_written v i n u f)
+  int_at_end : (i : ℕ) (n : ℤ) (t u : Tree) (e f : End) → Related r t u → RelatedEnds r e f → Matches r w v (int_written w i n t e) (int_written v i n u f)
   int_at_end i n t u e f k o =
       by (is_some (held_part int_of e)) (is_some (held_part int_of f)) (ap is_some (same_held_leaf r leaf_int e f o))
       (m_cells r w v h _ _ _ _ (length_store_after (with_int n) e w.store) (length_store_after (with_int n) f v.store) (marked_store_after (with_int n) e w.store)

@@ -14,8 +14,7 @@ use Rattle.std.specs.List.Sorted.{IsStrictlySortedBy}
 use Rattle.std.specs.Map.{keys_of, lookup, set_value}
 use Rattle.std.specs.Ordering.{is_eq, match_ordering, ordering_reverse}
 use Rattle.std.specs.Str.{encode_utf8_all}
-use Rattle.rhai_value.proofs.Zips.{get_set_other}
-use Rattle.rhai_value.proofs.Slots.{or_false}
+use Rattle.rhai_value.proofs.ForCallers.{get_set_other, or_false}
 use Rattle.rhai_value.specs.Rows.{Rows, bytes_cmp}
 use Rattle.rhai_value.specs.Tree.{Tree, fresh, unit}
 use Rattle.rhai_run.specs.Made.{rows_with, rows_of_keys}

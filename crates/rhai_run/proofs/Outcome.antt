@@ -4,12 +4,12 @@ use Rattle.std.specs.List.{AllZip}
 use Rattle.rhai_value.specs.declared.store.Cell.{Cell}
 use Rattle.rhai_value.specs.Tree.{Tree, unit, fresh}
 use Rattle.rhai_value.specs.Store.{is_marked_at}
-use Rattle.rhai_value.specs.Relation.{Renaming, Related, SameCells, Alike}
-use Rattle.rhai_value.proofs.Zips.{zip_get, zip_append, zip_set, zip_take, zip_drop, zip_length}
+use Rattle.rhai_value.specs.Relation.{Renaming, Related, RelatedCells, Alike}
+use Rattle.rhai_value.proofs.ForCallers.{zip_get, zip_append, zip_set, zip_take, zip_drop, zip_length}
 use Rattle.rhai_run.specs.State.{Entry, State, with_hand, with_entries, with_cells, appended, moved_from, last_values, values_before, without_last}
 use Rattle.rhai_run.specs.Reply.{Reply, done, refused, Reason, no_value, same_value}
 use Rattle.rhai_run.specs.Outcome.{Outcome, refuse, unless, given, with_value, with_two, answered, replaced, gathered}
-use Rattle.rhai_run.specs.Correspondence.{SameEntry, SameStates, grown}
+use Rattle.rhai_run.specs.Correspondence.{RelatedEntry, RelatedStates, grown}
 
 -- the marks are the marked cells, each once
 abbrev pub MarksAre : List Cell → List ℕ → Type 0
@@ -29,16 +29,16 @@ pub record Matches (r : Renaming) (w v : State) (o p : Outcome) : Type 0 where
   pub made : ℕ
   pub first : length o.1.store ≡ length w.store + made
   pub second : length p.1.store ≡ length v.store + made
-  pub after : SameStates (grown r w v made) o.1 p.1
+  pub after : RelatedStates (grown r w v made) o.1 p.1
   pub keeps : Keeps w o.1
 
 pub same_without_last : {X : Type 0} (R : X → X → Type 0) (xs ys : List X) → AllZip R xs ys → AllZip R (without_last xs) (without_last ys)
 same_without_last R xs ys h = subst (λ n. AllZip R (take (length xs - 1) xs) (take (n - 1) ys)) (zip_length R xs ys h) (zip_take R (length xs - 1) xs ys h)
 
-module _ (r : Renaming) (w v : State) (h : SameStates r w v) where
+module _ (r : Renaming) (w v : State) (h : RelatedStates r w v) where
   -- no cell is made
-  pub no_cell : (x y : State) (a b : Reply) → a ≡ b → length x.store ≡ length w.store → length y.store ≡ length v.store → SameStates r x y → Keeps w x → Matches r w v (a, x) (b, y)
-  no_cell x y a b e f g s k = record { reply = e; made = 0; first = omega arith; second = omega arith; after = subst (λ q. SameStates q x y) (sym (append-nil r)) s; keeps = k }
+  pub no_cell : (x y : State) (a b : Reply) → a ≡ b → length x.store ≡ length w.store → length y.store ≡ length v.store → RelatedStates r x y → Keeps w x → Matches r w v (a, x) (b, y)
+  no_cell x y a b e f g s k = record { reply = e; made = 0; first = omega arith; second = omega arith; after = subst (λ q. RelatedStates q x y) (sym (append-nil r)) s; keeps = k }
 
   -- nothing changes
   pub m_stays : (a b : Reply) → a ≡ b → Matches r w v (a, w) (b, v)
@@ -69,11 +69,11 @@ module _ (r : Renaming) (w v : State) (h : SameStates r w v) where
   pub m_hand : (ts us : List Tree) → AllZip (Related r) ts us → Matches r w v (done, with_hand w ts) (done, with_hand v us)
   m_hand ts us e = no_cell _ _ done done refl refl refl (record { one = h.one; cells = h.cells; entries = h.entries; marks = h.marks; hand = e; limits = h.limits }) (λ k. k)
 
-  pub m_entries : (es fs : List Entry) → AllZip (SameEntry r) es fs → Matches r w v (done, with_entries w es) (done, with_entries v fs)
+  pub m_entries : (es fs : List Entry) → AllZip (RelatedEntry r) es fs → Matches r w v (done, with_entries w es) (done, with_entries v fs)
   m_entries es fs e = no_cell _ _ done done refl refl refl (record { one = h.one; cells = h.cells; entries = e; marks = h.marks; hand = h.hand; limits = h.limits }) (λ k. k)
 
   -- another store of as many cells and the same marks, and another hand
-  pub m_cells : (s z : List Cell) (ts us : List Tree) → length s ≡ length w.store → length z ≡ length v.store → ((c : ℕ) → is_marked_at s c ≡ is_marked_at w.store c) → SameCells r s z → AllZip (Related r) ts us
+  pub m_cells : (s z : List Cell) (ts us : List Tree) → length s ≡ length w.store → length z ≡ length v.store → ((c : ℕ) → is_marked_at s c ≡ is_marked_at w.store c) → RelatedCells r s z → AllZip (Related r) ts us
       → Matches r w v (done, with_cells w s ts) (done, with_cells v z us)
   m_cells s z ts us f g m c e =
       no_cell _ _ done done refl f g (record { one = h.one; cells = c; entries = h.entries; marks = h.marks; hand = e; limits = h.limits }) (same_marked w.store s w.marks m)

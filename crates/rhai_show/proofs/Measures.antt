@@ -6,7 +6,7 @@ use Rattle.rhai_value.specs.Tree.{Tree, nodes, nodes_trees, leaf, branch, fields
 use Rattle.rhai_value.specs.Rows.{trees_of}
 use Rattle.rhai_value.specs.Store.{at, unmarked}
 use Rattle.rhai_value.specs.Walk.{entry, visit_of, opened, is_open}
-use Rattle.rhai_value.proofs.Walks.{unopened, unopened-entry}
+use Rattle.rhai_value.proofs.ForCallers.{unopened, unopened-entry}
 
 -- the nodes of all cells' values
 abbrev pub nodes_in : List Cell → ℕ

@@ -6,7 +6,7 @@ use Rattle.rhai_value.specs.declared.store.Cell.{Cell}
 use Rattle.rhai_value.specs.Rows.{Rows, trees_of, fields_of}
 use Rattle.rhai_value.specs.Tree.{Tree, node, Leaf, leaf, branch, fields, holder, array, function, cell_of}
 use Rattle.rhai_value.specs.Walk.{Visit, entered, barred, revisited, visit, visit_map, opened, entry}
-use Rattle.rhai_value.proofs.Walks.{walk_opens}
+use Rattle.rhai_value.proofs.ForCallers.{walk_opens}
 use Rattle.rhai_show.proofs.Commas.{joined-map, further-map}
 use Rattle.rhai_show.proofs.Pushed.{added_as}
 use Rattle.rhai_show.specs.declared.form.Form.{Form}

@@ -4,9 +4,8 @@ use mathlib.Core.Path.{fun_ext}
 use Rattle.rhai_value.specs.declared.store.Cell.{Cell}
 use Rattle.rhai_value.specs.Tree.{Tree}
 use Rattle.rhai_value.specs.Walk.{Visit, entered}
-use Rattle.rhai_value.specs.Relation.{Renaming, Related, IsOneToOne, SameCells}
-use Rattle.rhai_value.proofs.SameTrees.{by_related}
-use Rattle.rhai_value.proofs.SameWalks.{AlikeVisit, Keeps, by_visits, same_walk}
+use Rattle.rhai_value.specs.Relation.{Renaming, Related, IsOneToOne, RelatedCells}
+use Rattle.rhai_value.proofs.ForCallers.{by_related, AlikeVisit, Keeps, by_visits, same_walk}
 use Rattle.rhai_show.specs.declared.form.Form.{Form}
 use Rattle.rhai_show.specs.Text.{field_printed, branch_printed, map_printed, holder_printed, printed_of, all_printed, fields_printed, printed}
 
@@ -20,6 +19,6 @@ printed_kept r path road h k t u same to =
     refl (λ t u ts us p q. ap₂ (λ v vs. v ∷ vs) p q) refl (λ n t u fs hs p q. ap₂ (λ v vs. (λ form. field_printed form n (v form)) ∷ vs) p q) t u
 
 -- the text of a value doesn't depend on the numbers of cells
-pub same_printed : (r : Renaming) (s z : List Cell) (t u : Tree) → IsOneToOne r → SameCells r s z → Related r t u → printed s [] t ≡ printed z [] u
+pub same_printed : (r : Renaming) (s z : List Cell) (t u : Tree) → IsOneToOne r → RelatedCells r s z → Related r t u → printed s [] t ≡ printed z [] u
 unfolding printed
 same_printed r s z t u one cells h = same_walk r printed_of printed_of ◌≡◌ s z (printed_kept r) one cells t u h

@@ -3,7 +3,7 @@ ghost use Rattle.std.specs.Prelude.{◌≡◌, ◌∷◌, [], ℕ, List};
 ghost use Rattle.rhai_value.specs.declared.store.Cell.{Cell};
 ghost use Rattle.rhai_value.specs.Tree.{Tree};
 ghost use Rattle.rhai_value.specs.Walk.{visit, visit_map};
-ghost use Rattle.rhai_value.specs.Relation.{Renaming, Related, IsOneToOne, SameCells};
+ghost use Rattle.rhai_value.specs.Relation.{Renaming, Related, IsOneToOne, RelatedCells};
 ghost use Rattle.rhai_show.specs.Text.{printed_of, printed};
 
 /// The text of a value by its parts, in all forms: no length of the store is in it.
@@ -15,5 +15,5 @@ pub fn printed_opens()
 /// The text of a value doesn't depend on the numbers of cells.
 pub fn printed_is_renamed()
     ensures { (r : Renaming) (s z : List Cell) (t u : Tree)
-        → IsOneToOne r → SameCells r s z → Related r t u → printed s [] t ≡ printed z [] u }
+        → IsOneToOne r → RelatedCells r s z → Related r t u → printed s [] t ≡ printed z [] u }
 {}

@@ -7,7 +7,7 @@ use Rattle.rhai_value.specs.declared.store.Cell.{Cell}
 use Rattle.rhai_value.specs.Tree.{Tree, node, leaf, branch, fields, holder}
 use Rattle.rhai_value.specs.Store.{added}
 use Rattle.rhai_value.specs.Share.{shared_value, shared_store}
-use Rattle.rhai_value.specs.Relation.{Renaming, paired, Related, AllRelated, RelatedFields, SameCells, IsOneToOne, new_pairs, shared_pairs}
+use Rattle.rhai_value.specs.Relation.{Renaming, paired, Related, AllRelated, RelatedFields, RelatedCells, IsOneToOne, new_pairs, shared_pairs}
 use Rattle.rhai_value.proofs.SameTrees.{by_related, by_trees}
 use Rattle.rhai_value.proofs.Zips.{get_append, get_last}
 
@@ -45,13 +45,13 @@ apart : (n m : ℕ) → (n ≡ m → ⊥) → nat_eq n m ≡ false
 apart n m h = grind (arith, nat_tests)
 
 -- the cells of a pair are cells of the stores
-pub pair_within : (r : Renaming) (s z : List Cell) (c d : ℕ) → SameCells r s z → paired r c d ≡ true → (c < length s) × (d < length z)
+pub pair_within : (r : Renaming) (s z : List Cell) (c d : ℕ) → RelatedCells r s z → paired r c d ≡ true → (c < length s) × (d < length z)
 pair_within r s z c d cells h = let old = cells c d h in (slice_get_within s c old.0 old.2, slice_get_within z d old.1 old.3)
 
-old_new : (r : Renaming) (s z : List Cell) → SameCells r s z → (c d e f : ℕ) → paired r c d ≡ true → (length s ≡ e) × (length z ≡ f) → nat_eq c e ≡ nat_eq d f
+old_new : (r : Renaming) (s z : List Cell) → RelatedCells r s z → (c d e f : ℕ) → paired r c d ≡ true → (length s ≡ e) × (length z ≡ f) → nat_eq c e ≡ nat_eq d f
 old_new r s z cells c d e f h k = let l = pair_within r s z c d cells h in apart c e (λ q. omega arith) ∙ sym (apart d f (λ q. omega arith))
 
-new_old : (r : Renaming) (s z : List Cell) → SameCells r s z → (c d e f : ℕ) → (length s ≡ c) × (length z ≡ d) → paired r e f ≡ true → nat_eq c e ≡ nat_eq d f
+new_old : (r : Renaming) (s z : List Cell) → RelatedCells r s z → (c d e f : ℕ) → (length s ≡ c) × (length z ≡ d) → paired r e f ≡ true → nat_eq c e ≡ nat_eq d f
 new_old r s z cells c d e f k h = let l = pair_within r s z e f cells h in apart c e (λ q. omega arith) ∙ sym (apart d f (λ q. omega arith))
 
 -- what one more pair joins
@@ -63,7 +63,7 @@ pub new_last : (r : Renaming) (n m : ℕ) → paired (r ++ one_pair n m) n m ≡
 new_last r n m = paired_append r (one_pair n m) n m ∙ or_true (paired r n m) _ (itself n m)
 
 -- the pair of two new cells joins a renaming
-pub one_more : (r : Renaming) (s z : List Cell) → IsOneToOne r → SameCells r s z → IsOneToOne (r ++ one_pair (length s) (length z))
+pub one_more : (r : Renaming) (s z : List Cell) → IsOneToOne r → RelatedCells r s z → IsOneToOne (r ++ one_pair (length s) (length z))
 one_more r s z one cells c d e f p q =
     elim (last_cases r (length s) (length z) c d p) [
       | inl h ↦ elim (last_cases r (length s) (length z) e f q) [
@@ -76,7 +76,7 @@ one_more r s z one cells c d e f p q =
       ]
     ]
 
-pub same_added : (r : Renaming) (s z : List Cell) (x y : Tree) → SameCells r s z → Related r x y → SameCells (r ++ one_pair (length s) (length z)) (added s x) (added z y)
+pub same_added : (r : Renaming) (s z : List Cell) (x y : Tree) → RelatedCells r s z → Related r x y → RelatedCells (r ++ one_pair (length s) (length z)) (added s x) (added z y)
 same_added r s z x y cells h c d p =
     let a : Cell = record { content = x; is_marked = false } in
     let b : Cell = record { content = y; is_marked = false } in
@@ -106,7 +106,7 @@ append_none : (r : Renaming) → r ++ [] ≡ r
 append_none [] = refl
 append_none (p ∷ r) = ap (λ q. p ∷ q) (append_none r)
 
-pub one_more_shared : (r : Renaming) (s z : List Cell) (t : Tree) → IsOneToOne r → SameCells r s z → IsOneToOne (r ++ shared_pairs s z t)
+pub one_more_shared : (r : Renaming) (s z : List Cell) (t : Tree) → IsOneToOne r → RelatedCells r s z → IsOneToOne (r ++ shared_pairs s z t)
 one_more_shared r s z (node (leaf l) g m) one cells = one_more r s z one cells
 one_more_shared r s z (node (branch k ts) g m) one cells = one_more r s z one cells
 one_more_shared r s z (node (fields fs) g m) one cells = one_more r s z one cells
@@ -116,8 +116,8 @@ pub same_shared_value : (r : Renaming) (s z : List Cell) (t u : Tree) → Relate
 same_shared_value r s z = by_trees r (λ t u. Related (r ++ shared_pairs s z t) (shared_value s t) (shared_value z u))
     (λ l g m. (new_last r (length s) (length z), refl, refl)) (λ k ts us g m e. (new_last r (length s) (length z), refl, refl)) (λ fs hs g m e. (new_last r (length s) (length z), refl, refl)) (λ c d g m e. (rw (append_none r) e, refl, refl))
 
-pub same_shared_store : (r : Renaming) (s z : List Cell) (t u : Tree) → SameCells r s z → Related r t u → SameCells (r ++ shared_pairs s z t) (shared_store s t) (shared_store z u)
-same_shared_store r s z t u cells = by_trees r (λ t u. SameCells (r ++ shared_pairs s z t) (shared_store s t) (shared_store z u))
+pub same_shared_store : (r : Renaming) (s z : List Cell) (t u : Tree) → RelatedCells r s z → Related r t u → RelatedCells (r ++ shared_pairs s z t) (shared_store s t) (shared_store z u)
+same_shared_store r s z t u cells = by_trees r (λ t u. RelatedCells (r ++ shared_pairs s z t) (shared_store s t) (shared_store z u))
     (λ l g m. same_added r s z (node (leaf l) g m) (node (leaf l) g m) cells (refl, refl, refl))
     (λ k ts us g m e. same_added r s z (node (branch k ts) g m) (node (branch k us) g m) cells ((refl, e), refl, refl))
     (λ fs hs g m e. same_added r s z (node (fields fs) g m) (node (fields hs) g m) cells (e, refl, refl))

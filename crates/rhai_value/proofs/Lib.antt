@@ -3,12 +3,13 @@ pub mod Copied
 pub mod Copies
 pub mod Edits
 pub mod Ends
+pub mod ForCallers
 pub mod Grow
 pub mod InStores
 pub mod MarkedCells
 pub mod Paints
 pub mod Paths
-pub mod SameCells
+pub mod RelatedCells
 pub mod SameFlat
 pub mod SameTrees
 pub mod SameWalks

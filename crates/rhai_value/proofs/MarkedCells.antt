@@ -13,7 +13,7 @@ use Rattle.rhai_value.proofs.Ends.{stands}
 use Rattle.rhai_value.proofs.InStores.{cell_within}
 use Rattle.rhai_value.proofs.Stores.{changed_index}
 use Rattle.rhai_value.proofs.Walks.{at_within}
-use Rattle.rhai_value.proofs.SameCells.{get_unchanged, marked_put, marked_added}
+use Rattle.rhai_value.proofs.RelatedCells.{get_unchanged, marked_put, marked_added}
 
 -- a mark, by the index of its cell
 pub mark_at : (s : List Cell) (c : ℕ) (x : Cell) (b : Bool) → c < length s → x ≡ get_or s c x → slice_set s c (record { content = x.content; is_marked = b }) ≡ set_mark s c b

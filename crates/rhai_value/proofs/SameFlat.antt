@@ -9,12 +9,12 @@ use Rattle.rhai_value.specs.Flat.{flat, flattened, value_ahead, or_copy, flat_so
 use Rattle.rhai_value.specs.declared.chain.Site.TheVariants.{InCell}
 use Rattle.rhai_value.specs.Marks.{first_cell, held_cell, site_cell}
 use Rattle.rhai_value.specs.Locked.{is_locked, is_one_locked, is_field_locked}
-use Rattle.rhai_value.specs.Relation.{Renaming, paired, Related, Alike, IsOneToOne, SameCells, SameEnd}
-use Rattle.rhai_value.proofs.SameCells.{by_ends, get_unchanged, same_put, length_changed}
+use Rattle.rhai_value.specs.Relation.{Renaming, paired, Related, Alike, IsOneToOne, RelatedCells, RelatedEnds}
+use Rattle.rhai_value.proofs.RelatedCells.{by_ends, get_unchanged, same_put, length_changed}
 use Rattle.rhai_value.proofs.SameTrees.{by_related, by_trees, same_copy}
 use Rattle.rhai_value.proofs.SameWalks.{same_at, same_end}
 
-pub same_first : (r : Renaming) (s z : List Cell) → SameCells r s z → (t u : Tree) → Related r t u → Alike (Related r) (first s t) (first z u)
+pub same_first : (r : Renaming) (s z : List Cell) → RelatedCells r s z → (t u : Tree) → Related r t u → Alike (Related r) (first s t) (first z u)
 same_first r s z cells = by_trees r (λ t u. Alike (Related r) (first s t) (first z u)) (λ l g m. (refl, refl, refl)) (λ k ts us g m e. ((refl, e), refl, refl)) (λ fs hs g m e. (e, refl, refl)) (λ c d g m p. same_at r s z c d cells p)
 
 -- where values are locked, related values are too
@@ -24,11 +24,11 @@ same_none R (Some a) (Some b) h = refl
 same_none R None (Some b) h = absurd h
 same_none R (Some a) None h = absurd h
 
-pub same_locked : (r : Renaming) (s z : List Cell) → SameCells r s z → (t u : Tree) → Related r t u → is_locked s t ≡ is_locked z u
+pub same_locked : (r : Renaming) (s z : List Cell) → RelatedCells r s z → (t u : Tree) → Related r t u → is_locked s t ≡ is_locked z u
 same_locked r s z cells = by_related r (λ t u. is_locked s t ≡ is_locked z u) (λ ts us. is_one_locked s ts ≡ is_one_locked z us) (λ fs hs. is_field_locked s fs ≡ is_field_locked z hs)
     (λ l g m. refl) (λ k ts us g m e h. h) (λ fs hs g m e h. h) (λ c d g m p. same_none (Related r) (at s c) (at z d) (same_at r s z c d cells p)) refl (λ t u ts us p q. ap₂ (λ a b. a || b) p q) refl (λ k t u fs hs p q. ap₂ (λ a b. a || b) p q)
 
-same_value_ahead : (r : Renaming) (e f : End) → SameEnd r e f → Alike (Related r) (value_ahead e) (value_ahead f)
+same_value_ahead : (r : Renaming) (e f : End) → RelatedEnds r e f → Alike (Related r) (value_ahead e) (value_ahead f)
 same_value_ahead r = by_ends r (λ e f. Alike (Related r) (value_ahead e) (value_ahead f)) (λ x y k. k) (λ c d x y p k. k) (λ x y k. k) tt
 
 same_or : (r : Renaming) (t u : Tree) (o q : Option Tree) → Related r t u → Alike (Related r) o q → Related r (unwrap_or o t) (unwrap_or q u)
@@ -37,11 +37,11 @@ same_or r t u (Some x) (Some y) h k = k
 same_or r t u None (Some y) h k = absurd k
 same_or r t u (Some x) None h k = absurd k
 
-pub same_flat : (r : Renaming) (s z : List Cell) (t u : Tree) → IsOneToOne r → SameCells r s z → Related r t u → Related r (flat s t) (flat z u)
+pub same_flat : (r : Renaming) (s z : List Cell) (t u : Tree) → IsOneToOne r → RelatedCells r s z → Related r t u → Related r (flat s t) (flat z u)
 same_flat r s z t u one cells h =
     same_copy r _ _ (same_or r t u _ _ h (same_value_ahead r (end s [] t) (end z [] u) (same_end r s z t u one cells h)))
 
-same_behind : (r : Renaming) (s z : List Cell) → SameCells r s z → (t u : Tree) → Related r t u → Alike (Related r) (option_and_then (at s) (cell_of t)) (option_and_then (at z) (cell_of u))
+same_behind : (r : Renaming) (s z : List Cell) → RelatedCells r s z → (t u : Tree) → Related r t u → Alike (Related r) (option_and_then (at s) (cell_of t)) (option_and_then (at z) (cell_of u))
 same_behind r s z cells = by_trees r (λ t u. Alike (Related r) (option_and_then (at s) (cell_of t)) (option_and_then (at z) (cell_of u))) (λ l g m. tt) (λ k ts us g m e. tt) (λ fs hs g m e. tt) (λ c d g m p. same_at r s z c d cells p)
 
 both_or_none : (r : Renaming) (o q v w : Option Tree) → Alike (Related r) o q → Alike (Related r) v w → Alike (Related r) (option_and_then (λ x. v) o) (option_and_then (λ x. w) q)
@@ -56,7 +56,7 @@ same_or_copy r t u (Some x) (Some y) h k = same_copy r x y k
 same_or_copy r t u None (Some y) h k = absurd k
 same_or_copy r t u (Some x) None h k = absurd k
 
-pub same_flattened : (r : Renaming) (s z : List Cell) (t u : Tree) → IsOneToOne r → SameCells r s z → Related r t u → Related r (flattened s t) (flattened z u)
+pub same_flattened : (r : Renaming) (s z : List Cell) (t u : Tree) → IsOneToOne r → RelatedCells r s z → Related r t u → Related r (flattened s t) (flattened z u)
 same_flattened r s z t u one cells h =
     let ahead = same_value_ahead r (end s [] t) (end z [] u) (same_end r s z t u one cells h) in
     same_or_copy r t u (flat_source s t) (flat_source z u) h (both_or_none r _ _ _ _ (same_behind r s z cells t u h) ahead)
@@ -90,8 +90,8 @@ others_stay s (node (holder d) g m) w c h = get_unchanged _ s d c (λ e. h (ap S
 pub same_value_with_first : (r : Renaming) (x y : Tree) → Related r x y → (t u : Tree) → Related r t u → Related r (value_with_first x t) (value_with_first y u)
 same_value_with_first r x y h = by_trees r (λ t u. Related r (value_with_first x t) (value_with_first y u)) (λ l g m. h) (λ k ts us g m e. h) (λ fs hs g m e. h) (λ c d g m e. (e, refl, refl))
 
-pub same_store_with_first : (r : Renaming) (s z : List Cell) (x y : Tree) → IsOneToOne r → SameCells r s z → Related r x y → (t u : Tree) → Related r t u → SameCells r (store_with_first x s t) (store_with_first y z u)
-same_store_with_first r s z x y one cells h = by_trees r (λ t u. SameCells r (store_with_first x s t) (store_with_first y z u)) (λ l g m. cells) (λ k ts us g m e. cells) (λ fs hs g m e. cells) (λ c d g m e. same_put r s z c d x y one cells e h)
+pub same_store_with_first : (r : Renaming) (s z : List Cell) (x y : Tree) → IsOneToOne r → RelatedCells r s z → Related r x y → (t u : Tree) → Related r t u → RelatedCells r (store_with_first x s t) (store_with_first y z u)
+same_store_with_first r s z x y one cells h = by_trees r (λ t u. RelatedCells r (store_with_first x s t) (store_with_first y z u)) (λ l g m. cells) (λ k ts us g m e. cells) (λ fs hs g m e. cells) (λ c d g m e. same_put r s z c d x y one cells e h)
 
 pub length_with_first : (x : Tree) (s : List Cell) (t : Tree) → length (store_with_first x s t) ≡ length s
 length_with_first x s (node (leaf l) g m) = refl
@@ -106,9 +106,9 @@ cell_alike r (Some x) (Some y) c d p h = p
 cell_alike r None (Some y) c d p h = absurd h
 cell_alike r (Some x) None c d p h = absurd h
 
-pub same_first_cell : (r : Renaming) (s z : List Cell) (t u : Tree) → SameCells r s z → Related r t u → Alike (λ c d. paired r c d ≡ true) (first_cell s t) (first_cell z u)
+pub same_first_cell : (r : Renaming) (s z : List Cell) (t u : Tree) → RelatedCells r s z → Related r t u → Alike (λ c d. paired r c d ≡ true) (first_cell s t) (first_cell z u)
 same_first_cell r s z t u cells = by_trees r (λ t u. Alike (λ c d. paired r c d ≡ true) (first_cell s t) (first_cell z u)) (λ l g m. tt) (λ k ts us g m e. tt) (λ fs hs g m e. tt)
     (λ c d g m p. cell_alike r (at s c) (at z d) c d p (same_at r s z c d cells p)) t u
 
-pub same_held_cell : (r : Renaming) (e f : End) → SameEnd r e f → Alike (λ c d. paired r c d ≡ true) (held_cell e) (held_cell f)
+pub same_held_cell : (r : Renaming) (e f : End) → RelatedEnds r e f → Alike (λ c d. paired r c d ≡ true) (held_cell e) (held_cell f)
 same_held_cell r = by_ends r (λ e f. Alike (λ c d. paired r c d ≡ true) (held_cell e) (held_cell f)) (λ t u h. tt) (λ c d t u p h. p) (λ t u h. tt) tt

@@ -4,7 +4,7 @@ use Rattle.rhai_value.specs.declared.access_mode.AccessMode.{AccessMode}
 use Rattle.rhai_value.specs.Tree.{Tree, node, Content, Leaf, leaf, int, branch, fields, holder, Kind, array, function, Trees, no_trees, tree_then, Fields, no_fields, field_then, tag_of, mode_of, cell_of, is_host, with_tag, copy, copy_trees, copy_fields, paint, paint_trees, paint_fields}
 use Rattle.rhai_value.specs.Parts.{leaf_part, leaf_int, array_of, map_of, function_of, with_content, with_int}
 use Rattle.rhai_value.specs.Types.{tree_type}
-use Rattle.rhai_value.specs.Relation.{Renaming, paired, Related, SameContent, AllRelated, RelatedFields, SameNamed, Alike, Respect}
+use Rattle.rhai_value.specs.Relation.{Renaming, paired, Related, RelatedContent, AllRelated, RelatedFields, RelatedFunctions, Alike, Respect}
 
 -- What holds of each leaf with itself, of holders of paired cells, of branches of one kind where it holds of their children, and of
 -- maps where it holds of their fields, holds of related values.
@@ -21,7 +21,7 @@ module _ (r : Renaming) (P : Tree → Tree → Type 0) (Q : Trees → Trees → 
     pub by_related : (t u : Tree) → Related r t u → P t u
     by_related (node c g m) (node d h n) e = rw (← e.1, ← e.2) (by_content c d g m e.0)
 
-    by_content : (c d : Content) (g : ℤ) (m : AccessMode) → SameContent r c d → P (node c g m) (node d g m)
+    by_content : (c d : Content) (g : ℤ) (m : AccessMode) → RelatedContent r c d → P (node c g m) (node d g m)
     by_content (leaf l) (leaf k) g m e = rw (← e) (leaves l g m)
     by_content (branch k ts) (branch l us) g m e = rw (← e.0) (branches k ts us g m e.1 (by_all ts us e.1))
     by_content (fields fs) (fields hs) g m e = maps fs hs g m e (by_fields fs hs e)
@@ -84,14 +84,14 @@ same_items r = by_trees r (λ t u. Alike (AllRelated r) (array_of t) (array_of u
 pub same_fields : (r : Renaming) (t u : Tree) → Related r t u → Alike (RelatedFields r) (map_of t) (map_of u)
 same_fields r = by_trees r (λ t u. Alike (RelatedFields r) (map_of t) (map_of u)) (λ l g m. tt) (λ k ts us g m e. tt) (λ fs hs g m e. e) (λ c d g m e. tt)
 
-pub same_function : (r : Renaming) (t u : Tree) → Related r t u → Alike (SameNamed r) (function_of t) (function_of u)
-same_function r = by_trees r (λ t u. Alike (SameNamed r) (function_of t) (function_of u)) (λ l g m. tt) kinds (λ fs hs g m e. tt) (λ c d g m e. tt)
+pub same_function : (r : Renaming) (t u : Tree) → Related r t u → Alike (RelatedFunctions r) (function_of t) (function_of u)
+same_function r = by_trees r (λ t u. Alike (RelatedFunctions r) (function_of t) (function_of u)) (λ l g m. tt) kinds (λ fs hs g m e. tt) (λ c d g m e. tt)
   where
-    kinds : (k : Kind) (ts us : Trees) (g : ℤ) (m : AccessMode) → AllRelated r ts us → Alike (SameNamed r) (function_of (node (branch k ts) g m)) (function_of (node (branch k us) g m))
+    kinds : (k : Kind) (ts us : Trees) (g : ℤ) (m : AccessMode) → AllRelated r ts us → Alike (RelatedFunctions r) (function_of (node (branch k ts) g m)) (function_of (node (branch k us) g m))
     kinds array ts us g m e = tt
     kinds (function f) ts us g m e = (refl, e)
 
-pub same_with_content : (r : Renaming) (c d : Content) → SameContent r c d → Respect r (with_content c) (with_content d)
+pub same_with_content : (r : Renaming) (c d : Content) → RelatedContent r c d → Respect r (with_content c) (with_content d)
 same_with_content r c d h (node x g m) (node y i n) e = (h, e.1, e.2)
 
 pub same_with_int : (r : Renaming) (n : ℤ) → Respect r (with_int n) (with_int n)

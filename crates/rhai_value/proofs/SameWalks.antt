@@ -6,7 +6,7 @@ use Rattle.rhai_value.specs.Tree.{Tree, node, holder}
 use Rattle.rhai_value.specs.Store.{at, unmarked}
 use Rattle.rhai_value.specs.Walk.{Visit, entered, barred, revisited, is_open, visit, visit_of, visit_map, unentered, walk_in, walk}
 use Rattle.rhai_value.specs.End.{End, end_at, site_after, end_of, end}
-use Rattle.rhai_value.specs.Relation.{Renaming, paired, Related, Alike, IsOneToOne, RelatedSite, SameCells, SameEnd}
+use Rattle.rhai_value.specs.Relation.{Renaming, paired, Related, Alike, IsOneToOne, RelatedSite, RelatedCells, RelatedEnds}
 use Rattle.rhai_value.proofs.SameTrees.{by_trees}
 use Rattle.rhai_value.proofs.Zips.{zip_get}
 use Rattle.rhai_value.proofs.Walks.{more_room_by}
@@ -34,7 +34,7 @@ unmarked_alike r true false t u e h = cc
 unmarked_alike r false true t u e h = cc
 
 -- what is read of paired cells
-pub same_at : (r : Renaming) (s z : List Cell) (c d : ℕ) → SameCells r s z → Paired r c d → Alike (Related r) (at s c) (at z d)
+pub same_at : (r : Renaming) (s z : List Cell) (c d : ℕ) → RelatedCells r s z → Paired r c d → Alike (Related r) (at s c) (at z d)
 same_at r s z c d cells p =
     let h = cells c d p in
     subst₂ (λ o q. Alike (Related r) (option_and_then unmarked o) (option_and_then unmarked q)) (sym h.2) (sym h.3) (unmarked_alike r h.0.is_marked h.1.is_marked h.0.content h.1.content h.4.0 h.4.1)
@@ -78,7 +78,7 @@ Keeps {A} {B} r shape form R =
     (path road : List ℕ) (h : ℕ → Visit A) (k : ℕ → Visit B) (t u : Tree) → AllZip (Paired r) path road → ((c d : ℕ) → Paired r c d → AlikeVisit R (h c) (k d)) → Related r t u → R (shape path h t) (form road k u)
 
 module _ {A B : Type 0} (r : Renaming) (shape : List ℕ → (ℕ → Visit A) → Tree → A) (form : List ℕ → (ℕ → Visit B) → Tree → B) (R : A → B → Type 0) (s z : List Cell) where
-  same_walk_in : Keeps r shape form R → IsOneToOne r → SameCells r s z → (n : ℕ) (path road : List ℕ) (t u : Tree) → AllZip (Paired r) path road → Related r t u → R (walk_in shape n s path t) (walk_in form n z road u)
+  same_walk_in : Keeps r shape form R → IsOneToOne r → RelatedCells r s z → (n : ℕ) (path road : List ℕ) (t u : Tree) → AllZip (Paired r) path road → Related r t u → R (walk_in shape n s path t) (walk_in form n z road u)
   same_walk_in keeps one cells zero path road t u same h =
       keeps path road _ _ t u same (λ c d p. unentered_alike r R (visit s path c) (visit z road d) (visit_of_alike r (at s c) (at z d) _ _ (same_open r c d path road one p same) (same_at r s z c d cells p))) h
   same_walk_in keeps one cells (suc n) path road t u same h =
@@ -88,7 +88,7 @@ module _ {A B : Type 0} (r : Renaming) (shape : List ℕ → (ℕ → Visit A) �
       (visit_of_alike r (at s c) (at z d) _ _ (same_open r c d path road one p same) (same_at r s z c d cells p))) h
 
   -- A walk takes related values to related ones, in stores of different lengths.
-  pub same_walk : Keeps r shape form R → IsOneToOne r → SameCells r s z → (t u : Tree) → Related r t u → R (walk shape s [] t) (walk form z [] u)
+  pub same_walk : Keeps r shape form R → IsOneToOne r → RelatedCells r s z → (t u : Tree) → Related r t u → R (walk shape s [] t) (walk form z [] u)
   same_walk keeps one cells t u h =
       let e : length s + length z ≡ length z + length s = omega arith in
       subst₂ R
@@ -96,8 +96,8 @@ module _ {A B : Type 0} (r : Renaming) (shape : List ℕ → (ℕ → Visit A) �
       (ap (λ n. walk_in form n z [] u) (sym e) ∙ sym (more_room_by form (length s) (length z) z [] u (omega arith)))
       (same_walk_in keeps one cells (length z + length s) [] [] t u tt h)
 
-end_at_alike : (r : Renaming) (t u : Tree) (o q : Visit End) → Related r t u → AlikeVisit (SameEnd r) o q → SameEnd r (end_at t o) (end_at u q)
-end_at_alike r t u o q h k = by_visits (SameEnd r) (λ o q. SameEnd r (end_at t o) (end_at u q)) (λ e f same. same) h tt o q k
+end_at_alike : (r : Renaming) (t u : Tree) (o q : Visit End) → Related r t u → AlikeVisit (RelatedEnds r) o q → RelatedEnds r (end_at t o) (end_at u q)
+end_at_alike r t u o q h k = by_visits (RelatedEnds r) (λ o q. RelatedEnds r (end_at t o) (end_at u q)) (λ e f same. same) h tt o q k
 
 site_alike : (r : Renaming) (o q : Option ℕ) → Alike (Paired r) o q → RelatedSite r (site_after o) (site_after q)
 site_alike r None None h = tt
@@ -105,12 +105,12 @@ site_alike r (Some c) (Some d) h = h
 site_alike r None (Some d) h = absurd h
 site_alike r (Some c) None h = absurd h
 
-end_kept : (r : Renaming) → Keeps r end_of end_of (SameEnd r)
-end_kept r path road h k t u same to = by_trees r (λ t u. SameEnd r (end_of path h t) (end_of road k u))
+end_kept : (r : Renaming) → Keeps r end_of end_of (RelatedEnds r)
+end_kept r path road h k t u same to = by_trees r (λ t u. RelatedEnds r (end_of path h t) (end_of road k u))
     (λ l g m. (site_alike r _ _ (zip_get (Paired r) path road 0 same), (refl, refl, refl))) (λ i ts us g m e. (site_alike r _ _ (zip_get (Paired r) path road 0 same), ((refl, e), refl, refl))) (λ fs hs g m e. (site_alike r _ _ (zip_get (Paired r) path road 0 same), (e, refl, refl)))
     (λ c d g m p. end_at_alike r (node (holder c) g m) (node (holder d) g m) (h c) (k d) (p, refl, refl) (to c d p)) t u
 
 -- the ends of the chains from related values are the same
-pub same_end : (r : Renaming) (s z : List Cell) (t u : Tree) → IsOneToOne r → SameCells r s z → Related r t u → SameEnd r (end s [] t) (end z [] u)
+pub same_end : (r : Renaming) (s z : List Cell) (t u : Tree) → IsOneToOne r → RelatedCells r s z → Related r t u → RelatedEnds r (end s [] t) (end z [] u)
 unfolding end
-same_end r s z t u one cells h = same_walk r end_of end_of (SameEnd r) s z (end_kept r) one cells t u h
+same_end r s z t u one cells h = same_walk r end_of end_of (RelatedEnds r) s z (end_kept r) one cells t u h

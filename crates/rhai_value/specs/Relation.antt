@@ -18,14 +18,14 @@ paired (p ∷ ps) c d = (nat_eq p.0 c && nat_eq p.1 d) || paired ps c d
 -- the same constructors, tags, modes and contents, and holders of paired cells
 abbrev mutual
   pub Related : Renaming → Tree → Tree → Type 0
-  Related r (node c g m) (node d h n) = SameContent r c d × (g ≡ h) × (m ≡ n)
+  Related r (node c g m) (node d h n) = RelatedContent r c d × (g ≡ h) × (m ≡ n)
 
-  pub SameContent : Renaming → Content → Content → Type 0
-  SameContent r (leaf l) (leaf k) = l ≡ k
-  SameContent r (branch k ts) (branch l us) = (k ≡ l) × AllRelated r ts us
-  SameContent r (fields fs) (fields hs) = RelatedFields r fs hs
-  SameContent r (holder c) (holder d) = paired r c d ≡ true
-  SameContent r _ _ = ⊥
+  pub RelatedContent : Renaming → Content → Content → Type 0
+  RelatedContent r (leaf l) (leaf k) = l ≡ k
+  RelatedContent r (branch k ts) (branch l us) = (k ≡ l) × AllRelated r ts us
+  RelatedContent r (fields fs) (fields hs) = RelatedFields r fs hs
+  RelatedContent r (holder c) (holder d) = paired r c d ≡ true
+  RelatedContent r _ _ = ⊥
 
   pub AllRelated : Renaming → Trees → Trees → Type 0
   AllRelated r no_trees no_trees = Unit {0}
@@ -38,8 +38,8 @@ abbrev mutual
   RelatedFields r _ _ = ⊥
 
 -- the same names, and related children
-abbrev pub SameNamed : {A : Type 0} → Renaming → A × Trees → A × Trees → Type 0
-SameNamed r x y = (x.0 ≡ y.0) × AllRelated r x.1 y.1
+abbrev pub RelatedFunctions : {A : Type 0} → Renaming → A × Trees → A × Trees → Type 0
+RelatedFunctions r x y = (x.0 ≡ y.0) × AllRelated r x.1 y.1
 
 -- what f makes of a value and g of a related one is related
 abbrev pub Respect : Renaming → (Tree → Tree) → (Tree → Tree) → Type 0
@@ -56,12 +56,12 @@ abbrev pub IsOneToOne : Renaming → Type 0
 IsOneToOne r = (c d e f : ℕ) → paired r c d ≡ true → paired r e f ≡ true → nat_eq c e ≡ nat_eq d f
 
 -- the same mark, and related contents
-abbrev pub SameCell : Renaming → Cell → Cell → Type 0
-SameCell r x y = (x.is_marked ≡ y.is_marked) × Related r x.content y.content
+abbrev pub RelatedCell : Renaming → Cell → Cell → Type 0
+RelatedCell r x y = (x.is_marked ≡ y.is_marked) × Related r x.content y.content
 
 -- Each pair of r is a cell of s and one of z, marked in both or in neither, with related contents.
-abbrev pub SameCells : Renaming → List Cell → List Cell → Type 0
-SameCells r s z = (c d : ℕ) → paired r c d ≡ true → (x : Cell) × (y : Cell) × (slice_get s c ≡ Some x) × (slice_get z d ≡ Some y) × SameCell r x y
+abbrev pub RelatedCells : Renaming → List Cell → List Cell → Type 0
+RelatedCells r s z = (c d : ℕ) → paired r c d ≡ true → (x : Cell) × (y : Cell) × (slice_get s c ≡ Some x) × (slice_get z d ≡ Some y) × RelatedCell r x y
 
 -- the pairs (a, b), (a + 1, b + 1) and so on, k of them
 abbrev pub new_pairs : ℕ → ℕ → ℕ → Renaming
@@ -102,8 +102,8 @@ RelatedSite r (InCell c) (InCell d) = paired r c d ≡ true
 RelatedSite r _ _ = ⊥
 
 -- two ends of the same kind, at related sites, with related values
-abbrev pub SameEnd : Renaming → End → End → Type 0
-SameEnd r (held p t) (held q u) = RelatedSite r p q × Related r t u
-SameEnd r (stuck t) (stuck u) = Related r t u
-SameEnd r closed closed = Unit {0}
-SameEnd r _ _ = ⊥
+abbrev pub RelatedEnds : Renaming → End → End → Type 0
+RelatedEnds r (held p t) (held q u) = RelatedSite r p q × Related r t u
+RelatedEnds r (stuck t) (stuck u) = Related r t u
+RelatedEnds r closed closed = Unit {0}
+RelatedEnds r _ _ = ⊥

@@ -15,7 +15,7 @@ ghost use Rattle.rhai_value.specs.Share.{shared_value, shared_store};
 ghost use Rattle.rhai_value.specs.Walk.{is_open, visit, visit_map};
 ghost use Rattle.rhai_value.specs.End.{End, held, stuck, closed, site_after, end_of, end, held_part, value_after, store_after};
 ghost use Rattle.rhai_value.specs.Types.{end_type, is_type};
-ghost use Rattle.rhai_value.specs.Relation.{Renaming, paired, Related, SameContent, AllRelated, RelatedFields, SameNamed, Alike, Respect, IsOneToOne, SameCells, SameEnd, shared_pairs};
+ghost use Rattle.rhai_value.specs.Relation.{Renaming, paired, Related, RelatedContent, AllRelated, RelatedFields, RelatedFunctions, Alike, Respect, IsOneToOne, RelatedCells, RelatedEnds, shared_pairs};
 
 /// Where a chain ends, by its parts: a value that is no holder is held, a holder is stuck, closes, or leads on to its cell's content.
 /// No length of the store is in it.
@@ -36,7 +36,7 @@ pub fn end_by_cases()
 /// Chains from related values, in stores that are the same up to the numbers of their cells, end alike.
 pub fn end_is_renamed()
     ensures { (r : Renaming) (s z : List Cell) (t u : Tree)
-        → IsOneToOne r → SameCells r s z → Related r t u → SameEnd r (end s [] t) (end z [] u) }
+        → IsOneToOne r → RelatedCells r s z → Related r t u → RelatedEnds r (end s [] t) (end z [] u) }
 {}
 
 /// A copy has the contents and the tags of the value, and its holders name the same cells; every mode is ReadWrite.
@@ -58,16 +58,16 @@ pub fn paint_is_renamed()
 /// Stores stay the same where related values are put into paired cells.
 pub fn put_is_renamed()
     ensures { (r : Renaming) (s z : List Cell) (a b : ℕ) (t u : Tree)
-        → IsOneToOne r → SameCells r s z → paired r a b ≡ true → Related r t u
-        → SameCells r (put s a t) (put z b u) }
+        → IsOneToOne r → RelatedCells r s z → paired r a b ≡ true → Related r t u
+        → RelatedCells r (put s a t) (put z b u) }
 {}
 
 /// Stores with one more cell each, of related contents, are the same up to the renaming with the pair of the two.
 pub fn added_is_renamed()
     ensures one { (r : Renaming) (s z : List Cell)
-        → IsOneToOne r → SameCells r s z → IsOneToOne (r ++ (length s, length z) ∷ []) }
-    ensures cells { (r : Renaming) (s z : List Cell) (t u : Tree) → SameCells r s z → Related r t u
-        → SameCells (r ++ (length s, length z) ∷ []) (added s t) (added z u) }
+        → IsOneToOne r → RelatedCells r s z → IsOneToOne (r ++ (length s, length z) ∷ []) }
+    ensures cells { (r : Renaming) (s z : List Cell) (t u : Tree) → RelatedCells r s z → Related r t u
+        → RelatedCells (r ++ (length s, length z) ∷ []) (added s t) (added z u) }
 {}
 
 /// Related values stay related where more pairs join the renaming.
@@ -78,11 +78,11 @@ pub fn more_pairs_relate()
 /// What moves related values into cells leaves related values and the same stores, up to the renaming with the pair of the new
 /// cells, if there are any.
 pub fn sharing_is_renamed()
-    ensures one { (r : Renaming) (s z : List Cell) (t : Tree) → IsOneToOne r → SameCells r s z → IsOneToOne (r ++ shared_pairs s z t) }
+    ensures one { (r : Renaming) (s z : List Cell) (t : Tree) → IsOneToOne r → RelatedCells r s z → IsOneToOne (r ++ shared_pairs s z t) }
     ensures value { (r : Renaming) (s z : List Cell) (t u : Tree) → Related r t u
         → Related (r ++ shared_pairs s z t) (shared_value s t) (shared_value z u) }
-    ensures store { (r : Renaming) (s z : List Cell) (t u : Tree) → SameCells r s z → Related r t u
-        → SameCells (r ++ shared_pairs s z t) (shared_store s t) (shared_store z u) }
+    ensures store { (r : Renaming) (s z : List Cell) (t u : Tree) → RelatedCells r s z → Related r t u
+        → RelatedCells (r ++ shared_pairs s z t) (shared_store s t) (shared_store z u) }
 {}
 
 /// Related values have the same tag and mode, and stay related with another tag, and with related contents.
@@ -90,72 +90,72 @@ pub fn parts_are_renamed()
     ensures tag { (r : Renaming) (t u : Tree) → Related r t u → tag_of t ≡ tag_of u }
     ensures mode { (r : Renaming) (t u : Tree) → Related r t u → mode_of t ≡ mode_of u }
     ensures with_tag { (r : Renaming) (h : ℤ) → Respect r (with_tag h) (with_tag h) }
-    ensures with_content { (r : Renaming) (c d : Content) → SameContent r c d → Respect r (with_content c) (with_content d) }
+    ensures with_content { (r : Renaming) (c d : Content) → RelatedContent r c d → Respect r (with_content c) (with_content d) }
     ensures with_int { (r : Renaming) (n : ℤ) → Respect r (with_int n) (with_int n) }
 {}
 
 /// Ends that are alike have the same type, the same unit, boolean, int, character, text, bytes and value of the host's, and related
 /// items, fields and curried values.
 pub fn held_parts_are_renamed()
-    ensures held_type { (r : Renaming) (e f : End) → SameEnd r e f → end_type e ≡ end_type f }
-    ensures unit { (r : Renaming) (e f : End) → SameEnd r e f → held_part unit_of e ≡ held_part unit_of f }
-    ensures boolean { (r : Renaming) (e f : End) → SameEnd r e f → held_part bool_of e ≡ held_part bool_of f }
-    ensures int { (r : Renaming) (e f : End) → SameEnd r e f → held_part int_of e ≡ held_part int_of f }
-    ensures character { (r : Renaming) (e f : End) → SameEnd r e f → held_part char_of e ≡ held_part char_of f }
-    ensures text { (r : Renaming) (e f : End) → SameEnd r e f → held_part text_of e ≡ held_part text_of f }
-    ensures bytes { (r : Renaming) (e f : End) → SameEnd r e f → held_part blob_of e ≡ held_part blob_of f }
-    ensures host { (r : Renaming) (e f : End) → SameEnd r e f → held_part host_of e ≡ held_part host_of f }
-    ensures items { (r : Renaming) (e f : End) → SameEnd r e f → Alike (AllRelated r) (held_part array_of e) (held_part array_of f) }
-    ensures fields { (r : Renaming) (e f : End) → SameEnd r e f → Alike (RelatedFields r) (held_part map_of e) (held_part map_of f) }
-    ensures function { (r : Renaming) (e f : End) → SameEnd r e f → Alike (SameNamed r) (held_part function_of e) (held_part function_of f) }
+    ensures held_type { (r : Renaming) (e f : End) → RelatedEnds r e f → end_type e ≡ end_type f }
+    ensures unit { (r : Renaming) (e f : End) → RelatedEnds r e f → held_part unit_of e ≡ held_part unit_of f }
+    ensures boolean { (r : Renaming) (e f : End) → RelatedEnds r e f → held_part bool_of e ≡ held_part bool_of f }
+    ensures int { (r : Renaming) (e f : End) → RelatedEnds r e f → held_part int_of e ≡ held_part int_of f }
+    ensures character { (r : Renaming) (e f : End) → RelatedEnds r e f → held_part char_of e ≡ held_part char_of f }
+    ensures text { (r : Renaming) (e f : End) → RelatedEnds r e f → held_part text_of e ≡ held_part text_of f }
+    ensures bytes { (r : Renaming) (e f : End) → RelatedEnds r e f → held_part blob_of e ≡ held_part blob_of f }
+    ensures host { (r : Renaming) (e f : End) → RelatedEnds r e f → held_part host_of e ≡ held_part host_of f }
+    ensures items { (r : Renaming) (e f : End) → RelatedEnds r e f → Alike (AllRelated r) (held_part array_of e) (held_part array_of f) }
+    ensures fields { (r : Renaming) (e f : End) → RelatedEnds r e f → Alike (RelatedFields r) (held_part map_of e) (held_part map_of f) }
+    ensures function { (r : Renaming) (e f : End) → RelatedEnds r e f → Alike (RelatedFunctions r) (held_part function_of e) (held_part function_of f) }
 {}
 
 /// What writes where chains end alike leave stays the same up to the renaming, the values and the stores, whatever takes related
 /// values to related ones.
 pub fn writes_are_renamed()
-    ensures value { (r : Renaming) (f g : Tree → Tree) (t u : Tree) (e o : End) → Respect r f g → Related r t u → SameEnd r e o
+    ensures value { (r : Renaming) (f g : Tree → Tree) (t u : Tree) (e o : End) → Respect r f g → Related r t u → RelatedEnds r e o
         → Related r (value_after f e t) (value_after g o u) }
-    ensures store { (r : Renaming) (f g : Tree → Tree) (s z : List Cell) (e o : End) → Respect r f g → IsOneToOne r → SameCells r s z → SameEnd r e o
-        → SameCells r (store_after f e s) (store_after g o z) }
+    ensures store { (r : Renaming) (f g : Tree → Tree) (s z : List Cell) (e o : End) → Respect r f g → IsOneToOne r → RelatedCells r s z → RelatedEnds r e o
+        → RelatedCells r (store_after f e s) (store_after g o z) }
 {}
 
 /// The same of writes over first contents.
 pub fn first_writes_are_renamed()
     ensures value { (r : Renaming) (v w t u : Tree) → Related r v w → Related r t u → Related r (value_with_first v t) (value_with_first w u) }
-    ensures store { (r : Renaming) (s z : List Cell) (v w t u : Tree) → IsOneToOne r → SameCells r s z → Related r v w → Related r t u
-        → SameCells r (store_with_first v s t) (store_with_first w z u) }
+    ensures store { (r : Renaming) (s z : List Cell) (v w t u : Tree) → IsOneToOne r → RelatedCells r s z → Related r v w → Related r t u
+        → RelatedCells r (store_with_first v s t) (store_with_first w z u) }
 {}
 
 /// The cells in which first contents and held values of related values stand are paired, or there are none.
 pub fn sites_are_renamed()
-    ensures first { (r : Renaming) (s z : List Cell) (t u : Tree) → SameCells r s z → Related r t u
+    ensures first { (r : Renaming) (s z : List Cell) (t u : Tree) → RelatedCells r s z → Related r t u
         → Alike (λ c d. paired r c d ≡ true) (first_cell s t) (first_cell z u) }
-    ensures held { (r : Renaming) (e f : End) → SameEnd r e f → Alike (λ c d. paired r c d ≡ true) (held_cell e) (held_cell f) }
+    ensures held { (r : Renaming) (e f : End) → RelatedEnds r e f → Alike (λ c d. paired r c d ≡ true) (held_cell e) (held_cell f) }
 {}
 
 /// First contents of related values are related, or neither has one.
 pub fn first_is_renamed()
     ensures { (r : Renaming) (s z : List Cell) (t u : Tree)
-        → SameCells r s z → Related r t u → Alike (Related r) (first s t) (first z u) }
+        → RelatedCells r s z → Related r t u → Alike (Related r) (first s t) (first z u) }
 {}
 
 /// Related values are locked alike.
 pub fn is_locked_is_renamed()
-    ensures { (r : Renaming) (s z : List Cell) (t u : Tree) → SameCells r s z → Related r t u → is_locked s t ≡ is_locked z u }
+    ensures { (r : Renaming) (s z : List Cell) (t u : Tree) → RelatedCells r s z → Related r t u → is_locked s t ≡ is_locked z u }
 {}
 
 /// Stores stay the same where the marks of paired cells are set, and where they are cleared.
 pub fn set_mark_is_renamed()
     ensures { (r : Renaming) (s z : List Cell) (a b : ℕ) (m : Bool)
-        → IsOneToOne r → SameCells r s z → paired r a b ≡ true → SameCells r (set_mark s a m) (set_mark z b m) }
+        → IsOneToOne r → RelatedCells r s z → paired r a b ≡ true → RelatedCells r (set_mark s a m) (set_mark z b m) }
 {}
 
 /// What related values are without their holders is related.
 pub fn flat_is_renamed()
     ensures flat { (r : Renaming) (s z : List Cell) (t u : Tree)
-        → IsOneToOne r → SameCells r s z → Related r t u → Related r (flat s t) (flat z u) }
+        → IsOneToOne r → RelatedCells r s z → Related r t u → Related r (flat s t) (flat z u) }
     ensures flattened { (r : Renaming) (s z : List Cell) (t u : Tree)
-        → IsOneToOne r → SameCells r s z → Related r t u → Related r (flattened s t) (flattened z u) }
+        → IsOneToOne r → RelatedCells r s z → Related r t u → Related r (flattened s t) (flattened z u) }
 {}
 
 /// What is written over the first content of a holder is the first content of every holder of that cell, and no other cell changes.

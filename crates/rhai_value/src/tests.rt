@@ -187,7 +187,7 @@ fn a_marked_cell_is_read_by_its_token_alone(rt: HostRuntime) -> Result<(), Fail>
 }
 
 #[test]
-#[tactic(auto, using(crate::proofs::SameCells::marked_put))]
+#[tactic(auto, using(crate::proofs::RelatedCells::marked_put))]
 fn what_is_written_through_a_token_is_held(rt: HostRuntime) -> Result<(), Fail> {
     let alloc = rt.alloc();
     let mut store = Store::new(alloc);

@@ -1,6 +1,6 @@
 use Rattle.rhai_value.specs.Parts.{leaf_unit, leaf_bool, leaf_int, leaf_char, leaf_text, leaf_blob, leaf_host, array_of, map_of, function_of}
-use Rattle.rhai_value.specs.Relation.{AllRelated, RelatedFields, SameNamed}
-use Rattle.rhai_value.proofs.SameCells.{same_held_leaf, same_held_part, same_end_type}
+use Rattle.rhai_value.specs.Relation.{AllRelated, RelatedFields, RelatedFunctions}
+use Rattle.rhai_value.proofs.RelatedCells.{same_held_leaf, same_held_part, same_end_type}
 use Rattle.rhai_value.proofs.SameTrees.{same_items, same_fields, same_function}
 use Rattle.rhai_value.proofs.laws.held_parts_are_renamed.Goals as goal
 
@@ -35,4 +35,4 @@ pub returns-clause-fields : goal.returns-clause-fields
 returns-clause-fields c = λ r. same_held_part r (RelatedFields r) map_of (same_fields r)
 
 pub returns-clause-function : goal.returns-clause-function
-returns-clause-function c = λ r. same_held_part r (SameNamed r) function_of (same_function r)
+returns-clause-function c = λ r. same_held_part r (RelatedFunctions r) function_of (same_function r)

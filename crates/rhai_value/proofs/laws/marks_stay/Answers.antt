@@ -1,5 +1,5 @@
 use Rattle.rhai_value.proofs.MarkedCells.{others_marked, marked_shared, marked_with_first}
-use Rattle.rhai_value.proofs.SameCells.{marked_put, marked_store_after}
+use Rattle.rhai_value.proofs.RelatedCells.{marked_put, marked_store_after}
 use Rattle.rhai_value.proofs.laws.marks_stay.Goals as goal
 
 pub returns-clause-written : goal.returns-clause-written

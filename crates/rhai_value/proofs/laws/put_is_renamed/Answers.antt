@@ -1,4 +1,4 @@
-use Rattle.rhai_value.proofs.SameCells.{same_put}
+use Rattle.rhai_value.proofs.RelatedCells.{same_put}
 use Rattle.rhai_value.proofs.laws.put_is_renamed.Goals as goal
 
 pub returns : goal.returns

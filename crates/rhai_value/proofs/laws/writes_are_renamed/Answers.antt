@@ -1,4 +1,4 @@
-use Rattle.rhai_value.proofs.SameCells.{same_value_after, same_store_after}
+use Rattle.rhai_value.proofs.RelatedCells.{same_value_after, same_store_after}
 use Rattle.rhai_value.proofs.laws.writes_are_renamed.Goals as goal
 
 pub returns-clause-value : goal.returns-clause-value

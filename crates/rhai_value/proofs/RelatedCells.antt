@@ -11,7 +11,7 @@ use Rattle.rhai_value.specs.Store.{put, changed_at, is_marked_at, added}
 use Rattle.rhai_value.specs.End.{End, held, stuck, closed, held_part, value_after, store_after}
 use Rattle.rhai_value.specs.Marks.{set_mark}
 use Rattle.rhai_value.specs.Types.{end_type}
-use Rattle.rhai_value.specs.Relation.{Renaming, paired, Related, Respect, Alike, IsOneToOne, SameCell, SameCells, SameEnd}
+use Rattle.rhai_value.specs.Relation.{Renaming, paired, Related, Respect, Alike, IsOneToOne, RelatedCell, RelatedCells, RelatedEnds}
 use Rattle.rhai_value.proofs.SameTrees.{same_part, same_type}
 
 -- a cell that is changed, and the others
@@ -33,8 +33,8 @@ length_changed f (y ∷ s) zero = refl
 length_changed f (y ∷ s) (suc c) = ap suc (length_changed f s c)
 
 -- paired cells are changed alike
-pub same_changed : (f h : Cell → Cell) (r : Renaming) (s z : List Cell) (a b : ℕ) → IsOneToOne r → SameCells r s z → paired r a b ≡ true
-    → ((x y : Cell) → SameCell r x y → SameCell r (f x) (h y)) → SameCells r (changed_at f s a) (changed_at h z b)
+pub same_changed : (f h : Cell → Cell) (r : Renaming) (s z : List Cell) (a b : ℕ) → IsOneToOne r → RelatedCells r s z → paired r a b ≡ true
+    → ((x y : Cell) → RelatedCell r x y → RelatedCell r (f x) (h y)) → RelatedCells r (changed_at f s a) (changed_at h z b)
 same_changed f h r s z a b one cells p e c d q =
     let old = cells c d q in
     elim (cases_eq c a) [
@@ -51,16 +51,16 @@ same_changed f h r s z a b one cells p e c d q =
     ]
 
 -- related values are put into paired cells
-pub same_put : (r : Renaming) (s z : List Cell) (a b : ℕ) (t u : Tree) → IsOneToOne r → SameCells r s z → paired r a b ≡ true → Related r t u → SameCells r (put s a t) (put z b u)
+pub same_put : (r : Renaming) (s z : List Cell) (a b : ℕ) (t u : Tree) → IsOneToOne r → RelatedCells r s z → paired r a b ≡ true → Related r t u → RelatedCells r (put s a t) (put z b u)
 same_put r s z a b t u one cells p e = same_changed _ _ r s z a b one cells p (λ x y h. (h.0, e))
 
 -- paired cells are marked alike
-pub same_set_mark : (r : Renaming) (s z : List Cell) (a b : ℕ) (m : Bool) → IsOneToOne r → SameCells r s z → paired r a b ≡ true → SameCells r (set_mark s a m) (set_mark z b m)
+pub same_set_mark : (r : Renaming) (s z : List Cell) (a b : ℕ) (m : Bool) → IsOneToOne r → RelatedCells r s z → paired r a b ≡ true → RelatedCells r (set_mark s a m) (set_mark z b m)
 same_set_mark r s z a b m one cells p = same_changed _ _ r s z a b one cells p (λ x y h. (refl, h.1))
 
 -- the same ends are of one kind
 pub by_ends : (r : Renaming) (P : End → End → Type 0) → ((t u : Tree) → Related r t u → P (held Own t) (held Own u)) → ((c d : ℕ) (t u : Tree) → paired r c d ≡ true → Related r t u → P (held (InCell c) t) (held (InCell d) u))
-    → ((t u : Tree) → Related r t u → P (stuck t) (stuck u)) → P closed closed → (e f : End) → SameEnd r e f → P e f
+    → ((t u : Tree) → Related r t u → P (stuck t) (stuck u)) → P closed closed → (e f : End) → RelatedEnds r e f → P e f
 by_ends r P own cell bars loops (held Own t) (held Own u) h = own t u h.1
 by_ends r P own cell bars loops (held (InCell c) t) (held (InCell d) u) h = cell c d t u h.0 h.1
 by_ends r P own cell bars loops (stuck t) (stuck u) h = bars t u h
@@ -75,22 +75,22 @@ by_ends r P own cell bars loops closed (held q u) h = absurd h
 by_ends r P own cell bars loops closed (stuck u) h = absurd h
 
 -- what is told of the same ends, and what becomes of values and stores that are written at them
-pub same_held_leaf : {A : Type 0} (r : Renaming) (part : Leaf → Option A) (e f : End) → SameEnd r e f → held_part (leaf_part part) e ≡ held_part (leaf_part part) f
+pub same_held_leaf : {A : Type 0} (r : Renaming) (part : Leaf → Option A) (e f : End) → RelatedEnds r e f → held_part (leaf_part part) e ≡ held_part (leaf_part part) f
 same_held_leaf r part = by_ends r (λ e f. held_part (leaf_part part) e ≡ held_part (leaf_part part) f) (same_part r part) (λ c d t u p. same_part r part t u) (λ t u h. refl) refl
 
 -- parts that related values have alike are held alike
 pub same_held_part : {A : Type 0} (r : Renaming) (R : A → A → Type 0) (part : Tree → Option A) → ((t u : Tree) → Related r t u → Alike R (part t) (part u))
-    → (e f : End) → SameEnd r e f → Alike R (held_part part e) (held_part part f)
+    → (e f : End) → RelatedEnds r e f → Alike R (held_part part e) (held_part part f)
 same_held_part r R part same = by_ends r (λ e f. Alike R (held_part part e) (held_part part f)) same (λ c d t u p h. same t u h) (λ t u h. tt) tt
 
-pub same_end_type : (r : Renaming) (e f : End) → SameEnd r e f → end_type e ≡ end_type f
+pub same_end_type : (r : Renaming) (e f : End) → RelatedEnds r e f → end_type e ≡ end_type f
 same_end_type r = by_ends r (λ e f. end_type e ≡ end_type f) (same_type r) (λ c d t u p. same_type r t u) (λ t u h. refl) refl
 
-pub same_value_after : (r : Renaming) (f g : Tree → Tree) (t u : Tree) → Respect r f g → Related r t u → (e o : End) → SameEnd r e o → Related r (value_after f e t) (value_after g o u)
+pub same_value_after : (r : Renaming) (f g : Tree → Tree) (t u : Tree) → Respect r f g → Related r t u → (e o : End) → RelatedEnds r e o → Related r (value_after f e t) (value_after g o u)
 same_value_after r f g t u k h = by_ends r (λ e o. Related r (value_after f e t) (value_after g o u)) k (λ c d x y p q. h) (λ x y q. h) h
 
-pub same_store_after : (r : Renaming) (f g : Tree → Tree) (s z : List Cell) → Respect r f g → IsOneToOne r → SameCells r s z → (e o : End) → SameEnd r e o → SameCells r (store_after f e s) (store_after g o z)
-same_store_after r f g s z k one cells = by_ends r (λ e o. SameCells r (store_after f e s) (store_after g o z)) (λ t u h. cells) (λ c d t u p h. same_put r s z c d (f t) (g u) one cells p (k t u h)) (λ t u h. cells) cells
+pub same_store_after : (r : Renaming) (f g : Tree → Tree) (s z : List Cell) → Respect r f g → IsOneToOne r → RelatedCells r s z → (e o : End) → RelatedEnds r e o → RelatedCells r (store_after f e s) (store_after g o z)
+same_store_after r f g s z k one cells = by_ends r (λ e o. RelatedCells r (store_after f e s) (store_after g o z)) (λ t u h. cells) (λ c d t u p h. same_put r s z c d (f t) (g u) one cells p (k t u h)) (λ t u h. cells) cells
 
 -- a write where a chain ends makes no cell and sets no mark
 pub length_store_after : (f : Tree → Tree) (e : End) (s : List Cell) → length (store_after f e s) ≡ length s

@@ -1,0 +1,19 @@
+-- What the proofs of crates above may cite, besides the laws: everything else in this folder is private.
+-- related values
+pub use Rattle.rhai_value.proofs.SameTrees.{by_related, by_trees, same_copy, same_host, same_mode, same_paint, same_shared, same_tag, same_with_int, same_with_tag}
+-- related ends and stores, and what is written there
+pub use Rattle.rhai_value.proofs.RelatedCells.{length_store_after, marked_added, marked_store_after, same_end_type, same_held_leaf, same_store_after, same_value_after}
+-- first contents, flat values and locks
+pub use Rattle.rhai_value.proofs.SameFlat.{length_with_first, same_first, same_flat, same_flattened, same_locked, same_store_with_first, same_value_with_first}
+-- renamings that grow
+pub use Rattle.rhai_value.proofs.Grow.{new_last, one_more, one_pair, paired_more, pairs_join, related_more, same_added}
+-- marks
+pub use Rattle.rhai_value.proofs.MarkedCells.{marked_with_first}
+-- walks
+pub use Rattle.rhai_value.proofs.Walks.{unopened, unopened-entry, walk_opens}
+-- walks over related values
+pub use Rattle.rhai_value.proofs.SameWalks.{AlikeVisit, Keeps, Paired, by_visits, same_end, same_walk}
+-- lists that are related place by place
+pub use Rattle.rhai_value.proofs.Zips.{get_set_other, zip_append, zip_drop, zip_get, zip_length, zip_set, zip_take, zip_weaker}
+-- booleans
+pub use Rattle.rhai_value.proofs.Slots.{or_false}

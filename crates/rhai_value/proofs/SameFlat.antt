@@ -1,11 +1,12 @@
 -- First contents, marks and flat values of related values, and a write that all holders of a cell see.
 use Rattle.std.proofs.Common.{◌≡◌, ℕ, zero, suc, Bool, true, false, List, [], ◌∷◌, slice_get, Option, Some, None, is_some, is_none, unwrap_or, ◌||◌, option_and_then, option_map, refl, sym, ap, ap₂, ◌∙◌, length}
 use Rattle.rhai_value.specs.declared.store.Cell.{Cell}
-use Rattle.rhai_value.specs.Tree.{Tree, node, leaf, branch, fields, holder, cell_of}
+use Rattle.rhai_value.specs.Tree.{Tree, node, leaf, branch, fields, holder, cell_of, copy}
 use Rattle.rhai_value.specs.Store.{at, put, unmarked}
-use Rattle.rhai_value.specs.End.{End, end}
+use Rattle.rhai_value.specs.End.{End, held, stuck, closed, end}
 use Rattle.rhai_value.specs.First.{first, value_with_first, store_with_first}
-use Rattle.rhai_value.specs.Flat.{flat, flattened, value_ahead, or_copy, flat_source}
+use Rattle.rhai_value.specs.Flat.{flat, flattened, flattened_holder, value_ahead}
+use Rattle.rhai_value.specs.Seen.{flat_source}
 use Rattle.rhai_value.specs.declared.chain.Site.TheVariants.{InCell}
 use Rattle.rhai_value.specs.Marks.{first_cell, held_cell, site_cell}
 use Rattle.rhai_value.specs.Locked.{is_locked, is_one_locked, is_field_locked}
@@ -41,25 +42,41 @@ pub same_flat : (r : Renaming) (s z : List Cell) (t u : Tree) → IsOneToOne r �
 same_flat r s z t u one cells h =
     same_copy r _ _ (same_or r t u _ _ h (same_value_ahead r (end s [] t) (end z [] u) (same_end r s z t u one cells h)))
 
-same_behind : (r : Renaming) (s z : List Cell) → RelatedCells r s z → (t u : Tree) → Related r t u → Alike (Related r) (option_and_then (at s) (cell_of t)) (option_and_then (at z) (cell_of u))
-same_behind r s z cells = by_trees r (λ t u. Alike (Related r) (option_and_then (at s) (cell_of t)) (option_and_then (at z) (cell_of u))) (λ l g m. tt) (λ k ts us g m e. tt) (λ fs hs g m e. tt) (λ c d g m p. same_at r s z c d cells p)
-
-both_or_none : (r : Renaming) (o q v w : Option Tree) → Alike (Related r) o q → Alike (Related r) v w → Alike (Related r) (option_and_then (λ x. v) o) (option_and_then (λ x. w) q)
-both_or_none r None None v w h k = tt
-both_or_none r (Some x) (Some y) v w h k = k
-both_or_none r None (Some y) v w h k = absurd h
-both_or_none r (Some x) None v w h k = absurd h
-
-same_or_copy : (r : Renaming) (t u : Tree) (o q : Option Tree) → Related r t u → Alike (Related r) o q → Related r (or_copy t o) (or_copy u q)
-same_or_copy r t u None None h k = h
-same_or_copy r t u (Some x) (Some y) h k = same_copy r x y k
-same_or_copy r t u None (Some y) h k = absurd k
-same_or_copy r t u (Some x) None h k = absurd k
+same_flattened_holder : (r : Renaming) (o q : Option Tree) (t u : Tree) → Alike (Related r) o q → Related r t u → (e f : End) → RelatedEnds r e f
+    → Related r (flattened_holder o e t) (flattened_holder q f u)
+same_flattened_holder r None None t u h k e f same = k
+same_flattened_holder r (Some x) (Some y) t u h k e f same = by_ends r (λ e f. Related r (flattened_holder (Some x) e t) (flattened_holder (Some y) f u)) (λ v w p. same_copy r v w p) (λ c d v w q p. same_copy r v w p) (λ v w p. same_copy r v w p) k e f same
+same_flattened_holder r None (Some y) t u h k e f same = absurd h
+same_flattened_holder r (Some x) None t u h k e f same = absurd h
 
 pub same_flattened : (r : Renaming) (s z : List Cell) (t u : Tree) → IsOneToOne r → RelatedCells r s z → Related r t u → Related r (flattened s t) (flattened z u)
-same_flattened r s z t u one cells h =
-    let ahead = same_value_ahead r (end s [] t) (end z [] u) (same_end r s z t u one cells h) in
-    same_or_copy r t u (flat_source s t) (flat_source z u) h (both_or_none r _ _ _ _ (same_behind r s z cells t u h) ahead)
+same_flattened r s z t u one cells = by_trees r (λ t u. Related r (flattened s t) (flattened z u)) (λ l g m. (refl, refl, refl)) (λ k ts us g m e. ((refl, e), refl, refl)) (λ fs hs g m e. (e, refl, refl))
+    (λ c d g m p. same_flattened_holder r (at s c) (at z d) (node (holder c) g m) (node (holder d) g m) (same_at r s z c d cells p) (p, refl, refl) (end s [] (node (holder c) g m)) (end z [] (node (holder d) g m)) (same_end r s z (node (holder c) g m) (node (holder d) g m) one cells (p, refl, refl))) t u
+
+-- a value is flattened by the copy of its source, and stays where it has none
+kept_holder : (o : Option Tree) (e : End) (t : Tree) → None ≡ option_and_then (λ x. value_ahead e) o → t ≡ flattened_holder o e t
+kept_holder None e t h = refl
+kept_holder (Some x) (held site v) t h = cc
+kept_holder (Some x) (stuck v) t h = cc
+kept_holder (Some x) closed t h = refl
+
+pub flattened_kept : (s : List Cell) (t : Tree) → None ≡ flat_source s t → t ≡ flattened s t
+flattened_kept s (node (leaf l) g m) h = refl
+flattened_kept s (node (branch k ts) g m) h = refl
+flattened_kept s (node (fields fs) g m) h = refl
+flattened_kept s (node (holder c) g m) h = kept_holder (at s c) (end s [] (node (holder c) g m)) (node (holder c) g m) h
+
+copied_holder : (o : Option Tree) (e : End) (t v : Tree) → Some v ≡ option_and_then (λ x. value_ahead e) o → copy v ≡ flattened_holder o e t
+copied_holder None e t v h = cc
+copied_holder (Some x) (held site u) t v h = let same : v ≡ u = cc in ap copy same
+copied_holder (Some x) (stuck u) t v h = let same : v ≡ u = cc in ap copy same
+copied_holder (Some x) closed t v h = cc
+
+pub flattened_copied : (s : List Cell) (t v : Tree) → Some v ≡ flat_source s t → copy v ≡ flattened s t
+flattened_copied s (node (leaf l) g m) v h = cc
+flattened_copied s (node (branch k ts) g m) v h = cc
+flattened_copied s (node (fields fs) g m) v h = cc
+flattened_copied s (node (holder c) g m) v h = copied_holder (at s c) (end s [] (node (holder c) g m)) (node (holder c) g m) v h
 
 written_there : (b : Bool) (t v w : Tree) → unmarked (record { content = t; is_marked = b }) ≡ Some v → unmarked (record { content = w; is_marked = b }) ≡ Some w
 written_there true t v w e = cc

@@ -1,7 +1,7 @@
 -- A value without its holders.
-use Rattle.std.specs.Prelude.{List, [], Option, Some, None, option_and_then, unwrap_or}
+use Rattle.std.specs.Prelude.{List, [], Option, Some, None, unwrap_or}
 use Rattle.rhai_value.specs.declared.store.Cell.{Cell}
-use Rattle.rhai_value.specs.Tree.{Tree, cell_of, copy}
+use Rattle.rhai_value.specs.Tree.{Tree, node, holder, copy}
 use Rattle.rhai_value.specs.Store.{at}
 use Rattle.rhai_value.specs.End.{End, end, held, stuck, closed}
 
@@ -15,16 +15,15 @@ value_ahead closed = None
 abbrev pub flat : List Cell → Tree → Tree
 flat s t = copy (unwrap_or (value_ahead (end s [] t)) t)
 
--- t itself, or the copy of another value
-abbrev pub or_copy : Tree → Option Tree → Tree
-or_copy t None = t
-or_copy t (Some v) = copy v
+-- What a holder is without its holders, told what its cell has, where its chain ends, and itself: itself, modes kept, where the cell
+-- is marked or no cell of the store, and where the chain closes; else the copy of what stands at the end.
+abbrev pub flattened_holder : Option Tree → End → Tree → Tree
+flattened_holder None e t = t
+flattened_holder (Some x) (held site v) t = copy v
+flattened_holder (Some x) (stuck v) t = copy v
+flattened_holder (Some x) closed t = t
 
--- the end's value from a holder, where the holder's own cell opens and the chain doesn't close
-abbrev pub flat_source : List Cell → Tree → Option Tree
-flat_source s t = option_and_then (λ x. value_ahead (end s [] t)) (option_and_then (at s) (cell_of t))
-
--- The value itself, modes kept, where it is no holder, where its own cell is marked or no cell of the store, and where the chain
--- closes; else the copy of what stands at the end.
+-- the same of any value; one that is no holder is itself
 abbrev pub flattened : List Cell → Tree → Tree
-flattened s t = or_copy t (flat_source s t)
+flattened s (node (holder c) g m) = flattened_holder (at s c) (end s [] (node (holder c) g m)) (node (holder c) g m)
+flattened s t = t

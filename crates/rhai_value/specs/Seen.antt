@@ -1,5 +1,10 @@
 -- What the private functions answer.
-use Rattle.rhai_value.specs.End.{End, held, stuck, closed}
+use Rattle.std.specs.Prelude.{List, [], Option, Some, None, option_and_then}
+use Rattle.rhai_value.specs.declared.store.Cell.{Cell}
+use Rattle.rhai_value.specs.End.{End, held, stuck, closed, end}
+use Rattle.rhai_value.specs.Flat.{value_ahead}
+use Rattle.rhai_value.specs.Store.{at}
+use Rattle.rhai_value.specs.Tree.{Tree, cell_of}
 use Rattle.rhai_value.specs.declared.chain.ChainEnd.{ChainEnd}
 use Rattle.rhai_value.specs.declared.chain.ChainEnd.TheVariants.{Held, Stuck, Closed}
 
@@ -7,3 +12,7 @@ abbrev pub end_seen : ChainEnd → End
 end_seen (Held site d) = held site d.now
 end_seen (Stuck d) = stuck d.now
 end_seen Closed = closed
+
+-- what is copied where a value is flattened, if anything is: what stands at the end of a holder whose own cell opens
+abbrev pub flat_source : List Cell → Tree → Option Tree
+flat_source s t = option_and_then (λ x. value_ahead (end s [] t)) (option_and_then (at s) (cell_of t))

@@ -1,7 +1,8 @@
 //! Values without their holders.
 ghost use Rattle.std.specs.Prelude.{◌≡◌, IfOk, IfErr, IsOk, None, [], option_copied};
 ghost use Rattle.rhai_value.specs.End.{end};
-ghost use Rattle.rhai_value.specs.Flat.{flat, flat_source, flattened, value_ahead};
+ghost use Rattle.rhai_value.specs.Flat.{flat, flattened, value_ahead};
+ghost use Rattle.rhai_value.specs.Seen.{flat_source};
 ghost use Rattle.rhai_value.specs.Tree.{TakesNoMemory, cell_of};
 
 use crate::chain::ChainEnd;
@@ -24,6 +25,7 @@ impl Dynamic {
 
     /// The value itself, modes kept, if it is no holder, if its own cell is marked or no cell of the store, and if the chain closes;
     /// else the answer of `flatten_clone`. Where memory is refused the value comes back. (`Dynamic::flatten`)
+    #[tactic(auto, using(crate::proofs::SameFlat::flattened_kept, crate::proofs::SameFlat::flattened_copied))]
     pub fn flatten(self, alloc: Global, s: &Store) -> Result<Dynamic, Dynamic>
         ensures ok { IfOk result (λ d. d ≡ flattened s.now self) }
         ensures err { IfErr result (λ back. back ≡ self) }

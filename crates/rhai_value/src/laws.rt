@@ -19,6 +19,7 @@ ghost use Rattle.rhai_value.specs.Relation.{Renaming, paired, Related, RelatedCo
 
 /// Where a chain ends, by its parts: a value that is no holder is held, a holder is stuck, closes, or leads on to its cell's content.
 /// No length of the store is in it.
+#[tactic(auto, using(crate::proofs::Ends::end_opens))]
 pub fn end_opens()
     ensures { (s : List Cell) (path : List ℕ) (t : Tree)
         → end s path t ≡ end_of path (λ c. visit_map (end s (c ∷ path)) (visit s path c)) t }
@@ -26,6 +27,7 @@ pub fn end_opens()
 
 /// Where a chain ends, case by case: a value that is no holder is held; a holder of a marked or foreign cell is stuck; the chain
 /// closes at a cell that was passed, and else goes on with what its cell has.
+#[tactic(auto, using(crate::proofs::Ends::end_own, crate::proofs::Ends::end_stuck, crate::proofs::Ends::end_closes, crate::proofs::Ends::end_goes_on))]
 pub fn end_by_cases()
     ensures unshared { (s : List Cell) (path : List ℕ) (t : Tree) → cell_of t ≡ None → end s path t ≡ held (site_after (slice_get path 0)) t }
     ensures barred { (s : List Cell) (path : List ℕ) (t : Tree) (c : ℕ) → cell_of t ≡ Some c → at s c ≡ None → end s path t ≡ stuck t }
@@ -34,28 +36,33 @@ pub fn end_by_cases()
 {}
 
 /// Chains from related values, in stores that are the same up to the numbers of their cells, end alike.
+#[tactic(auto, using(crate::proofs::SameWalks::same_end))]
 pub fn end_is_renamed()
     ensures { (r : Renaming) (s z : List Cell) (t u : Tree)
         → IsOneToOne r → RelatedCells r s z → Related r t u → RelatedEnds r (end s [] t) (end z [] u) }
 {}
 
 /// A copy has the contents and the tags of the value, and its holders name the same cells; every mode is ReadWrite.
+#[tactic(auto, using(crate::proofs::Copied::same_but_modes, crate::proofs::Copied::all_writable))]
 pub fn copies_keep_all_but_modes()
     ensures kept { (t : Tree) → SameButModes (copy t) t }
     ensures writable { (t : Tree) → IsWritable (copy t) }
 {}
 
 /// Copies of related values are related.
+#[tactic(auto, using(crate::proofs::SameTrees::same_copy))]
 pub fn copy_is_renamed()
     ensures { (r : Renaming) (t u : Tree) → Related r t u → Related r (copy t) (copy u) }
 {}
 
 /// Related values that are painted with one mode are related.
+#[tactic(auto, using(crate::proofs::SameTrees::same_paint))]
 pub fn paint_is_renamed()
     ensures { (r : Renaming) (m : AccessMode) (t u : Tree) → Related r t u → Related r (paint m t) (paint m u) }
 {}
 
 /// Stores stay the same where related values are put into paired cells.
+#[tactic(auto, using(crate::proofs::RelatedCells::same_put))]
 pub fn put_is_renamed()
     ensures { (r : Renaming) (s z : List Cell) (a b : ℕ) (t u : Tree)
         → IsOneToOne r → RelatedCells r s z → paired r a b ≡ true → Related r t u
@@ -63,6 +70,7 @@ pub fn put_is_renamed()
 {}
 
 /// Stores with one more cell each, of related contents, are the same up to the renaming with the pair of the two.
+#[tactic(auto, using(crate::proofs::Grow::one_more, crate::proofs::Grow::same_added))]
 pub fn added_is_renamed()
     ensures one { (r : Renaming) (s z : List Cell)
         → IsOneToOne r → RelatedCells r s z → IsOneToOne (r ++ (length s, length z) ∷ []) }
@@ -71,12 +79,14 @@ pub fn added_is_renamed()
 {}
 
 /// Related values stay related where more pairs join the renaming.
+#[tactic(auto, using(crate::proofs::Grow::related_more))]
 pub fn more_pairs_relate()
     ensures { (r q : Renaming) (t u : Tree) → Related r t u → Related (r ++ q) t u }
 {}
 
 /// What moves related values into cells leaves related values and the same stores, up to the renaming with the pair of the new
 /// cells, if there are any.
+#[tactic(auto, using(crate::proofs::Grow::one_more_shared, crate::proofs::Grow::same_shared_value, crate::proofs::Grow::same_shared_store))]
 pub fn sharing_is_renamed()
     ensures one { (r : Renaming) (s z : List Cell) (t : Tree) → IsOneToOne r → RelatedCells r s z → IsOneToOne (r ++ shared_pairs s z t) }
     ensures value { (r : Renaming) (s z : List Cell) (t u : Tree) → Related r t u
@@ -86,6 +96,7 @@ pub fn sharing_is_renamed()
 {}
 
 /// Related values have the same tag and mode, and stay related with another tag, and with related contents.
+#[tactic(auto, using(crate::proofs::SameTrees::same_tag, crate::proofs::SameTrees::same_mode, crate::proofs::SameTrees::same_with_tag, crate::proofs::SameTrees::same_with_content, crate::proofs::SameTrees::same_with_int))]
 pub fn parts_are_renamed()
     ensures tag { (r : Renaming) (t u : Tree) → Related r t u → tag_of t ≡ tag_of u }
     ensures mode { (r : Renaming) (t u : Tree) → Related r t u → mode_of t ≡ mode_of u }
@@ -96,6 +107,7 @@ pub fn parts_are_renamed()
 
 /// Ends that are alike have the same type, the same unit, boolean, int, character, text, bytes and value of the host's, and related
 /// items, fields and curried values.
+#[tactic(auto, using(crate::proofs::RelatedCells::same_end_type, crate::proofs::RelatedCells::same_held_leaf, crate::proofs::RelatedCells::same_held_part))]
 pub fn held_parts_are_renamed()
     ensures held_type { (r : Renaming) (e f : End) → RelatedEnds r e f → end_type e ≡ end_type f }
     ensures unit { (r : Renaming) (e f : End) → RelatedEnds r e f → held_part unit_of e ≡ held_part unit_of f }
@@ -112,6 +124,7 @@ pub fn held_parts_are_renamed()
 
 /// What writes where chains end alike leave stays the same up to the renaming, the values and the stores, whatever takes related
 /// values to related ones.
+#[tactic(auto, using(crate::proofs::RelatedCells::same_value_after, crate::proofs::RelatedCells::same_store_after))]
 pub fn writes_are_renamed()
     ensures value { (r : Renaming) (f g : Tree → Tree) (t u : Tree) (e o : End) → Respect r f g → Related r t u → RelatedEnds r e o
         → Related r (value_after f e t) (value_after g o u) }
@@ -120,6 +133,7 @@ pub fn writes_are_renamed()
 {}
 
 /// The same of writes over first contents.
+#[tactic(auto, using(crate::proofs::SameFlat::same_value_with_first, crate::proofs::SameFlat::same_store_with_first))]
 pub fn first_writes_are_renamed()
     ensures value { (r : Renaming) (v w t u : Tree) → Related r v w → Related r t u → Related r (value_with_first v t) (value_with_first w u) }
     ensures store { (r : Renaming) (s z : List Cell) (v w t u : Tree) → IsOneToOne r → RelatedCells r s z → Related r v w → Related r t u
@@ -127,6 +141,7 @@ pub fn first_writes_are_renamed()
 {}
 
 /// The cells in which first contents and held values of related values stand are paired, or there are none.
+#[tactic(auto, using(crate::proofs::SameFlat::same_first_cell, crate::proofs::SameFlat::same_held_cell))]
 pub fn sites_are_renamed()
     ensures first { (r : Renaming) (s z : List Cell) (t u : Tree) → RelatedCells r s z → Related r t u
         → Alike (λ c d. paired r c d ≡ true) (first_cell s t) (first_cell z u) }
@@ -134,23 +149,27 @@ pub fn sites_are_renamed()
 {}
 
 /// First contents of related values are related, or neither has one.
+#[tactic(auto, using(crate::proofs::SameFlat::same_first))]
 pub fn first_is_renamed()
     ensures { (r : Renaming) (s z : List Cell) (t u : Tree)
         → RelatedCells r s z → Related r t u → Alike (Related r) (first s t) (first z u) }
 {}
 
 /// Related values are locked alike.
+#[tactic(auto, using(crate::proofs::SameFlat::same_locked))]
 pub fn is_locked_is_renamed()
     ensures { (r : Renaming) (s z : List Cell) (t u : Tree) → RelatedCells r s z → Related r t u → is_locked s t ≡ is_locked z u }
 {}
 
 /// Stores stay the same where the marks of paired cells are set, and where they are cleared.
+#[tactic(auto, using(crate::proofs::RelatedCells::same_set_mark))]
 pub fn set_mark_is_renamed()
     ensures { (r : Renaming) (s z : List Cell) (a b : ℕ) (m : Bool)
         → IsOneToOne r → RelatedCells r s z → paired r a b ≡ true → RelatedCells r (set_mark s a m) (set_mark z b m) }
 {}
 
 /// What related values are without their holders is related.
+#[tactic(auto, using(crate::proofs::SameFlat::same_flat, crate::proofs::SameFlat::same_flattened))]
 pub fn flat_is_renamed()
     ensures flat { (r : Renaming) (s z : List Cell) (t u : Tree)
         → IsOneToOne r → RelatedCells r s z → Related r t u → Related r (flat s t) (flat z u) }
@@ -159,6 +178,7 @@ pub fn flat_is_renamed()
 {}
 
 /// What is written over the first content of a holder is the first content of every holder of that cell, and no other cell changes.
+#[tactic(auto, using(crate::proofs::SameFlat::seen_by_all, crate::proofs::SameFlat::others_stay))]
 pub fn write_is_seen_by_all_holders()
     ensures seen { (s : List Cell) (t u v w : Tree) → first s t ≡ Some v → is_some (cell_of t) ≡ true → cell_of u ≡ cell_of t
         → first (store_with_first w s t) u ≡ Some w }
@@ -167,23 +187,27 @@ pub fn write_is_seen_by_all_holders()
 {}
 
 /// A mark that is set on a cell and cleared leaves the store as it was, or with what was written while it was marked.
+#[tactic(auto, using(crate::proofs::MarkedCells::cleared, crate::proofs::MarkedCells::written_and_cleared))]
 pub fn mark_is_cleared()
     ensures alone { (s : List Cell) (c : ℕ) → is_some (at s c) ≡ true → set_mark (set_mark s c true) c false ≡ s }
     ensures written { (s : List Cell) (c : ℕ) (w : Tree) → is_some (at s c) ≡ true → set_mark (put (set_mark s c true) c w) c false ≡ put s c w }
 {}
 
 /// The cell in which a first content or a held value stands can be read.
+#[tactic(auto, using(crate::proofs::MarkedCells::first_read, crate::proofs::MarkedCells::held_read))]
 pub fn sites_are_read()
     ensures first { (s : List Cell) (t : Tree) (c : ℕ) → first_cell s t ≡ Some c → is_some (at s c) ≡ true }
     ensures held { (s : List Cell) (t : Tree) (c : ℕ) → held_cell (end s [] t) ≡ Some c → is_some (at s c) ≡ true }
 {}
 
 /// No holder of a marked cell has a first content.
+#[tactic(auto, using(crate::proofs::MarkedCells::closed_by_mark))]
 pub fn mark_closes_the_cell()
     ensures { (s : List Cell) (t : Tree) (c : ℕ) → cell_of t ≡ Some c → first (set_mark s c true) t ≡ None }
 {}
 
 /// Marks stay where a value is written or moved into a cell, and where the mark of another cell is set or cleared.
+#[tactic(auto, using(crate::proofs::RelatedCells::marked_put, crate::proofs::RelatedCells::marked_store_after, crate::proofs::MarkedCells::marked_with_first, crate::proofs::MarkedCells::marked_shared, crate::proofs::MarkedCells::others_marked))]
 pub fn marks_stay()
     ensures written { (s : List Cell) (c d : ℕ) (t : Tree) → is_marked_at (put s c t) d ≡ is_marked_at s d }
     ensures at_end { (s : List Cell) (f : Tree → Tree) (e : End) (d : ℕ) → is_marked_at (store_after f e s) d ≡ is_marked_at s d }

@@ -4,9 +4,8 @@ use Rattle.std.proofs.lemmas.Option.{same_Some}
 use Rattle.rhai_value.specs.declared.store.Cell.{Cell}
 use Rattle.rhai_value.specs.Tree.{Tree, is_constant}
 use Rattle.rhai_value.specs.Parts.{leaf_unit, leaf_bool, leaf_int, leaf_char, unit_of, bool_of, int_of, char_of}
-use Rattle.rhai_value.specs.End.{End, end, held_part}
-use Rattle.rhai_value.specs.First.{constant_in}
-use Rattle.rhai_value.specs.Types.{type_name, end_type, is_type}
+use Rattle.rhai_value.specs.End.{End, end, held_part, constant_in, end_type}
+use Rattle.rhai_value.specs.Types.{type_name, is_type}
 use Rattle.rhai_value.specs.Relation.{Renaming, Related, Alike, IsOneToOne, RelatedCells}
 use Rattle.rhai_value.proofs.ForCallers.{same_tag, same_mode, same_host, same_shared, same_held_leaf, same_end_type, same_first, same_locked, same_end}
 use Rattle.rhai_show.specs.declared.form.Form.{Form}

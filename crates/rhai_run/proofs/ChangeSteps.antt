@@ -3,11 +3,9 @@ use Rattle.std.proofs.Common.{◌≡◌, ℕ, ℤ, pos, Bool, true, false, cond,
 use Rattle.rhai_value.specs.declared.access_mode.AccessMode.TheVariants.{ReadOnly}
 use Rattle.rhai_value.specs.Tree.{Tree, node, leaf, branch, fields, holder, mode_of}
 use Rattle.rhai_value.specs.Parts.{leaf_int, int_of, with_int}
-use Rattle.rhai_value.specs.Store.{added}
-use Rattle.rhai_value.specs.End.{End, end, held_part}
-use Rattle.rhai_value.specs.First.{first}
+use Rattle.rhai_value.specs.Store.{added, shared_value, shared_store}
+use Rattle.rhai_value.specs.End.{End, end, held_part, first}
 use Rattle.rhai_value.specs.Types.{type_name}
-use Rattle.rhai_value.specs.Share.{shared_value, shared_store}
 use Rattle.rhai_value.specs.Relation.{Renaming, Related, RelatedEnds}
 use Rattle.rhai_value.proofs.ForCallers.{zip_set, zip_weaker, one_pair, paired_more, related_more, one_more, same_added, new_last, Paired, same_end, by_trees, same_paint, same_with_tag, same_mode, same_with_int, same_held_leaf, same_end_type, same_value_after, same_store_after, length_store_after, marked_added, marked_store_after, marked_with_first, same_first, same_flattened, same_value_with_first, same_store_with_first, length_with_first}
 use Rattle.rhai_run.specs.State.{State, with_cells}

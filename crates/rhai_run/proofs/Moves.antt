@@ -4,8 +4,8 @@ use Rattle.std.proofs.lemmas.List.{set-set}
 use Rattle.std.proofs.lemmas.Option.{same_Some, slice_get_within}
 use Rattle.rhai_value.specs.declared.store.Cell.{Cell}
 use Rattle.rhai_value.specs.Tree.{Tree, node, leaf, branch, fields, holder, cell_of}
-use Rattle.rhai_value.specs.Flat.{flattened}
-use Rattle.rhai_value.specs.Share.{shared_value, shared_store}
+use Rattle.rhai_value.specs.End.{flattened}
+use Rattle.rhai_value.specs.Store.{shared_value, shared_store}
 use Rattle.rhai_run.specs.State.{State, with_hand, with_cells}
 use Rattle.rhai_run.specs.Reply.{Reply, done}
 use Rattle.rhai_run.specs.Cost.{keeps_all, is_refused, share_cost}

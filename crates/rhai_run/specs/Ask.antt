@@ -3,10 +3,9 @@ use Rattle.std.specs.Prelude.{ℕ, List, [], ◌∷◌, Option, Some, None, is_s
 use Rattle.rhai_value.specs.declared.store.Cell.{Cell}
 use Rattle.rhai_value.specs.Tree.{Tree, tag_of, cell_of, is_host}
 use Rattle.rhai_value.specs.Parts.{unit_of, int_of, bool_of, char_of}
-use Rattle.rhai_value.specs.End.{End, end, held_part}
-use Rattle.rhai_value.specs.First.{first, constant_in}
+use Rattle.rhai_value.specs.End.{End, end, held_part, first, constant_in, end_type, end_name}
 use Rattle.rhai_value.specs.Locked.{is_locked}
-use Rattle.rhai_value.specs.Types.{end_type, end_name, is_type}
+use Rattle.rhai_value.specs.Types.{is_type}
 use Rattle.rhai_show.specs.declared.form.Form.{Form}
 use Rattle.rhai_show.specs.Text.{printed}
 use Rattle.rhai_run.specs.declared.command.Question.{Question}

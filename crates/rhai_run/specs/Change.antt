@@ -3,11 +3,8 @@ use Rattle.std.specs.Prelude.{[], ℕ, ℤ, if◌then◌else◌, slice_set, is_s
 use Rattle.rhai_value.specs.declared.access_mode.AccessMode.TheVariants.{ReadOnly}
 use Rattle.rhai_value.specs.Tree.{Tree, paint, with_tag}
 use Rattle.rhai_value.specs.Parts.{int_of, with_int}
-use Rattle.rhai_value.specs.End.{End, end, held_part, value_after, store_after}
-use Rattle.rhai_value.specs.First.{first, value_with_first, store_with_first}
-use Rattle.rhai_value.specs.Flat.{flattened}
-use Rattle.rhai_value.specs.Types.{end_name}
-use Rattle.rhai_value.specs.Share.{shared_value, shared_store}
+use Rattle.rhai_value.specs.End.{End, end, held_part, value_after, store_after, first, value_with_first, store_with_first, flattened, end_name}
+use Rattle.rhai_value.specs.Store.{shared_value, shared_store}
 use Rattle.rhai_text.specs.declared.position.Position.{Position}
 use Rattle.rhai_run.specs.State.{State, with_cells, moved_from}
 use Rattle.rhai_run.specs.Reply.{done, mismatch, fault, data_race}

@@ -1,7 +1,7 @@
 -- Steps that put values into the hand, and move them there.
 use Rattle.std.specs.Prelude.{ℕ, List, [], ◌∷◌, ◌++◌, length, nat_eq}
 use Rattle.rhai_value.specs.Tree.{copy}
-use Rattle.rhai_value.specs.Flat.{flat}
+use Rattle.rhai_value.specs.End.{flat}
 use Rattle.rhai_run.specs.declared.command.Literal.{Literal}
 use Rattle.rhai_run.specs.Made.{literal_tree, array_tree, map_tree, function_tree}
 use Rattle.rhai_run.specs.State.{State, with_hand, appended, moved_from, without_last}

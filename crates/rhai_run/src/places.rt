@@ -1,6 +1,6 @@
 //! Hand positions, and writes to places of vectors.
 ghost use Rattle.std.specs.Prelude.{◌≡◌, ◌<◌, ◌++◌, ◌∷◌, [], ◌+◌, ◌≤◌, length, slice_get, slice_set, vec_len, vec_capacity, is_some, Some, true, false, nat_eq, IfOk, IfErr, OnOk, OnErr, IsOk, IsErr};
-ghost use Rattle.rhai_value.specs.First.{first, value_with_first, store_with_first};
+ghost use Rattle.rhai_value.specs.End.{first, value_with_first, store_with_first};
 ghost use Rattle.rhai_run.specs.declared.answer.Refusal.TheVariants.{SameValue};
 ghost use Rattle.rhai_run.specs.declared.not_done.NotDone.TheVariants.{Refused};
 ghost use Rattle.rhai_run.specs.State.{last_values, values_before};

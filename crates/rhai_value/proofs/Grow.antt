@@ -5,8 +5,7 @@ use Rattle.std.proofs.lemmas.Option.{slice_get_within}
 use Rattle.std.proofs.lemmas.Bool.Decides.{nat_tests}
 use Rattle.rhai_value.specs.declared.store.Cell.{Cell}
 use Rattle.rhai_value.specs.Tree.{Tree, node, leaf, branch, fields, holder}
-use Rattle.rhai_value.specs.Store.{added}
-use Rattle.rhai_value.specs.Share.{shared_value, shared_store}
+use Rattle.rhai_value.specs.Store.{added, shared_value, shared_store}
 use Rattle.rhai_value.specs.Relation.{Renaming, paired, Related, AllRelated, RelatedFields, RelatedCells, IsOneToOne, new_pairs, shared_pairs}
 use Rattle.rhai_value.proofs.SameTrees.{by_related, by_trees}
 use Rattle.rhai_value.proofs.Zips.{get_append, get_last}

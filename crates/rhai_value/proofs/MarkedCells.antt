@@ -4,11 +4,8 @@ use Rattle.rhai_value.specs.declared.chain.Site.{Site}
 use Rattle.rhai_value.specs.declared.chain.Site.TheVariants.{Own, InCell}
 use Rattle.rhai_value.specs.declared.store.Cell.{Cell}
 use Rattle.rhai_value.specs.Tree.{Tree, node, leaf, branch, fields, holder, cell_of}
-use Rattle.rhai_value.specs.Store.{at, unmarked, put, mark_of, is_marked_at}
-use Rattle.rhai_value.specs.End.{End, held, stuck, closed, end, site_of}
-use Rattle.rhai_value.specs.Marks.{set_mark, site_cell, first_cell, held_cell, IsWithin}
-use Rattle.rhai_value.specs.Share.{shared_store}
-use Rattle.rhai_value.specs.First.{first, first_site, store_with_first}
+use Rattle.rhai_value.specs.Store.{at, unmarked, put, mark_of, is_marked_at, set_mark, shared_store}
+use Rattle.rhai_value.specs.End.{End, held, stuck, closed, end, site_of, site_cell, first_cell, held_cell, IsWithin, first, first_site, store_with_first}
 use Rattle.rhai_value.proofs.Ends.{stands}
 use Rattle.rhai_value.proofs.InStores.{cell_within}
 use Rattle.rhai_value.proofs.Stores.{changed_index}

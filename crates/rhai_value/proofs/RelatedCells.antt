@@ -7,10 +7,8 @@ use Rattle.rhai_value.specs.declared.chain.Site.TheVariants.{Own, InCell}
 use Rattle.rhai_value.specs.declared.store.Cell.{Cell}
 use Rattle.rhai_value.specs.Tree.{Tree, Leaf}
 use Rattle.rhai_value.specs.Parts.{leaf_part}
-use Rattle.rhai_value.specs.Store.{put, changed_at, is_marked_at, added}
-use Rattle.rhai_value.specs.End.{End, held, stuck, closed, held_part, value_after, store_after}
-use Rattle.rhai_value.specs.Marks.{set_mark}
-use Rattle.rhai_value.specs.Types.{end_type}
+use Rattle.rhai_value.specs.Store.{put, changed_at, is_marked_at, added, set_mark}
+use Rattle.rhai_value.specs.End.{End, held, stuck, closed, held_part, value_after, store_after, end_type}
 use Rattle.rhai_value.specs.Relation.{Renaming, paired, Related, Respect, Alike, IsOneToOne, RelatedCell, RelatedCells, RelatedEnds}
 use Rattle.rhai_value.proofs.SameTrees.{same_part, same_type}
 

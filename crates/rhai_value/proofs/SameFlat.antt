@@ -3,12 +3,9 @@ use Rattle.std.proofs.Common.{◌≡◌, ℕ, zero, suc, Bool, true, false, List
 use Rattle.rhai_value.specs.declared.store.Cell.{Cell}
 use Rattle.rhai_value.specs.Tree.{Tree, node, leaf, branch, fields, holder, cell_of, copy}
 use Rattle.rhai_value.specs.Store.{at, put, unmarked}
-use Rattle.rhai_value.specs.End.{End, held, stuck, closed, end}
-use Rattle.rhai_value.specs.First.{first, value_with_first, store_with_first}
-use Rattle.rhai_value.specs.Flat.{flat, flattened, flattened_holder, value_ahead}
+use Rattle.rhai_value.specs.End.{End, held, stuck, closed, end, first, value_with_first, store_with_first, flat, flattened, flattened_holder, value_ahead, first_cell, held_cell, site_cell}
 use Rattle.rhai_value.specs.Seen.{flat_source}
 use Rattle.rhai_value.specs.declared.chain.Site.TheVariants.{InCell}
-use Rattle.rhai_value.specs.Marks.{first_cell, held_cell, site_cell}
 use Rattle.rhai_value.specs.Locked.{is_locked, is_one_locked, is_field_locked}
 use Rattle.rhai_value.specs.Relation.{Renaming, paired, Related, Alike, IsOneToOne, RelatedCells, RelatedEnds}
 use Rattle.rhai_value.proofs.RelatedCells.{by_ends, get_unchanged, same_put, length_changed}

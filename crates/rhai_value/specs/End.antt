@@ -1,11 +1,19 @@
--- Where a chain of holders ends.
-use Rattle.std.specs.Prelude.{ℕ, List, Option, Some, None, option_and_then, slice_get}
+-- Where a chain of holders ends, and the first content of a value; what is held there, what a write there leaves, what a value is
+-- without its holders, and what is moved out of it.
+use Rattle.std.specs.Prelude.{ℕ, List, Option, Some, None, option_and_then, slice_get, Bool, false, option_map, ◌<◌, true, length, [], unwrap_or, ◌≡◌, is_some}
 use Rattle.rhai_value.specs.declared.chain.Site.{Site}
 use Rattle.rhai_value.specs.declared.chain.Site.TheVariants.{Own, InCell}
 use Rattle.rhai_value.specs.declared.store.Cell.{Cell}
-use Rattle.rhai_value.specs.Tree.{Tree, node, holder}
-use Rattle.rhai_value.specs.Store.{put}
+use Rattle.rhai_value.specs.Tree.{Tree, node, holder, mode_of, is_constant, copy, Trees, copy_trees}
+use Rattle.rhai_value.specs.Store.{put, at}
+use Rattle.rhai_value.specs.Types.{tree_type, type_name}
 use Rattle.rhai_value.specs.Walk.{Visit, entered, barred, revisited, walk}
+use Rattle.std.specs.Option.{option_or}
+use Rattle.rhai_value.specs.declared.into.IntoError.{IntoError}
+use Rattle.rhai_value.specs.declared.into.IntoError.TheVariants.{Mismatch, Memory}
+use Rattle.rhai_value.specs.Parts.{array_of}
+use Rattle.rhai_value.specs.declared.type_id.TypeId.{TypeId}
+use Rattle.rhai_value.specs.declared.type_id.TypeId.TheVariants as id
 
 -- A value that is no holder is held: it is the first of the chain itself, or stands in the cell that was passed last. A holder is
 -- stuck where its cell is marked or no cell of the store. The chain closes where a cell comes a second time.
@@ -66,3 +74,92 @@ store_after f (held Own v) s = s
 store_after f (held (InCell c) v) s = put s c (f v)
 store_after f (stuck v) s = s
 store_after f closed s = s
+
+-- the type of what may be there: of nothing it is that of what can't be looked into
+abbrev pub type_of : Option Tree → TypeId
+type_of None = id.Shared
+type_of (Some t) = tree_type t
+
+-- the type that is held
+abbrev pub end_type : End → TypeId
+end_type e = type_of (held_in e)
+
+-- the name of the type that is held
+abbrev pub end_name : End → List ℕ
+end_name e = type_name (end_type e)
+
+-- the value itself if it is no holder; of a holder what its cell has, where that is an unmarked cell of the store
+abbrev pub first : List Cell → Tree → Option Tree
+first s (node (holder c) g m) = at s c
+first s t = Some t
+
+-- where it stands, if there is one
+abbrev pub first_site : List Cell → Tree → Option Site
+first_site s (node (holder c) g m) = option_map (λ x. InCell c) (at s c)
+first_site s t = Some Own
+
+-- a value, and a store, once w was written over the first content
+abbrev pub value_with_first : Tree → Tree → Tree
+value_with_first w (node (holder c) g m) = node (holder c) g m
+value_with_first w t = w
+
+abbrev pub store_with_first : Tree → List Cell → Tree → List Cell
+store_with_first w s (node (holder c) g m) = put s c w
+store_with_first w s t = s
+
+-- whether the first content is a constant
+abbrev pub constant_in : Option Tree → Bool
+constant_in None = false
+constant_in (Some t) = is_constant (mode_of t)
+
+-- the cell in which something stands, if it stands in one
+abbrev pub site_cell : Option Site → Option ℕ
+site_cell None = None
+site_cell (Some Own) = None
+site_cell (Some (InCell c)) = Some c
+
+-- the cell in which the first content of a value stands: that of a holder, where it is an unmarked cell of the store
+abbrev pub first_cell : List Cell → Tree → Option ℕ
+first_cell s t = site_cell (first_site s t)
+
+-- the cell in which a held value stands
+abbrev pub held_cell : End → Option ℕ
+held_cell e = site_cell (site_of e)
+
+-- where something stands in a cell, it is one of the store's
+abbrev pub IsWithin : List Cell → Option Site → Type 0
+IsWithin s None = Unit {0}
+IsWithin s (Some Own) = Unit {0}
+IsWithin s (Some (InCell c)) = c < length s
+
+-- the value at an end that isn't closed
+abbrev pub value_ahead : End → Option Tree
+value_ahead (held site v) = Some v
+value_ahead (stuck v) = Some v
+value_ahead closed = None
+
+-- the copy of what is held, of the holder at which the chain is stuck, or of the value itself where it closes
+abbrev pub flat : List Cell → Tree → Tree
+flat s t = copy (unwrap_or (value_ahead (end s [] t)) t)
+
+-- What a holder is without its holders, told what its cell has, where its chain ends, and itself: itself, modes kept, where the cell
+-- is marked or no cell of the store, and where the chain closes; else the copy of what stands at the end.
+abbrev pub flattened_holder : Option Tree → End → Tree → Tree
+flattened_holder None e t = t
+flattened_holder (Some x) (held site v) t = copy v
+flattened_holder (Some x) (stuck v) t = copy v
+flattened_holder (Some x) closed t = t
+
+-- the same of any value; one that is no holder is itself
+abbrev pub flattened : List Cell → Tree → Tree
+flattened s (node (holder c) g m) = flattened_holder (at s c) (end s [] (node (holder c) g m)) (node (holder c) g m)
+flattened s t = t
+
+-- the items of an array as they are, or else copies of the items that are held
+abbrev pub array_moved : List Cell → Tree → Option Trees
+array_moved s t = option_or (array_of t) (option_map copy_trees (held_part array_of (end s [] t)))
+
+-- why a part isn't moved out: it isn't held, and the name is that of the held type; or it is held, and memory was refused
+abbrev pub IsWhyNot : {A : Type 0} → IntoError → (Tree → Option A) → End → Type 0
+IsWhyNot (Mismatch name) part e = (held_part part e ≡ None) × (name.now ≡ end_name e)
+IsWhyNot (Memory refused) part e = is_some (held_part part e) ≡ true

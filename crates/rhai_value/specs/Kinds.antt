@@ -8,7 +8,7 @@ use Rattle.rhai_value.specs.declared.host.Host.TheVariants as host_kind
 use Rattle.rhai_value.specs.declared.type_id.TypeId.{TypeId}
 use Rattle.rhai_value.specs.declared.type_id.TypeId.TheVariants as id
 use Rattle.rhai_value.specs.Tree.{Tree, node, fresh, Trees, Content, Leaf, leaf, branch, holder, unit, bool, int, char, text, blob, host, array, fields, function}
-use Rattle.rhai_value.specs.Types.{tree_type, host_type, is_type, is_host_type, is_content_type, content_at, host_at}
+use Rattle.rhai_value.specs.Types.{tree_type, host_type, is_type, is_host_type, is_content_type, host_at, typed_content}
 use Rattle.rhai_value.specs.Parts.{unit_of, bool_of, int_of, char_of, text_of, blob_of, array_of, map_of, function_of, typed_host_of}
 
 -- types that compare as equal are equal
@@ -40,7 +40,7 @@ some_if : (b : Bool) (h : Host) → option_map (λ x. leaf (host x)) (if b then 
 some_if true h = refl
 some_if false h = refl
 
-pub host_reads : (k : TypeId) → is_host_type k ≡ true → (t : Tree) → option_map (λ h. leaf (host h)) (typed_host_of k t) ≡ content_at k t
+pub host_reads : (k : TypeId) → is_host_type k ≡ true → (t : Tree) → option_map (λ h. leaf (host h)) (typed_host_of k t) ≡ typed_content k t
 host_reads k e (node (leaf (host h)) g m) = some_if (is_type k (host_type h)) h
 host_reads k e (node (leaf unit) g m) = none_at k id.Unit (leaf unit) e refl
 host_reads k e (node (leaf (bool b)) g m) = none_at k id.Bool (leaf (bool b)) e refl
@@ -53,47 +53,47 @@ host_reads k e (node (fields fs) g m) = none_at k id.Map (fields fs) e refl
 host_reads k e (node (branch (function f) ts) g m) = none_at k id.FnPtr (branch (function f) ts) e refl
 host_reads k e (node (holder c) g m) = none_at k id.Shared (holder c) e refl
 
-pub unit_reads : (t : Tree) → option_map (λ x. leaf unit) (unit_of t) ≡ content_at id.Unit t
+pub unit_reads : (t : Tree) → option_map (λ x. leaf unit) (unit_of t) ≡ typed_content id.Unit t
 unit_reads (node (leaf (host (host_kind.U8 n))) g m) = refl
 unit_reads (node (branch array ts) g m) = refl
 unit_reads _ = refl
 
-pub bool_reads : (t : Tree) → option_map (λ x. leaf (bool x)) (bool_of t) ≡ content_at id.Bool t
+pub bool_reads : (t : Tree) → option_map (λ x. leaf (bool x)) (bool_of t) ≡ typed_content id.Bool t
 bool_reads (node (leaf (host (host_kind.U8 n))) g m) = refl
 bool_reads (node (branch array ts) g m) = refl
 bool_reads _ = refl
 
-pub int_reads : (t : Tree) → option_map (λ x. leaf (int x)) (int_of t) ≡ content_at id.Int t
+pub int_reads : (t : Tree) → option_map (λ x. leaf (int x)) (int_of t) ≡ typed_content id.Int t
 int_reads (node (leaf (host (host_kind.U8 n))) g m) = refl
 int_reads (node (branch array ts) g m) = refl
 int_reads _ = refl
 
-pub char_reads : (t : Tree) → option_map (λ x. leaf (char x)) (char_of t) ≡ content_at id.Char t
+pub char_reads : (t : Tree) → option_map (λ x. leaf (char x)) (char_of t) ≡ typed_content id.Char t
 char_reads (node (leaf (host (host_kind.U8 n))) g m) = refl
 char_reads (node (branch array ts) g m) = refl
 char_reads _ = refl
 
-pub text_reads : (t : Tree) → option_map (λ x. leaf (text x)) (text_of t) ≡ content_at id.ImmutableString t
+pub text_reads : (t : Tree) → option_map (λ x. leaf (text x)) (text_of t) ≡ typed_content id.ImmutableString t
 text_reads (node (leaf (host (host_kind.U8 n))) g m) = refl
 text_reads (node (branch array ts) g m) = refl
 text_reads _ = refl
 
-pub blob_reads : (t : Tree) → option_map (λ x. leaf (blob x)) (blob_of t) ≡ content_at id.Blob t
+pub blob_reads : (t : Tree) → option_map (λ x. leaf (blob x)) (blob_of t) ≡ typed_content id.Blob t
 blob_reads (node (leaf (host (host_kind.U8 n))) g m) = refl
 blob_reads (node (branch array ts) g m) = refl
 blob_reads _ = refl
 
-pub array_reads : (t : Tree) → option_map (λ x. branch array x) (array_of t) ≡ content_at id.Array t
+pub array_reads : (t : Tree) → option_map (λ x. branch array x) (array_of t) ≡ typed_content id.Array t
 array_reads (node (leaf (host (host_kind.U8 n))) g m) = refl
 array_reads (node (branch array ts) g m) = refl
 array_reads _ = refl
 
-pub map_reads : (t : Tree) → option_map (λ x. fields x) (map_of t) ≡ content_at id.Map t
+pub map_reads : (t : Tree) → option_map (λ x. fields x) (map_of t) ≡ typed_content id.Map t
 map_reads (node (leaf (host (host_kind.U8 n))) g m) = refl
 map_reads (node (branch array ts) g m) = refl
 map_reads _ = refl
 
-pub function_reads : (t : Tree) → option_map (λ x. branch (function x.0) x.1) (function_of t) ≡ content_at id.FnPtr t
+pub function_reads : (t : Tree) → option_map (λ x. branch (function x.0) x.1) (function_of t) ≡ typed_content id.FnPtr t
 function_reads (node (leaf (host (host_kind.U8 n))) g m) = refl
 function_reads (node (branch array ts) g m) = refl
 function_reads _ = refl

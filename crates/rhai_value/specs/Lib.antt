@@ -11,13 +11,8 @@ pub mod Walk
 pub mod End
 pub mod Types
 pub mod Kinds
-pub mod Into
 pub mod Opened
 pub mod Seen
-pub mod Share
 pub mod Relation
 pub mod Writes
-pub mod First
-pub mod Marks
 pub mod Locked
-pub mod Flat

@@ -1,8 +1,7 @@
 -- What the private functions answer.
 use Rattle.std.specs.Prelude.{List, [], Option, Some, None, option_and_then}
 use Rattle.rhai_value.specs.declared.store.Cell.{Cell}
-use Rattle.rhai_value.specs.End.{End, held, stuck, closed, end}
-use Rattle.rhai_value.specs.Flat.{value_ahead}
+use Rattle.rhai_value.specs.End.{End, held, stuck, closed, end, value_ahead}
 use Rattle.rhai_value.specs.Store.{at}
 use Rattle.rhai_value.specs.Tree.{Tree, cell_of}
 use Rattle.rhai_value.specs.declared.chain.ChainEnd.{ChainEnd}

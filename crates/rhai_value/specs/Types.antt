@@ -7,7 +7,6 @@ use Rattle.rhai_value.specs.declared.host.Host.TheVariants as host_kind
 use Rattle.rhai_value.specs.declared.type_id.TypeId.{TypeId}
 use Rattle.rhai_value.specs.declared.type_id.TypeId.TheVariants as id
 use Rattle.rhai_value.specs.Tree.{Tree, node, Content, content_of, leaf, branch, holder, Leaf, unit, bool, int, char, text, blob, host, Kind, array, fields, function}
-use Rattle.rhai_value.specs.End.{End, held_in}
 
 abbrev pub host_type : Host → TypeId
 host_type (host_kind.U8 n) = id.U8
@@ -44,15 +43,6 @@ content_type (holder c) = id.Shared
 abbrev pub tree_type : Tree → TypeId
 tree_type (node c g m) = content_type c
 
--- the type of what may be there: of nothing it is that of what can't be looked into
-abbrev pub type_of : Option Tree → TypeId
-type_of None = id.Shared
-type_of (Some t) = tree_type t
-
--- the type that is held
-abbrev pub end_type : End → TypeId
-end_type e = type_of (held_in e)
-
 abbrev pub type_name : TypeId → List ℕ
 type_name id.Unit = codes "()"
 type_name id.Bool = codes "bool"
@@ -82,10 +72,6 @@ type_name id.Shared = codes "<shared>"
 abbrev pub is_type : TypeId → TypeId → Bool
 is_type a b = sameb type_id.the_type a b
 
--- the name of the type that is held
-abbrev pub end_name : End → List ℕ
-end_name e = type_name (end_type e)
-
 -- whether a type is that of a constructor: not that of a `String`, of any value, or of a holder
 abbrev pub is_content_type : TypeId → Bool
 is_content_type id.String = false
@@ -109,8 +95,8 @@ is_host_type id.InclusiveRange = true
 is_host_type _ = false
 
 -- the content of a value that is of this type
-abbrev pub content_at : TypeId → Tree → Option Content
-content_at k t = if is_type k (tree_type t) then Some (content_of t) else None
+abbrev pub typed_content : TypeId → Tree → Option Content
+typed_content k t = if is_type k (tree_type t) then Some (content_of t) else None
 
 -- what is of this type of the host's
 abbrev pub host_at : TypeId → Host → Option Host

@@ -4,8 +4,7 @@ use mir.Syntax.{named}
 use denote.RattleType.{RattleType}
 use Rattle.std.specs.Borrow.{u8}
 use Rattle.rhai_value.specs.Tree.{Tree}
-use Rattle.rhai_value.specs.End.{End, end, value_after, store_after}
-use Rattle.rhai_value.specs.First.{value_with_first, store_with_first}
+use Rattle.rhai_value.specs.End.{End, end, value_after, store_after, value_with_first, store_with_first}
 use Rattle.rhai_value.specs.contracts.dynamic.Dynamic as dynamic
 use Rattle.rhai_value.specs.contracts.in_store.InStore as in_store
 use Rattle.std.specs.contracts.alloc.Global as global

@@ -1,8 +1,7 @@
 //! Where a chain of holders ends.
 ghost use Rattle.std.specs.Prelude.{◌≡◌, [], option_copied};
-ghost use Rattle.rhai_value.specs.End.{end, held_in, site_of};
+ghost use Rattle.rhai_value.specs.End.{end, held_in, site_of, end_type};
 ghost use Rattle.rhai_value.specs.Seen.{end_seen};
-ghost use Rattle.rhai_value.specs.Types.{end_type};
 
 use crate::dynamic::Dynamic;
 use crate::store::Store;

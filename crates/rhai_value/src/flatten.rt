@@ -1,7 +1,6 @@
 //! Values without their holders.
 ghost use Rattle.std.specs.Prelude.{◌≡◌, IfOk, IfErr, IsOk, None, [], option_copied};
-ghost use Rattle.rhai_value.specs.End.{end};
-ghost use Rattle.rhai_value.specs.Flat.{flat, flattened, value_ahead};
+ghost use Rattle.rhai_value.specs.End.{end, flat, flattened, value_ahead};
 ghost use Rattle.rhai_value.specs.Seen.{flat_source};
 ghost use Rattle.rhai_value.specs.Tree.{TakesNoMemory, cell_of};
 

@@ -4,12 +4,10 @@ ghost use Rattle.std.specs.Borrow.{sem, LendsIf, LendsIfOk};
 ghost use Rattle.rhai_text.specs.contracts.immutable_string.ImmutableString as text_type;
 ghost use Rattle.rhai_value.specs.contracts.dynamic.Dynamic as dynamic_type;
 ghost use Rattle.rhai_value.specs.contracts.map.Map as map_type;
-ghost use Rattle.rhai_value.specs.End.{end, held_in, held_part, site_of};
-ghost use Rattle.rhai_value.specs.First.{first};
+ghost use Rattle.rhai_value.specs.End.{end, held_in, held_part, site_of, first, end_name};
 ghost use Rattle.rhai_value.specs.Parts.{text_of, blob_of, array_of, map_of, with_content};
 ghost use Rattle.rhai_value.specs.Rows.{trees_of, fields_of};
 ghost use Rattle.rhai_value.specs.Tree.{leaf, branch, text, blob, array, fields};
-ghost use Rattle.rhai_value.specs.Types.{end_name};
 ghost use Rattle.rhai_value.specs.Writes.{written, first_written, in_store_row, array_row, blob_row};
 
 use crate::chain::Site;

@@ -1,8 +1,7 @@
 //! What a value holds, moved out of it.
 ghost use Rattle.std.specs.Prelude.{◌≡◌, [], true, IfOk, IfErr, IsOk, Some, is_some, string_bytes};
 ghost use Rattle.std.specs.Str.{chars};
-ghost use Rattle.rhai_value.specs.End.{end, held_part};
-ghost use Rattle.rhai_value.specs.Into.{array_moved, IsWhyNot};
+ghost use Rattle.rhai_value.specs.End.{end, held_part, array_moved, IsWhyNot};
 ghost use Rattle.rhai_value.specs.Parts.{text_of, blob_of, array_of};
 ghost use Rattle.rhai_value.specs.Rows.{trees_of};
 

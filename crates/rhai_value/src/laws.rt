@@ -6,15 +6,11 @@ ghost use Rattle.rhai_value.specs.declared.type_id.TypeId.{TypeId};
 ghost use Rattle.rhai_value.specs.Parts.{unit_of, bool_of, int_of, char_of, text_of, blob_of, host_of, array_of, map_of, function_of, with_content, with_int};
 ghost use Rattle.rhai_value.specs.Tree.{Tree, Content, cell_of, tag_of, mode_of, copy, paint, with_tag};
 ghost use Rattle.rhai_value.specs.Copied.{SameButModes, IsWritable};
-ghost use Rattle.rhai_value.specs.Store.{at, put, added, is_marked_at};
-ghost use Rattle.rhai_value.specs.First.{first, value_with_first, store_with_first};
+ghost use Rattle.rhai_value.specs.Store.{at, put, added, is_marked_at, set_mark, shared_value, shared_store};
+ghost use Rattle.rhai_value.specs.End.{first, value_with_first, store_with_first, first_cell, held_cell, flat, flattened, End, held, stuck, closed, site_after, end_of, end, held_part, value_after, store_after, end_type};
 ghost use Rattle.rhai_value.specs.Locked.{is_locked};
-ghost use Rattle.rhai_value.specs.Marks.{set_mark, first_cell, held_cell};
-ghost use Rattle.rhai_value.specs.Flat.{flat, flattened};
-ghost use Rattle.rhai_value.specs.Share.{shared_value, shared_store};
 ghost use Rattle.rhai_value.specs.Walk.{is_open, visit, visit_map};
-ghost use Rattle.rhai_value.specs.End.{End, held, stuck, closed, site_after, end_of, end, held_part, value_after, store_after};
-ghost use Rattle.rhai_value.specs.Types.{end_type, is_type};
+ghost use Rattle.rhai_value.specs.Types.{is_type};
 ghost use Rattle.rhai_value.specs.Relation.{Renaming, paired, Related, RelatedContent, AllRelated, RelatedFields, RelatedFunctions, Alike, Respect, IsOneToOne, RelatedCells, RelatedEnds, shared_pairs};
 
 /// Where a chain ends, by its parts: a value that is no holder is held, a holder is stuck, closes, or leads on to its cell's content.

@@ -3,9 +3,8 @@ ghost use Rattle.std.specs.Prelude.{◌≡◌, ◌<◌, [], true, false, length,
 ghost use Rattle.std.specs.Borrow.{Lends, sem};
 ghost use Rattle.rhai_value.specs.contracts.dynamic.Dynamic as dynamic_type;
 ghost use Rattle.rhai_value.specs.contracts.store.Store as store_type;
-ghost use Rattle.rhai_value.specs.End.{end};
-ghost use Rattle.rhai_value.specs.Marks.{set_mark, marked_with, content_at, first_cell, held_cell, site_cell, IsWithin};
-ghost use Rattle.rhai_value.specs.Store.{put, is_marked_at};
+ghost use Rattle.rhai_value.specs.End.{end, first_cell, held_cell, site_cell, IsWithin};
+ghost use Rattle.rhai_value.specs.Store.{set_mark, marked_with, content_at, put, is_marked_at};
 
 use crate::chain::Site;
 use crate::dynamic::Dynamic;

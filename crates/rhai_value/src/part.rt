@@ -3,10 +3,10 @@ ghost use Rattle.std.specs.Prelude.{◌≡◌, [], true, Option, Some, None, opt
 ghost use Rattle.std.specs.Borrow.{sem, LendsIf, LendsIfOk};
 ghost use Rattle.rhai_value.specs.contracts.dynamic.Dynamic as dynamic_type;
 ghost use Rattle.rhai_value.specs.declared.type_id.TypeId.{TypeId};
-ghost use Rattle.rhai_value.specs.End.{end, held_part, site_of, value_after, store_after};
+ghost use Rattle.rhai_value.specs.End.{end, held_part, site_of, value_after, store_after, end_name};
 ghost use Rattle.rhai_value.specs.Parts.{with_content, with_part};
 ghost use Rattle.rhai_value.specs.Tree.{Tree, Content, made, copy_content};
-ghost use Rattle.rhai_value.specs.Types.{end_name, content_at, is_content_type};
+ghost use Rattle.rhai_value.specs.Types.{is_content_type, typed_content};
 ghost use Rattle.rhai_value.specs.Writes.{written, in_store_row};
 
 use crate::chain::Site;
@@ -64,7 +64,7 @@ pub trait Part: Sized + Drop {
     ghost made_has: { (x : Self) → part_of (made (content (meaning x))) ≡ Some (meaning x) };
 
     // A value has one exactly where it is of the type, and then this is its content.
-    ghost reads: { (t : Tree) → option_map content (part_of t) ≡ content_at KIND t };
+    ghost reads: { (t : Tree) → option_map content (part_of t) ≡ typed_content KIND t };
 }
 
 /// What is held, if it is of one kind.

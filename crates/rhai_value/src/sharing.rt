@@ -1,6 +1,6 @@
 //! Values in cells.
 ghost use Rattle.std.specs.Prelude.{◌≡◌, true, IfOk, IfErr, IsOk, is_some};
-ghost use Rattle.rhai_value.specs.Share.{shared_value, shared_store};
+ghost use Rattle.rhai_value.specs.Store.{shared_value, shared_store};
 ghost use Rattle.rhai_value.specs.Tree.{cell_of};
 
 use crate::dynamic::Dynamic;

@@ -1,7 +1,7 @@
 //! What no clause says: that the definitions mean what is wanted, and that calls succeed with ample memory.
 ghost use Rattle.std.specs.Prelude.{◌≡◌, None, is_some};
 ghost use Rattle.std.specs.Bool.{OnTrue};
-ghost use Rattle.rhai_value.specs.First.{first};
+ghost use Rattle.rhai_value.specs.End.{first};
 ghost use Rattle.rhai_value.specs.Tree.{cell_of};
 ghost use Rattle.rhai_value.specs.Writes.{first_written};
 

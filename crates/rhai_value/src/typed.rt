@@ -1,9 +1,9 @@
 //! Questions about the type of what is held, which follow chains of holders to their end.
 ghost use Rattle.std.specs.Prelude.{◌≡◌, [], IfOk, IfErr, Some, None, is_some};
-ghost use Rattle.rhai_value.specs.End.{end, held_part};
+ghost use Rattle.rhai_value.specs.End.{end, held_part, end_type, end_name};
 ghost use Rattle.rhai_value.specs.Parts.{unit_of, bool_of, int_of, char_of, text_of, blob_of, array_of, map_of, function_of};
 ghost use Rattle.rhai_value.specs.Rows.{trees_of, fields_of};
-ghost use Rattle.rhai_value.specs.Types.{tree_type, end_type, end_name};
+ghost use Rattle.rhai_value.specs.Types.{tree_type};
 
 use crate::dynamic::Dynamic;
 use crate::fn_ptr::FnPtr;

@@ -1,7 +1,6 @@
 //! The first content of a value: the value itself, or what the cell of a holder has.
 ghost use Rattle.std.specs.Prelude.{◌≡◌, [], option_map, option_copied, IfSome, None};
-ghost use Rattle.rhai_value.specs.End.{end, held_in, site_of};
-ghost use Rattle.rhai_value.specs.First.{first, first_site, constant_in};
+ghost use Rattle.rhai_value.specs.End.{end, held_in, site_of, first, first_site, constant_in};
 ghost use Rattle.rhai_value.specs.Tree.{cell_of, is_constant, mode_of};
 
 use crate::access_mode::AccessMode;

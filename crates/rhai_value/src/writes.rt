@@ -1,10 +1,9 @@
 //! Writes to what is held.
 ghost use Rattle.std.specs.Prelude.{◌≡◌, [], IfOk, IfErr, Some, None, is_some};
 ghost use Rattle.std.specs.Bool.{OnFalse};
-ghost use Rattle.rhai_value.specs.End.{end, held_part, value_after, store_after};
+ghost use Rattle.rhai_value.specs.End.{end, held_part, value_after, store_after, end_name};
 ghost use Rattle.rhai_value.specs.Parts.{int_of, text_of, blob_of, array_of, map_of, with_int};
 ghost use Rattle.rhai_value.specs.Rows.{trees_of, fields_of};
-ghost use Rattle.rhai_value.specs.Types.{end_name};
 
 use crate::dynamic::Dynamic;
 use crate::map::Map;

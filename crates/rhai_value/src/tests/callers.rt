@@ -1,12 +1,10 @@
 //! Callers that are proved from the contracts of the calls alone.
 ghost use Rattle.std.specs.Prelude.{◌≡◌, [], true, is_some, IfOk, IfErr, IfSome};
 ghost use Rattle.std.specs.Bool.{OnTrue};
-ghost use Rattle.rhai_value.specs.End.{end, held_in, held_part, value_after, store_after};
-ghost use Rattle.rhai_value.specs.Marks.{first_cell};
+ghost use Rattle.rhai_value.specs.End.{end, held_in, held_part, value_after, store_after, first_cell};
 ghost use Rattle.rhai_value.specs.Parts.{bool_of, text_of, blob_of, array_of, map_of, with_content, with_part};
 ghost use Rattle.rhai_value.specs.Rows.{trees_of, fields_of};
-ghost use Rattle.rhai_value.specs.Share.{shared_value};
-ghost use Rattle.rhai_value.specs.Store.{put};
+ghost use Rattle.rhai_value.specs.Store.{shared_value, put};
 ghost use Rattle.rhai_value.specs.Tree.{leaf, branch, fields, bool as boolean, text, blob, array};
 ghost use Rattle.rhai_value.specs.Writes.{written};
 

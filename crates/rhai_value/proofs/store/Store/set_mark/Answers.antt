@@ -1,6 +1,5 @@
 use Rattle.std.proofs.Common.{length, ap, ◌∙◌, arith}
-use Rattle.rhai_value.specs.Marks.{set_mark}
-use Rattle.rhai_value.specs.Store.{is_marked_at}
+use Rattle.rhai_value.specs.Store.{set_mark, is_marked_at}
 use Rattle.rhai_value.proofs.MarkedCells.{mark_at, mark_stands}
 use Rattle.rhai_value.proofs.store.Store.set_mark.Goals as goal
 

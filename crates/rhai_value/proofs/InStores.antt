@@ -2,7 +2,6 @@
 use Rattle.std.proofs.Common.{◌≡◌, ◌<◌, ℕ, ℤ, List, [], length, Option, Some, None, IfSome, is_some, cond, slice_get, refl, sym, ap, ◌∙◌}
 use Rattle.rhai_value.specs.declared.access_mode.AccessMode.{AccessMode}
 use Rattle.rhai_value.specs.declared.in_store.InStore.{InStore}
-use Rattle.rhai_value.specs.declared.chain.Site.{Site}
 use Rattle.rhai_value.specs.declared.chain.Site.TheVariants.{Own, InCell}
 use Rattle.rhai_value.specs.declared.store.Cell.{Cell}
 use Rattle.rhai_value.specs.Tree.{Tree, node, Content, leaf, branch, fields, holder, cell_of}
@@ -61,16 +60,6 @@ unshared_site s (node (leaf l) g m) c e p = let q : Some (InCell c) ≡ Some Own
 unshared_site s (node (branch k ts) g m) c e p = let q : Some (InCell c) ≡ Some Own = p ∙ ap site_of (end_opens s [] (node (branch k ts) g m)) in cc
 unshared_site s (node (fields fs) g m) c e p = let q : Some (InCell c) ≡ Some Own = p ∙ ap site_of (end_opens s [] (node (fields fs) g m)) in cc
 unshared_site s (node (holder d) g m) c e p = cc
-
--- what is made of the held value is written there
-held_written_at : (e : End) (h : InStore) (v : Tree) (f : Tree → Tree) → Some v ≡ held_in e → written_at e h (λ _. f v) ≡ written_at e h f
-held_written_at (held Own u) h v f p = let same : v ≡ u = cc in ap (λ x. record { value = record (h.value) { now = f x }; store = h.store }) same
-held_written_at (held (InCell c) u) h v f p = let same : v ≡ u = cc in ap (λ x. record { value = h.value; store = record (h.store) { now = put h.store.now c (f x) } }) same
-held_written_at (stuck u) h v f p = cc
-held_written_at closed h v f p = cc
-
-pub held_written : (h : InStore) (v : Tree) (f : Tree → Tree) → Some v ≡ held_in (end h.store.now [] h.value.now) → written h (λ _. f v) ≡ written h f
-held_written h v f p = held_written_at (end h.store.now [] h.value.now) h v f p
 
 -- nothing changes where the held value is written over itself
 kept_at : (e : End) (h : InStore) (v : Tree) → e ≡ end h.store.now [] h.value.now → Some v ≡ held_in e → written_at e h (λ _. v) ≡ h

@@ -10,7 +10,7 @@ use Rattle.rhai_value.specs.declared.store.Cell.{Cell}
 use Rattle.rhai_value.specs.Tree.{Tree, node, leaf, branch, fields, holder, cell_of}
 use Rattle.rhai_value.specs.Store.{at}
 use Rattle.rhai_value.specs.Walk.{is_open, visit, visit_of, visit_map, unentered, walk_in}
-use Rattle.rhai_value.specs.End.{End, held, closed, end_at, end_from, site_after, end_of, end}
+use Rattle.rhai_value.specs.End.{held_in, End, held, closed, end_at, end_from, site_after, end_of, end}
 
 -- the end within n steps, where no account is kept of the cells that were passed
 abbrev pub chain : ℕ → List Cell → Site → Tree → End
@@ -135,6 +135,9 @@ chain_alone (suc n) s site (node (holder c) g a) e = cc
 -- a value that is no holder is held
 pub end_alone : (s : List Cell) (t : Tree) → None ≡ cell_of t → held Own t ≡ end s [] t
 end_alone s t e = chain_alone (length s) s Own t e ∙ chain-end s t
+
+pub held_alone : (s : List Cell) (t : Tree) → None ≡ cell_of t → Some t ≡ held_in (end s [] t)
+held_alone s t e = ap held_in (end_alone s t e)
 
 -- so is the content of a holder's cell, if it is no holder
 pub end_near : (s : List Cell) (t w : Tree) (c : ℕ) → Some c ≡ cell_of t → Some w ≡ at s c → None ≡ cell_of w → held (InCell c) w ≡ end s [] t

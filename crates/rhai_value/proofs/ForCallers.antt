@@ -5,6 +5,8 @@ pub use Rattle.rhai_value.proofs.SameTrees.{by_related, by_trees, same_copy, sam
 pub use Rattle.rhai_value.proofs.RelatedCells.{length_store_after, marked_added, marked_store_after, same_end_type, same_held_leaf, same_store_after, same_value_after}
 -- first contents, flat values and locks
 pub use Rattle.rhai_value.proofs.SameFlat.{length_with_first, same_first, same_flat, same_flattened, same_locked, same_store_with_first, same_value_with_first}
+-- a held value that is written over itself
+pub use Rattle.rhai_value.proofs.InStores.{kept_written}
 -- renamings that grow
 pub use Rattle.rhai_value.proofs.Grow.{new_last, one_more, one_pair, paired_more, pairs_join, related_more, same_added}
 -- marks
@@ -13,6 +15,8 @@ pub use Rattle.rhai_value.proofs.MarkedCells.{marked_with_first}
 pub use Rattle.rhai_value.proofs.Walks.{unopened, unopened-entry, walk_opens}
 -- walks over related values
 pub use Rattle.rhai_value.proofs.SameWalks.{AlikeVisit, Keeps, Paired, by_visits, same_end, same_walk}
+-- scans of related values
+pub use Rattle.rhai_value.proofs.SameScans.{RelatedVisits, same_nodes, same_scan, same_visits}
 -- lists that are related place by place
 pub use Rattle.rhai_value.proofs.Zips.{get_set_other, zip_append, zip_drop, zip_get, zip_length, zip_set, zip_take, zip_weaker}
 -- booleans

@@ -11,8 +11,10 @@ pub mod Paints
 pub mod Paths
 pub mod RelatedCells
 pub mod SameFlat
+pub mod SameScans
 pub mod SameTrees
 pub mod SameWalks
+pub mod Scans
 pub mod Slots
 pub mod Stores
 pub mod Walks

@@ -16,3 +16,4 @@ pub mod Seen
 pub mod Relation
 pub mod Writes
 pub mod Locked
+pub mod Scan

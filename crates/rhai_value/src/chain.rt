@@ -104,7 +104,20 @@ impl Dynamic {
     }
 
     /// The value where the chain of holders ends; `None` where the chain is stuck or closed. Takes no memory.
+    #[inline(always)]
+    #[tactic(auto, using(crate::proofs::Chains::held_alone))]
     pub fn held<'s>(&'s self, s: &'s Store) -> Option<&'s Dynamic>
+        ensures { option_copied result ≡ held_in (end s.now [] self.now) }
+    {
+        match self.cell() {
+            None => Some(self),
+            Some(_) => self.held_by_holder(s),
+        }
+    }
+
+    /// The same of a holder, in a function of its own, so that the calls on a value that is no holder stay short.
+    #[inline(never)]
+    fn held_by_holder<'s>(&'s self, s: &'s Store) -> Option<&'s Dynamic>
         ensures { option_copied result ≡ held_in (end s.now [] self.now) }
     {
         match self.chain_end(s) {

@@ -81,13 +81,18 @@ fn copied_union(union: &Union, alloc: Global) -> Result<Union, AllocError>
 
 // Adds the copy of what arrays hold most often, each kind by a write of its own; says whether it did.
 #[inline(always)]
-fn push_without_memory(copies: &mut Vec<Dynamic>, union: &Union) -> Result<bool, AllocError>
+fn push_short(copies: &mut Vec<Dynamic>, union: &Union, alloc: Global) -> Result<bool, AllocError>
     ensures { IfOk result (λ done. copies.new.items ≡ (if done then copies.old.items ++ copy (tree_of union.now) ∷ [] else copies.old.items)) }
 {
     let mode = AccessMode::ReadWrite;
     match union {
         Union::Int(tag, _, value) => {
             let union = Union::Int(*tag, mode, *value);
+            copies.push(Dynamic { union })?;
+            Ok(true)
+        }
+        Union::Str(tag, _, text) => {
+            let union = Union::Str(*tag, mode, text.copy(alloc)?);
             copies.push(Dynamic { union })?;
             Ok(true)
         }
@@ -112,7 +117,7 @@ pub(crate) fn copied_items(items: &Vec<Dynamic>, alloc: Global) -> Result<Vec<Dy
 {
     let mut copies = Vec::with_capacity(alloc, items.len())?;
     for item in items {
-        if !push_without_memory(&mut copies, &item.union)? {
+        if !push_short(&mut copies, &item.union, alloc)? {
             copies.push(copied(item, alloc)?)?;
         }
     }

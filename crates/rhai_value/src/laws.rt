@@ -13,6 +13,8 @@ ghost use Rattle.rhai_value.specs.Walk.{is_open, visit, visit_map};
 ghost use Rattle.rhai_value.specs.Types.{is_type};
 ghost use Rattle.rhai_value.specs.Relation.{Renaming, paired, Related, RelatedContent, AllRelated, RelatedFields, RelatedFunctions, Alike, Respect, IsOneToOne, RelatedCells, RelatedEnds, shared_pairs};
 
+pub mod scans;
+
 /// Where a chain ends, by its parts: a value that is no holder is held, a holder is stuck, closes, or leads on to its cell's content.
 /// No length of the store is in it.
 #[tactic(auto, using(crate::proofs::Ends::end_opens))]

@@ -87,7 +87,7 @@ impl Dynamic {
         };
         match T::own(value) {
             Some(part) => Ok(part),
-            None => Err(value.own_type().name()),
+            None => Err(value.own_name()),
         }
     }
 
@@ -116,13 +116,14 @@ impl Dynamic {
         ensures store { m.new ≡ store_after (with_part T.part_of (T.content (T.meaning part))) (end m.old [] self.old) m.old }
         ensures err { IfErr result (λ back. (back ≡ part) × (self.new ≡ self.old) × (m.new ≡ m.old) × (held_part T.part_of (end m.old [] self.old) ≡ None)) }
     {
+        let site = self.held_site(m);
         let mut place = InStore {
             value: self,
             store: m,
         };
-        match place.part_mut::<T>() {
-            Ok(held) => Ok(mem::replace(held, part)),
-            Err(_) => Err(part),
+        match place.part_at_mut::<T>(site) {
+            Some(held) => Ok(mem::replace(held, part)),
+            None => Err(part),
         }
     }
 

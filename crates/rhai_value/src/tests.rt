@@ -10,6 +10,7 @@ mod containers;
 mod maps;
 mod readme;
 mod references;
+mod scan;
 
 use super::*;
 use rhai_text::ImmutableString;

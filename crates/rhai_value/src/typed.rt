@@ -3,7 +3,7 @@ ghost use Rattle.std.specs.Prelude.{◌≡◌, [], IfOk, IfErr, Some, None, is_s
 ghost use Rattle.rhai_value.specs.End.{end, held_part, end_type, end_name};
 ghost use Rattle.rhai_value.specs.Parts.{unit_of, bool_of, int_of, char_of, text_of, blob_of, array_of, map_of, function_of};
 ghost use Rattle.rhai_value.specs.Rows.{trees_of, fields_of};
-ghost use Rattle.rhai_value.specs.Types.{tree_type};
+ghost use Rattle.rhai_value.specs.Types.{tree_type, type_name};
 
 use crate::dynamic::Dynamic;
 use crate::fn_ptr::FnPtr;
@@ -30,6 +30,14 @@ impl Dynamic {
         ensures { result.now ≡ end_name (end s.now [] self.now) }
     {
         self.type_id(s).name()
+    }
+
+    /// The name of the value's own type, in a function of its own, since it is asked where a call fails.
+    #[inline(never)]
+    pub(crate) fn own_name(&self) -> &'static str
+        ensures { result.now ≡ type_name (tree_type self.now) }
+    {
+        self.own_type().name()
     }
 
     pub(crate) fn own_type(&self) -> TypeId

@@ -1,0 +1,71 @@
+-- A visitor's way through a value: it visits the value, and then the children of what came out.
+use Rattle.std.specs.Prelude.{◌≡◌, ℕ, zero, suc, ◌≤◌, Bool, true, false, if◌then◌else◌, List}
+use Rattle.std.proofs.Common.{arith}
+use Rattle.rhai_value.specs.Tree.{Tree, node, Content, leaf, branch, fields, holder, Trees, no_trees, tree_then, Fields, no_fields, field_then, nodes, nodes_content, fresh, unit}
+use Rattle.rhai_value.specs.Parts.{with_content}
+use Rattle.rhai_value.specs.Relation.{Renaming, Related}
+use Rattle.rhai_value.specs.declared.map.Slot.{Slot}
+use Rattle.rhai_value.specs.declared.map.Slot.TheVariants.{Vacant, Taken}
+
+-- what a visit makes of the visitor and of a value
+abbrev pub Visiting : Type 0 → Type 0
+Visiting S = S → Tree → S × Tree
+
+-- a visited value has no more nodes after than before
+abbrev pub AddsNoNodes : {S : Type 0} → Visiting S → Type 0
+AddsNoNodes {S} f = (v : S) (t : Tree) → nodes (f v t).1 ≤ nodes t
+
+-- one more value in front of what comes of the others
+abbrev pub tree_before : {S : Type 0} → S × Tree → S × Trees → S × Trees
+tree_before x y = (y.0, tree_then x.1 y.1)
+
+abbrev pub field_before : {S : Type 0} → List ℕ → S × Tree → S × Fields → S × Fields
+field_before k x y = (y.0, field_then k x.1 y.1)
+
+-- each of these in turn, the visitor handed on
+abbrev pub each_scanned : {S : Type 0} → Visiting S → S → Trees → S × Trees
+each_scanned f v no_trees = (v, no_trees)
+each_scanned f v (tree_then t ts) = tree_before (f v t) (each_scanned f (f v t).0 ts)
+
+-- each value of a map, in the order of the keys
+abbrev pub fields_scanned : {S : Type 0} → Visiting S → S → Fields → S × Fields
+fields_scanned f v no_fields = (v, no_fields)
+fields_scanned f v (field_then k t fs) = field_before k (f v t) (fields_scanned f (f v t).0 fs)
+
+-- the items of an array, the curried values of a function, the values of a map; cells aren't entered
+abbrev pub content_scanned : {S : Type 0} → Visiting S → S → Content → S × Content
+content_scanned f v (leaf l) = (v, leaf l)
+content_scanned f v (branch k ts) = ((each_scanned f v ts).0, branch k (each_scanned f v ts).1)
+content_scanned f v (fields fs) = ((fields_scanned f v fs).0, fields (fields_scanned f v fs).1)
+content_scanned f v (holder c) = (v, holder c)
+
+abbrev pub children_scanned : {S : Type 0} → Visiting S → S → Tree → S × Tree
+children_scanned f v (node c g m) = ((content_scanned f v c).0, node (content_scanned f v c).1 g m)
+
+-- The value is visited, and then the children of what came out. The number bounds how deep values may stand.
+abbrev pub scan_in : {S : Type 0} → Visiting S → ℕ → Visiting S
+scan_in f zero v t = (v, t)
+scan_in f (suc n) v t = children_scanned (scan_in f n) (f v t).0 (f v t).1
+
+-- Where visits add no nodes, no value stands deeper than there are nodes.
+unfoldable pub scan : {S : Type 0} → Visiting S → Visiting S
+scan f v t = scan_in f (nodes t) v t
+
+-- a visit makes the same of a visitor, and related values, of related values
+abbrev pub SameVisits : {S : Type 0} → Renaming → Visiting S → Type 0
+SameVisits {S} r f = (v : S) (t u : Tree) → Related r t u → ((f v t).0 ≡ (f v u).0) × Related r (f v t).1 (f v u).1
+
+-- a slot of a map, whose value is scanned
+abbrev pub slot_scanned : {S : Type 0} → Visiting S → S → Slot → S × Slot
+slot_scanned f v (Vacant next) = (v, Vacant next)
+slot_scanned f v (Taken t) = ((f v t).0, Taken (f v t).1)
+
+-- a content without children in the place of another adds no nodes
+pub nodes_kept : (b : Bool) (c : Content) (t : Tree) → nodes_content c ≡ 0 → nodes (if b then with_content c t else t) ≤ nodes t
+nodes_kept true c (node d g m) none = omega (arith, none)
+nodes_kept false c t none = omega arith
+
+-- nor does unit in the place of a value
+pub nodes_unit : (b : Bool) (t : Tree) → nodes (if b then fresh unit else t) ≤ nodes t
+nodes_unit true (node d g m) = omega arith
+nodes_unit false t = omega arith

@@ -1,0 +1,17 @@
+//! Laws of scans, each the contract of a function that does nothing.
+ghost use Rattle.std.specs.Prelude.{◌≡◌};
+ghost use Rattle.rhai_value.specs.Tree.{Tree};
+ghost use Rattle.rhai_value.specs.Relation.{Renaming};
+ghost use Rattle.rhai_value.specs.Scan.{SameVisits, children_scanned, scan};
+
+use crate::scan::Visitor;
+
+/// A scan visits the value, and then the children of what came out, the visitor handed on. No number of nodes is in it.
+pub fn scan_opens<V: Visitor>()
+    ensures { (v : V) (t : Tree) → scan V.visited v t ≡ children_scanned (scan V.visited) (V.visited v t).0 (V.visited v t).1 }
+{}
+
+/// What a scan makes of a value doesn't depend on the numbers of cells, where a visit doesn't.
+pub fn scan_is_renamed<V: Visitor>()
+    ensures { (r : Renaming) → SameVisits r V.visited → SameVisits r (scan V.visited) }
+{}

@@ -1,0 +1,5 @@
+-- What the proofs of crates above may cite, besides the laws: everything else in this folder is private.
+-- what is read of a value, by its type
+pub use Rattle.rhai_variant.proofs.Readings.{held_unshared, read_by_type}
+-- the same of related values
+pub use Rattle.rhai_variant.proofs.SameReadings.{same_read, same_viewed, same_written_as}

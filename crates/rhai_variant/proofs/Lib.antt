@@ -1,0 +1,3 @@
+pub mod ForCallers
+pub mod Readings
+pub mod SameReadings

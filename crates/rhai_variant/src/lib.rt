@@ -1,0 +1,14 @@
+//! The Rust types that script values are made of and read as.
+#![tactic(auto)]
+
+mod cast_error;
+mod content;
+pub mod laws;
+mod variant;
+
+pub use cast_error::CastError;
+pub use content::Content;
+pub use variant::Variant;
+
+#[cfg(test)]
+mod tests;

@@ -1,0 +1,29 @@
+-- A value can be cast exactly where something is read of it without its holders.
+use Rattle.std.proofs.Common.{◌≡◌, true, List, [], is_some, refl, ap, ◌∙◌}
+use Rattle.rhai_value.specs.declared.store.Cell.{Cell}
+use Rattle.rhai_value.specs.declared.type_id.TypeId.{TypeId}
+use Rattle.rhai_value.specs.declared.type_id.TypeId.TheVariants as id
+use Rattle.rhai_value.specs.End.{End, end, flat, flattened, end_type}
+use Rattle.rhai_value.specs.Tree.{Tree}
+use Rattle.rhai_value.specs.Types.{is_type, tree_type}
+use Rattle.rhai_variant.specs.Reads.{held_type, read}
+use Rattle.rhai_variant.proofs.ForCallers.{read_by_type}
+use Rattle.rhai_cast.specs.Casts.{is_castable}
+use Rattle.rhai_cast.proofs.FlatValues.{flat_type, flattened_type}
+
+-- something is read of a value of the type that is held exactly where one that holds it can be cast
+castable_is : (k : TypeId) (t : Tree) (e : End) → tree_type t ≡ end_type e → is_some (read k t) ≡ is_castable k e
+castable_is id.Dynamic t e same = refl
+castable_is k t e same = read_by_type k t refl ∙ ap (is_type (held_type k)) same
+
+pub moved_castable : (k : TypeId) (s : List Cell) (t : Tree) → is_some (read k (flattened s t)) ≡ is_castable k (end s [] t)
+moved_castable k s t = castable_is k (flattened s t) (end s [] t) (flattened_type s t)
+
+pub copied_castable : (k : TypeId) (s : List Cell) (t : Tree) → is_some (read k (flat s t)) ≡ is_castable k (end s [] t)
+copied_castable k s t = castable_is k (flat s t) (end s [] t) (flat_type s t)
+
+pub flattened_read : (k : TypeId) (s : List Cell) (t : Tree) → is_castable k (end s [] t) ≡ true → is_some (read k (flattened s t)) ≡ true
+flattened_read k s t h = moved_castable k s t ∙ h
+
+pub flat_read : (k : TypeId) (s : List Cell) (t : Tree) → is_castable k (end s [] t) ≡ true → is_some (read k (flat s t)) ≡ true
+flat_read k s t h = copied_castable k s t ∙ h

@@ -1,0 +1,16 @@
+use Rattle.std.proofs.Common.{◌≡◌, ◌++◌, map, option_map}
+use Rattle.std.specs.Vec.Iter.{into_iter_items}
+use Rattle.rhai_value.specs.Rows.{trees_of}
+use Rattle.rhai_cast.specs.Arrays.{read_all, first_unread}
+use Rattle.rhai_cast.proofs.arrays.read_items.Given as goal
+
+-- those read so far, and those read of what is left, are those read of all
+abbrev pub invariant-loop-item : goal.invariant-loop-item
+invariant-loop-item g l =
+    let k = g.T.Variant.KIND in
+    let all = trees_of l.fn.items.items in
+    let rest = trees_of (into_iter_items l.item-iterator) in
+    record {
+      read : option_map (λ ys. map g.T.Variant.tree l.xs.items ++ ys) (read_all k l.s rest) ≡ read_all k l.s all;
+      unread : first_unread k l.s rest ≡ first_unread k l.s all;
+    }

@@ -1,0 +1,6 @@
+use Rattle.std.proofs.Common.{◌≡◌, map, take}
+use Rattle.rhai_value.specs.Tree.{copy}
+use Rattle.rhai_cast.proofs.makers.copied_items.Given as goal
+
+abbrev pub invariant-loop-item : goal.invariant-loop-item
+invariant-loop-item g l = l.values.items ≡ map (λ x. copy (g.T.Variant.tree x)) (take l.item-index l.items)

@@ -1,0 +1,44 @@
+-- Casts of a value in a store to a type of Rust, over what is read of a value as that type.
+use Rattle.std.specs.Prelude.{◌≡◌, Bool, true, List, [], Option, Some, None, option_and_then, is_some, if◌then◌else◌}
+use Rattle.rhai_value.specs.declared.in_store.InStore.{InStore}
+use Rattle.rhai_value.specs.declared.store.Cell.{Cell}
+use Rattle.rhai_value.specs.declared.type_id.TypeId.{TypeId}
+use Rattle.rhai_value.specs.declared.type_id.TypeId.TheVariants as id
+use Rattle.rhai_value.specs.End.{End, end, held_in, first, flattened, end_type}
+use Rattle.rhai_value.specs.Tree.{Tree, TakesNoMemory, cell_of}
+use Rattle.rhai_value.specs.Types.{is_type}
+use Rattle.rhai_value.specs.Writes.{written, first_written}
+use Rattle.rhai_variant.specs.declared.cast_error.CastError.{CastError}
+use Rattle.rhai_variant.specs.declared.cast_error.CastError.TheVariants.{Mismatch, Memory}
+use Rattle.rhai_variant.specs.Reads.{held_type, read, viewed, written_as}
+
+-- Whether a value whose chain ends so is of this type: one that is no holder by its constructor, so that a text is a `String` too; a
+-- holder by the very type that is held.
+abbrev pub is_of : TypeId → Tree → End → Bool
+is_of k t e = is_type (if is_some (cell_of t) then k else held_type k) (end_type e)
+
+-- whether a value whose chain ends so can be cast: to a `Dynamic` any value, else one that holds the type, a text for a `String`
+abbrev pub is_castable : TypeId → End → Bool
+is_castable id.Dynamic e = true
+is_castable k e = is_type (held_type k) (end_type e)
+
+-- what such a cast gives: of a `Dynamic` the value itself, else what is read of the value without its holders
+abbrev pub cast_whole : TypeId → List Cell → Tree → Option Tree
+cast_whole id.Dynamic s t = Some t
+cast_whole k s t = read k (flattened s t)
+
+-- Why a value isn't cast by move: nothing is read of the value without its holders, which is the error's; or memory was refused, and
+-- the error has the value as it was. Memory is wanted for a `String`, and for what is copied out of a cell.
+abbrev pub IsNotCast : TypeId → CastError → List Cell → Tree → Type 0
+IsNotCast k (Mismatch d) s t = (d ≡ flattened s t) × (read k (flattened s t) ≡ None)
+IsNotCast k (Memory d) s t = (d ≡ t) × (cell_of t ≡ None → is_type k id.String ≡ true) × (TakesNoMemory (flattened s t) → is_type k id.String ≡ true)
+
+-- what is lent for reading: of a `Dynamic` the first content, else what the held value has
+abbrev pub locked : TypeId → List Cell → Tree → Option Tree
+locked id.Dynamic s t = first s t
+locked k s t = option_and_then (viewed k) (held_in (end s [] t))
+
+-- a value in its store once w was written through what is lent for writing
+abbrev pub lock_written : TypeId → InStore → Tree → InStore
+lock_written id.Dynamic h w = first_written h w
+lock_written k h w = written h (written_as k w)

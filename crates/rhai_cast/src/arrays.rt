@@ -1,0 +1,84 @@
+//! Items of arrays and bytes of blobs as values of one type.
+ghost use Rattle.std.specs.Prelude.{◌≡◌, true, [], ◌∷◌, ◌++◌, Some, None, map, option_map, IfOk, IfErr, OnOk};
+ghost use Rattle.rhai_value.specs.End.{end};
+ghost use Rattle.rhai_value.specs.Rows.{trees_of};
+ghost use Rattle.rhai_value.specs.Types.{is_type, tree_type};
+ghost use Rattle.rhai_value.specs.declared.type_id.TypeId.TheVariants as type_id;
+ghost use Rattle.rhai_cast.specs.Arrays.{byte_tree, bytes_at, read_all, IsUnread};
+
+use crate::cast::DynamicCast;
+use rhai_value::{Array, Blob, Dynamic, Host, IntoError, Store, TypeId};
+use rhai_variant::Variant;
+use std::alloc::{AllocError, Global};
+
+/// The items without their holders, read as one type. Room is taken once, and each item is moved.
+#[tactic(auto, using(crate::proofs::Items::none_read, crate::proofs::Items::unread_here))]
+pub(crate) fn read_items<T: Variant>(
+    items: Array,
+    alloc: Global,
+    s: &Store,
+) -> Result<Vec<T>, IntoError>
+    ensures ok { IfOk result (λ xs. read_all T.KIND s.now (trees_of items.items) ≡ Some (map T.tree xs.items)) }
+    ensures err { IfErr result (λ e. IsUnread T.KIND e s.now (trees_of items.items)) }
+{
+    let mut xs = Vec::with_capacity(alloc, items.len())?;
+    for item in items {
+        let kind = own_type(&item, s);
+        match item.try_cast::<T>(alloc, s)? {
+            Some(x) => add(&mut xs, x)?,
+            None => return Err(IntoError::Mismatch(kind.name())),
+        }
+    }
+    Ok(xs)
+}
+
+fn add<T: Drop>(xs: &mut Vec<T>, x: T) -> Result<(), AllocError>
+    ensures { OnOk result (xs.new.items ≡ xs.old.items ++ x ∷ []) }
+{
+    Ok(xs.push(x)?)
+}
+
+/// The type of the value itself; of a holder that of what can't be looked into.
+#[tactic(auto, using(crate::proofs::Items::own_end_type))]
+fn own_type(value: &Dynamic, s: &Store) -> TypeId
+    ensures { result ≡ tree_type value.now }
+{
+    if value.is_shared() {
+        TypeId::Shared
+    } else {
+        value.type_id(s)
+    }
+}
+
+/// The bytes that are held, where the type is that of a byte.
+pub(crate) fn held_bytes<'s, T: Variant>(value: &'s Dynamic, s: &'s Store) -> Option<&'s Blob>
+    ensures { option_map (λ bytes. map byte_tree bytes.now.items) result ≡ bytes_at T.KIND (end s.now [] value.now) }
+{
+    if T::KIND == TypeId::U8 {
+        value.held_part::<Blob>(s)
+    } else {
+        None
+    }
+}
+
+/// Bytes as values of the type of a byte. Room is taken once.
+pub(crate) fn read_bytes<T: Variant>(bytes: &Blob, alloc: Global) -> Result<Vec<T>, AllocError>
+    requires { is_type T.KIND type_id.U8 ≡ true }
+    ensures { IfOk result (λ xs. map T.tree xs.items ≡ map byte_tree bytes.now.items) }
+{
+    let mut xs = Vec::with_capacity(alloc, bytes.len())?;
+    for byte in bytes {
+        xs.push(read_byte::<T>(*byte, alloc))?;
+    }
+    Ok(xs)
+}
+
+fn read_byte<T: Variant>(byte: u8, alloc: Global) -> T
+    requires { is_type T.KIND type_id.U8 ≡ true }
+    ensures { T.tree result ≡ byte_tree byte }
+{
+    match T::from_dynamic(alloc, Dynamic::from(Host::U8(byte))) {
+        Ok(x) => x,
+        Err(_) => unreachable!(),
+    }
+}

@@ -1,0 +1,324 @@
+//! Casts, each proved once for every type.
+ghost use Rattle.std.specs.Prelude.{◌≡◌, true, false, List, [], map, Some, None, IfOk, IfErr, IsOk, option_map, is_some, MatchOption};
+ghost use Rattle.std.specs.Borrow.{sem, LendsIf};
+ghost use Rattle.std.specs.Iterator.{IsFinite, Drains};
+ghost use Rattle.rhai_value.specs.End.{end, flat, flattened};
+ghost use Rattle.rhai_value.specs.Tree.{Tree, TakesNoMemory, cell_of, copy};
+ghost use Rattle.rhai_value.specs.Types.{is_type};
+ghost use Rattle.rhai_value.specs.contracts.dynamic.Dynamic as dynamic_type;
+ghost use Rattle.rhai_value.specs.declared.type_id.TypeId.TheVariants as type_id;
+ghost use Rattle.rhai_variant.specs.Reads.{held_type, read, viewed, written_as};
+ghost use Rattle.rhai_cast.specs.Arrays.{typed_array, IsNoArray};
+ghost use Rattle.rhai_cast.specs.Makers.{array_made, pairs, keys_alone, IsMapOf};
+ghost use Rattle.rhai_cast.specs.Casts.{is_of, is_castable, cast_whole, locked, IsNotCast};
+
+use crate::arrays::{held_bytes, read_bytes, read_items};
+use crate::makers::{
+    copied_items, made_items, map_of_btree_map, map_of_btree_set, map_of_hash_map, map_of_hash_set,
+    yielded_items,
+};
+use rhai_value::{Dynamic, IntoError, Store, TypeId, Union};
+use rhai_variant::{CastError, Variant};
+use std::alloc::{AllocError, Global};
+use std::collections::{BTreeMap, BTreeSet, HashMap, HashSet};
+
+/// The casts of `Dynamic`. None takes memory but where it says so.
+pub trait DynamicCast: Sized {
+    // What contracts see of a value.
+    ghost tree: { Self → Tree };
+
+    /// The value that is made of one of Rust's, with tag 0 and mode ReadWrite; a `Dynamic` is itself. Takes no memory but for a
+    /// `String`, whose text is copied. (`Dynamic::from`)
+    ///
+    /// # Errors
+    ///
+    /// A `String` comes back where memory is refused.
+    fn of<T: Variant>(alloc: Global, x: T) -> Result<Self, T>
+        ensures ok { IfOk result (λ value. tree value ≡ T.tree x) }
+        ensures err { IfErr result (λ back. (back ≡ x) × (is_type T.KIND type_id.String ≡ true)) };
+
+    /// Whether the value is of this type: one that is no holder by its constructor, so that a text is both an `ImmutableString` and
+    /// a `String`; a holder by the very type that is held. No value is a `Dynamic`. (`Dynamic::is`)
+    fn is<T: Variant>(&self, s: &Store) -> bool
+        ensures { result ≡ is_of T.KIND (tree self.now) (end s.now [] (tree self.now)) };
+
+    /// What is read of the value without its holders, as `flatten` gives it; of a `Dynamic` that is the answer. A value that is no
+    /// holder is moved out, and takes no memory but for a `String`. (`Dynamic::try_cast_result`)
+    ///
+    /// # Errors
+    ///
+    /// `Mismatch` has the value without its holders, where another type is held; `Memory` has the value as it was.
+    fn try_cast_result<T: Variant>(self, alloc: Global, s: &Store) -> Result<T, CastError>
+        ensures ok { IfOk result (λ x. read T.KIND (flattened s.now (tree self)) ≡ Some (T.tree x)) }
+        ensures err { IfErr result (λ e. IsNotCast T.KIND e s.now (tree self)) };
+
+    /// The same, `None` where another type is held; the value is gone then. (`Dynamic::try_cast`)
+    ///
+    /// # Errors
+    ///
+    /// Where memory is refused.
+    fn try_cast<T: Variant>(self, alloc: Global, s: &Store) -> Result<Option<T>, AllocError>
+        ensures value { IfOk result (λ found. option_map T.tree found ≡ read T.KIND (flattened s.now (tree self))) }
+        ensures own { cell_of (tree self) ≡ None → is_type T.KIND type_id.String ≡ false → IsOk result }
+        ensures free { TakesNoMemory (flattened s.now (tree self)) → is_type T.KIND type_id.String ≡ false → IsOk result };
+
+    /// The same of a value that holds the type; to a `Dynamic` the value itself, its holders kept. (`Dynamic::cast`, which panics
+    /// where another type is held)
+    ///
+    /// # Errors
+    ///
+    /// Where memory is refused.
+    fn cast<T: Variant>(self, alloc: Global, s: &Store) -> Result<T, AllocError>
+        requires { is_castable T.KIND (end s.now [] (tree self)) ≡ true }
+        ensures value { IfOk result (λ x. cast_whole T.KIND s.now (tree self) ≡ Some (T.tree x)) }
+        ensures dynamic { is_type T.KIND type_id.Dynamic ≡ true → IsOk result }
+        ensures own { cell_of (tree self) ≡ None → is_type T.KIND type_id.String ≡ false → IsOk result }
+        ensures free { TakesNoMemory (flattened s.now (tree self)) → is_type T.KIND type_id.String ≡ false → IsOk result };
+
+    /// The same of a copy without holders, as `flatten_clone` gives it, at the cost of that copy; to a `Dynamic` too.
+    /// (`Dynamic::clone_cast`)
+    ///
+    /// # Errors
+    ///
+    /// Where memory is refused.
+    fn clone_cast<T: Variant>(&self, alloc: Global, s: &Store) -> Result<T, AllocError>
+        requires { is_castable T.KIND (end s.now [] (tree self.now)) ≡ true }
+        ensures value { IfOk result (λ x. read T.KIND (flat s.now (tree self.now)) ≡ Some (T.tree x)) }
+        ensures free { TakesNoMemory (flat s.now (tree self.now)) → is_type T.KIND type_id.String ≡ false → IsOk result };
+
+    /// What the held value has of this type; of a `Dynamic` the first content, as `read_whole` gives it. No value has a `String`.
+    /// (`Dynamic::read_lock`, which gives a guard)
+    fn read_lock<'s, T: Variant>(&'s self, s: &'s Store) -> Option<&'s T>
+        ensures { option_map (λ x. T.tree x.now) result ≡ locked T.KIND s.now (tree self.now) };
+
+    /// The same, to write. What value and store are once it was written is said by `write_lock` of this crate, which lends from the
+    /// pair of the two. (`Dynamic::write_lock`, which gives a guard)
+    fn write_lock<'s, T: Variant>(&'s mut self, m: &'s mut Store) -> Option<&'s mut T>
+        ensures { option_map (λ x. T.tree x.now) result ≡ locked T.KIND m.old (tree self.old) };
+
+    /// What the value itself has of this type; of a holder nothing, but as a `Dynamic` itself. (`Dynamic::downcast_ref`)
+    fn downcast_ref<T: Variant>(&self) -> Option<&T>
+        ensures { option_map (λ x. T.tree x.now) result ≡ viewed T.KIND (tree self.now) };
+
+    /// The same, to write: what is written is then the content of the value, tag and mode staying; of a `Dynamic` it is the whole
+    /// value. (`Dynamic::downcast_mut`)
+    fn downcast_mut<T: Variant>(&mut self) -> Option<&mut T>
+        ensures value { option_map (λ x. T.tree x.now) result ≡ viewed T.KIND (tree self.old) };
+
+    /// The items of an array, each cast by `try_cast`: the items of the array's own are moved, those in a cell are copied first. Of
+    /// a blob its bytes, as values of `u8`. Room is taken once. (`Dynamic::into_typed_array`)
+    ///
+    /// # Errors
+    ///
+    /// `Mismatch` has the type name of the first item that isn't cast, `<shared>` where that item is a holder; or the name of what
+    /// is held in place of an array. `Memory` comes where memory is refused.
+    fn into_typed_array<T: Variant>(self, alloc: Global, s: &Store) -> Result<Vec<T>, IntoError>
+        ensures ok { IfOk result (λ xs. typed_array T.KIND s.now (tree self) ≡ Some (map T.tree xs.items)) }
+        ensures err { IfErr result (λ e. IsNoArray T.KIND e s.now (tree self)) };
+
+    /// An array of these items. Room is taken once, and each item is made by `of`. (`Dynamic::from` of a `Vec`)
+    ///
+    /// # Errors
+    ///
+    /// Where memory is refused, as of each maker below. The items are gone then.
+    fn from_vec<T: Variant>(alloc: Global, items: Vec<T>) -> Result<Self, AllocError>
+        ensures { IfOk result (λ value. tree value ≡ array_made (map T.tree items.items)) };
+
+    /// An array of copies of these items, at the cost of `duplicate` and `of` of each. Room is taken once. (`Dynamic::from` of a
+    /// slice)
+    fn from_slice<T: Variant>(alloc: Global, items: &[T]) -> Result<Self, AllocError>
+        ensures { IfOk result (λ value. tree value ≡ array_made (map (λ x. copy (T.tree x)) items.now)) };
+
+    /// An array of what the iterator yields, which must end. (`FromIterator` of rhai's `Dynamic`)
+    fn from_iter<T: Variant, U: IntoIterator<Item = T>>(
+        alloc: Global,
+        items: U,
+    ) -> Result<Self, AllocError>
+        requires { (it : U.IntoIter) → U.into_iter_gives items it → U.IntoIter.can_next it × IsFinite (U.IntoIter.remaining it) }
+        ensures { IfOk result (λ value. (it : U.IntoIter) × (xs : List T) × U.into_iter_gives items it × Drains U.IntoIter.next_gives it xs × (tree value ≡ array_made (map T.tree xs))) };
+
+    /// A map with the same keys, each value made by `of`. The time grows with n log n for n entries. (`Dynamic::from` of a
+    /// `HashMap`)
+    fn from_hash_map<T: Variant>(
+        alloc: Global,
+        entries: HashMap<String, T>,
+    ) -> Result<Self, AllocError>
+        ensures { IfOk result (λ value. IsMapOf (pairs T.tree entries.entries) (tree value)) };
+
+    /// The same of an ordered map. (`Dynamic::from` of a `BTreeMap`)
+    fn from_btree_map<T: Variant>(
+        alloc: Global,
+        entries: BTreeMap<String, T>,
+    ) -> Result<Self, AllocError>
+        ensures { IfOk result (λ value. IsMapOf (pairs T.tree entries.entries) (tree value)) };
+
+    /// A map with unit at each of the keys. (`Dynamic::from` of a `HashSet`)
+    fn from_hash_set(alloc: Global, keys: HashSet<String>) -> Result<Self, AllocError>
+        ensures { IfOk result (λ value. IsMapOf (keys_alone keys.keys) (tree value)) };
+
+    /// The same of an ordered set. (`Dynamic::from` of a `BTreeSet`)
+    fn from_btree_set(alloc: Global, keys: BTreeSet<String>) -> Result<Self, AllocError>
+        ensures { IfOk result (λ value. IsMapOf (keys_alone keys.keys) (tree value)) };
+}
+
+impl DynamicCast for Dynamic {
+    ghost tree = { λ t. t };
+
+    fn of<T: Variant>(alloc: Global, x: T) -> Result<Dynamic, T> {
+        x.into_dynamic(alloc)
+    }
+
+    fn is<T: Variant>(&self, s: &Store) -> bool {
+        let held = self.type_id(s);
+        if self.is_shared() {
+            T::KIND == held
+        } else {
+            held_type(T::KIND) == held
+        }
+    }
+
+    fn try_cast_result<T: Variant>(self, alloc: Global, s: &Store) -> Result<T, CastError> {
+        let Some(holder) = holder_again(&self) else {
+            return T::from_dynamic(alloc, self);
+        };
+        match self.flatten(alloc, s) {
+            Err(back) => Err(CastError::Memory(back)),
+            Ok(flat) => match T::from_dynamic(alloc, flat) {
+                Ok(x) => Ok(x),
+                Err(CastError::Mismatch(flat)) => Err(CastError::Mismatch(flat)),
+                Err(CastError::Memory(_)) => Err(CastError::Memory(holder)),
+            },
+        }
+    }
+
+    fn try_cast<T: Variant>(self, alloc: Global, s: &Store) -> Result<Option<T>, AllocError> {
+        match self.try_cast_result::<T>(alloc, s) {
+            Ok(x) => Ok(Some(x)),
+            Err(CastError::Mismatch(_)) => Ok(None),
+            Err(CastError::Memory(_)) => Err(AllocError),
+        }
+    }
+
+    fn cast<T: Variant>(self, alloc: Global, s: &Store) -> Result<T, AllocError> {
+        if T::KIND == TypeId::Dynamic {
+            return read_castable(alloc, self);
+        }
+        match self.try_cast_result::<T>(alloc, s) {
+            Ok(x) => Ok(x),
+            Err(CastError::Mismatch(_)) => unreachable!(),
+            Err(CastError::Memory(_)) => Err(AllocError),
+        }
+    }
+
+    #[tactic(auto, using(crate::proofs::Castable::flat_read))]
+    fn clone_cast<T: Variant>(&self, alloc: Global, s: &Store) -> Result<T, AllocError> {
+        read_castable(alloc, self.flatten_clone(alloc, s)?)
+    }
+
+    fn read_lock<'s, T: Variant>(&'s self, s: &'s Store) -> Option<&'s T> {
+        if T::KIND == TypeId::Dynamic {
+            T::view(self.read_whole(s)?)
+        } else {
+            T::view(self.held(s)?)
+        }
+    }
+
+    fn write_lock<'s, T: Variant>(&'s mut self, m: &'s mut Store) -> Option<&'s mut T> {
+        if T::KIND == TypeId::Dynamic {
+            T::view_mut(self.write_whole(m)?)
+        } else {
+            T::view_mut(self.held_mut(m)?)
+        }
+    }
+
+    fn downcast_ref<T: Variant>(&self) -> Option<&T> {
+        T::view(self)
+    }
+
+    fn downcast_mut<T: Variant>(&mut self) -> Option<&mut T>
+        ensures* writes_back { sem 𝓛 (LendsIf dynamic_type.the_row T.row self.entry result (λ w. written_as T.KIND (T.tree w) self.old) self.old) }
+        ensures value { option_map (λ x. T.tree x.now) result ≡ viewed T.KIND self.old }
+    {
+        T::view_mut(self)
+    }
+
+    #[tactic(auto, using(crate::proofs::Items::typed_bytes, crate::proofs::Items::bytes_type, crate::proofs::Items::no_array, crate::proofs::Items::array_source, crate::proofs::Items::or_true))]
+    fn into_typed_array<T: Variant>(self, alloc: Global, s: &Store) -> Result<Vec<T>, IntoError> {
+        if let Some(bytes) = held_bytes::<T>(&self, s) {
+            return Ok(read_bytes(bytes, alloc)?);
+        }
+        read_items(self.into_array(alloc, s)?, alloc, s)
+    }
+
+    fn from_vec<T: Variant>(alloc: Global, items: Vec<T>) -> Result<Dynamic, AllocError> {
+        Ok(Dynamic::from_array(made_items(alloc, items)?))
+    }
+
+    fn from_slice<T: Variant>(alloc: Global, items: &[T]) -> Result<Dynamic, AllocError> {
+        Ok(Dynamic::from_array(copied_items(alloc, items)?))
+    }
+
+    fn from_iter<T: Variant, U: IntoIterator<Item = T>>(
+        alloc: Global,
+        items: U,
+    ) -> Result<Dynamic, AllocError> {
+        Ok(Dynamic::from_array(yielded_items(alloc, items)?))
+    }
+
+    fn from_hash_map<T: Variant>(
+        alloc: Global,
+        entries: HashMap<String, T>,
+    ) -> Result<Dynamic, AllocError> {
+        Ok(Dynamic::from_map(map_of_hash_map(alloc, entries)?))
+    }
+
+    fn from_btree_map<T: Variant>(
+        alloc: Global,
+        entries: BTreeMap<String, T>,
+    ) -> Result<Dynamic, AllocError> {
+        Ok(Dynamic::from_map(map_of_btree_map(alloc, entries)?))
+    }
+
+    fn from_hash_set(alloc: Global, keys: HashSet<String>) -> Result<Dynamic, AllocError> {
+        Ok(Dynamic::from_map(map_of_hash_set(alloc, keys)?))
+    }
+
+    fn from_btree_set(alloc: Global, keys: BTreeSet<String>) -> Result<Dynamic, AllocError> {
+        Ok(Dynamic::from_map(map_of_btree_set(alloc, keys)?))
+    }
+}
+
+/// The type of the values that are read as this type.
+fn held_type(kind: TypeId) -> TypeId
+    ensures { result ≡ held_type kind }
+{
+    if kind == TypeId::String {
+        TypeId::ImmutableString
+    } else {
+        kind
+    }
+}
+
+/// A holder once more, its mode kept; nothing of a value that is none.
+fn holder_again(value: &Dynamic) -> Option<Dynamic>
+    ensures { MatchOption result (cell_of value.now ≡ None) (λ again. (again ≡ value.now) × (is_some (cell_of value.now) ≡ true)) }
+{
+    if let Union::Shared(tag, mode, cell) = value.parts() {
+        Some(Dynamic::from_parts(Union::Shared(*tag, *mode, *cell)))
+    } else {
+        None
+    }
+}
+
+/// What is read of a value of which something is.
+fn read_castable<T: Variant>(alloc: Global, value: Dynamic) -> Result<T, AllocError>
+    requires { is_some (read T.KIND value) ≡ true }
+    ensures value { IfOk result (λ x. read T.KIND value ≡ Some (T.tree x)) }
+    ensures free { is_type T.KIND type_id.String ≡ false → IsOk result }
+{
+    match T::from_dynamic(alloc, value) {
+        Ok(x) => Ok(x),
+        Err(CastError::Mismatch(_)) => unreachable!(),
+        Err(CastError::Memory(_)) => Err(AllocError),
+    }
+}

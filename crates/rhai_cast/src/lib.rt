@@ -1,0 +1,14 @@
+//! Casts of script values to and from the types of Rust.
+#![tactic(auto)]
+
+mod arrays;
+mod cast;
+pub mod laws;
+mod lock;
+mod makers;
+
+pub use cast::DynamicCast;
+pub use lock::write_lock;
+
+#[cfg(test)]
+mod tests;

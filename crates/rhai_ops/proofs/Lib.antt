@@ -1,0 +1,6 @@
+pub mod ForCallers
+pub mod Characters
+pub mod Lengths
+pub mod SameRows
+pub mod Shifts
+pub mod Suited

@@ -1,0 +1,112 @@
+-- Rows and outcomes of values that are the same up to the numbers of their cells.
+use Rattle.std.proofs.Common.{◌≡◌, ℕ, ℤ, Bool, true, false, List, [], ◌∷◌, ◌++◌, length, Option, Some, None, refl, sym, ap, ap₂, ◌∙◌, option_and_then}
+use Rattle.std.specs.Prelude.{Ok, Err, nat_eq, if◌then◌else◌}
+use Rattle.std.specs.Cmp.Lexicographic.{pointwise}
+use Rattle.std.specs.Str.{encode_utf8_all}
+use Rattle.rhai_text.specs.declared.error.SizeKind.TheVariants as size
+use Rattle.rhai_text.specs.declared.limits.Limits.{Limits}
+use Rattle.rhai_text.specs.declared.token.Token.{Token}
+use Rattle.rhai_value.specs.declared.access_mode.AccessMode.{AccessMode}
+use Rattle.rhai_value.specs.declared.store.Cell.{Cell}
+use Rattle.rhai_value.specs.declared.type_id.TypeId.{TypeId}
+use Rattle.rhai_value.specs.Tree.{Tree, Trees, Kind, node, branch, array, function, Leaf, fresh, text, blob}
+use Rattle.rhai_value.specs.Parts.{leaf_part, leaf_unit, leaf_bool, leaf_int, leaf_char, leaf_text, leaf_blob, leaf_host, host_of, typed_host_of}
+use Rattle.rhai_value.specs.Types.{host_at}
+use Rattle.rhai_value.specs.End.{End, held, stuck, closed, end, end_type, held_part, flat}
+use Rattle.rhai_value.specs.Relation.{Renaming, Related, AllRelated, IsOneToOne, RelatedCells}
+use Rattle.rhai_value.proofs.ForCallers.{by_trees, same_copy, same_end, same_end_type, same_flat, same_held_leaf}
+use Rattle.rhai_ops.specs.declared.builtin.FnBuiltin.{FnBuiltin}
+use Rattle.rhai_ops.specs.declared.builtin.FnBuiltin.TheVariants as row
+use Rattle.rhai_ops.specs.Numbers.{Number, number}
+use Rattle.rhai_ops.specs.Table.{own, row_of, own_pair, type_line, pair_row}
+use Rattle.rhai_ops.specs.Outcome.{Outcome, answers, too_large, both, number_answer, bool_answer, is_allowed, limited_text, limited_blob, RelatedOutcomes}
+use Rattle.rhai_ops.specs.Results.{part, joined_blobs, outcome, range_type, unless}
+
+pub same_own : (r : Renaming) (t u : Tree) → Related r t u → own t ≡ own u
+same_own r = by_trees r (λ t u. own t ≡ own u) (λ l g m. refl) same_branch (λ fs hs g m h. refl) (λ c d g m p. refl)
+  where
+    same_branch : (k : Kind) (ts us : Trees) (g : ℤ) (m : AccessMode) → AllRelated r ts us → own (node (branch k ts) g m) ≡ own (node (branch k us) g m)
+    same_branch array ts us g m h = refl
+    same_branch (function f) ts us g m h = refl
+
+-- outcomes in which no cell is named
+number_self : (r : Renaming) (o : Option Number) → RelatedOutcomes r (number_answer o) (number_answer o)
+number_self r (Some (Ok n)) = (refl, refl, refl)
+number_self r (Some (Err f)) = refl
+number_self r None = tt
+
+bool_self : (r : Renaming) (o : Option Bool) → RelatedOutcomes r (bool_answer o) (bool_answer o)
+bool_self r (Some b) = (refl, refl, refl)
+bool_self r None = tt
+
+text_self : (r : Renaming) (l : Limits) (t : List ℕ) → RelatedOutcomes r (limited_text l t) (limited_text l t)
+text_self r l t = elim (is_allowed l.text (length (encode_utf8_all t))) as (λ b. RelatedOutcomes r (if b then answers (fresh (text t)) else too_large size.Text) (if b then answers (fresh (text t)) else too_large size.Text)) [ true ↦ (refl, refl, refl) | false ↦ refl ]
+
+blob_self : (r : Renaming) (l : Limits) (bs : List ℕ) → RelatedOutcomes r (limited_blob l bs) (limited_blob l bs)
+blob_self r l bs = elim (is_allowed l.items (length bs)) as (λ b. RelatedOutcomes r (if b then answers (fresh (blob bs)) else too_large size.Items) (if b then answers (fresh (blob bs)) else too_large size.Items)) [ true ↦ (refl, refl, refl) | false ↦ refl ]
+
+both_self : {A B : Type 0} (r : Renaming) (f g : A → B → Outcome) → ((a : A) (b : B) → RelatedOutcomes r (f a b) (g a b)) → (o : Option A) (p : Option B) → RelatedOutcomes r (both f o p) (both g o p)
+both_self r f g same (Some a) (Some b) = same a b
+both_self r f g same (Some a) None = tt
+both_self r f g same None (Some b) = tt
+both_self r f g same None None = tt
+
+joined_same : (r : Renaming) (l : Limits) (t u v w : Tree) → Related r t u → Related r v w → (a b : List ℕ) → RelatedOutcomes r (joined_blobs l t v a b) (joined_blobs l u w a b)
+joined_same r l t u v w h q [] [] = h
+joined_same r l t u v w h q (a ∷ cs) [] = h
+joined_same r l t u v w h q [] (b ∷ bs) = q
+joined_same r l t u v w h q (a ∷ cs) (b ∷ bs) = blob_self r l ((a ∷ cs) ++ (b ∷ bs))
+
+-- a value of one of the host's types, as a value of the host's
+typed_held : (k : TypeId) (e : End) → held_part (typed_host_of k) e ≡ option_and_then (host_at k) (held_part host_of e)
+typed_held k (held site t) = refl
+typed_held k (stuck t) = refl
+typed_held k closed = refl
+
+module _ (r : Renaming) (s z : List Cell) (one : IsOneToOne r) (cells : RelatedCells r s z) where
+  same_leaf : {A : Type 0} (of : Leaf → Option A) (t u : Tree) → Related r t u → part (leaf_part of) s t ≡ part (leaf_part of) z u
+  same_leaf of t u h = same_held_leaf r of (end s [] t) (end z [] u) (same_end r s z t u one cells h)
+
+  same_typed : (k : TypeId) (t u : Tree) → Related r t u → part (typed_host_of k) s t ≡ part (typed_host_of k) z u
+  same_typed k t u h = typed_held k (end s [] t) ∙ ap (option_and_then (host_at k)) (same_leaf leaf_host t u h) ∙ sym (typed_held k (end z [] u))
+
+  same_type : (t u : Tree) → Related r t u → end_type (end s [] t) ≡ end_type (end z [] u)
+  same_type t u h = same_end_type r (end s [] t) (end z [] u) (same_end r s z t u one cells h)
+
+  pub same_row : (k : Token) (t u v w : Tree) → Related r t u → Related r v w → row_of k s t v ≡ row_of k z u w
+  same_row k t u v w h q =
+      ap₂ pair_row (ap₂ (own_pair k) (same_own r t u h) (same_own r v w q)) (ap₂ (type_line k) (same_type t u h) (same_type v w q))
+
+  module _ (t u v w : Tree) (h : Related r t u) (q : Related r v w) where
+    -- of two leaves that both hold
+    by_both : {A B : Type 0} (x : Leaf → Option A) (y : Leaf → Option B) (f : A → B → Outcome) → ((a : A) (b : B) → RelatedOutcomes r (f a b) (f a b)) → RelatedOutcomes r (both f (part (leaf_part x) s t) (part (leaf_part y) s v)) (both f (part (leaf_part x) z u) (part (leaf_part y) z w))
+    by_both x y f same = rw (same_leaf x t u h, same_leaf y v w q) (both_self r f f same (part (leaf_part x) z u) (part (leaf_part y) z w))
+
+    pub same_outcome : (b : FnBuiltin) (l : Limits) → RelatedOutcomes r (outcome b l s t v) (outcome b l z u w)
+    same_outcome (row.Int k) l = by_both leaf_int leaf_int _ (λ m n. number_self r (number k m n))
+    same_outcome (row.IntCompare k) l = by_both leaf_int leaf_int _ (λ m n. bool_self r _)
+    same_outcome (row.IntRange i) l = by_both leaf_int leaf_int _ (λ m n. (refl, refl, refl))
+    same_outcome (row.BoolCompare k) l = by_both leaf_bool leaf_bool _ (λ a b. bool_self r _)
+    same_outcome (row.Bool k) l = by_both leaf_bool leaf_bool _ (λ a b. bool_self r _)
+    same_outcome row.TextJoin l = by_both leaf_text leaf_text _ (λ a b. text_self r l _)
+    same_outcome row.TextMinus l = by_both leaf_text leaf_text _ (λ a b. (refl, refl, refl))
+    same_outcome (row.TextCompare k) l = by_both leaf_text leaf_text _ (λ a b. bool_self r _)
+    same_outcome row.CharJoin l = by_both leaf_char leaf_char _ (λ a b. text_self r l (a ∷ b ∷ []))
+    same_outcome (row.CharCompare k) l = by_both leaf_char leaf_char _ (λ a b. bool_self r _)
+    same_outcome row.BlobJoin l =
+        rw (same_leaf leaf_blob t u h, same_leaf leaf_blob v w q) (both_self r _ _ (joined_same r l (flat s t) (flat z u) (flat s v) (flat z w) (same_flat r s z t u one cells h) (same_flat r s z v w one cells q)) (part (leaf_part leaf_blob) z u) (part (leaf_part leaf_blob) z w))
+    same_outcome (row.BlobEqual n) l = by_both leaf_blob leaf_blob _ (λ a b. bool_self r (Some (unless n (pointwise nat_eq a b))))
+    same_outcome row.ConstTrue l = (refl, refl, refl)
+    same_outcome row.ConstFalse l = (refl, refl, refl)
+    same_outcome (row.RangeFrom i) l = by_both leaf_int leaf_unit _ (λ a b. (refl, refl, refl))
+    same_outcome (row.RangeTo i) l = by_both leaf_unit leaf_int _ (λ a b. (refl, refl, refl))
+    same_outcome row.CharText l = by_both leaf_char leaf_text _ (λ a b. text_self r l (a ∷ b))
+    same_outcome (row.CharTextCompare k) l = by_both leaf_char leaf_text _ (λ a b. bool_self r _)
+    same_outcome row.TextChar l = by_both leaf_text leaf_char _ (λ a b. text_self r l _)
+    same_outcome row.TextMinusChar l = by_both leaf_text leaf_char _ (λ a b. (refl, refl, refl))
+    same_outcome (row.TextCharCompare k) l = by_both leaf_text leaf_char _ (λ a b. bool_self r _)
+    same_outcome row.FirstCopy l = same_copy r t u h
+    same_outcome row.SecondCopy l = same_copy r v w q
+    same_outcome row.BlobChar l = by_both leaf_blob leaf_char _ (λ a b. blob_self r l _)
+    same_outcome (row.RangeEqual i n) l =
+        rw (same_typed (range_type i) t u h, same_typed (range_type i) v w q) (both_self r _ _ (λ a b. bool_self r _) (part (typed_host_of (range_type i)) z u) (part (typed_host_of (range_type i)) z w))

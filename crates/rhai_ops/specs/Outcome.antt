@@ -1,0 +1,74 @@
+-- What a call of a row comes to.
+use Rattle.std.specs.Prelude.{◌≡◌, ℕ, Bool, true, false, ◌||◌, nat_eq, nat_le, List, length, Option, Some, None, Result, Ok, Err, if◌then◌else◌}
+use Rattle.std.specs.Str.{encode_utf8_all}
+use Rattle.rhai_text.specs.declared.error.ArithmeticFault.{ArithmeticFault}
+use Rattle.rhai_text.specs.declared.error.EvalAltResult.{EvalAltResult}
+use Rattle.rhai_text.specs.declared.error.EvalAltResult.TheVariants.{ErrorArithmetic, ErrorDataTooLarge, ErrorMemory, ErrorDataRace, ErrorMismatchDataType}
+use Rattle.rhai_text.specs.declared.error.SizeKind.{SizeKind}
+use Rattle.rhai_text.specs.declared.error.SizeKind.TheVariants as size
+use Rattle.rhai_text.specs.declared.limits.Limits.{Limits}
+use Rattle.rhai_text.specs.declared.position.Position.{Position}
+use Rattle.rhai_value.specs.Tree.{Tree, fresh, bool, int, text, blob}
+use Rattle.rhai_value.specs.Relation.{Renaming, Related}
+use Rattle.rhai_ops.specs.Numbers.{Number}
+
+-- A row refuses or answers a value. Operands that the row isn't for come to nothing.
+pub data Outcome : Type 0 where
+  fault : ArithmeticFault → Outcome
+  too_large : SizeKind → Outcome
+  answers : Tree → Outcome
+  unsuited : Outcome
+
+-- of what both hold
+abbrev pub both : {A B : Type 0} → (A → B → Outcome) → Option A → Option B → Outcome
+both f (Some a) (Some b) = f a b
+both f (Some a) None = unsuited
+both f None b = unsuited
+
+-- a number, or why there is none
+abbrev pub number_answer : Option Number → Outcome
+number_answer (Some (Ok n)) = answers (fresh (int n))
+number_answer (Some (Err f)) = fault f
+number_answer None = unsuited
+
+abbrev pub bool_answer : Option Bool → Outcome
+bool_answer (Some b) = answers (fresh (bool b))
+bool_answer None = unsuited
+
+-- whether a length is allowed: a limit of 0 is none, and an equal length is
+abbrev pub is_allowed : ℕ → ℕ → Bool
+is_allowed limit n = nat_eq limit 0 || nat_le n limit
+
+-- a text whose bytes the limit allows, and a blob whose bytes the limit allows
+abbrev pub limited_text : Limits → List ℕ → Outcome
+limited_text l t = if is_allowed l.text (length (encode_utf8_all t)) then answers (fresh (text t)) else too_large size.Text
+
+abbrev pub limited_blob : Limits → List ℕ → Outcome
+limited_blob l bs = if is_allowed l.items (length bs) then answers (fresh (blob bs)) else too_large size.Items
+
+abbrev pub no_place : Position
+no_place = record { line = 0; position = 0 }
+
+abbrev pub is_answer : Outcome → Bool
+is_answer (fault f) = false
+is_answer (too_large k) = false
+is_answer (answers t) = true
+is_answer unsuited = false
+
+-- The result of a call is that of the outcome, each refusal at no place. Want of memory may stand in the place of a value alone,
+-- and only where the row may want memory.
+abbrev pub IsOutcome : Type 0 → Result Tree EvalAltResult → Outcome → Type 0
+IsOutcome MayWant (Ok d) o = o ≡ answers d
+IsOutcome MayWant (Err (ErrorArithmetic f p)) o = (o ≡ fault f) × (p ≡ no_place)
+IsOutcome MayWant (Err (ErrorDataTooLarge k p)) o = (o ≡ too_large k) × (p ≡ no_place)
+IsOutcome MayWant (Err (ErrorMemory e)) o = MayWant × (is_answer o ≡ true)
+IsOutcome MayWant (Err (ErrorDataRace p)) o = ⊥
+IsOutcome MayWant (Err (ErrorMismatchDataType wanted found p)) o = ⊥
+
+-- the same outcomes up to the numbers of cells
+abbrev pub RelatedOutcomes : Renaming → Outcome → Outcome → Type 0
+RelatedOutcomes r (fault f) (fault g) = f ≡ g
+RelatedOutcomes r (too_large k) (too_large j) = k ≡ j
+RelatedOutcomes r (answers t) (answers u) = Related r t u
+RelatedOutcomes r unsuited unsuited = Unit {0}
+RelatedOutcomes r _ _ = ⊥

@@ -1,0 +1,106 @@
+-- The table of binary operators: which row an operator has on two operands.
+use Rattle.std.specs.Prelude.{Bool, true, false, ◌||◌, ◌&&◌, List, [], ◌∷◌, Option, Some, None, if◌then◌else◌}
+use Rattle.rhai_text.specs.declared.token.Token.{Token}
+use Rattle.rhai_value.specs.declared.store.Cell.{Cell}
+use Rattle.rhai_value.specs.declared.type_id.TypeId.{TypeId}
+use Rattle.rhai_value.specs.declared.type_id.TypeId.TheVariants as id
+use Rattle.rhai_value.specs.Tree.{Tree, node, Content, leaf, branch, fields, holder, array, function, Leaf, unit, bool, int, char, text, blob, host}
+use Rattle.rhai_value.specs.End.{end, end_type}
+use Rattle.rhai_value.specs.Types.{is_type}
+use Rattle.rhai_ops.specs.declared.builtin.FnBuiltin.{FnBuiltin}
+use Rattle.rhai_ops.specs.declared.builtin.FnBuiltin.TheVariants as row
+use Rattle.rhai_ops.specs.declared.own.Own.{Own}
+use Rattle.rhai_ops.specs.declared.own.Own.TheVariants as is
+use Rattle.rhai_ops.specs.Tokens.{is_number, is_bits, is_cmp, is_equality, is_range, is_plus, is_minus, is_equal, is_unequal, is_inclusive}
+
+-- the constructor of a value, as far as the table tells constructors apart
+abbrev pub own_leaf : Leaf → Own
+own_leaf unit = is.Unit
+own_leaf (bool b) = is.Bool
+own_leaf (int n) = is.Int
+own_leaf (text s) = is.Str
+own_leaf (char c) = is.Char
+own_leaf (blob bs) = is.Blob
+own_leaf (host h) = is.Other
+
+abbrev pub own_content : Content → Own
+own_content (leaf l) = own_leaf l
+own_content (branch array ts) = is.Array
+own_content (branch (function f) ts) = is.Other
+own_content (fields fs) = is.Other
+own_content (holder c) = is.Other
+
+abbrev pub own : Tree → Own
+own (node c g m) = own_content c
+
+-- a line of the table: rows, each with the question whether the operator is one of its own
+abbrev pub Line : Type 0
+Line = List (Bool × FnBuiltin)
+
+-- the first row of the line whose question is answered yes
+abbrev pub pick : Line → Option FnBuiltin
+pick [] = None
+pick ((true, r) ∷ rest) = Some r
+pick ((false, r) ∷ rest) = pick rest
+
+-- what two constructors say: this line and no other, or this line first and then that of the held types
+pub data Pair : Type 0 where
+  only : Line → Pair
+  first : Line → Pair
+
+abbrev pub own_pair : Token → Own → Own → Pair
+own_pair t is.Int is.Int = only ((is_number t, row.Int t) ∷ (is_cmp t, row.IntCompare t) ∷ (is_range t, row.IntRange (is_inclusive t)) ∷ [])
+own_pair t is.Bool is.Bool = only ((is_cmp t, row.BoolCompare t) ∷ (is_bits t, row.Bool t) ∷ [])
+own_pair t is.Str is.Str = only ((is_plus t, row.TextJoin) ∷ (is_minus t, row.TextMinus) ∷ (is_cmp t, row.TextCompare t) ∷ [])
+own_pair t is.Char is.Char = only ((is_plus t, row.CharJoin) ∷ (is_cmp t, row.CharCompare t) ∷ [])
+own_pair t is.Blob is.Blob = only ((is_plus t, row.BlobJoin) ∷ (is_equality t, row.BlobEqual (is_unequal t)) ∷ [])
+own_pair t is.Unit is.Unit = only ((is_equal t, row.ConstTrue) ∷ (is_cmp t, row.ConstFalse) ∷ [])
+own_pair t is.Int is.Unit = first ((is_range t, row.RangeFrom (is_inclusive t)) ∷ [])
+own_pair t is.Unit is.Int = first ((is_range t, row.RangeTo (is_inclusive t)) ∷ [])
+own_pair t is.Char is.Str = only ((is_plus t, row.CharText) ∷ (is_cmp t, row.CharTextCompare t) ∷ [])
+own_pair t is.Str is.Char = only ((is_plus t, row.TextChar) ∷ (is_minus t, row.TextMinusChar) ∷ (is_cmp t, row.TextCharCompare t) ∷ [])
+own_pair t is.Unit is.Str = only ((is_plus t, row.SecondCopy) ∷ (is_unequal t, row.ConstTrue) ∷ (is_cmp t, row.ConstFalse) ∷ [])
+own_pair t is.Str is.Unit = only ((is_plus t, row.FirstCopy) ∷ (is_unequal t, row.ConstTrue) ∷ (is_cmp t, row.ConstFalse) ∷ [])
+own_pair t is.Blob is.Char = only ((is_plus t, row.BlobChar) ∷ [])
+own_pair t _ _ = first []
+
+-- the nine numbers of the host and i64
+abbrev pub is_numeric : TypeId → Bool
+is_numeric id.Int = true
+is_numeric id.U8 = true
+is_numeric id.U16 = true
+is_numeric id.U32 = true
+is_numeric id.U64 = true
+is_numeric id.U128 = true
+is_numeric id.I8 = true
+is_numeric id.I16 = true
+is_numeric id.I32 = true
+is_numeric id.I128 = true
+is_numeric _ = false
+
+abbrev pub is_range_type : TypeId → Bool
+is_range_type id.ExclusiveRange = true
+is_range_type id.InclusiveRange = true
+is_range_type _ = false
+
+-- by the held types; `Shared` is the type where a chain is stuck or closed
+abbrev pub type_line : Token → TypeId → TypeId → Line
+type_line t a b =
+    if is_type a id.Shared || is_type b id.Shared then []
+    else (if is_range_type a && is_range_type b then
+    (if is_type a b then (is_equality t, row.RangeEqual (is_type a id.InclusiveRange) (is_unequal t)) ∷ []
+    else (is_unequal t, row.ConstTrue) ∷ (is_equal t, row.ConstFalse) ∷ [])
+    else (if is_type a b || (is_numeric a && is_numeric b) then []
+    else (is_unequal t, row.ConstTrue) ∷ (is_cmp t, row.ConstFalse) ∷ []))
+
+abbrev pub or_else : Option FnBuiltin → Option FnBuiltin → Option FnBuiltin
+or_else (Some r) q = Some r
+or_else None q = q
+
+abbrev pub pair_row : Pair → Line → Option FnBuiltin
+pair_row (only l) types = pick l
+pair_row (first l) types = or_else (pick l) (pick types)
+
+-- the row of the operator on x and y in the store s
+abbrev pub row_of : Token → List Cell → Tree → Tree → Option FnBuiltin
+row_of t s x y = pair_row (own_pair t (own x) (own y)) (type_line t (end_type (end s [] x)) (end_type (end s [] y)))

@@ -1,0 +1,45 @@
+//! What the rows share: the held content that a row asks for, answers, and the test of a limit.
+ghost use Rattle.std.specs.Prelude.{◌≡◌, ◌+◌, Some};
+ghost use Rattle.rhai_ops.specs.Outcome.{is_allowed as allowed};
+ghost use Rattle.rhai_ops.specs.Results.{Holds, part as part_in, unless as unless_it};
+
+use rhai_value::{Dynamic, Part, Store};
+
+/// What is held of a kind.
+pub(crate) fn part<'s, T: Part>(value: &'s Dynamic, s: &'s Store) -> &'s T
+    requires { Holds T.part_of s.now value.now }
+    ensures { part_in T.part_of s.now value.now ≡ Some (T.meaning result.now) }
+{
+    match value.as_part::<T>(s) {
+        Ok(content) => content,
+        Err(_) => unreachable!(),
+    }
+}
+
+/// The same, of what is passed by value.
+pub(crate) fn value<T: Part + Copy>(value: &Dynamic, s: &Store) -> T
+    requires { Holds T.part_of s.now value.now }
+    ensures { part_in T.part_of s.now value.now ≡ Some (T.meaning result) }
+{
+    *part::<T>(value, s)
+}
+
+/// An equality, or its opposite.
+pub(crate) fn unless(negated: bool, same: bool) -> bool
+    ensures { result ≡ unless_it negated same }
+{
+    if negated { !same } else { same }
+}
+
+/// Whether a limit allows so many and then so many more. A limit of 0 is none.
+pub(crate) fn is_allowed(limit: usize, first: usize, more: usize) -> bool
+    ensures { result ≡ allowed limit (first + more) }
+{
+    if limit == 0 {
+        true
+    } else if limit < first {
+        false
+    } else {
+        more <= limit - first
+    }
+}

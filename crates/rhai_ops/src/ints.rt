@@ -1,0 +1,143 @@
+//! Integers under operators.
+ghost use Rattle.std.specs.Prelude.{◌≡◌, IsTrue, Some};
+ghost use Rattle.std.specs.Ordering.{int_cmp};
+ghost use Rattle.rhai_ops.specs.Numbers as specs;
+ghost use Rattle.rhai_ops.specs.Outcome.{IsOutcome, bool_answer, number_answer};
+ghost use Rattle.rhai_ops.specs.Tokens.{is_cmp, is_number};
+
+use crate::compare::compared;
+use rhai_text::{ArithmeticFault, EvalAltResult, Position, Token};
+use rhai_value::{Dynamic, INT};
+
+/// One of the first eleven operators on two ints.
+pub(crate) fn answer(op: Token, x: INT, y: INT) -> Result<Dynamic, EvalAltResult>
+    requires { IsTrue (is_number op) }
+    ensures { IsOutcome ⊥ result (number_answer (specs.number op x y)) }
+{
+    match number(op, x, y) {
+        Ok(n) => Ok(Dynamic::from_int(n)),
+        Err(fault) => Err(EvalAltResult::ErrorArithmetic(fault, Position::NONE)),
+    }
+}
+
+/// A comparison of two ints.
+pub(crate) fn compare(op: Token, x: INT, y: INT) -> Result<Dynamic, EvalAltResult>
+    requires { IsTrue (is_cmp op) }
+    ensures { IsOutcome ⊥ result (bool_answer (specs.compared op (int_cmp x y))) }
+{
+    Ok(Dynamic::from_bool(compared(op, x.cmp(&y))))
+}
+
+/// The number that the operator answers, or why there is none.
+pub(crate) fn number(op: Token, x: INT, y: INT) -> Result<INT, ArithmeticFault>
+    requires { IsTrue (is_number op) }
+    ensures { specs.number op x y ≡ Some result }
+{
+    match op {
+        Token::Plus => ranged(x.checked_add(y)),
+        Token::Minus => ranged(x.checked_sub(y)),
+        Token::Multiply => ranged(x.checked_mul(y)),
+        Token::Divide => quotient(x, y),
+        Token::Modulo => rest(x, y),
+        Token::PowerOf => power(x, y),
+        Token::RightShift => Ok(shifted_right(x, y)),
+        Token::LeftShift => Ok(shifted_left(x, y)),
+        Token::Ampersand => Ok(x & y),
+        Token::Pipe => Ok(x | y),
+        Token::XOr => Ok(x ^ y),
+        Token::EqualsTo
+        | Token::NotEqualsTo
+        | Token::GreaterThan
+        | Token::GreaterThanEqualsTo
+        | Token::LessThan
+        | Token::LessThanEqualsTo
+        | Token::ExclusiveRange
+        | Token::InclusiveRange
+        | Token::Equals
+        | Token::PlusAssign
+        | Token::MinusAssign
+        | Token::MultiplyAssign
+        | Token::DivideAssign
+        | Token::ModuloAssign
+        | Token::PowerOfAssign
+        | Token::RightShiftAssign
+        | Token::LeftShiftAssign
+        | Token::AndAssign
+        | Token::OrAssign
+        | Token::XOrAssign => unreachable!(),
+    }
+}
+
+/// A checked number, or overflow.
+fn ranged(value: Option<INT>) -> Result<INT, ArithmeticFault>
+    ensures { result ≡ specs.checked value }
+{
+    match value {
+        Some(z) => Ok(z),
+        None => Err(ArithmeticFault::Overflow),
+    }
+}
+
+fn quotient(x: INT, y: INT) -> Result<INT, ArithmeticFault>
+    ensures { specs.number Token.Divide x y ≡ Some result }
+{
+    if y == 0 {
+        return Err(ArithmeticFault::DivisionByZero);
+    }
+    ranged(x.checked_div(y))
+}
+
+fn rest(x: INT, y: INT) -> Result<INT, ArithmeticFault>
+    ensures { specs.number Token.Modulo x y ≡ Some result }
+{
+    if y == 0 {
+        return Err(ArithmeticFault::DivisionByZero);
+    }
+    ranged(x.checked_rem(y))
+}
+
+fn power(x: INT, y: INT) -> Result<INT, ArithmeticFault>
+    ensures { result ≡ specs.powered x y }
+{
+    if y < 0 {
+        return Err(ArithmeticFault::NegativePower);
+    }
+    if y > 4294967295 {
+        return Err(ArithmeticFault::PowerTooLarge);
+    }
+    ranged(x.checked_pow(y as u32))
+}
+
+fn shifted_left(x: INT, y: INT) -> INT
+    ensures { result ≡ specs.shifted_left x y }
+{
+    let by = y.unsigned_abs();
+    if y < 0 {
+        floor_power(x, by)
+    } else {
+        times_power(x, by)
+    }
+}
+
+fn shifted_right(x: INT, y: INT) -> INT
+    ensures { result ≡ specs.shifted_right x y }
+{
+    let by = y.unsigned_abs();
+    if y < 0 {
+        times_power(x, by)
+    } else {
+        floor_power(x, by)
+    }
+}
+
+fn times_power(x: INT, by: u64) -> INT
+    ensures { result ≡ specs.times_power x by }
+{
+    if by < 64 { x << by as u32 } else { 0 }
+}
+
+fn floor_power(x: INT, by: u64) -> INT
+    ensures { result ≡ specs.floor_power x by }
+{
+    if by < 63 { x >> by as u32 } else { x >> 63u32 }
+}

@@ -1,0 +1,41 @@
+//! Laws of the operators, each the contract of a function that does nothing.
+ghost use Rattle.std.specs.Prelude.{◌≡◌, ℕ, ℤ, Bool, [], ◌∷◌, List, Option, Some};
+ghost use Rattle.rhai_text.specs.declared.limits.Limits.{Limits};
+ghost use Rattle.rhai_text.specs.declared.token.Token.{Token};
+ghost use Rattle.rhai_value.specs.declared.access_mode.AccessMode.{AccessMode};
+ghost use Rattle.rhai_value.specs.declared.store.Cell.{Cell};
+ghost use Rattle.rhai_value.specs.Relation.{Renaming, Related, IsOneToOne, RelatedCells};
+ghost use Rattle.rhai_value.specs.Tree.{Tree, node, leaf, char as character, text};
+ghost use Rattle.rhai_ops.specs.declared.builtin.FnBuiltin.{FnBuiltin as Row};
+ghost use Rattle.rhai_ops.specs.declared.builtin.FnBuiltin.TheVariants as row;
+ghost use Rattle.rhai_ops.specs.Outcome.{RelatedOutcomes};
+ghost use Rattle.rhai_ops.specs.Results.{Suits, outcome};
+ghost use Rattle.rhai_ops.specs.Table.{row_of};
+
+/// The row that an operator has on two operands may be called on them.
+#[tactic(auto, using(crate::proofs::Suited::row_suits))]
+pub fn rows_suit()
+    ensures { (t : Token) (s : List Cell) (x y : Tree) (b : Row) → row_of t s x y ≡ Some b → Suits b s x y }
+{}
+
+/// The row of an operator, and what it comes to, don't depend on the numbers of cells.
+#[tactic(auto, using(crate::proofs::SameRows::same_row, crate::proofs::SameRows::same_outcome))]
+pub fn rows_are_renamed()
+    ensures row { (r : Renaming) (s z : List Cell) (k : Token) (t u v w : Tree)
+        → IsOneToOne r → RelatedCells r s z → Related r t u → Related r v w → row_of k s t v ≡ row_of k z u w }
+    ensures outcome { (r : Renaming) (s z : List Cell) (b : Row) (l : Limits) (t u v w : Tree)
+        → IsOneToOne r → RelatedCells r s z → Related r t u → Related r v w
+        → RelatedOutcomes r (outcome b l s t v) (outcome b l z u w) }
+{}
+
+/// A character compared with a text is ordered as the text of it alone, from either side, and two characters as their texts.
+#[tactic(auto, using(crate::proofs::Characters::first_as_text, crate::proofs::Characters::second_as_text, crate::proofs::Characters::both_as_texts))]
+pub fn characters_compare_as_texts()
+    ensures first { (t : Token) (l : Limits) (s : List Cell) (c : ℕ) (g : ℤ) (m : AccessMode) (y : Tree)
+        → outcome (row.CharTextCompare t) l s (node (leaf (character c)) g m) y ≡ outcome (row.TextCompare t) l s (node (leaf (text (c ∷ []))) g m) y }
+    ensures second { (t : Token) (l : Limits) (s : List Cell) (x : Tree) (d : ℕ) (g : ℤ) (m : AccessMode)
+        → outcome (row.TextCharCompare t) l s x (node (leaf (character d)) g m) ≡ outcome (row.TextCompare t) l s x (node (leaf (text (d ∷ []))) g m) }
+    ensures both { (t : Token) (l : Limits) (s : List Cell) (c d : ℕ) (g h : ℤ) (m n : AccessMode)
+        → outcome (row.CharCompare t) l s (node (leaf (character c)) g m) (node (leaf (character d)) h n)
+        ≡ outcome (row.TextCompare t) l s (node (leaf (text (c ∷ []))) g m) (node (leaf (text (d ∷ []))) h n) }
+{}

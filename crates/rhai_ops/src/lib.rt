@@ -1,0 +1,22 @@
+//! The built-in operators of script values: which row of the table an operator has on two operands, and what that row answers.
+#![tactic(auto)]
+
+mod answer;
+mod blobs;
+mod bools;
+mod builtin;
+mod chars;
+mod compare;
+mod ints;
+pub mod laws;
+mod lookup;
+mod own;
+mod ranges;
+mod texts;
+mod token;
+
+pub use builtin::FnBuiltin;
+pub use lookup::get_builtin_binary_op_fn;
+
+#[cfg(test)]
+mod tests;

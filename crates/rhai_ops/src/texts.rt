@@ -1,0 +1,99 @@
+//! Texts under operators.
+ghost use Rattle.std.specs.Prelude.{IsTrue, ◌∷◌, [], ◌++◌};
+ghost use Rattle.rhai_text.specs.Text as edits;
+ghost use Rattle.rhai_value.specs.Tree.{fresh, text as a_text};
+ghost use Rattle.rhai_ops.specs.Numbers as specs;
+ghost use Rattle.rhai_ops.specs.Outcome.{IsOutcome, answers, bool_answer, limited_text};
+ghost use Rattle.rhai_ops.specs.Results.{text_order};
+ghost use Rattle.rhai_ops.specs.Tokens.{is_cmp};
+
+use crate::answer::is_allowed;
+use crate::chars::spelled;
+use crate::compare::compared;
+use rhai_text::laws::byte_order_is_character_order;
+use rhai_text::{EvalAltResult, ImmutableString, Limits, Position, SizeKind, Token};
+use rhai_value::Dynamic;
+use std::alloc::Global;
+
+/// A text behind a text.
+#[tactic(auto, using(crate::proofs::Lengths::joined_length))]
+pub(crate) fn join(
+    alloc: Global,
+    limits: &Limits,
+    a: &ImmutableString,
+    b: &ImmutableString,
+) -> Result<Dynamic, EvalAltResult>
+    ensures { IsOutcome (Unit {0}) result (limited_text limits.now (a.now ++ b.now)) }
+{
+    if !is_allowed(limits.text, a.len(), b.len()) {
+        return Err(EvalAltResult::ErrorDataTooLarge(SizeKind::Text, Position::NONE));
+    }
+    Ok(Dynamic::from(a.concat(alloc, b.as_str())?))
+}
+
+/// A text without the occurrences of a text.
+pub(crate) fn minus(
+    alloc: Global,
+    a: &ImmutableString,
+    b: &ImmutableString,
+) -> Result<Dynamic, EvalAltResult>
+    ensures { IsOutcome (Unit {0}) result (answers (fresh (a_text (edits.minus a.now b.now)))) }
+{
+    Ok(Dynamic::from(a.minus(alloc, b.as_str())?))
+}
+
+/// A comparison of two texts.
+pub(crate) fn compare(
+    op: Token,
+    a: &ImmutableString,
+    b: &ImmutableString,
+) -> Result<Dynamic, EvalAltResult>
+    requires { IsTrue (is_cmp op) }
+    ensures { IsOutcome ⊥ result (bool_answer (specs.compared op (text_order a.now b.now))) }
+{
+    Ok(Dynamic::from_bool(compared(op, a.cmp(b))))
+}
+
+/// A character behind a text.
+#[tactic(auto, using(crate::proofs::Lengths::joined_length))]
+pub(crate) fn join_char(
+    alloc: Global,
+    limits: &Limits,
+    a: &ImmutableString,
+    b: char,
+) -> Result<Dynamic, EvalAltResult>
+    ensures { IsOutcome (Unit {0}) result (limited_text limits.now (a.now ++ b ∷ [])) }
+{
+    let mut buffer = [0; 4];
+    let b = spelled(b, &mut buffer);
+    if !is_allowed(limits.text, a.len(), b.len()) {
+        return Err(EvalAltResult::ErrorDataTooLarge(SizeKind::Text, Position::NONE));
+    }
+    Ok(Dynamic::from(a.concat(alloc, b)?))
+}
+
+/// A text without a character.
+pub(crate) fn minus_char(
+    alloc: Global,
+    a: &ImmutableString,
+    b: char,
+) -> Result<Dynamic, EvalAltResult>
+    ensures { IsOutcome (Unit {0}) result (answers (fresh (a_text (edits.minus_char a.now b)))) }
+{
+    Ok(Dynamic::from(a.minus_char(alloc, b)?))
+}
+
+/// A comparison of a text with a character, as the text of it alone.
+pub(crate) fn compare_char(
+    op: Token,
+    a: &ImmutableString,
+    b: char,
+) -> Result<Dynamic, EvalAltResult>
+    requires { IsTrue (is_cmp op) }
+    ensures { IsOutcome ⊥ result (bool_answer (specs.compared op (text_order a.now (b ∷ [])))) }
+{
+    let mut buffer = [0; 4];
+    let b = spelled(b, &mut buffer);
+    byte_order_is_character_order();
+    Ok(Dynamic::from_bool(compared(op, a.as_str().cmp(b))))
+}

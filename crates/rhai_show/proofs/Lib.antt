@@ -1,5 +1,12 @@
+pub mod Cleans
 pub mod Commas
+pub mod Distinct
+pub mod Hashes
+pub mod Heads
 pub mod Measures
+pub mod Plains
 pub mod Printed
 pub mod Pushed
+pub mod SamePlain
 pub mod SamePrinted
+pub mod Searches

@@ -1,11 +1,12 @@
 -- The text of a value by its parts.
-use Rattle.std.proofs.Common.{◌≡◌, ℕ, ℤ, ◌++◌, [], ◌∷◌, List, map, Result, OnOk, Some, None, IfSome, codes, refl, sym, ap, ap₂, ◌∙◌, subst}
+use Rattle.std.proofs.Common.{◌≡◌, ℕ, ℤ, Bool, true, false, Option, ◌++◌, [], ◌∷◌, List, map, Result, OnOk, Some, None, IfSome, codes, refl, sym, ap, ap₂, ◌∙◌, subst}
 use Rattle.std.specs.Str.{chars}
 use Rattle.rhai_value.specs.declared.access_mode.AccessMode.{AccessMode}
 use Rattle.rhai_value.specs.declared.store.Cell.{Cell}
 use Rattle.rhai_value.specs.Rows.{Rows, trees_of, fields_of}
+use Rattle.rhai_value.specs.Store.{at}
 use Rattle.rhai_value.specs.Tree.{Tree, node, Leaf, leaf, branch, fields, holder, array, function, cell_of}
-use Rattle.rhai_value.specs.Walk.{Visit, entered, barred, revisited, visit, visit_map, opened, entry}
+use Rattle.rhai_value.specs.Walk.{Visit, entered, barred, revisited, is_open, visit, visit_of, visit_map, opened, entry}
 use Rattle.rhai_value.proofs.ForCallers.{walk_opens}
 use Rattle.rhai_show.proofs.Commas.{joined-map, further-map}
 use Rattle.rhai_show.proofs.Pushed.{added_as}
@@ -84,3 +85,31 @@ module _ (s : List Cell) (path : List ℕ) where
   printed-function t form f items g m e =
       ap (λ x. codes "Fn(" ++ name_printed form f ++ in_debug form x [] ++ codes ")") (sym (further-map (λ v. v Debug) (printed s path) items) ∙ ap (further (λ v. v Debug)) (each_printed items))
       ∙ sym (by_parts s path t (node (branch (function f) (trees_of items)) g m) form e)
+
+-- the text of a value, kind by kind
+module _ (s : List Cell) (path : List ℕ) (form : Form) (g : ℤ) (m : AccessMode) where
+  pub leaf_text : (l : Leaf) → printed s path (node (leaf l) g m) form ≡ leaf_printed form l
+  leaf_text l = by_parts s path (node (leaf l) g m) (node (leaf l) g m) form refl
+
+  pub array_text : (items : List Tree) → printed s path (node (branch array (trees_of items)) g m) form ≡ codes "[" ++ joined (λ u. printed s path u (item_form form)) items ++ codes "]"
+  array_text items = sym (printed-array s path (node (branch array (trees_of items)) g m) form (item_form form) items items g m refl refl refl)
+
+  pub map_text : (rows : Rows) → printed s path (node (fields (fields_of rows)) g m) form ≡ codes "#{" ++ joined (row_printed (item_form form) (λ u. printed s path u (item_form form))) rows ++ codes "}"
+  map_text rows = sym (printed-map s path (node (fields (fields_of rows)) g m) form (item_form form) rows g m refl refl)
+
+  pub function_text : (name : List ℕ) (curry : List Tree) → printed s path (node (branch (function name) (trees_of curry)) g m) form ≡ codes "Fn(" ++ name_printed form name ++ in_debug form (further (λ u. printed s path u Debug) curry) [] ++ codes ")"
+  function_text name curry = sym (printed-function s path (node (branch (function name) (trees_of curry)) g m) form name curry g m refl)
+
+  holder_text : (c : ℕ) (o : Option Tree) (b : Bool) → at s c ≡ o → is_open c path ≡ b → printed s path (node (holder c) g m) form ≡ holder_printed form (visit_map (printed s (c ∷ path)) (visit_of o b))
+  holder_text c o b some again =
+      by_parts s path (node (holder c) g m) (node (holder c) g m) form refl
+      ∙ ap₂ (λ x y. holder_printed form (visit_map (printed s (c ∷ path)) (visit_of x y))) some again
+
+  pub opened_text : (c : ℕ) (u : Tree) → at s c ≡ Some u → is_open c path ≡ false → printed s path (node (holder c) g m) form ≡ printed s (c ∷ path) u (content_form form) ++ codes " (shared)"
+  opened_text c u some fresh = holder_text c (Some u) false some fresh
+
+  pub barred_text : (c : ℕ) → at s c ≡ None → printed s path (node (holder c) g m) form ≡ codes "<shared>"
+  barred_text c none = holder_text c None (is_open c path) none refl
+
+  pub revisited_text : (c : ℕ) (u : Tree) → at s c ≡ Some u → is_open c path ≡ true → printed s path (node (holder c) g m) form ≡ codes "<shared>"
+  revisited_text c u some again = holder_text c (Some u) true some again

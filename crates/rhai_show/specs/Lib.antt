@@ -4,3 +4,8 @@ pub use Rattle.rhai_value.specs.Walk
 pub mod Leaves
 pub mod Text
 pub mod Listed
+pub mod Plain
+pub mod Clean
+pub mod HashBytes
+pub mod HashRows
+pub mod InRange

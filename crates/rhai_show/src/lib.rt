@@ -1,8 +1,12 @@
-//! The printed text of script values.
+//! The printed text and the hash bytes of script values.
 #![tactic(auto)]
 
 mod blob;
 pub mod form;
+mod hash;
+mod hash_bytes;
+mod hashable;
+mod hashed_value;
 mod host;
 pub mod laws;
 mod leaf;
@@ -10,6 +14,9 @@ mod shown;
 mod text;
 
 pub use form::Form;
+pub use hash::hashed;
+pub use hashable::is_hashable;
+pub use hashed_value::Hashed;
 pub use shown::Shown;
 pub use text::{debug_text, display_text};
 

@@ -1,0 +1,58 @@
+-- Plain values that a program can have: numbers are in the ranges of their types, and lengths fit in eight bytes.
+use Rattle.std.specs.Prelude.{◌≡◌, ◌<◌, ◌^◌, ℕ, true, List, length, ⊤, FitsSigned}
+use Rattle.std.specs.Int.{w8, w16, w32, w64, w128}
+use Rattle.std.specs.Str.{all_scalars, encode_utf8_all}
+use Rattle.rhai_value.specs.declared.host.Host.{Host}
+use Rattle.rhai_value.specs.declared.host.Host.TheVariants as host_kind
+use Rattle.rhai_value.specs.Tree.{Leaf, unit, bool, int, char, text, blob, host, Kind, array, function}
+use Rattle.rhai_show.specs.Plain.{Plain, plain_leaf, plain_branch, plain_map, Plains, no_plains, plain_then, PlainFields, no_plain_fields, plain_field_then}
+use Rattle.rhai_show.specs.HashBytes.{how_many, how_many_fields}
+
+-- a count that fits in eight bytes
+abbrev pub IsCount : ℕ → Type 0
+IsCount n = n < 2 ^ 64
+
+-- characters, whose UTF-8 isn't too long
+abbrev pub IsName : List ℕ → Type 0
+IsName cs = (all_scalars cs ≡ true) × IsCount (length (encode_utf8_all cs))
+
+abbrev pub IsHost : Host → Type 0
+IsHost (host_kind.U8 n) = n < 2 ^ 8
+IsHost (host_kind.U16 n) = n < 2 ^ 16
+IsHost (host_kind.U32 n) = n < 2 ^ 32
+IsHost (host_kind.U64 n) = n < 2 ^ 64
+IsHost (host_kind.U128 n) = n < 2 ^ 128
+IsHost (host_kind.I8 n) = FitsSigned w8 n
+IsHost (host_kind.I16 n) = FitsSigned w16 n
+IsHost (host_kind.I32 n) = FitsSigned w32 n
+IsHost (host_kind.I128 n) = FitsSigned w128 n
+IsHost (host_kind.ExclusiveRange r) = FitsSigned w64 r.start × FitsSigned w64 r.end
+IsHost (host_kind.InclusiveRange r) = FitsSigned w64 r.start × FitsSigned w64 r.end
+
+-- of a blob's bytes nothing is asked: they are hashed as they are
+abbrev pub IsLeaf : Leaf → Type 0
+IsLeaf unit = ⊤
+IsLeaf (bool b) = ⊤
+IsLeaf (text cs) = IsName cs
+IsLeaf (char c) = c < 2 ^ 32
+IsLeaf (int n) = FitsSigned w64 n
+IsLeaf (blob bs) = IsCount (length bs)
+IsLeaf (host h) = IsHost h
+
+abbrev pub IsKind : Kind → Type 0
+IsKind array = ⊤
+IsKind (function f) = IsName f
+
+abbrev mutual
+  pub IsInRange : Plain → Type 0
+  IsInRange (plain_leaf l) = IsLeaf l
+  IsInRange (plain_branch k ps) = IsKind k × IsCount (how_many ps) × AreInRange ps
+  IsInRange (plain_map fs) = IsCount (how_many_fields fs) × FieldsInRange fs
+
+  pub AreInRange : Plains → Type 0
+  AreInRange no_plains = ⊤
+  AreInRange (plain_then p ps) = IsInRange p × AreInRange ps
+
+  pub FieldsInRange : PlainFields → Type 0
+  FieldsInRange no_plain_fields = ⊤
+  FieldsInRange (plain_field_then k p fs) = IsName k × IsInRange p × FieldsInRange fs

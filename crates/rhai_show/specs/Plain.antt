@@ -1,0 +1,59 @@
+-- Values without tags, modes and holders.
+use Rattle.std.specs.Prelude.{ℕ, List, Option, Some, None, option_map}
+use Rattle.rhai_value.specs.declared.store.Cell.{Cell}
+use Rattle.rhai_value.specs.Tree.{Leaf, Kind, Tree, node, Content, leaf, branch, fields, holder, Trees, no_trees, tree_then, Fields, no_fields, field_then}
+use Rattle.rhai_value.specs.Walk.{Visit, entered, barred, revisited, walk}
+
+mutual
+  -- a leaf, children, or the fields of a map
+  pub data Plain : Type 0 where
+    plain_leaf : Leaf → Plain
+    plain_branch : Kind → Plains → Plain
+    plain_map : PlainFields → Plain
+
+  pub data Plains : Type 0 where
+    no_plains : Plains
+    plain_then : Plain → Plains → Plains
+
+  -- each key, as its characters, with its value
+  pub data PlainFields : Type 0 where
+    no_plain_fields : PlainFields
+    plain_field_then : List ℕ → Plain → PlainFields → PlainFields
+
+-- one more child, where there are all
+abbrev pub plain_more : Option Plain → Option Plains → Option Plains
+plain_more None o = None
+plain_more (Some p) o = option_map (plain_then p) o
+
+-- one more field, where there are all
+abbrev pub plain_field_more : List ℕ → Option Plain → Option PlainFields → Option PlainFields
+plain_field_more k None o = None
+plain_field_more k (Some p) o = option_map (plain_field_then k p) o
+
+-- a holder is its cell's content; it is none where the cell is open, marked or foreign
+abbrev pub plain_held : Visit (Option Plain) → Option Plain
+plain_held (entered o) = o
+plain_held barred = None
+plain_held revisited = None
+
+abbrev mutual
+  pub plain_of : List ℕ → (ℕ → Visit (Option Plain)) → Tree → Option Plain
+  plain_of path go (node c g m) = content_plain path go c
+
+  pub content_plain : List ℕ → (ℕ → Visit (Option Plain)) → Content → Option Plain
+  content_plain path go (leaf l) = Some (plain_leaf l)
+  content_plain path go (branch k ts) = option_map (plain_branch k) (all_plain path go ts)
+  content_plain path go (fields fs) = option_map plain_map (fields_plain path go fs)
+  content_plain path go (holder c) = plain_held (go c)
+
+  pub all_plain : List ℕ → (ℕ → Visit (Option Plain)) → Trees → Option Plains
+  all_plain path go no_trees = Some no_plains
+  all_plain path go (tree_then t ts) = plain_more (plain_of path go t) (all_plain path go ts)
+
+  pub fields_plain : List ℕ → (ℕ → Visit (Option Plain)) → Fields → Option PlainFields
+  fields_plain path go no_fields = Some no_plain_fields
+  fields_plain path go (field_then k t fs) = plain_field_more k (plain_of path go t) (fields_plain path go fs)
+
+-- the value without tags, modes and holders, these cells being open; none where it has to go through an open, marked or foreign cell
+unfoldable pub plain : List Cell → List ℕ → Tree → Option Plain
+plain s path t = walk plain_of s path t

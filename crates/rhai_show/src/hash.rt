@@ -1,0 +1,121 @@
+//! The hash bytes of a value.
+ghost use Rattle.std.specs.Prelude.{◌≡◌, ◌++◌, ◌∷◌, [], true, IfOk, OnOk, is_some, length, option_map};
+ghost use Rattle.std.specs.List.{flat_map};
+ghost use Rattle.rhai_value.specs.Rows.{trees_of, fields_of};
+ghost use Rattle.rhai_show.specs.Plain.{plain};
+ghost use Rattle.rhai_show.specs.Clean.{are_plain, values_in};
+ghost use Rattle.rhai_show.specs.HashBytes.{count_bytes, name_bytes, plain_bytes, hash_bytes};
+ghost use Rattle.rhai_show.specs.HashRows.{row_bytes};
+
+use crate::hash_bytes::{
+    add_bool, add_bytes, add_char, add_count, add_host, add_int, add_name, add_sized,
+};
+use crate::hashable::is_hashable;
+use crate::hashed_value::Hashed;
+use rhai_value::{Dynamic, Map, Path, Store, Union};
+use std::alloc::{AllocError, Global};
+
+/// Adds the hash bytes of a value that has some, the cells of the path being open.
+#[cycle(write)]
+fn add_value(
+    store: &Store,
+    path: &mut Path,
+    value: &Dynamic,
+    out: &mut Vec<u8>,
+) -> Result<(), AllocError>
+    requires { is_some (plain store.now path.old value.now) ≡ true }
+    ensures bytes { OnOk result (out.new.items ≡ out.old.items ++ hash_bytes store.now path.old value.now) }
+    ensures path { OnOk result (path.new ≡ path.old) }
+{
+    match value.parts() {
+        Union::Unit(_, _, _) => add_bytes(out, &[0]),
+        Union::Bool(_, _, value) => add_bool(out, *value),
+        Union::Str(_, _, value) => {
+            add_bytes(out, &[2])?;
+            add_name(out, value.as_str())
+        }
+        Union::Char(_, _, value) => add_char(out, *value),
+        Union::Int(_, _, value) => {
+            add_bytes(out, &[4])?;
+            add_int(out, value)
+        }
+        Union::Array(_, _, items) => {
+            add_bytes(out, &[5])?;
+            add_items(store, path, items.as_slice(), out)
+        }
+        Union::Blob(_, _, bytes) => {
+            add_bytes(out, &[6])?;
+            add_sized(out, bytes.as_slice())
+        }
+        Union::Map(_, _, map) => add_map(store, path, map, out),
+        Union::FnPtr(_, _, function) => {
+            add_bytes(out, &[8])?;
+            add_name(out, function.fn_name())?;
+            add_items(store, path, function.curry(), out)
+        }
+        Union::Variant(_, _, value) => {
+            add_bytes(out, &[9])?;
+            add_host(out, value)
+        }
+        Union::Shared(_, _, _) => match path.enter(store, value)? {
+            None => unreachable!(),
+            Some(content) => {
+                add_value(store, path, content, out)?;
+                path.leave();
+                Ok(())
+            }
+        },
+    }
+}
+
+/// Adds the number of items, and then the items.
+#[cycle(write)]
+fn add_items(
+    store: &Store,
+    path: &mut Path,
+    items: &[Dynamic],
+    out: &mut Vec<u8>,
+) -> Result<(), AllocError>
+    requires { are_plain store.now path.old (trees_of items.now) ≡ true }
+    ensures bytes { OnOk result (out.new.items ≡ out.old.items ++ (count_bytes (length items.now)
+        ++ flat_map (hash_bytes store.now path.old) items.now)) }
+    ensures path { OnOk result (path.new ≡ path.old) }
+{
+    add_count(out, items.len())?;
+    for item in items {
+        add_value(store, path, item, out)?;
+    }
+    Ok(())
+}
+
+/// Adds the number of entries, and then each key with its value.
+#[cycle(write)]
+fn add_map(store: &Store, path: &mut Path, map: &Map, out: &mut Vec<u8>) -> Result<(), AllocError>
+    requires { are_plain store.now path.old (values_in (fields_of map.now)) ≡ true }
+    ensures bytes { OnOk result (out.new.items ≡ out.old.items ++ 7 ∷ (count_bytes (length map.now)
+        ++ flat_map (row_bytes (hash_bytes store.now path.old)) map.now)) }
+    ensures path { OnOk result (path.new ≡ path.old) }
+{
+    add_bytes(out, &[7])?;
+    add_count(out, map.len())?;
+    for (key, value) in map.iter() {
+        add_name(out, key)?;
+        add_value(store, path, value, out)?;
+    }
+    Ok(())
+}
+
+/// The hash bytes of a value, `None` exactly where it isn't hashable (`Hash` of rhai's `Dynamic`, which feeds any hasher). Costs
+/// what `is_hashable` costs and the number of the bytes, and for each holder on the way the logarithm of how many cells are open
+/// then. A cell that is reached on many ways gives its bytes on each, so that these can be very many more than the values are.
+pub fn hashed(alloc: Global, value: &Dynamic, s: &Store) -> Result<Option<Hashed>, AllocError>
+    ensures { IfOk result (λ o. o ≡ option_map plain_bytes (plain s.now [] value.now)) }
+{
+    if !is_hashable(alloc, value, s)? {
+        return Ok(None);
+    }
+    let mut bytes = Vec::new(alloc);
+    let mut path = Path::new(alloc);
+    add_value(s, &mut path, value, &mut bytes)?;
+    Ok(Some(Hashed::from_bytes(bytes)))
+}

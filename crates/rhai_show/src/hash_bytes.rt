@@ -1,0 +1,95 @@
+//! The hash bytes of values that hold no other value, and of names and counts.
+ghost use Rattle.std.specs.Prelude.{◌≡◌, ◌++◌, ◌∷◌, [], OnOk, length};
+ghost use Rattle.std.specs.Str.{chars};
+ghost use Rattle.rhai_value.specs.Tree.{bool as a_bool, char as a_char};
+ghost use Rattle.rhai_show.specs.HashBytes.{count_bytes, int_bytes, sized, name_bytes, host_bytes, leaf_bytes};
+
+use rhai_value::{Host, INT};
+use std::alloc::AllocError;
+
+/// Adds bytes at the end.
+pub(crate) fn add_bytes(out: &mut Vec<u8>, bytes: &[u8]) -> Result<(), AllocError>
+    ensures { OnOk result (out.new.items ≡ out.old.items ++ bytes.now) }
+{
+    out.extend_from_slice(bytes)
+}
+
+pub(crate) fn add_bool(out: &mut Vec<u8>, value: bool) -> Result<(), AllocError>
+    ensures { OnOk result (out.new.items ≡ out.old.items ++ leaf_bytes (a_bool value)) }
+{
+    if value {
+        add_bytes(out, &[1, 1])
+    } else {
+        add_bytes(out, &[1, 0])
+    }
+}
+
+pub(crate) fn add_char(out: &mut Vec<u8>, value: char) -> Result<(), AllocError>
+    ensures { OnOk result (out.new.items ≡ out.old.items ++ leaf_bytes (a_char value)) }
+{
+    add_bytes(out, &[3])?;
+    add_bytes(out, &(value as u32).to_le_bytes())
+}
+
+/// Adds how many bytes, items or entries follow.
+pub(crate) fn add_count(out: &mut Vec<u8>, count: usize) -> Result<(), AllocError>
+    ensures { OnOk result (out.new.items ≡ out.old.items ++ count_bytes count) }
+{
+    add_bytes(out, &count.to_le_bytes())
+}
+
+/// Adds bytes behind their number.
+pub(crate) fn add_sized(out: &mut Vec<u8>, bytes: &[u8]) -> Result<(), AllocError>
+    ensures { OnOk result (out.new.items ≡ out.old.items ++ sized bytes.now) }
+{
+    add_count(out, bytes.len())?;
+    add_bytes(out, bytes)
+}
+
+/// Adds a text, a key or a name.
+pub(crate) fn add_name(out: &mut Vec<u8>, name: &str) -> Result<(), AllocError>
+    ensures { OnOk result (out.new.items ≡ out.old.items ++ name_bytes (chars name.now)) }
+{
+    add_sized(out, name.as_bytes())
+}
+
+pub(crate) fn add_int(out: &mut Vec<u8>, value: &INT) -> Result<(), AllocError>
+    ensures { OnOk result (out.new.items ≡ out.old.items ++ int_bytes value.now) }
+{
+    add_bytes(out, &value.to_le_bytes())
+}
+
+pub(crate) fn add_host(out: &mut Vec<u8>, value: &Host) -> Result<(), AllocError>
+    ensures { OnOk result (out.new.items ≡ out.old.items ++ host_bytes value.now) }
+{
+    match *value {
+        Host::U8(n) => add_number(out, 0, &[n]),
+        Host::U16(n) => add_number(out, 1, &n.to_le_bytes()),
+        Host::U32(n) => add_number(out, 2, &n.to_le_bytes()),
+        Host::U64(n) => add_number(out, 3, &n.to_le_bytes()),
+        Host::U128(n) => add_number(out, 4, &n.to_le_bytes()),
+        Host::I8(n) => add_number(out, 5, &n.to_le_bytes()),
+        Host::I16(n) => add_number(out, 6, &n.to_le_bytes()),
+        Host::I32(n) => add_number(out, 7, &n.to_le_bytes()),
+        Host::I128(n) => add_number(out, 8, &n.to_le_bytes()),
+        Host::ExclusiveRange(range) => add_range(out, 9, &range.start, &range.end),
+        Host::InclusiveRange(range) => add_range(out, 10, &range.start, &range.end),
+    }
+}
+
+/// Adds the kind of a number and its bytes.
+fn add_number(out: &mut Vec<u8>, kind: u8, number: &[u8]) -> Result<(), AllocError>
+    ensures { OnOk result (out.new.items ≡ out.old.items ++ kind ∷ number.now) }
+{
+    add_bytes(out, &[kind])?;
+    add_bytes(out, number)
+}
+
+/// Adds the kind of a range and its two ends.
+fn add_range(out: &mut Vec<u8>, kind: u8, start: &INT, end: &INT) -> Result<(), AllocError>
+    ensures { OnOk result (out.new.items ≡ out.old.items ++ (kind ∷ int_bytes start.now ++ int_bytes end.now)) }
+{
+    add_bytes(out, &[kind])?;
+    add_int(out, start)?;
+    add_int(out, end)
+}

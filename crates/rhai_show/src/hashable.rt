@@ -1,0 +1,103 @@
+//! Whether a value can be hashed.
+ghost use Rattle.std.specs.Prelude.{◌≡◌, [], true, IfOk, OnOk, is_some};
+ghost use Rattle.rhai_value.specs.Rows.{trees_of, fields_of};
+ghost use Rattle.rhai_value.specs.Tree.{tree_then, no_trees};
+ghost use Rattle.rhai_show.specs.Plain.{plain};
+ghost use Rattle.rhai_show.specs.Clean.{are_plain, values_in, has_left, Clean, Searched};
+
+use rhai_value::{Dynamic, Map, Path, Store, Union};
+use std::alloc::{AllocError, Global};
+
+/// Whether the value is plain, the cells of `path` being open. The cells of `seen` were opened before; of those that are still open
+/// none opens again, and those that were left are known to be clean, so that none of these is looked into a second time.
+#[cycle(search)]
+fn is_clean(
+    store: &Store,
+    path: &mut Path,
+    seen: &mut Path,
+    value: &Dynamic,
+) -> Result<bool, AllocError>
+    requires { Clean store.now (has_left seen.old path.old) }
+    ensures answer { IfOk result (λ b. b ≡ is_some (plain store.now path.old value.now)) }
+    ensures path { OnOk result (path.new ≡ path.old) }
+    ensures searched { IfOk result (λ b. b ≡ true → Searched store.now path.old seen.old seen.new (tree_then value.now no_trees)) }
+{
+    match value.parts() {
+        Union::Unit(_, _, _) => Ok(true),
+        Union::Bool(_, _, _) => Ok(true),
+        Union::Str(_, _, _) => Ok(true),
+        Union::Char(_, _, _) => Ok(true),
+        Union::Int(_, _, _) => Ok(true),
+        Union::Blob(_, _, _) => Ok(true),
+        Union::Variant(_, _, _) => Ok(true),
+        Union::Array(_, _, items) => are_clean(store, path, seen, items.as_slice()),
+        Union::Map(_, _, map) => is_map_clean(store, path, seen, map),
+        Union::FnPtr(_, _, function) => are_clean(store, path, seen, function.curry()),
+        Union::Shared(_, _, _) => match path.enter(store, value)? {
+            None => Ok(false),
+            Some(content) => match seen.enter(store, value)? {
+                None => {
+                    path.leave();
+                    Ok(true)
+                }
+                Some(_) => {
+                    let is_clean = is_clean(store, path, seen, content)?;
+                    path.leave();
+                    Ok(is_clean)
+                }
+            },
+        },
+    }
+}
+
+#[cycle(search)]
+fn are_clean(
+    store: &Store,
+    path: &mut Path,
+    seen: &mut Path,
+    items: &[Dynamic],
+) -> Result<bool, AllocError>
+    requires { Clean store.now (has_left seen.old path.old) }
+    ensures answer { IfOk result (λ b. b ≡ are_plain store.now path.old (trees_of items.now)) }
+    ensures path { OnOk result (path.new ≡ path.old) }
+    ensures searched { IfOk result (λ b. b ≡ true → Searched store.now path.old seen.old seen.new (trees_of items.now)) }
+{
+    for item in items {
+        if !is_clean(store, path, seen, item)? {
+            return Ok(false);
+        }
+    }
+    Ok(true)
+}
+
+#[cycle(search)]
+fn is_map_clean(
+    store: &Store,
+    path: &mut Path,
+    seen: &mut Path,
+    map: &Map,
+) -> Result<bool, AllocError>
+    requires { Clean store.now (has_left seen.old path.old) }
+    ensures answer { IfOk result (λ b. b ≡ are_plain store.now path.old (values_in (fields_of map.now))) }
+    ensures path { OnOk result (path.new ≡ path.old) }
+    ensures searched { IfOk result (λ b. b ≡ true → Searched store.now path.old seen.old seen.new (values_in (fields_of map.now))) }
+{
+    for (_, value) in map.iter() {
+        if !is_clean(store, path, seen, value)? {
+            return Ok(false);
+        }
+    }
+    Ok(true)
+}
+
+/// Whether the value can be hashed: not where it has to go through a cell that is marked, no cell of the store, or in a loop
+/// (`Dynamic::is_hashable`). The content of each cell is looked into once, however many holders lead to it; each holder costs
+/// the logarithm of the number of cells that were reached, and memory grows with these. It goes down a value, and from cell to
+/// cell, by calls.
+pub fn is_hashable(alloc: Global, value: &Dynamic, s: &Store) -> Result<bool, AllocError>
+    ensures { IfOk result (λ b. b ≡ is_some (plain s.now [] value.now)) }
+{
+    let mut path = Path::new(alloc);
+    let mut seen = Path::new(alloc);
+    is_clean(s, &mut path, &mut seen, value)
+}

@@ -1,0 +1,40 @@
+//! Laws of plain values and of hash bytes, each the contract of a function that does nothing.
+ghost use Rattle.std.specs.Prelude.{◌≡◌, ◌↔◌, ◌∷◌, [], ℕ, ℤ, List, Some};
+ghost use Rattle.rhai_value.specs.declared.access_mode.AccessMode.{AccessMode};
+ghost use Rattle.rhai_value.specs.declared.store.Cell.{Cell};
+ghost use Rattle.rhai_value.specs.Tree.{Tree, Content, node, holder};
+ghost use Rattle.rhai_value.specs.Walk.{visit, visit_map, entered};
+ghost use Rattle.rhai_value.specs.Relation.{Renaming, Related, IsOneToOne, RelatedCells};
+ghost use Rattle.rhai_show.specs.Plain.{Plain, plain_of, plain};
+ghost use Rattle.rhai_show.specs.HashBytes.{plain_bytes};
+ghost use Rattle.rhai_show.specs.InRange.{IsInRange};
+
+/// A value without tags, modes and holders, by its parts: no length of the store is in it.
+#[tactic(auto, using(crate::proofs::Plains::plain_opens))]
+pub fn plain_opens()
+    ensures { (s : List Cell) (path : List ℕ) (t : Tree)
+        → plain s path t ≡ plain_of path (λ c. visit_map (plain s (c ∷ path)) (visit s path c)) t }
+{}
+
+/// What a value is without tags, modes and holders doesn't depend on the numbers of cells.
+#[tactic(auto, using(crate::proofs::SamePlain::same_plain))]
+pub fn plain_is_renamed()
+    ensures { (r : Renaming) (s z : List Cell) (t u : Tree)
+        → IsOneToOne r → RelatedCells r s z → Related r t u → plain s [] t ≡ plain z [] u }
+{}
+
+/// Tags, modes and sharing aren't seen: a holder whose cell opens is what its content is.
+#[tactic(auto, using(crate::proofs::Plains::plain_bare, crate::proofs::Plains::plain_shared))]
+pub fn plain_values_are_bare()
+    ensures bare { (s : List Cell) (path : List ℕ) (c : Content) (g h : ℤ) (m n : AccessMode)
+        → plain s path (node c g m) ≡ plain s path (node c h n) }
+    ensures shared { (s : List Cell) (path : List ℕ) (c : ℕ) (g : ℤ) (m : AccessMode) (t : Tree)
+        → visit s path c ≡ entered t → plain s path (node (holder c) g m) ≡ plain s (c ∷ path) t }
+{}
+
+/// Plain values whose numbers are in the ranges of their types, and whose lengths are below 2^64, have equal hash bytes exactly
+/// where they are equal.
+#[tactic(auto, using(crate::proofs::Distinct::distinct_bytes))]
+pub fn hash_bytes_tell_plain_values_apart()
+    ensures { (p q : Plain) → IsInRange p → IsInRange q → (plain_bytes p ≡ plain_bytes q) ↔ (p ≡ q) }
+{}

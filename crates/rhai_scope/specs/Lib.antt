@@ -1,0 +1,5 @@
+pub mod Alias
+pub mod Code
+pub mod Columns
+pub mod Entry
+pub mod Lookup

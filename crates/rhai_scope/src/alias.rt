@@ -1,0 +1,70 @@
+//! Other names of an entry.
+
+use rhai_text::ImmutableString;
+use smallvec::SmallVec;
+use std::alloc::{AllocError, Global};
+use std::default::Default;
+use std::marker::Model;
+
+/// Another name of an entry. Contracts see it as its characters.
+///
+/// An alias list keeps blanks at its unused places, which must take no memory; so the blank is an alias of no text, which is the
+/// empty name.
+#[derive(Drop)]
+pub struct Alias {
+    name: Option<ImmutableString>,
+}
+
+/// The aliases of an entry, up to three in place.
+pub type AliasList = SmallVec<Alias, 3>;
+
+impl Model for Alias {
+    ghost use Rattle.std.specs.Prelude.{List, ℕ};
+
+    ghost Value = { List ℕ };
+
+    ghost use Rattle.rhai_scope.specs.Alias.{alias_of};
+
+    ghost view = { λ a. alias_of a.name };
+}
+
+ghost use Rattle.std.specs.Prelude.{◌≡◌, [], IfOk};
+ghost use Rattle.std.specs.Str.{chars};
+
+impl Alias {
+    pub fn new(name: ImmutableString) -> Alias
+        ensures { result ≡ name }
+    {
+        Alias { name: Some(name) }
+    }
+
+    /// The name, at no cost.
+    #[tactic(auto, using(crate::proofs::Names::no_characters))]
+    pub fn as_str(&self) -> &str
+        ensures { chars result.now ≡ self.now }
+    {
+        match &self.name {
+            Some(name) => name.as_str(),
+            None => "",
+        }
+    }
+
+    /// The same name again, which shares its bytes.
+    pub fn copy(&self, alloc: Global) -> Result<Alias, AllocError>
+        ensures { IfOk result (λ a. a ≡ self.now) }
+    {
+        let name = match &self.name {
+            Some(name) => Some(name.copy(alloc)?),
+            None => None,
+        };
+        Ok(Alias { name })
+    }
+}
+
+impl Default for Alias {
+    ghost is_default = { λ a. a ≡ [] };
+
+    fn default() -> Alias {
+        Alias { name: None }
+    }
+}

@@ -1,0 +1,93 @@
+//! How a scope lies in memory.
+ghost use Rattle.std.specs.Prelude.{◌≡◌, ◌<◌, ◌≤◌, ◌+◌, [], ◌∷◌, ◌++◌, length, take, vec_len, vec_capacity, OnOk};
+ghost use Rattle.rhai_scope.specs.Entry.{new_entry};
+ghost use Rattle.rhai_scope.specs.Columns.{entries, AreParallel};
+
+use crate::alias::AliasList;
+use rhai_text::ImmutableString;
+use rhai_value::Dynamic;
+use std::alloc::{AllocError, Global};
+
+/// The least number of entries that a scope has room for, once it has one.
+pub const MIN_SCOPE_ENTRIES: usize = 8;
+
+/// Names, values and alias lists, place by place. A place past the last alias list has no alias.
+#[derive(Drop)]
+pub(crate) struct Columns {
+    pub(crate) names: Vec<ImmutableString>,
+    pub(crate) values: Vec<Dynamic>,
+    pub(crate) aliases: Vec<AliasList>,
+}
+
+impl Columns {
+    pub(crate) fn new(alloc: Global) -> Columns
+        ensures entries { entries result ≡ [] }
+        ensures parallel { AreParallel result }
+    {
+        Columns {
+            names: Vec::new(alloc),
+            values: Vec::new(alloc),
+            aliases: Vec::new(alloc),
+        }
+    }
+
+    /// The number of entries.
+    #[tactic(auto, using(crate::proofs::Parallel::length_entries))]
+    pub(crate) fn len(&self) -> usize
+        requires { AreParallel self.now }
+        ensures { result ≡ length (entries self.now) }
+    {
+        self.names.len()
+    }
+
+    /// Makes room for more entries.
+    pub(crate) fn reserve(&mut self, more: usize) -> Result<(), AllocError>
+        ensures names { self.new.names.items ≡ self.old.names.items }
+        ensures values { self.new.values.items ≡ self.old.values.items }
+        ensures aliases { self.new.aliases ≡ self.old.aliases }
+        ensures room { OnOk result ((vec_len self.new.names + more ≤ vec_capacity self.new.names) × (vec_len self.new.values + more ≤ vec_capacity self.new.values)) }
+    {
+        self.names.reserve(more)?;
+        self.values.reserve(more)?;
+        Ok(())
+    }
+
+    /// Makes room for one more entry.
+    pub(crate) fn make_room(&mut self) -> Result<(), AllocError>
+        ensures names { self.new.names.items ≡ self.old.names.items }
+        ensures values { self.new.values.items ≡ self.old.values.items }
+        ensures aliases { self.new.aliases ≡ self.old.aliases }
+        ensures room { OnOk result ((vec_len self.new.names < vec_capacity self.new.names) × (vec_len self.new.values < vec_capacity self.new.values)) }
+    {
+        let more = if self.names.is_empty() {
+            MIN_SCOPE_ENTRIES
+        } else {
+            1
+        };
+        self.reserve(more)
+    }
+
+    /// Adds an entry behind the others, where there is room for it.
+    #[tactic(auto, using(crate::proofs::Parallel::with_one_more))]
+    pub(crate) fn push_in_room(&mut self, name: ImmutableString, value: Dynamic)
+        requires parallel { AreParallel self.old }
+        requires room { (vec_len self.old.names < vec_capacity self.old.names) × (vec_len self.old.values < vec_capacity self.old.values) }
+        ensures entries { entries self.new ≡ entries self.old ++ new_entry name value ∷ [] }
+        ensures parallel { AreParallel self.new }
+    {
+        self.names.push_reserved(name);
+        self.values.push_reserved(value);
+    }
+
+    /// Keeps the first entries.
+    #[tactic(auto, using(crate::proofs::Parallel::first_entries))]
+    pub(crate) fn truncate(&mut self, len: usize)
+        requires { AreParallel self.old }
+        ensures entries { entries self.new ≡ take len (entries self.old) }
+        ensures parallel { AreParallel self.new }
+    {
+        self.names.truncate(len);
+        self.values.truncate(len);
+        self.aliases.truncate(len);
+    }
+}

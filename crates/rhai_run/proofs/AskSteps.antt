@@ -1,5 +1,5 @@
 -- Answers about a value, on two states that are the same up to a renaming.
-use Rattle.std.proofs.Common.{◌≡◌, ℕ, List, [], ◌∷◌, Option, Some, None, refl, ap}
+use Rattle.std.proofs.Common.{◌≡◌, ℕ, is_some, not, ◌&&◌, List, [], ◌∷◌, Option, Some, None, refl, ap}
 use Rattle.std.proofs.lemmas.Option.{same_Some}
 use Rattle.rhai_value.specs.declared.store.Cell.{Cell}
 use Rattle.rhai_value.specs.Tree.{Tree, is_constant}
@@ -8,7 +8,10 @@ use Rattle.rhai_value.specs.End.{End, end, held_part, constant_in, end_type}
 use Rattle.rhai_value.specs.Types.{type_name, is_type}
 use Rattle.rhai_value.specs.Relation.{Renaming, Related, Alike, IsOneToOne, RelatedCells}
 use Rattle.rhai_value.proofs.ForCallers.{same_tag, same_mode, same_host, same_shared, same_held_leaf, same_end_type, same_first, same_locked, same_end}
+use Rattle.rhai_value.specs.declared.type_id.TypeId.TheVariants as id
+use Rattle.rhai_cast.proofs.ForCallers.{same_is}
 use Rattle.rhai_show.specs.declared.form.Form.{Form}
+use Rattle.rhai_show.proofs.SamePlain.{same_plain}
 use Rattle.rhai_show.proofs.SamePrinted.{same_printed}
 use Rattle.rhai_run.specs.declared.command.Question.{Question}
 use Rattle.rhai_run.specs.declared.command.Question.TheVariants as question
@@ -50,6 +53,8 @@ same_asked r s z t u one cells h = by
     by question.Locked = ap truth (same_locked r s z cells t u h)
     by question.TypeName = ap (λ k. told (type_name k)) kind
     by (question.Held k) = ap (λ x. truth (is_type k x)) kind
+    by question.Hashable = ap (λ o. truth (is_some o)) (same_plain r s z t u one cells h)
+    by (question.Is k) = ap (λ b. truth (not (is_type k id.Shared) && b)) (same_is r k s z t u one cells h)
     by question.Unit = same_named (λ u. done) (held_part unit_of e) (held_part unit_of f) e f (same_held_leaf r leaf_unit e f (same_end r s z t u one cells h)) kind
     by question.Int = same_named number (held_part int_of e) (held_part int_of f) e f (same_held_leaf r leaf_int e f (same_end r s z t u one cells h)) kind
     by question.Bool = same_named truth (held_part bool_of e) (held_part bool_of f) e f (same_held_leaf r leaf_bool e f (same_end r s z t u one cells h)) kind

@@ -1,7 +1,12 @@
 pub mod FromBelow
 pub mod Outcome
 pub mod HandSteps
+pub mod Kept
+pub mod Called
+pub mod Casts
 pub mod ChangeSteps
+pub mod OperatorSteps
+pub mod ScanSteps
 pub mod ScopeSteps
 pub mod AskSteps
 pub mod Step

@@ -41,7 +41,7 @@ flatten_done w i t u d ts e h k =
     at_value w i (λ x. (done, with_hand w (slice_set w.hand i (flattened w.store x)))) t done (with_hand w ts) e (refl, ap (with_hand w) (moved_in w.hand ts i u d (flattened w.store t) h k))
 
 -- a value written over itself
-set_own : (ts : List Tree) (i : ℕ) (t : Tree) → slice_get ts i ≡ Some t → slice_set ts i t ≡ ts
+pub set_own : (ts : List Tree) (i : ℕ) (t : Tree) → slice_get ts i ≡ Some t → slice_set ts i t ≡ ts
 set_own [] i t e = refl
 set_own (x ∷ ts) zero t e = ap (λ y. y ∷ ts) (sym (same_Some x t e))
 set_own (x ∷ ts) (suc i) t e = ap (λ ys. x ∷ ys) (set_own ts i t e)

@@ -1,13 +1,17 @@
 -- Steps that change values, in the hand and in cells.
-use Rattle.std.specs.Prelude.{[], ℕ, ℤ, if◌then◌else◌, slice_set, is_some}
+use Rattle.std.specs.Prelude.{[], ℕ, ℤ, pos, if◌then◌else◌, slice_set, is_some}
 use Rattle.rhai_value.specs.declared.access_mode.AccessMode.TheVariants.{ReadOnly}
 use Rattle.rhai_value.specs.Tree.{Tree, paint, with_tag}
 use Rattle.rhai_value.specs.Parts.{int_of, with_int}
 use Rattle.rhai_value.specs.End.{End, end, held_part, value_after, store_after, first, value_with_first, store_with_first, flattened, end_name}
 use Rattle.rhai_value.specs.Store.{shared_value, shared_store}
 use Rattle.rhai_text.specs.declared.position.Position.{Position}
-use Rattle.rhai_run.specs.State.{State, with_cells, moved_from}
-use Rattle.rhai_run.specs.Reply.{done, mismatch, fault, data_race}
+use Rattle.rhai_value.specs.Scan.{scan}
+use Rattle.rhai_run.specs.declared.command.Scanner.{Scanner}
+use Rattle.rhai_run.specs.declared.scanners.Visits.{Visits}
+use Rattle.rhai_run.specs.Scanners.{visited, unvisited}
+use Rattle.rhai_run.specs.State.{State, with_hand, with_cells, moved_from}
+use Rattle.rhai_run.specs.Reply.{done, number, mismatch, fault, data_race}
 use Rattle.rhai_run.specs.Outcome.{Outcome, refuse, given, with_value, with_two, replaced}
 
 -- the value goes into a new cell, and a holder of that stands in its place; a holder stays
@@ -33,6 +37,13 @@ int_written w i n t e =
 
 abbrev pub step_write_int : State → ℕ → ℤ → Outcome
 step_write_int w i n = with_value w i (λ t. int_written w i n t (end w.store [] t))
+
+-- a scanner goes through the value; the answer is to how many values it came
+abbrev pub scan_done : State → ℕ → Visits × Tree → Outcome
+scan_done w i o = (number (pos o.0.visits), with_hand w (slice_set w.hand i o.1))
+
+abbrev pub step_scan : State → ℕ → Scanner → Outcome
+step_scan w i k = with_value w i (λ t. scan_done w i (scan visited (unvisited k) t))
 
 -- no place of a script
 abbrev pub nowhere : Position

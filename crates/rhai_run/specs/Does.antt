@@ -3,8 +3,12 @@ use Rattle.std.specs.Prelude.{◌≡◌, false, Result, Ok, Err}
 use Rattle.rhai_run.specs.declared.answer.Answer.{Answer}
 use Rattle.rhai_run.specs.declared.not_done.NotDone.{NotDone}
 use Rattle.rhai_run.specs.declared.not_done.NotDone.TheVariants.{Refused, Memory}
-use Rattle.rhai_run.specs.State.{State}
-use Rattle.rhai_run.specs.Reply.{Reply, refused, reply_of, reason_of}
+use Rattle.rhai_text.specs.declared.error.EvalAltResult.{EvalAltResult}
+use Rattle.rhai_text.specs.declared.error.EvalAltResult.TheVariants as error
+use Rattle.rhai_value.specs.Tree.{Tree}
+use Rattle.rhai_run.specs.declared.answer.Refusal.TheVariants.{Fault}
+use Rattle.rhai_run.specs.State.{State, appended}
+use Rattle.rhai_run.specs.Reply.{Reply, done, refused, reply_of, reason_of}
 use Rattle.rhai_run.specs.Outcome.{Outcome}
 use Rattle.rhai_run.specs.Cost.{Cost, keeps_all, is_refused}
 
@@ -13,6 +17,21 @@ abbrev pub Tells : Cost → Result Answer NotDone → Reply → Type 0
 Tells k (Ok a) reply = reply_of a ≡ reply
 Tells k (Err (Refused why)) reply = refused (reason_of why) ≡ reply
 Tells k (Err Memory) reply = (k ≡ keeps_all) × (is_refused reply ≡ false)
+
+-- A value is made, and the outcome is that it stands at the end of the hand; or that is the refusal; or memory was refused, and the
+-- outcome is no refusal.
+abbrev pub Gives : Result Tree NotDone → State → Outcome → Type 0
+Gives (Ok t) w o = o ≡ (done, appended w t)
+Gives (Err (Refused why)) w o = o ≡ (refused (reason_of why), w)
+Gives (Err Memory) w o = is_refused o.0 ≡ false
+
+-- the error of a call as why a command isn't done
+abbrev pub not_done_of : EvalAltResult → NotDone
+not_done_of (error.ErrorMismatchDataType wanted found at) = Refused (Fault (error.ErrorMismatchDataType wanted found at))
+not_done_of (error.ErrorDataRace at) = Refused (Fault (error.ErrorDataRace at))
+not_done_of (error.ErrorArithmetic why at) = Refused (Fault (error.ErrorArithmetic why at))
+not_done_of (error.ErrorDataTooLarge what at) = Refused (Fault (error.ErrorDataTooLarge what at))
+not_done_of (error.ErrorMemory e) = Memory
 
 -- the state after it is this one; where memory was refused it is as before
 abbrev pub Leaves : Result Answer NotDone → State → State → State → Type 0

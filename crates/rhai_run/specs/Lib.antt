@@ -11,11 +11,13 @@ pub mod Outcome
 pub mod Made
 pub mod Hand
 pub mod Change
+pub mod Scanners
 pub mod Scope
 pub mod Ask
 pub mod Step
 pub mod Cost
 pub mod Machine
+pub mod Operators
 pub mod Fits
 pub mod Correspondence
 pub mod Stop

@@ -13,6 +13,8 @@ pub enum Refusal {
     NoEntry,
     /// The scope has no entry at all.
     EmptyScope,
+    /// The operator isn't built in for the two values.
+    NoBuiltin,
     /// Another type is held; this is its name.
     Mismatch(&'static str),
     /// The call that the command makes ended in this error.

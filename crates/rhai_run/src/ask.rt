@@ -8,10 +8,11 @@ ghost use Rattle.rhai_run.specs.Reply.{reply_of, told as a_text};
 ghost use Rattle.rhai_run.specs.Does.{Does, Tells};
 
 use crate::answer::{Answer, Refusal};
+use crate::cast::is_value_of;
 use crate::command::Question;
 use crate::desk::Desk;
 use crate::not_done::NotDone;
-use rhai_show::{debug_text, display_text};
+use rhai_show::{debug_text, display_text, is_hashable};
 use rhai_value::{Dynamic, Store};
 use std::alloc::{AllocError, Global};
 
@@ -53,6 +54,8 @@ fn answer_to(
         Question::Locked => Ok(Answer::Bool(value.is_locked(s))),
         Question::TypeName => Ok(told(alloc, value.type_name(s))?),
         Question::Held(kind) => Ok(Answer::Bool(value.type_id(s) == *kind)),
+        Question::Hashable => Ok(Answer::Bool(is_hashable(alloc, value, s)?)),
+        Question::Is(kind) => Ok(Answer::Bool(is_value_of(value, s, *kind))),
         Question::Unit => {
             value.as_unit(s).map_err(Refusal::Mismatch)?;
             Ok(Answer::Done)

@@ -1,13 +1,15 @@
 //! Commands that change values, in the hand and in cells.
 ghost use Rattle.std.specs.Prelude.{slice_get};
 ghost use Rattle.rhai_run.specs.Cost.{free, keeps_all, share_cost};
-ghost use Rattle.rhai_run.specs.Change.{step_share, step_flatten, step_make_read_only, step_set_tag, step_write_int, step_write};
+ghost use Rattle.rhai_run.specs.Change.{step_share, step_flatten, step_make_read_only, step_set_tag, step_write_int, step_write, step_scan};
 ghost use Rattle.rhai_run.specs.Does.{Does};
 
 use crate::answer::{Answer, Refusal};
+use crate::command::Scanner;
 use crate::desk::Desk;
 use crate::not_done::NotDone;
 use crate::places::{differ, put_back, replace_at, write_over};
+use crate::scanners::Visits;
 use rhai_text::{EvalAltResult, Position};
 use rhai_value::{AccessMode, Dynamic, INT, Tag};
 
@@ -48,6 +50,15 @@ impl Desk {
         self.value(i)?;
         self.hand[i].set_tag(tag);
         Ok(Answer::Done)
+    }
+
+    pub(crate) fn scan(&mut self, i: usize, scanner: Scanner) -> Result<Answer, NotDone>
+        ensures { Does free result self.old self.new (step_scan self.old i scanner) }
+    {
+        self.value(i)?;
+        let mut visits = Visits { scanner, visits: 0 };
+        self.hand[i].deep_scan(&mut visits);
+        Ok(Answer::Int(i128::from(visits.visits)))
     }
 
     pub(crate) fn write_int(&mut self, i: usize, value: INT) -> Result<Answer, NotDone>

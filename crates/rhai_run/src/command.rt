@@ -1,7 +1,7 @@
 //! What a world is told to do.
 
 use crate::lists::{Bytes, Names};
-use rhai_text::ImmutableString;
+use rhai_text::{ImmutableString, Token};
 use rhai_value::{ExclusiveRange, Host, INT, InclusiveRange, Tag, TypeId};
 
 /// A value that a command makes.
@@ -44,6 +44,10 @@ pub enum Question {
     TypeName,
     /// Whether this is the held type.
     Held(TypeId),
+    /// Whether it can be hashed.
+    Hashable,
+    /// Whether it is of this type: by its constructor, or for a holder by the held type.
+    Is(TypeId),
     /// The held unit.
     Unit,
     /// The held int: a number.
@@ -52,6 +56,19 @@ pub enum Question {
     Bool,
     /// The held character: a text.
     Char,
+}
+
+/// What a scan does with each value that it comes to.
+#[derive(Copy, Clone)]
+pub enum Scanner {
+    /// Sets the tag.
+    Tags(Tag),
+    /// Makes an int 0.
+    Zero,
+    /// Makes a holder unit.
+    NoShare,
+    /// Keeps this many items of an array, the first ones.
+    Cut(usize),
 }
 
 /// One command. Hand positions count from 0, and new values go to the end of the hand.
@@ -78,6 +95,8 @@ pub enum Command {
     Flatten(usize),
     /// Appends a copy of the value at the hand position without its holders.
     FlattenClone(usize),
+    /// Appends what the value at the hand position is as this type, copied without its holders.
+    Cast(usize, TypeId),
     /// Makes the value at the hand position a constant.
     MakeReadOnly(usize),
     /// Sets the tag of the value at the hand position.
@@ -88,6 +107,10 @@ pub enum Command {
     WriteInt(usize, INT),
     /// Writes the value at the second hand position over the first content of the one at the first, and leaves unit at the second.
     Write(usize, usize),
+    /// Appends what the operator answers on the values at the two hand positions.
+    Binary(Token, usize, usize),
+    /// Goes through the value at the hand position with a scanner, and answers how many values it came to.
+    Scan(usize, Scanner),
     /// Moves the value at the hand position into a new entry of the name, and leaves unit.
     Push(ImmutableString, usize),
     /// Drops the last entry.

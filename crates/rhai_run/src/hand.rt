@@ -1,9 +1,10 @@
 //! Commands that put values into the hand, and move them there.
 ghost use Rattle.rhai_run.specs.Cost.{free, keeps_all};
-ghost use Rattle.rhai_run.specs.Hand.{step_put, step_make_array, step_make_map, step_make_fn, step_copy, step_flatten_clone, step_take, step_drop};
+ghost use Rattle.rhai_run.specs.Hand.{step_put, step_make_array, step_make_map, step_make_fn, step_copy, step_flatten_clone, step_cast, step_take, step_drop};
 ghost use Rattle.rhai_run.specs.Does.{Does};
 
 use crate::answer::{Answer, Refusal};
+use crate::cast::{can_cast, cast_to};
 use crate::command::Literal;
 use crate::desk::Desk;
 use crate::lists::Names;
@@ -11,7 +12,7 @@ use crate::maps::{map_of_keys, move_to_keys};
 use crate::not_done::NotDone;
 use crate::places::{push_in_room, replace_at, take_last};
 use rhai_text::ImmutableString;
-use rhai_value::{Dynamic, FnPtr};
+use rhai_value::{Dynamic, FnPtr, TypeId};
 
 impl Desk {
     pub(crate) fn put(&mut self, literal: &Literal) -> Result<Answer, NotDone>
@@ -78,6 +79,19 @@ impl Desk {
         ensures { Does keeps_all result self.old self.new (step_flatten_clone self.old i) }
     {
         let value = self.value(i)?.flatten_clone(self.alloc, &self.store)?;
+        self.hand.push(value)?;
+        Ok(Answer::Done)
+    }
+
+    pub(crate) fn cast(&mut self, i: usize, kind: TypeId) -> Result<Answer, NotDone>
+        ensures { Does keeps_all result self.old self.new (step_cast self.old i kind) }
+    {
+        let value = self.value(i)?;
+        if !can_cast(value, &self.store, kind) {
+            let name = value.type_name(&self.store);
+            return Err(NotDone::Refused(Refusal::Mismatch(name)));
+        }
+        let value = cast_to(value, self.alloc, &self.store, kind)?;
         self.hand.push(value)?;
         Ok(Answer::Done)
     }

@@ -3,6 +3,7 @@
 
 pub mod answer;
 mod ask;
+mod cast;
 mod change;
 pub mod command;
 mod desk;
@@ -11,12 +12,14 @@ pub mod laws;
 pub mod lists;
 mod maps;
 mod not_done;
+mod operators;
 mod places;
+mod scanners;
 mod scope;
 pub mod world;
 
 pub use answer::{Answer, Refusal};
-pub use command::{Command, Literal, Question};
+pub use command::{Command, Literal, Question, Scanner};
 pub use lists::{Bytes, Names};
 pub use world::{Stopped, World, apply, run};
 

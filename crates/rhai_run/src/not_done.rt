@@ -1,8 +1,10 @@
 //! Why a command is not done.
 ghost use Rattle.std.specs.Prelude.{◌≡◌};
 ghost use Rattle.rhai_run.specs.declared.not_done.NotDone.TheVariants.{Refused, Memory as no_memory};
+ghost use Rattle.rhai_run.specs.Does.{not_done_of};
 
 use crate::answer::Refusal;
+use rhai_text::EvalAltResult;
 use std::alloc::{AllocError, AllocFailed};
 
 /// Why a command is not done: it is refused, or memory is.
@@ -17,6 +19,20 @@ impl From<Refusal> for NotDone {
 
     fn from(why: Refusal) -> NotDone {
         NotDone::Refused(why)
+    }
+}
+
+impl From<EvalAltResult> for NotDone {
+    ghost from_gives = { λ error result. result ≡ not_done_of error };
+
+    fn from(error: EvalAltResult) -> NotDone {
+        match error {
+            EvalAltResult::ErrorMemory(_) => NotDone::Memory,
+            EvalAltResult::ErrorMismatchDataType(..)
+            | EvalAltResult::ErrorDataRace(_)
+            | EvalAltResult::ErrorArithmetic(..)
+            | EvalAltResult::ErrorDataTooLarge(..) => NotDone::Refused(Refusal::Fault(error)),
+        }
     }
 }
 

@@ -3,10 +3,13 @@ use rhai_text::{ImmutableString, Limits};
 use std::alloc::{AllocError, Global};
 
 mod asks;
+mod casts;
 mod cells;
 mod gathers;
+mod operators;
 mod readme;
 mod refusals;
+mod scans;
 mod scope;
 mod stops;
 mod worlds;
@@ -25,6 +28,7 @@ fn told(answer: &Answer) -> &str {
         Answer::Refused(Refusal::SameValue) => "SameValue",
         Answer::Refused(Refusal::NoEntry) => "NoEntry",
         Answer::Refused(Refusal::EmptyScope) => "EmptyScope",
+        Answer::Refused(Refusal::NoBuiltin) => "NoBuiltin",
         Answer::Refused(Refusal::Mismatch(_)) => "Mismatch",
         Answer::Refused(Refusal::Fault(_)) => "Fault",
     }

@@ -1,0 +1,82 @@
+-- A row is called on two values of the hand.
+use Rattle.std.proofs.Common.{◌≡◌, ℕ, suc, zero, Bool, true, false, nat_eq, List, [], ◌∷◌, slice_get, slice_set, Option, Some, None, Result, Ok, Err, refl, sym, ap, subst, ◌∙◌, arith}
+use Rattle.std.proofs.lemmas.Bool.Decides.{nat_tests}
+use Rattle.std.proofs.lemmas.List.{set-set}
+use Rattle.std.proofs.lemmas.Option.{same_Some}
+use Rattle.rhai_text.specs.declared.error.EvalAltResult.{EvalAltResult}
+use Rattle.rhai_text.specs.declared.error.EvalAltResult.TheVariants as error
+use Rattle.rhai_text.specs.declared.token.Token.{Token}
+use Rattle.rhai_value.specs.Tree.{Tree}
+use Rattle.rhai_value.proofs.ForCallers.{get_set_other}
+use Rattle.rhai_ops.specs.Outcome as call
+use Rattle.rhai_ops.specs.Outcome.{IsOutcome, is_answer}
+use Rattle.rhai_ops.specs.Results.{MayWant, outcome}
+use Rattle.rhai_ops.specs.Table.{row_of}
+use Rattle.rhai_ops.specs.declared.builtin.FnBuiltin.{FnBuiltin}
+use Rattle.rhai_run.specs.declared.not_done.NotDone.{NotDone}
+use Rattle.rhai_run.specs.State.{State, appended}
+use Rattle.rhai_run.specs.Reply.{done}
+use Rattle.rhai_run.specs.Cost.{is_refused}
+use Rattle.rhai_run.specs.Does.{Gives, not_done_of}
+use Rattle.rhai_run.specs.Operators.{value_at, called, step_binary}
+use Rattle.rhai_run.proofs.Moves.{set_own}
+
+-- the value at a place, and the one at another after the first was taken
+pub first_of : (ts : List Tree) (i : ℕ) (t : Tree) → slice_get ts i ≡ Some t → t ≡ value_at ts i
+first_of [] i t e = cc
+first_of (x ∷ ts) zero t e = sym (same_Some x t e)
+first_of (x ∷ ts) (suc i) t e = first_of ts i t e
+
+apart : (i j : ℕ) → nat_eq i j ≡ false → j ≡ i → ⊥
+apart i j e h = grind (arith, nat_tests)
+
+pub second_of : (ts us : List Tree) (i j : ℕ) (u t : Tree) → nat_eq i j ≡ false → us ≡ slice_set ts i u → slice_get us j ≡ Some t → t ≡ value_at ts j
+second_of ts us i j u t e h g = first_of ts j t (sym (ap (λ xs. slice_get xs j) h ∙ get_set_other ts i j u (apart i j e)) ∙ g)
+
+-- both values come back
+pub both_back : (ts us vs : List Tree) (i j : ℕ) (u v x y : Tree) → slice_get ts i ≡ Some x → us ≡ slice_set ts i u → slice_get us j ≡ Some y → vs ≡ slice_set us j v → slice_set (slice_set vs j y) i x ≡ ts
+both_back ts us vs i j u v x y ex eu ey ev =
+    ap (λ xs. slice_set (slice_set xs j y) i x) ev
+    ∙ ap (λ xs. slice_set xs i x) (set-set us j v y ∙ set_own us j y ey)
+    ∙ ap (λ xs. slice_set xs i x) eu ∙ set-set ts i u x ∙ set_own ts i x ex
+
+-- what the step comes to
+pub binary_is : (w : State) (op : Token) (i j : ℕ) (x y : Tree) (row : FnBuiltin) → slice_get w.hand i ≡ Some x → slice_get w.hand j ≡ Some y → nat_eq i j ≡ false → row_of op w.store x y ≡ Some row
+    → step_binary w op i j ≡ called w (outcome row w.limits w.store x y)
+binary_is w op i j x y row ex ey e f = rw (ex, ey, e, f) refl
+
+pub gives_value : (MayWant : Type 0) (w : State) (d : Tree) (o : call.Outcome) → IsOutcome MayWant (Ok d) o → called w o ≡ (done, appended w d)
+gives_value M w d o h = ap (called w) h
+
+-- a value is no refusal
+answer_stays : (w : State) (o : call.Outcome) → is_answer o ≡ true → is_refused (called w o).0 ≡ false
+answer_stays w (call.answers t) h = refl
+answer_stays w (call.fault f) h = cc
+answer_stays w (call.too_large k) h = cc
+answer_stays w call.unsuited h = cc
+
+pub gives_refusal : (MayWant : Type 0) (w : State) (e : EvalAltResult) (o : call.Outcome) (why : NotDone) → IsOutcome MayWant (Err e) o → why ≡ not_done_of e → Gives (Err why) w (called w o)
+gives_refusal M w (error.ErrorArithmetic f p) o why h k = rw (k, h.0, h.1) refl
+gives_refusal M w (error.ErrorDataTooLarge f p) o why h k = rw (k, h.0, h.1) refl
+gives_refusal M w (error.ErrorMemory a) o why h k = rw k (answer_stays w o h.1)
+gives_refusal M w (error.ErrorMismatchDataType a b p) o why h k = absurd h
+gives_refusal M w (error.ErrorDataRace p) o why h k = absurd h
+
+-- the operands and the row of the call, in the state and in the memory that it stands for
+module _ (w v : State) (op : Token) (i j : ℕ) (x y : Tree) (row : FnBuiltin) (view : v ≡ w) (ex : slice_get w.hand i ≡ Some x) (ey : slice_get w.hand j ≡ Some y) (differ : nat_eq i j ≡ false) (found : row_of op w.store x y ≡ Some row) where
+  abbrev of_operands : Result Tree EvalAltResult → State → Tree → Tree → Type 0
+  of_operands result z t u = IsOutcome (MayWant row t u) result (outcome row z.limits z.store t u)
+
+  seen : (result : Result Tree EvalAltResult) → of_operands result v (value_at v.hand i) (value_at v.hand j) → of_operands result w x y
+  seen result h =
+      let a : value_at v.hand i ≡ x = ap (λ (z : State). value_at z.hand i) view ∙ sym (first_of w.hand i x ex) in
+      let b : value_at v.hand j ≡ y = ap (λ (z : State). value_at z.hand j) view ∙ sym (first_of w.hand j y ey) in
+      subst (λ z. of_operands result z x y) view (rw (a, b) at h)
+
+  pub called_value : (d : Tree) → of_operands (Ok d) v (value_at v.hand i) (value_at v.hand j) → step_binary w op i j ≡ (done, appended w d)
+  called_value d h = binary_is w op i j x y row ex ey differ found ∙ gives_value (MayWant row x y) w d (outcome row w.limits w.store x y) (seen (Ok d) h)
+
+  pub called_refusal : (e : EvalAltResult) (why : NotDone) (r : Result Tree NotDone) → of_operands (Err e) v (value_at v.hand i) (value_at v.hand j) → r ≡ Err why → why ≡ not_done_of e → Gives r w (step_binary w op i j)
+  called_refusal e why r h k m =
+      subst (λ q. Gives q w (step_binary w op i j)) (sym k)
+      (subst (λ o. Gives (Err why) w o) (sym (binary_is w op i j x y row ex ey differ found)) (gives_refusal (MayWant row x y) w e (outcome row w.limits w.store x y) why (seen (Err e) h) m))

@@ -1,0 +1,112 @@
+//! Casts to a type that is known when a command is done.
+ghost use Rattle.std.specs.Prelude.{◌≡◌, [], true, false, Some, is_some, IfOk, IsTrue};
+ghost use Rattle.rhai_value.specs.declared.type_id.TypeId.TheVariants as type_id;
+ghost use Rattle.rhai_value.specs.End.{end, end_type, flat};
+ghost use Rattle.rhai_value.specs.Tree.{cell_of};
+ghost use Rattle.rhai_value.specs.Types.{is_type};
+ghost use Rattle.rhai_variant.specs.Reads.{held_type, read};
+ghost use Rattle.rhai_cast.specs.Casts.{is_of, is_castable};
+ghost use Rattle.rhai_run.specs.Ask.{is_value_of};
+ghost use Rattle.rhai_run.specs.Hand.{read_as};
+
+use rhai_cast::DynamicCast;
+use rhai_text::ImmutableString;
+use rhai_value::{
+    Array, Blob, Dynamic, ExclusiveRange, FnPtr, INT, InclusiveRange, Map, Store, TypeId,
+};
+use rhai_variant::Variant;
+use std::alloc::{AllocError, Global};
+
+/// The type of the values that are read as this type.
+fn held_type_of(kind: TypeId) -> TypeId
+    ensures { result ≡ held_type kind }
+{
+    if kind == TypeId::String {
+        TypeId::ImmutableString
+    } else {
+        kind
+    }
+}
+
+/// Whether a value is of a type.
+pub(crate) fn is_value_of(value: &Dynamic, s: &Store, kind: TypeId) -> bool
+    ensures { result ≡ is_value_of kind value.now (end s.now [] value.now) }
+{
+    let wanted = if value.is_shared() {
+        kind
+    } else {
+        held_type_of(kind)
+    };
+    kind != TypeId::Shared && value.type_id(s) == wanted
+}
+
+/// Whether a type is that of values which can be cast to this one.
+#[tactic(auto, using(crate::proofs::Casts::castable_other))]
+fn holds_castable(value: &Dynamic, s: &Store, kind: TypeId) -> bool
+    ensures { result ≡ is_castable kind (end s.now [] value.now) }
+{
+    kind == TypeId::Dynamic || held_type_of(kind) == value.type_id(s)
+}
+
+/// Whether a value can be cast to a type.
+#[tactic(auto, using(crate::proofs::Casts::read_by_type))]
+pub(crate) fn can_cast(value: &Dynamic, s: &Store, kind: TypeId) -> bool
+    ensures read { result ≡ is_some (read_as kind (flat s.now value.now)) }
+    ensures castable { IsTrue result → is_castable kind (end s.now [] value.now) ≡ true }
+    ensures known { IsTrue result → is_type kind type_id.Shared ≡ false }
+{
+    if kind == TypeId::Shared {
+        return false;
+    }
+    holds_castable(value, s, kind)
+}
+
+/// A copy of a value without its holders as a type.
+fn cast_as<T: Variant>(value: &Dynamic, alloc: Global, s: &Store) -> Result<Dynamic, AllocError>
+    requires { is_castable T.KIND (end s.now [] value.now) ≡ true }
+    ensures { IfOk result (λ d. read T.KIND (flat s.now value.now) ≡ Some d) }
+{
+    let x = value.clone_cast::<T>(alloc, s)?;
+    match Dynamic::of(alloc, x) {
+        Ok(value) => Ok(value),
+        Err(_) => Err(AllocError),
+    }
+}
+
+/// The same, the type being known by its name alone.
+pub(crate) fn cast_to(
+    value: &Dynamic,
+    alloc: Global,
+    s: &Store,
+    kind: TypeId,
+) -> Result<Dynamic, AllocError>
+    requires castable { is_castable kind (end s.now [] value.now) ≡ true }
+    requires known { is_type kind type_id.Shared ≡ false }
+    ensures { IfOk result (λ d. read kind (flat s.now value.now) ≡ Some d) }
+{
+    match kind {
+        TypeId::Unit => cast_as::<()>(value, alloc, s),
+        TypeId::Bool => cast_as::<bool>(value, alloc, s),
+        TypeId::Char => cast_as::<char>(value, alloc, s),
+        TypeId::Int => cast_as::<INT>(value, alloc, s),
+        TypeId::U8 => cast_as::<u8>(value, alloc, s),
+        TypeId::U16 => cast_as::<u16>(value, alloc, s),
+        TypeId::U32 => cast_as::<u32>(value, alloc, s),
+        TypeId::U64 => cast_as::<u64>(value, alloc, s),
+        TypeId::U128 => cast_as::<u128>(value, alloc, s),
+        TypeId::I8 => cast_as::<i8>(value, alloc, s),
+        TypeId::I16 => cast_as::<i16>(value, alloc, s),
+        TypeId::I32 => cast_as::<i32>(value, alloc, s),
+        TypeId::I128 => cast_as::<i128>(value, alloc, s),
+        TypeId::String => cast_as::<String>(value, alloc, s),
+        TypeId::ImmutableString => cast_as::<ImmutableString>(value, alloc, s),
+        TypeId::Array => cast_as::<Array>(value, alloc, s),
+        TypeId::Blob => cast_as::<Blob>(value, alloc, s),
+        TypeId::Map => cast_as::<Map>(value, alloc, s),
+        TypeId::FnPtr => cast_as::<FnPtr>(value, alloc, s),
+        TypeId::ExclusiveRange => cast_as::<ExclusiveRange>(value, alloc, s),
+        TypeId::InclusiveRange => cast_as::<InclusiveRange>(value, alloc, s),
+        TypeId::Dynamic => cast_as::<Dynamic>(value, alloc, s),
+        TypeId::Shared => unreachable!(),
+    }
+}

@@ -3,7 +3,7 @@ use Rattle.std.specs.Prelude.{ℕ, List, [], ◌∷◌, ◌++◌, take, length, 
 use Rattle.std.specs.List.{slice_split}
 use Rattle.rhai_run.specs.declared.command.Command.{Command}
 use Rattle.rhai_run.specs.State.{State, empty_state}
-use Rattle.rhai_run.specs.Reply.{Reply, done, truth, number, told, refused, Reason, no_value, same_value, no_entry, empty_scope, mismatch, fault}
+use Rattle.rhai_run.specs.Reply.{Reply, done, truth, number, told, refused, Reason, no_value, same_value, no_entry, empty_scope, no_builtin, mismatch, fault}
 use Rattle.rhai_run.specs.Step.{step}
 use Rattle.rhai_world.specs.Line.{command_of}
 
@@ -22,6 +22,7 @@ abbrev pub reason_text : Reason → List ℕ
 reason_text no_value = codes "NoValue"
 reason_text no_entry = codes "NoEntry"
 reason_text empty_scope = codes "EmptyScope"
+reason_text no_builtin = codes "NoBuiltin"
 reason_text (mismatch name) = codes "Mismatch " ++ name
 reason_text same_value = codes "BadLine"
 reason_text (fault why) = codes "BadLine"

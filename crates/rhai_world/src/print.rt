@@ -16,6 +16,7 @@ fn write_reason<W: Write>(refusal: &Refusal, writer: &mut W) -> io::Result<()>
         Refusal::NoValue => writer.write_all(b"NoValue"),
         Refusal::NoEntry => writer.write_all(b"NoEntry"),
         Refusal::EmptyScope => writer.write_all(b"EmptyScope"),
+        Refusal::NoBuiltin => writer.write_all(b"NoBuiltin"),
         Refusal::Mismatch(name) => {
             writer.write_all(b"Mismatch ")?;
             writer.write_all(name.as_bytes())

@@ -16,7 +16,7 @@ use Rattle.rhai_show.proofs.SamePrinted.{same_printed}
 use Rattle.rhai_run.specs.declared.command.Question.{Question}
 use Rattle.rhai_run.specs.declared.command.Question.TheVariants as question
 use Rattle.rhai_run.specs.State.{State}
-use Rattle.rhai_run.specs.Ask.{asked, held_or_named, step_ask, step_show}
+use Rattle.rhai_run.specs.Ask.{asked, held_or_named, hash_of, step_ask, step_show, step_hash}
 use Rattle.rhai_run.specs.Reply.{Reply, done, truth, number, told, refused, mismatch}
 use Rattle.rhai_run.specs.Correspondence.{RelatedStates}
 use Rattle.rhai_run.proofs.Outcome.{Matches, m_answered}
@@ -66,3 +66,6 @@ module _ (r : Renaming) (w v : State) (h : RelatedStates r w v) where
 
   pub same_show : (form : Form) (i : ℕ) → Matches r w v (step_show form w i) (step_show form v i)
   same_show form i = m_answered r w v h i _ _ (λ t u e. ap (λ f. told (f form)) (same_printed r w.store v.store t u h.one h.cells e))
+
+  pub same_hash : (i : ℕ) → Matches r w v (step_hash w i) (step_hash v i)
+  same_hash i = m_answered r w v h i _ _ (λ t u e. ap hash_of (same_plain r w.store v.store t u h.one h.cells e))

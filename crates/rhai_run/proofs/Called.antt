@@ -16,7 +16,7 @@ use Rattle.rhai_ops.specs.declared.builtin.FnBuiltin.{FnBuiltin}
 use Rattle.rhai_run.specs.declared.not_done.NotDone.{NotDone}
 use Rattle.rhai_run.specs.State.{State, appended}
 use Rattle.rhai_run.specs.Reply.{done}
-use Rattle.rhai_run.specs.Cost.{is_refused}
+use Rattle.rhai_run.specs.Cost.{is_granted}
 use Rattle.rhai_run.specs.Does.{Gives, not_done_of}
 use Rattle.rhai_run.specs.Operators.{value_at, called, step_binary}
 use Rattle.rhai_run.proofs.Moves.{set_own}
@@ -49,7 +49,7 @@ pub gives_value : (MayWant : Type 0) (w : State) (d : Tree) (o : call.Outcome) �
 gives_value M w d o h = ap (called w) h
 
 -- a value is no refusal
-answer_stays : (w : State) (o : call.Outcome) → is_answer o ≡ true → is_refused (called w o).0 ≡ false
+answer_stays : (w : State) (o : call.Outcome) → is_answer o ≡ true → is_granted (called w o).0 ≡ true
 answer_stays w (call.answers t) h = refl
 answer_stays w (call.fault f) h = cc
 answer_stays w (call.too_large k) h = cc

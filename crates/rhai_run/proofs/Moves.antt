@@ -8,7 +8,7 @@ use Rattle.rhai_value.specs.End.{flattened}
 use Rattle.rhai_value.specs.Store.{shared_value, shared_store}
 use Rattle.rhai_run.specs.State.{State, with_hand, with_cells}
 use Rattle.rhai_run.specs.Reply.{Reply, done}
-use Rattle.rhai_run.specs.Cost.{keeps_all, is_refused, share_cost}
+use Rattle.rhai_run.specs.Cost.{is_granted, may_want, share_cost}
 use Rattle.rhai_run.specs.Outcome.{Outcome, with_value}
 use Rattle.rhai_run.specs.Change.{step_share, step_flatten}
 
@@ -51,10 +51,10 @@ pub came_back : (w : State) (i : ℕ) (t u d : Tree) (s : List Cell) (ts : List 
 came_back w i t u d s ts e h k = ap₂ (with_cells w) h.1 (moved_in w.hand ts i u d t h.0 k ∙ set_own w.hand i t e)
 
 -- a value that is there refuses neither
-pub share_wants : (w : State) (i : ℕ) (t : Tree) → slice_get w.hand i ≡ Some t → is_some (cell_of t) ≡ false → (share_cost (slice_get w.hand i) ≡ keeps_all) × (is_refused (step_share w i).0 ≡ false)
-share_wants w i t e f = rw e (rw f (refl, refl))
+pub share_wants : (w : State) (i : ℕ) (t : Tree) → slice_get w.hand i ≡ Some t → is_some (cell_of t) ≡ false → may_want (share_cost (slice_get w.hand i)) (step_share w i).0 ≡ true
+share_wants w i t e f = rw e (rw f refl)
 
-pub flatten_wants : (w : State) (i : ℕ) (t : Tree) → slice_get w.hand i ≡ Some t → is_refused (step_flatten w i).0 ≡ false
+pub flatten_wants : (w : State) (i : ℕ) (t : Tree) → slice_get w.hand i ≡ Some t → is_granted (step_flatten w i).0 ≡ true
 flatten_wants w i t e = rw e refl
 
 -- a holder stays

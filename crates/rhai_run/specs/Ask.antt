@@ -10,12 +10,13 @@ use Rattle.rhai_value.specs.declared.type_id.TypeId.{TypeId}
 use Rattle.rhai_value.specs.declared.type_id.TypeId.TheVariants as id
 use Rattle.rhai_cast.specs.Casts.{is_of}
 use Rattle.rhai_show.specs.declared.form.Form.{Form}
-use Rattle.rhai_show.specs.Plain.{plain}
+use Rattle.rhai_show.specs.HashBytes.{plain_bytes}
+use Rattle.rhai_show.specs.Plain.{Plain, plain}
 use Rattle.rhai_show.specs.Text.{printed}
 use Rattle.rhai_run.specs.declared.command.Question.{Question}
 use Rattle.rhai_run.specs.declared.command.Question.TheVariants as question
 use Rattle.rhai_run.specs.State.{State}
-use Rattle.rhai_run.specs.Reply.{Reply, done, truth, number, told, refused, mismatch}
+use Rattle.rhai_run.specs.Reply.{Reply, done, truth, number, told, bytes, refused, mismatch, not_hashable}
 use Rattle.rhai_run.specs.Outcome.{Outcome, answered}
 
 -- the answer that is made of what is held, or a mismatch where another type is held
@@ -53,3 +54,11 @@ step_ask w i q = answered w i (λ t. asked w.store t q)
 -- the text of the value
 abbrev pub step_show : Form → State → ℕ → Outcome
 step_show form w i = answered w i (λ t. told (printed w.store [] t form))
+
+-- the hash bytes of the value, where it has some
+abbrev pub hash_of : Option Plain → Reply
+hash_of None = refused not_hashable
+hash_of (Some p) = bytes (plain_bytes p)
+
+abbrev pub step_hash : State → ℕ → Outcome
+step_hash w i = answered w i (λ t. hash_of (plain w.store [] t))

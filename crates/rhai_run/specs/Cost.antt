@@ -6,12 +6,14 @@ use Rattle.rhai_run.specs.declared.command.Command.TheVariants as command
 use Rattle.rhai_run.specs.declared.command.Question.{Question}
 use Rattle.rhai_run.specs.declared.command.Question.TheVariants as question
 use Rattle.rhai_run.specs.State.{State}
-use Rattle.rhai_run.specs.Reply.{Reply, done, truth, number, told, refused}
+use Rattle.rhai_run.specs.Reply.{Reply, done, truth, number, told, bytes, refused}
 
--- A command is free where it takes no memory. Else it may want memory, and keeps then all as it was.
+-- A command is free where it takes no memory. Else it may want memory, and keeps then all as it was: where it is not refused, or even
+-- before it is known whether it is refused.
 pub data Cost : Type 0 where
   free : Cost
   keeps_all : Cost
+  looks_first : Cost
 
 -- a question takes memory for a text
 abbrev pub question_cost : Question → Cost
@@ -34,7 +36,12 @@ abbrev pub share_cost : Option Tree → Cost
 share_cost None = free
 share_cost (Some t) = if is_some (cell_of t) then free else keeps_all
 
--- the cost of a command that isn't refused
+-- whether there are hash bytes is known after a search that takes memory
+abbrev pub hash_cost : Option Tree → Cost
+hash_cost None = free
+hash_cost (Some t) = looks_first
+
+-- the cost of each command
 abbrev pub cost : State → Command → Cost
 cost w (command.Put literal) = keeps_all
 cost w (command.MakeArray n) = keeps_all
@@ -63,11 +70,19 @@ cost w (command.Contains name) = free
 cost w (command.Get name) = keeps_all
 cost w (command.Show i) = keeps_all
 cost w (command.Debug i) = keeps_all
+cost w (command.Hash i) = hash_cost (slice_get w.hand i)
 
--- a command that is refused takes no memory
-abbrev pub is_refused : Reply → Bool
-is_refused done = false
-is_refused (truth b) = false
-is_refused (number n) = false
-is_refused (told text) = false
-is_refused (refused why) = true
+-- a reply that is no refusal
+abbrev pub is_granted : Reply → Bool
+is_granted done = true
+is_granted (truth b) = true
+is_granted (number n) = true
+is_granted (told text) = true
+is_granted (bytes bs) = true
+is_granted (refused why) = false
+
+-- whether memory may be wanted where a command of this cost has this reply
+abbrev pub may_want : Cost → Reply → Bool
+may_want free reply = false
+may_want keeps_all reply = is_granted reply
+may_want looks_first reply = true

@@ -1,5 +1,5 @@
 -- What the code of a command owes.
-use Rattle.std.specs.Prelude.{◌≡◌, false, Result, Ok, Err}
+use Rattle.std.specs.Prelude.{◌≡◌, true, Result, Ok, Err}
 use Rattle.rhai_run.specs.declared.answer.Answer.{Answer}
 use Rattle.rhai_run.specs.declared.not_done.NotDone.{NotDone}
 use Rattle.rhai_run.specs.declared.not_done.NotDone.TheVariants.{Refused, Memory}
@@ -10,20 +10,20 @@ use Rattle.rhai_run.specs.declared.answer.Refusal.TheVariants.{Fault}
 use Rattle.rhai_run.specs.State.{State, appended}
 use Rattle.rhai_run.specs.Reply.{Reply, done, refused, reply_of, reason_of}
 use Rattle.rhai_run.specs.Outcome.{Outcome}
-use Rattle.rhai_run.specs.Cost.{Cost, keeps_all, is_refused}
+use Rattle.rhai_run.specs.Cost.{Cost, is_granted, may_want}
 
--- The answer or the refusal is this reply; or memory was refused where it may be wanted, and the reply is no refusal.
+-- The answer or the refusal is this reply; or memory was refused where it may be wanted.
 abbrev pub Tells : Cost → Result Answer NotDone → Reply → Type 0
 Tells k (Ok a) reply = reply_of a ≡ reply
 Tells k (Err (Refused why)) reply = refused (reason_of why) ≡ reply
-Tells k (Err Memory) reply = (k ≡ keeps_all) × (is_refused reply ≡ false)
+Tells k (Err Memory) reply = may_want k reply ≡ true
 
 -- A value is made, and the outcome is that it stands at the end of the hand; or that is the refusal; or memory was refused, and the
 -- outcome is no refusal.
 abbrev pub Gives : Result Tree NotDone → State → Outcome → Type 0
 Gives (Ok t) w o = o ≡ (done, appended w t)
 Gives (Err (Refused why)) w o = o ≡ (refused (reason_of why), w)
-Gives (Err Memory) w o = is_refused o.0 ≡ false
+Gives (Err Memory) w o = is_granted o.0 ≡ true
 
 -- the error of a call as why a command isn't done
 abbrev pub not_done_of : EvalAltResult → NotDone

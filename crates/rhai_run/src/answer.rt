@@ -15,6 +15,8 @@ pub enum Refusal {
     EmptyScope,
     /// The operator isn't built in for the two values.
     NoBuiltin,
+    /// The value has no hash bytes.
+    NotHashable,
     /// Another type is held; this is its name.
     Mismatch(&'static str),
     /// The call that the command makes ended in this error.
@@ -32,6 +34,8 @@ pub enum Answer {
     Int(i128),
     /// A text.
     Text(String),
+    /// Bytes.
+    Bytes(Vec<u8>),
     /// It was refused.
     Refused(Refusal),
 }

@@ -1,9 +1,9 @@
 //! Commands that tell of a value.
-ghost use Rattle.std.specs.Prelude.{◌≡◌, IfOk};
+ghost use Rattle.std.specs.Prelude.{◌≡◌, IfOk, slice_get};
 ghost use Rattle.std.specs.Str.{chars};
 ghost use Rattle.rhai_show.specs.declared.form.Form.TheVariants.{Display, Debug};
-ghost use Rattle.rhai_run.specs.Ask.{asked, step_ask, step_show};
-ghost use Rattle.rhai_run.specs.Cost.{keeps_all, question_cost};
+ghost use Rattle.rhai_run.specs.Ask.{asked, step_ask, step_show, step_hash};
+ghost use Rattle.rhai_run.specs.Cost.{keeps_all, hash_cost, question_cost};
 ghost use Rattle.rhai_run.specs.Reply.{reply_of, told as a_text};
 ghost use Rattle.rhai_run.specs.Does.{Does, Tells};
 
@@ -12,7 +12,7 @@ use crate::cast::is_value_of;
 use crate::command::Question;
 use crate::desk::Desk;
 use crate::not_done::NotDone;
-use rhai_show::{debug_text, display_text, is_hashable};
+use rhai_show::{debug_text, display_text, hashed, is_hashable};
 use rhai_value::{Dynamic, Store};
 use std::alloc::{AllocError, Global};
 
@@ -29,6 +29,15 @@ impl Desk {
     {
         let text = debug_text(self.alloc, self.value(i)?, &self.store)?;
         Ok(Answer::Text(text))
+    }
+
+    pub(crate) fn hash(&self, i: usize) -> Result<Answer, NotDone>
+        ensures { Does (hash_cost (slice_get self.now.hand i)) result self.now self.now (step_hash self.now i) }
+    {
+        match hashed(self.alloc, self.value(i)?, &self.store)? {
+            None => Err(NotDone::Refused(Refusal::NotHashable)),
+            Some(hashed) => Ok(Answer::Bytes(hashed.into_bytes())),
+        }
     }
 
     pub(crate) fn ask(&self, i: usize, question: &Question) -> Result<Answer, NotDone>

@@ -129,4 +129,6 @@ pub enum Command {
     Show(usize),
     /// Answers the text of the value at the hand position, as it is debugged.
     Debug(usize),
+    /// Answers the hash bytes of the value at the hand position.
+    Hash(usize),
 }

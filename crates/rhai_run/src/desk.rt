@@ -107,6 +107,7 @@ impl Desk {
             Command::Get(name) => self.get(name),
             Command::Show(i) => self.show(*i),
             Command::Debug(i) => self.debug(*i),
+            Command::Hash(i) => self.hash(*i),
         }
     }
 }

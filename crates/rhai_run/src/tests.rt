@@ -6,6 +6,7 @@ mod asks;
 mod casts;
 mod cells;
 mod gathers;
+mod hashes;
 mod operators;
 mod readme;
 mod refusals;
@@ -16,7 +17,7 @@ mod worlds;
 
 const UNLIMITED: Limits = Limits { text: 0, items: 0 };
 
-/// What an answer says in short: its text, or its name. A number is not among them.
+/// What an answer says in short: its text, or its name. Numbers and bytes are not among them.
 fn told(answer: &Answer) -> &str {
     match answer {
         Answer::Done => "ok",
@@ -24,23 +25,31 @@ fn told(answer: &Answer) -> &str {
         Answer::Bool(false) => "no",
         Answer::Int(_) => "number",
         Answer::Text(text) => text.as_str(),
+        Answer::Bytes(_) => "bytes",
         Answer::Refused(Refusal::NoValue) => "NoValue",
         Answer::Refused(Refusal::SameValue) => "SameValue",
         Answer::Refused(Refusal::NoEntry) => "NoEntry",
         Answer::Refused(Refusal::EmptyScope) => "EmptyScope",
         Answer::Refused(Refusal::NoBuiltin) => "NoBuiltin",
+        Answer::Refused(Refusal::NotHashable) => "NotHashable",
         Answer::Refused(Refusal::Mismatch(_)) => "Mismatch",
         Answer::Refused(Refusal::Fault(_)) => "Fault",
     }
 }
 
-/// Adds an answer to a line, with its number or the name of the type that is held.
+/// Adds an answer to a line, with its number, its bytes or the name of the type that is held.
 fn add_answer(line: &mut String, answer: &Answer) -> Result<(), AllocError> {
     line.push_str(told(answer))?;
     match answer {
         Answer::Int(number) => {
             let number = *number;
             write!(line, " {number}")?;
+        }
+        Answer::Bytes(bytes) => {
+            for byte in bytes {
+                let byte = *byte;
+                write!(line, " {byte}")?;
+            }
         }
         Answer::Refused(Refusal::Mismatch(name)) => {
             line.push_str(" ")?;

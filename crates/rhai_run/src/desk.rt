@@ -8,7 +8,8 @@ ghost use Rattle.rhai_run.specs.Cost.{cost};
 ghost use Rattle.rhai_run.specs.Fits.{Fits};
 ghost use Rattle.rhai_run.specs.Does.{Does};
 
-use crate::answer::{Answer, Refusal};
+use crate::answer::Refusal;
+use crate::brief::Brief;
 use crate::command::Command;
 use crate::not_done::NotDone;
 use crate::scope::Entry;
@@ -75,7 +76,7 @@ impl Desk {
     }
 
     /// Does one command.
-    pub(crate) fn apply(&mut self, command: &Command) -> Result<Answer, NotDone>
+    pub(crate) fn apply(&mut self, command: &Command) -> Result<Brief, NotDone>
         requires { Fits self.old }
         ensures { Does (cost self.old command.now) result self.old self.new (step self.old command.now) }
     {

@@ -3,6 +3,7 @@
 
 pub mod answer;
 mod ask;
+mod brief;
 mod cast;
 mod change;
 pub mod command;

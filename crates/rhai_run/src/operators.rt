@@ -6,7 +6,8 @@ ghost use Rattle.rhai_run.specs.Cost.{keeps_all};
 ghost use Rattle.rhai_run.specs.Operators.{value_at, step_binary};
 ghost use Rattle.rhai_run.specs.Does.{Does, Gives};
 
-use crate::answer::{Answer, Refusal};
+use crate::answer::Refusal;
+use crate::brief::Brief;
 use crate::desk::Desk;
 use crate::not_done::NotDone;
 use crate::places::{differ, replace_at};
@@ -65,11 +66,11 @@ impl Desk {
         Ok(value)
     }
 
-    pub(crate) fn binary(&mut self, op: Token, i: usize, j: usize) -> Result<Answer, NotDone>
+    pub(crate) fn binary(&mut self, op: Token, i: usize, j: usize) -> Result<Brief, NotDone>
         ensures { Does keeps_all result self.old self.new (step_binary self.old op i j) }
     {
         let value = self.operate(op, i, j)?;
         self.hand.push(value)?;
-        Ok(Answer::Done)
+        Ok(Brief::Done)
     }
 }

@@ -4,7 +4,8 @@ ghost use Rattle.rhai_run.specs.Cost.{free, keeps_all};
 ghost use Rattle.rhai_run.specs.Scope.{last_position, value_named, new_entry, step_push, step_pop, step_rewind, step_clear, step_is_empty, step_contains, step_get};
 ghost use Rattle.rhai_run.specs.Does.{Does};
 
-use crate::answer::{Answer, Refusal};
+use crate::answer::Refusal;
+use crate::brief::Brief;
 use crate::desk::Desk;
 use crate::not_done::NotDone;
 use crate::places::{push_in_room, replace_at};
@@ -81,7 +82,7 @@ pub(crate) fn find<'e>(entries: &'e [Entry], name: &ImmutableString) -> Option<&
 }
 
 impl Desk {
-    pub(crate) fn push(&mut self, name: &ImmutableString, i: usize) -> Result<Answer, NotDone>
+    pub(crate) fn push(&mut self, name: &ImmutableString, i: usize) -> Result<Brief, NotDone>
         ensures { Does keeps_all result self.old self.new (step_push self.old name.now i) }
     {
         self.value(i)?;
@@ -90,49 +91,49 @@ impl Desk {
         let mut value = replace_at(&mut self.hand, i, Dynamic::UNIT);
         value.set_access_mode(AccessMode::ReadWrite);
         push_in_room(&mut self.entries, Entry::new(name, value));
-        Ok(Answer::Done)
+        Ok(Brief::Done)
     }
 
-    pub(crate) fn pop(&mut self) -> Result<Answer, NotDone>
+    pub(crate) fn pop(&mut self) -> Result<Brief, NotDone>
         ensures { Does free result self.old self.new (step_pop self.old) }
     {
         self.entries.pop().ok_or(Refusal::EmptyScope)?;
-        Ok(Answer::Done)
+        Ok(Brief::Done)
     }
 
-    pub(crate) fn rewind(&mut self, n: usize) -> Result<Answer, NotDone>
+    pub(crate) fn rewind(&mut self, n: usize) -> Result<Brief, NotDone>
         ensures { Does free result self.old self.new (step_rewind self.old n) }
     {
         self.entries.truncate(n);
-        Ok(Answer::Done)
+        Ok(Brief::Done)
     }
 
-    pub(crate) fn clear(&mut self) -> Result<Answer, NotDone>
+    pub(crate) fn clear(&mut self) -> Result<Brief, NotDone>
         ensures { Does free result self.old self.new (step_clear self.old) }
     {
         self.entries.clear();
-        Ok(Answer::Done)
+        Ok(Brief::Done)
     }
 
-    pub(crate) fn is_empty(&self) -> Result<Answer, NotDone>
+    pub(crate) fn is_empty(&self) -> Result<Brief, NotDone>
         ensures { Does free result self.now self.now (step_is_empty self.now) }
     {
-        Ok(Answer::Bool(self.entries.is_empty()))
+        Ok(Brief::Bool(self.entries.is_empty()))
     }
 
-    pub(crate) fn contains(&self, name: &ImmutableString) -> Result<Answer, NotDone>
+    pub(crate) fn contains(&self, name: &ImmutableString) -> Result<Brief, NotDone>
         ensures { Does free result self.now self.now (step_contains self.now name.now) }
     {
-        Ok(Answer::Bool(search(&self.entries, name).is_some()))
+        Ok(Brief::Bool(search(&self.entries, name).is_some()))
     }
 
-    pub(crate) fn get(&mut self, name: &ImmutableString) -> Result<Answer, NotDone>
+    pub(crate) fn get(&mut self, name: &ImmutableString) -> Result<Brief, NotDone>
         ensures { Does keeps_all result self.old self.new (step_get self.old name.now) }
     {
         let value = find(&self.entries, name)
             .ok_or(Refusal::NoEntry)?
             .copy(self.alloc)?;
         self.hand.push(value)?;
-        Ok(Answer::Done)
+        Ok(Brief::Done)
     }
 }

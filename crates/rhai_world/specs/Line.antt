@@ -158,6 +158,7 @@ is_named (command.Contains name) = true
 is_named (command.Get name) = true
 is_named (command.Show i) = false
 is_named (command.Debug i) = false
+is_named (command.Hash i) = false
 
 abbrev pub SaysNamed : Option Command → Type 0
 SaysNamed said = IsSomeAnd said (λ c. IsTrue (is_named c))

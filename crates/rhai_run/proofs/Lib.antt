@@ -14,3 +14,4 @@ pub mod Fitting
 pub mod Runs
 pub mod Moves
 pub mod MapRows
+pub mod Writable

@@ -6,7 +6,10 @@ use Rattle.rhai_value.specs.declared.store.Cell.{Cell}
 use Rattle.rhai_value.specs.Tree.{Tree, node, leaf, branch, fields, holder, cell_of}
 use Rattle.rhai_value.specs.End.{flattened}
 use Rattle.rhai_value.specs.Store.{shared_value, shared_store}
-use Rattle.rhai_run.specs.State.{State, with_hand, with_cells}
+use Rattle.rhai_value.specs.declared.access_mode.AccessMode.{AccessMode}
+use Rattle.rhai_scope.specs.Entry.{Entry}
+use Rattle.rhai_run.specs.State.{State, with_hand, with_scope, with_cells}
+use Rattle.rhai_run.specs.Scope.{moved_into_entry}
 use Rattle.rhai_run.specs.Reply.{Reply, done}
 use Rattle.rhai_run.specs.Cost.{is_granted, may_want, share_cost}
 use Rattle.rhai_run.specs.Outcome.{Outcome, with_value}
@@ -50,7 +53,14 @@ set_own (x ∷ ts) (suc i) t e = ap (λ ys. x ∷ ys) (set_own ts i t e)
 pub came_back : (w : State) (i : ℕ) (t u d : Tree) (s : List Cell) (ts : List Tree) → slice_get w.hand i ≡ Some t → (d ≡ t) × (s ≡ w.store) → ts ≡ slice_set (slice_set w.hand i u) i d → with_cells w s ts ≡ w
 came_back w i t u d s ts e h k = ap₂ (with_cells w) h.1 (moved_in w.hand ts i u d t h.0 k ∙ set_own w.hand i t e)
 
--- a value that is there refuses neither
+-- the same where it was to go into an entry
+pub entry_came_back : (w : State) (i : ℕ) (t u d : Tree) (es : List Entry) (ts : List Tree) → slice_get w.hand i ≡ Some t → d ≡ t → es ≡ w.entries → ts ≡ slice_set (slice_set w.hand i u) i d → with_scope w es ts ≡ w
+entry_came_back w i t u d es ts e h k l = ap₂ (with_scope w) k (moved_in w.hand ts i u d t h l ∙ set_own w.hand i t e)
+
+-- a value that is there refuses none of these
+pub push_wants : (mode : Tree → AccessMode) (w : State) (name : List ℕ) (i : ℕ) (t : Tree) → slice_get w.hand i ≡ Some t → is_granted (moved_into_entry mode w name i).0 ≡ true
+push_wants mode w name i t e = rw e refl
+
 pub share_wants : (w : State) (i : ℕ) (t : Tree) → slice_get w.hand i ≡ Some t → is_some (cell_of t) ≡ false → may_want (share_cost (slice_get w.hand i)) (step_share w i).0 ≡ true
 share_wants w i t e f = rw e (rw f refl)
 

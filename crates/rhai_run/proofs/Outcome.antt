@@ -6,7 +6,8 @@ use Rattle.rhai_value.specs.Tree.{Tree, unit, fresh}
 use Rattle.rhai_value.specs.Store.{is_marked_at}
 use Rattle.rhai_value.specs.Relation.{Renaming, Related, RelatedCells, Alike}
 use Rattle.rhai_value.proofs.ForCallers.{zip_get, zip_append, zip_set, zip_take, zip_drop, zip_length}
-use Rattle.rhai_run.specs.State.{Entry, State, with_hand, with_entries, with_cells, appended, moved_from, last_values, values_before, without_last}
+use Rattle.rhai_scope.specs.Entry.{Entry}
+use Rattle.rhai_run.specs.State.{State, with_hand, with_entries, with_scope, with_cells, appended, moved_from, last_values, values_before}
 use Rattle.rhai_run.specs.Reply.{Reply, done, refused, Reason, no_value, same_value}
 use Rattle.rhai_run.specs.Outcome.{Outcome, refuse, unless, given, with_value, with_two, answered, replaced, gathered}
 use Rattle.rhai_run.specs.Correspondence.{RelatedEntry, RelatedStates, grown}
@@ -32,7 +33,8 @@ pub record Matches (r : Renaming) (w v : State) (o p : Outcome) : Type 0 where
   pub after : RelatedStates (grown r w v made) o.1 p.1
   pub keeps : Keeps w o.1
 
-pub same_without_last : {X : Type 0} (R : X → X → Type 0) (xs ys : List X) → AllZip R xs ys → AllZip R (without_last xs) (without_last ys)
+-- lists without their last items
+pub same_without_last : {X : Type 0} (R : X → X → Type 0) (xs ys : List X) → AllZip R xs ys → AllZip R (take (length xs - 1) xs) (take (length ys - 1) ys)
 same_without_last R xs ys h = subst (λ n. AllZip R (take (length xs - 1) xs) (take (n - 1) ys)) (zip_length R xs ys h) (zip_take R (length xs - 1) xs ys h)
 
 module _ (r : Renaming) (w v : State) (h : RelatedStates r w v) where
@@ -71,6 +73,9 @@ module _ (r : Renaming) (w v : State) (h : RelatedStates r w v) where
 
   pub m_entries : (es fs : List Entry) → AllZip (RelatedEntry r) es fs → Matches r w v (done, with_entries w es) (done, with_entries v fs)
   m_entries es fs e = no_cell _ _ done done refl refl refl (record { one = h.one; cells = h.cells; entries = e; marks = h.marks; hand = h.hand; limits = h.limits }) (λ k. k)
+
+  pub m_scope : (es fs : List Entry) (ts us : List Tree) → AllZip (RelatedEntry r) es fs → AllZip (Related r) ts us → Matches r w v (done, with_scope w es ts) (done, with_scope v fs us)
+  m_scope es fs ts us e d = no_cell _ _ done done refl refl refl (record { one = h.one; cells = h.cells; entries = e; marks = h.marks; hand = d; limits = h.limits }) (λ k. k)
 
   -- another store of as many cells and the same marks, and another hand
   pub m_cells : (s z : List Cell) (ts us : List Tree) → length s ≡ length w.store → length z ≡ length v.store → ((c : ℕ) → is_marked_at s c ≡ is_marked_at w.store c) → RelatedCells r s z → AllZip (Related r) ts us

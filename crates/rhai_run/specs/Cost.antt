@@ -6,7 +6,7 @@ use Rattle.rhai_run.specs.declared.command.Command.TheVariants as command
 use Rattle.rhai_run.specs.declared.command.Question.{Question}
 use Rattle.rhai_run.specs.declared.command.Question.TheVariants as question
 use Rattle.rhai_run.specs.State.{State}
-use Rattle.rhai_run.specs.Reply.{Reply, done, truth, number, told, bytes, refused}
+use Rattle.rhai_run.specs.Reply.{Reply, done, truth, number, told, bytes, nothing, refused}
 
 -- A command is free where it takes no memory. Else it may want memory, and keeps then all as it was: where it is not refused, or even
 -- before it is known whether it is refused.
@@ -62,11 +62,17 @@ cost w (command.Write i j) = free
 cost w (command.Binary op i j) = keeps_all
 cost w (command.Scan i scanner) = free
 cost w (command.Push name i) = keeps_all
+cost w (command.PushDynamic name i) = keeps_all
+cost w (command.PushConstant name i) = keeps_all
+cost w (command.SetEntry name i) = free
 cost w command.Pop = free
 cost w (command.Rewind n) = free
 cost w command.Clear = free
+cost w command.Len = free
 cost w command.IsEmpty = free
 cost w (command.Contains name) = free
+cost w (command.Search name) = free
+cost w (command.IsConstant name) = free
 cost w (command.Get name) = keeps_all
 cost w (command.Show i) = keeps_all
 cost w (command.Debug i) = keeps_all
@@ -79,6 +85,7 @@ is_granted (truth b) = true
 is_granted (number n) = true
 is_granted (told text) = true
 is_granted (bytes bs) = true
+is_granted nothing = true
 is_granted (refused why) = false
 
 -- whether memory may be wanted where a command of this cost has this reply

@@ -10,7 +10,7 @@ use Rattle.rhai_text.specs.declared.error.EvalAltResult.TheVariants as error
 use Rattle.rhai_value.specs.Tree.{Tree}
 use Rattle.rhai_run.specs.declared.answer.Refusal.TheVariants.{Fault}
 use Rattle.rhai_run.specs.State.{State, appended}
-use Rattle.rhai_run.specs.Reply.{Reply, done, truth, number, told, bytes, refused, reason_of}
+use Rattle.rhai_run.specs.Reply.{Reply, done, truth, number, told, bytes, nothing, refused, reason_of}
 use Rattle.rhai_run.specs.Outcome.{Outcome}
 use Rattle.rhai_run.specs.Cost.{Cost, is_granted, may_want}
 
@@ -22,6 +22,7 @@ brief_reply (brief.Int n) = number n
 brief_reply (brief.Count n) = number (pos n)
 brief_reply (brief.Text t) = told (chars (string_bytes t))
 brief_reply (brief.Bytes b) = bytes b.items
+brief_reply brief.Nothing = nothing
 
 -- The answer or the refusal is this reply; or memory was refused where it may be wanted.
 abbrev pub Tells : Cost → Result Brief NotDone → Reply → Type 0

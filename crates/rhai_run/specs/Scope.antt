@@ -1,41 +1,37 @@
--- Names in the scope, and steps on its entries.
-use Rattle.std.specs.Prelude.{ℕ, suc, nat_eq, Bool, if◌then◌else◌, List, [], ◌∷◌, ◌++◌, length, take, slice_get, Option, Some, None, option_and_then, is_some}
-use Rattle.std.specs.Cmp.Lexicographic.{pointwise}
-use Rattle.rhai_value.specs.declared.access_mode.AccessMode.TheVariants.{ReadWrite}
-use Rattle.rhai_value.specs.Tree.{Tree, copy, paint}
-use Rattle.rhai_run.specs.State.{Entry, State, with_entries, appended, moved_from, without_last}
-use Rattle.rhai_run.specs.Reply.{done, truth, no_entry, empty_scope}
+-- Steps on the entries of the scope.
+use Rattle.std.specs.Prelude.{ℕ, pos, nat_eq, Bool, List, [], length, take, Option, Some, None, option_map, is_some}
+use Rattle.rhai_value.specs.declared.access_mode.AccessMode.{AccessMode}
+use Rattle.rhai_value.specs.declared.access_mode.AccessMode.TheVariants.{ReadWrite, ReadOnly}
+use Rattle.rhai_value.specs.Tree.{Tree, copy, mode_of}
+use Rattle.rhai_scope.specs.Entry.{pushed, popped, is_constant_entry, with_value as holding}
+use Rattle.rhai_scope.specs.Lookup.{last_position, last_entry, value_named, changed_named}
+use Rattle.rhai_run.specs.State.{State, with_entries, with_scope, appended, moved_from}
+use Rattle.rhai_run.specs.Reply.{Reply, done, truth, number, nothing, no_entry, empty_scope, constant_entry}
 use Rattle.rhai_run.specs.Outcome.{Outcome, unless, given, with_value}
 
--- the position of the last entry of a name, seen from the rest of the entries and from the first one
-abbrev pub later_or_here : Option ℕ → Bool → Option ℕ
-later_or_here (Some k) here = Some (suc k)
-later_or_here None here = if here then Some 0 else None
+-- the value, painted with a mode, goes into a new last entry, and unit stands in its place
+abbrev pub moved_into_entry : (Tree → AccessMode) → State → List ℕ → ℕ → Outcome
+moved_into_entry mode w name i = with_value w i (λ t. (done, with_scope w (pushed (mode t) name t w.entries) (moved_from w.hand i)))
 
--- the greatest position of the name
-abbrev pub last_position : List ℕ → List Entry → Option ℕ
-last_position name [] = None
-last_position name (e ∷ es) = later_or_here (last_position name es) (pointwise nat_eq e.name name)
-
-abbrev pub value_of_entry : Entry → Option Tree
-value_of_entry e = Some e.value
-
--- the value of the last entry of the name
-abbrev pub value_named : List ℕ → List Entry → Option Tree
-value_named name es = option_and_then (λ k. option_and_then value_of_entry (slice_get es k)) (last_position name es)
-
--- a new entry has no alias
-abbrev pub new_entry : List ℕ → Tree → Entry
-new_entry name t = record { name = name; value = t; aliases = [] }
-
--- the value, painted ReadWrite, goes into a new last entry, and unit stands in its place
+-- the mode is ReadWrite, the value's own, or ReadOnly
 abbrev pub step_push : State → List ℕ → ℕ → Outcome
-step_push w name i =
-    with_value w i (λ t. (done, record w { entries = w.entries ++ new_entry name (paint ReadWrite t) ∷ []; hand = moved_from w.hand i }))
+step_push w name i = moved_into_entry (λ t. ReadWrite) w name i
+
+abbrev pub step_push_dynamic : State → List ℕ → ℕ → Outcome
+step_push_dynamic w name i = moved_into_entry (λ t. mode_of t) w name i
+
+abbrev pub step_push_constant : State → List ℕ → ℕ → Outcome
+step_push_constant w name i = moved_into_entry (λ t. ReadOnly) w name i
+
+-- the value becomes that of the last entry of the name, unless that is a constant
+abbrev pub step_set_entry : State → List ℕ → ℕ → Outcome
+step_set_entry w name i =
+    with_value w i (λ t. given (last_entry name w.entries) no_entry w (λ e.
+    unless (is_constant_entry e) constant_entry w (done, with_scope w (changed_named (holding t) name w.entries) (moved_from w.hand i))))
 
 -- the entries without the last one
 abbrev pub step_pop : State → Outcome
-step_pop w = unless (nat_eq (length w.entries) 0) empty_scope w (done, with_entries w (without_last w.entries))
+step_pop w = unless (nat_eq (length w.entries) 0) empty_scope w (done, with_entries w (popped w.entries))
 
 -- the first n entries, or all where there are no more
 abbrev pub step_rewind : State → ℕ → Outcome
@@ -49,10 +45,25 @@ step_clear w = (done, with_entries w [])
 abbrev pub step_get : State → List ℕ → Outcome
 step_get w name = given (value_named name w.entries) no_entry w (λ t. (done, appended w (copy t)))
 
+-- how many entries there are, and whether there is none
+abbrev pub step_len : State → Outcome
+step_len w = (number (pos (length w.entries)), w)
+
+abbrev pub step_is_empty : State → Outcome
+step_is_empty w = (truth (nat_eq (length w.entries) 0), w)
+
 -- whether an entry has the name
 abbrev pub step_contains : State → List ℕ → Outcome
 step_contains w name = (truth (is_some (last_position name w.entries)), w)
 
--- whether there is no entry
-abbrev pub step_is_empty : State → Outcome
-step_is_empty w = (truth (nat_eq (length w.entries) 0), w)
+-- an answer where there is one
+abbrev pub or_nothing : {X : Type 0} → (X → Reply) → Option X → Reply
+or_nothing reply None = nothing
+or_nothing reply (Some x) = reply x
+
+-- the position of the last entry of the name, and whether that is a constant
+abbrev pub step_search : State → List ℕ → Outcome
+step_search w name = (or_nothing (λ k. number (pos k)) (last_position name w.entries), w)
+
+abbrev pub step_is_constant : State → List ℕ → Outcome
+step_is_constant w name = (or_nothing (λ e. truth (is_constant_entry e)) (last_entry name w.entries), w)

@@ -13,6 +13,8 @@ pub enum Refusal {
     NoEntry,
     /// The scope has no entry at all.
     EmptyScope,
+    /// The last entry of the name is a constant.
+    ConstantEntry,
     /// The operator isn't built in for the two values.
     NoBuiltin,
     /// The value has no hash bytes.
@@ -36,6 +38,8 @@ pub enum Answer {
     Text(String),
     /// Bytes.
     Bytes(Vec<u8>),
+    /// There is nothing to answer.
+    Nothing,
     /// It was refused.
     Refused(Refusal),
 }

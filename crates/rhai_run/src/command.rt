@@ -111,18 +111,30 @@ pub enum Command {
     Binary(Token, usize, usize),
     /// Goes through the value at the hand position with a scanner, and answers how many values it came to.
     Scan(usize, Scanner),
-    /// Moves the value at the hand position into a new entry of the name, and leaves unit.
+    /// Moves the value at the hand position into a new entry of the name that may be written, and leaves unit.
     Push(ImmutableString, usize),
+    /// Moves the value at the hand position into a new entry of the name, which is a constant where the value is, and leaves unit.
+    PushDynamic(ImmutableString, usize),
+    /// Moves the value at the hand position into a new entry of the name that is a constant, and leaves unit.
+    PushConstant(ImmutableString, usize),
+    /// Moves the value at the hand position over the value of the last entry of the name, and leaves unit.
+    SetEntry(ImmutableString, usize),
     /// Drops the last entry.
     Pop,
     /// Keeps as many entries as the number says, the first ones.
     Rewind(usize),
     /// Drops all entries.
     Clear,
+    /// Answers how many entries there are.
+    Len,
     /// Answers whether there is no entry.
     IsEmpty,
     /// Answers whether an entry has the name.
     Contains(ImmutableString),
+    /// Answers the position of the last entry of the name, counted from 0, or nothing.
+    Search(ImmutableString),
+    /// Answers whether the last entry of the name is a constant, or nothing.
+    IsConstant(ImmutableString),
     /// Appends a copy of the value of the last entry of the name.
     Get(ImmutableString),
     /// Answers the text of the value at the hand position, as it is displayed.

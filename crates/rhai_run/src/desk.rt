@@ -12,7 +12,7 @@ use crate::answer::Refusal;
 use crate::brief::Brief;
 use crate::command::Command;
 use crate::not_done::NotDone;
-use crate::scope::Entry;
+use rhai_scope::Scope;
 use rhai_text::Limits;
 use rhai_value::{Dynamic, Store};
 use std::alloc::Global;
@@ -23,7 +23,7 @@ use std::marker::Model;
 pub(crate) struct Desk {
     pub(crate) alloc: Global,
     pub(crate) store: Store,
-    pub(crate) entries: Vec<Entry>,
+    pub(crate) scope: Scope,
     pub(crate) hand: Vec<Dynamic>,
     pub(crate) limits: Limits,
 }
@@ -37,7 +37,7 @@ impl Model for Desk {
 
     ghost coded = { state_code };
 
-    ghost view = { λ d. state_of d.store d.entries.items d.hand.items d.limits };
+    ghost view = { λ d. state_of d.store d.scope d.hand.items d.limits };
 }
 
 impl Desk {
@@ -47,7 +47,7 @@ impl Desk {
         Desk {
             alloc,
             store: Store::new(alloc),
-            entries: Vec::new(alloc),
+            scope: Scope::new(alloc),
             hand: Vec::new(alloc),
             limits,
         }
@@ -100,11 +100,17 @@ impl Desk {
             Command::Binary(op, i, j) => self.binary(*op, *i, *j),
             Command::Scan(i, scanner) => self.scan(*i, *scanner),
             Command::Push(name, i) => self.push(name, *i),
+            Command::PushDynamic(name, i) => self.push_dynamic(name, *i),
+            Command::PushConstant(name, i) => self.push_constant(name, *i),
+            Command::SetEntry(name, i) => self.set_entry(name, *i),
             Command::Pop => self.pop(),
             Command::Rewind(n) => self.rewind(*n),
             Command::Clear => self.clear(),
+            Command::Len => self.len(),
             Command::IsEmpty => self.is_empty(),
             Command::Contains(name) => self.contains(name),
+            Command::Search(name) => self.search(name),
+            Command::IsConstant(name) => self.is_constant(name),
             Command::Get(name) => self.get(name),
             Command::Show(i) => self.show(*i),
             Command::Debug(i) => self.debug(*i),

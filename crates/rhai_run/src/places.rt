@@ -1,12 +1,16 @@
 //! Hand positions, and writes to places of vectors.
-ghost use Rattle.std.specs.Prelude.{◌≡◌, ◌<◌, ◌++◌, ◌∷◌, [], ◌+◌, ◌≤◌, length, slice_get, slice_set, vec_len, vec_capacity, is_some, Some, true, false, nat_eq, IfOk, IfErr, OnOk, OnErr, IsOk, IsErr};
+ghost use Rattle.std.specs.Prelude.{◌≡◌, ◌<◌, ◌++◌, ◌∷◌, [], ◌+◌, ◌≤◌, length, slice_get, slice_set, vec_len, vec_capacity, is_some, Some, option_map, true, false, nat_eq, IfOk, IfErr, OnOk, OnErr, IsOk, IsErr};
 ghost use Rattle.rhai_value.specs.End.{first, value_with_first, store_with_first};
+ghost use Rattle.std.specs.Str.{chars};
+ghost use Rattle.rhai_scope.specs.Entry.{is_constant_entry, with_value as holding};
+ghost use Rattle.rhai_scope.specs.Lookup.{last_entry, changed_named};
 ghost use Rattle.rhai_run.specs.declared.answer.Refusal.TheVariants.{SameValue};
 ghost use Rattle.rhai_run.specs.declared.not_done.NotDone.TheVariants.{Refused};
 ghost use Rattle.rhai_run.specs.State.{last_values, values_before};
 
 use crate::answer::Refusal;
 use crate::not_done::NotDone;
+use rhai_scope::Scope;
 use rhai_value::{Dynamic, InStore, Store};
 use std::alloc::AllocError;
 use std::mem;
@@ -88,5 +92,16 @@ pub(crate) fn write_over(value: &mut Dynamic, store: &mut Store, content: Dynami
     let mut place = InStore { value, store };
     if let Some(whole) = place.whole_mut() {
         *whole = content;
+    }
+}
+
+/// Writes over the value of the last entry of a name, which is no constant.
+#[tactic(auto, using(crate::proofs::Writable::written_entry, crate::proofs::Writable::entry_is_there))]
+pub(crate) fn write_entry(scope: &mut Scope, name: &str, value: Dynamic)
+    requires { option_map is_constant_entry (last_entry (chars name.now) scope.old) ≡ Some false }
+    ensures { scope.new ≡ changed_named (holding value) (chars name.now) scope.old }
+{
+    if let Some(entry) = scope.get_mut(name) {
+        *entry = value;
     }
 }

@@ -21,7 +21,7 @@ fn write_reason<W: Write>(refusal: &Refusal, writer: &mut W) -> io::Result<()>
             writer.write_all(b"Mismatch ")?;
             writer.write_all(name.as_bytes())
         }
-        Refusal::SameValue | Refusal::NotHashable | Refusal::Fault(_) => {
+        Refusal::SameValue | Refusal::ConstantEntry | Refusal::NotHashable | Refusal::Fault(_) => {
             writer.write_all(b"BadLine")
         }
     }
@@ -38,7 +38,9 @@ fn write_reply<W: Write>(answer: &Answer, writer: &mut W) -> io::Result<()>
             writer.write_all(b"refused ")?;
             write_reason(refusal, writer)
         }
-        Answer::Bool(_) | Answer::Int(_) | Answer::Bytes(_) => writer.write_all(b"refused BadLine"),
+        Answer::Bool(_) | Answer::Int(_) | Answer::Bytes(_) | Answer::Nothing => {
+            writer.write_all(b"refused BadLine")
+        }
     }
 }
 

@@ -36,6 +36,13 @@ impl Hashed {
     {
         self.bytes.as_slice()
     }
+
+    /// The bytes, moved out.
+    pub fn into_bytes(self) -> Vec<u8>
+        ensures { result.items ≡ self }
+    {
+        self.bytes
+    }
 }
 
 impl PartialEq for Hashed {

@@ -6,3 +6,5 @@ pub mod Copied
 pub mod GoneThrough
 pub mod Extended
 pub mod TakenOut
+pub mod FromBelow
+pub mod Lines

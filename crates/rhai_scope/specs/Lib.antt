@@ -6,3 +6,5 @@ pub mod Extended
 pub mod Items
 pub mod Left
 pub mod Lookup
+pub mod ScopeBytes
+pub mod ScopeText

@@ -6,11 +6,13 @@ mod aliases;
 mod columns;
 mod copy;
 mod extend;
+mod hashed;
 mod into_iter;
 mod iter;
 mod lookup;
 mod rest;
 mod scope;
+mod shown;
 mod visible;
 
 pub use alias::{Alias, AliasList};

@@ -1,5 +1,5 @@
 -- Names and their characters.
-use Rattle.std.proofs.Common.{◌≡◌, ℕ, zero, suc, ◌<◌, Bool, true, false, nat_eq, List, [], ◌∷◌, length, drop, get_or, slice_get, Option, Some, None, refl, sym, ap, ap₂, ◌∙◌, arith}
+use Rattle.std.proofs.Common.{◌≡◌, ℕ, zero, suc, ◌<◌, Bool, true, false, nat_eq, List, [], ◌∷◌, length, drop, get_or, slice_get, Option, Some, None, refl, sym, ap, ap₂, ◌∙◌, subst, arith}
 use Rattle.std.proofs.lemmas.Str.{chars-nil, encodes-chars}
 use Rattle.std.specs.Cmp.Lexicographic.{pointwise, bytes_decides}
 use Rattle.std.specs.Str.{chars, encode_utf8_all, IsUtf8}
@@ -32,3 +32,18 @@ pub last_name-past : (name : List ℕ) (ns : List (List ℕ)) (i : ℕ) (n : Lis
 last_name-past name [] i n l is other none = absurd (omega arith)
 last_name-past name (x ∷ ns) zero n l is other none = ap₂ later_or_here none (ap (λ y. pointwise nat_eq y name) (sym is) ∙ other)
 last_name-past name (x ∷ ns) (suc i) n l is other none = last_name-past name ns i n (omega arith) is other none
+
+-- the name that is found is this one
+found_step : (name n : List ℕ) (ns : List (List ℕ)) (o : Option ℕ) (here : Bool) (i : ℕ) → ((k : ℕ) → o ≡ Some k → slice_get ns k ≡ Some name) → pointwise nat_eq n name ≡ here → later_or_here o here ≡ Some i → slice_get (n ∷ ns) i ≡ Some name
+found_step name n ns (Some k) here i before h e = let same : suc k ≡ i = cc in subst (λ j. slice_get (n ∷ ns) j ≡ Some name) same (before k refl)
+found_step name n ns None true i before h e = let same : 0 ≡ i = cc in subst (λ j. slice_get (n ∷ ns) j ≡ Some name) same (ap Some ((bytes_decides n name).0 h))
+found_step name n ns None false i before h e = cc
+
+pub found_name : (name : List ℕ) (ns : List (List ℕ)) (i : ℕ) → last_name name ns ≡ Some i → slice_get ns i ≡ Some name
+found_name name [] i e = cc
+found_name name (n ∷ ns) i e = found_step name n ns (last_name name ns) (pointwise nat_eq n name) i (λ k. found_name name ns k) refl e
+
+pub found_within : {A : Type 0} (xs : List A) (i : ℕ) (x : A) → slice_get xs i ≡ Some x → i < length xs
+found_within [] i x e = cc
+found_within (y ∷ xs) zero x e = omega arith
+found_within (y ∷ xs) (suc i) x e = omega (arith, found_within xs i x e)

@@ -12,7 +12,7 @@ use Rattle.rhai_scope.specs.Lookup.{later_or_here, last_position, value_named, u
 abbrev pub Aliases : Type 0
 Aliases = List (SmallVec (List ℕ))
 
-later_fewer : (bs : Aliases) (n : ℕ) → length bs ≤ suc n → length (later_aliases bs) ≤ n
+pub later_fewer : (bs : Aliases) (n : ℕ) → length bs ≤ suc n → length (later_aliases bs) ≤ n
 later_fewer [] n h = omega arith
 later_fewer (a ∷ bs) n h = omega (arith, h)
 

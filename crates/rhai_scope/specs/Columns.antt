@@ -1,5 +1,6 @@
 -- How a scope lies in memory: names, values and alias lists, of which there may be fewer.
 use Rattle.std.specs.Prelude.{◌≡◌, ℕ, ◌≤◌, nat_eq, if◌then◌else◌, List, [], ◌∷◌, length, Option, Some, None}
+use Rattle.std.specs.Borrow.{Bor}
 use Rattle.std.specs.Cmp.Lexicographic.{pointwise}
 use Rattle.std.specs.Vec.{with_item}
 use Rattle.smallvec.specs.SmallVec.{SmallVec}
@@ -35,10 +36,13 @@ last_name name (n ∷ ns) = later_or_here (last_name name ns) (pointwise nat_eq 
 abbrev pub writable_value : ℕ → Tree → Option ℕ
 writable_value i t = if is_constant (mode_of t) then None else Some i
 
--- as many names as values, and no more alias lists
-pub record AreParallel (c : Columns) : Type 0 where
-  pub values : length c.values.items ≡ length c.names.items
-  pub aliases : length c.aliases.items ≤ length c.names.items
+-- as many names as values, and no more alias lists; of columns that lie in a scope, and of parts of them
+pub record AreAligned (ns : List (List ℕ)) (vs : List Tree) (bs : List (SmallVec (List ℕ))) : Type 0 where
+  pub values : length vs ≡ length ns
+  pub aliases : length bs ≤ length ns
+
+abbrev pub AreParallel : Columns → Type 0
+AreParallel c = AreAligned c.names.items c.values.items c.aliases.items
 
 -- the columns with another value at a place, if there is one
 abbrev pub with_value_in : Columns → Tree → ℕ → Columns
@@ -47,3 +51,7 @@ with_value_in c t i = record c { values = with_item c.values i t }
 abbrev pub with_value_if : Columns → Option ℕ → Tree → Columns
 with_value_if c None t = c
 with_value_if c (Some i) t = with_value_in c t i
+
+-- the entry of which these are the name, the value and the aliases
+abbrev pub column_entry : Bor (List ℕ) × Bor Tree × Bor (List (List ℕ)) → Entry
+column_entry p = record { name = p.0.now; value = p.1.now; aliases = p.2.now }

@@ -29,6 +29,9 @@ is_constant_entry e = is_constant (mode_of e.value)
 abbrev pub with_value : Tree → Entry → Entry
 with_value t e = record e { value = t }
 
--- a copy of an entry has the mode that the entry's own value has
+-- a copy of a value that has the value's own mode, through arrays and maps
+abbrev pub copied_value : Tree → Tree
+copied_value t = paint (mode_of t) (copy t)
+
 abbrev pub copied_entry : Entry → Entry
-copied_entry e = with_value (paint (mode_of e.value) (copy e.value)) e
+copied_entry e = with_value (copied_value e.value) e

@@ -28,7 +28,8 @@ impl Model for Alias {
     ghost view = { λ a. alias_of a.name };
 }
 
-ghost use Rattle.std.specs.Prelude.{◌≡◌, [], IfOk};
+ghost use Rattle.std.specs.Prelude.{◌≡◌, [], nat_eq, IfOk};
+ghost use Rattle.std.specs.Cmp.Lexicographic.{pointwise};
 ghost use Rattle.std.specs.Str.{chars};
 
 impl Alias {
@@ -47,6 +48,14 @@ impl Alias {
             Some(name) => name.as_str(),
             None => "",
         }
+    }
+
+    /// Whether both are one name; lengths are compared first.
+    #[tactic(auto, using(crate::proofs::Names::same_bytes))]
+    pub(crate) fn is_same(&self, other: &Alias) -> bool
+        ensures { result ≡ pointwise nat_eq self.now other.now }
+    {
+        self.as_str() == other.as_str()
     }
 
     /// The same name again, which shares its bytes.

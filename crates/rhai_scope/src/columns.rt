@@ -1,5 +1,5 @@
 //! How a scope lies in memory.
-ghost use Rattle.std.specs.Prelude.{◌≡◌, ◌<◌, ◌≤◌, ◌+◌, [], ◌∷◌, ◌++◌, length, take, vec_len, vec_capacity, OnOk};
+ghost use Rattle.std.specs.Prelude.{◌≡◌, ◌<◌, ◌≤◌, ◌+◌, [], ◌∷◌, ◌++◌, length, take, remove, vec_len, vec_capacity, OnOk};
 ghost use Rattle.rhai_scope.specs.Entry.{new_entry};
 ghost use Rattle.rhai_scope.specs.Columns.{entries, AreParallel};
 
@@ -89,5 +89,20 @@ impl Columns {
         self.names.truncate(len);
         self.values.truncate(len);
         self.aliases.truncate(len);
+    }
+
+    /// Drops the entry at a place with its aliases.
+    #[tactic(auto, using(crate::proofs::TakenOut::removed_at, crate::proofs::TakenOut::removed_bare, crate::proofs::TakenOut::fewer))]
+    pub(crate) fn remove(&mut self, i: usize)
+        requires parallel { AreParallel self.old }
+        requires within { i < length self.old.names.items }
+        ensures entries { entries self.new ≡ remove (entries self.old) i }
+        ensures parallel { AreParallel self.new }
+    {
+        drop(self.names.remove(i));
+        drop(self.values.remove(i));
+        if i < self.aliases.len() {
+            drop(self.aliases.remove(i));
+        }
     }
 }

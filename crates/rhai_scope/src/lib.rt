@@ -2,11 +2,22 @@
 #![tactic(auto)]
 
 mod alias;
+mod aliases;
 mod columns;
+mod copy;
+mod extend;
+mod hashed;
+mod into_iter;
+mod iter;
 mod lookup;
+mod rest;
 mod scope;
+mod shown;
+mod visible;
 
 pub use alias::{Alias, AliasList};
+pub use into_iter::IntoIter;
+pub use iter::{Entries, Iter, IterRaw};
 pub use scope::{MIN_SCOPE_ENTRIES, Scope};
 
 #[cfg(test)]

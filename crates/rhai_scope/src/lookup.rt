@@ -26,8 +26,10 @@ fn is_name(own: &ImmutableString, name: &str) -> bool
 }
 
 /// The position of the last of these names that is this one.
+#[tactic(auto, using(crate::proofs::Names::found_name))]
 fn last_of(names: &[ImmutableString], name: &str) -> Option<usize>
-    ensures { result ≡ last_name (chars name.now) names.now }
+    ensures place { result ≡ last_name (chars name.now) names.now }
+    ensures name { IfSome result (λ i. slice_get names.now i ≡ Some (chars name.now)) }
 {
     let mut i = names.len();
     while i > 0 {
@@ -44,7 +46,8 @@ impl Columns {
     #[tactic(auto, using(crate::proofs::Parallel::last_named))]
     pub(crate) fn search(&self, name: &str) -> Option<usize>
         requires { AreParallel self.now }
-        ensures { result ≡ last_position (chars name.now) (entries self.now) }
+        ensures place { result ≡ last_position (chars name.now) (entries self.now) }
+        ensures name { IfSome result (λ i. slice_get self.now.names.items i ≡ Some (chars name.now)) }
     {
         last_of(&self.names, name)
     }

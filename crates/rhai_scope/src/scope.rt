@@ -126,6 +126,18 @@ impl Scope {
         ensures err { OnErr result (self.new ≡ self.old) }
     {
         let name = ImmutableString::from_str(self.alloc, name)?;
+        self.push_moved(name, access, value)
+    }
+
+    pub(crate) fn push_moved(
+        &mut self,
+        name: ImmutableString,
+        access: AccessMode,
+        value: Dynamic,
+    ) -> Result<(), AllocError>
+        ensures ok { OnOk result (self.new ≡ pushed access name value self.old) }
+        ensures err { OnErr result (self.new ≡ self.old) }
+    {
         match self.push_entry(name, access, value) {
             Ok(()) => Ok(()),
             Err(_) => Err(AllocError),

@@ -5,7 +5,7 @@ use Rattle.std.specs.Option.{ghost_name_of}
 use Rattle.std.specs.Str.{chars}
 use Rattle.rhai_scope.specs.Columns.{entries}
 use Rattle.rhai_scope.specs.Lookup.{writable_position}
-use Rattle.rhai_scope.proofs.Parallel.{entries_with, parallel_with}
+use Rattle.rhai_scope.proofs.Parallel.{entries_with}
 use Rattle.rhai_scope.proofs.scope.Scope.get_mut.Goals as goal
 
 pub returns : goal.returns

@@ -1,0 +1,7 @@
+use Rattle.rhai_scope.proofs.FromBelow.{added_as}
+use Rattle.rhai_show.specs.HashBytes.{count_bytes}
+use Rattle.rhai_scope.proofs.hashed.add_count.Goals as goal
+
+pub returns : goal.returns
+unfolding count_bytes
+returns c = added_as c.add_bytes.result _ _ _ _ c.to_le_bytes.ensures c.add_bytes.ensures

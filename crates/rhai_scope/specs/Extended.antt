@@ -1,0 +1,18 @@
+-- Entries that come from elsewhere, in their order.
+use Rattle.std.specs.Prelude.{ℕ, Bool, true, false, List, ◌++◌, map}
+use Rattle.rhai_value.specs.declared.access_mode.AccessMode.{AccessMode}
+use Rattle.rhai_value.specs.declared.access_mode.AccessMode.TheVariants.{ReadWrite, ReadOnly}
+use Rattle.rhai_value.specs.Tree.{Tree, paint}
+use Rattle.rhai_scope.specs.Entry.{Entry, new_entry}
+
+-- true means a constant
+abbrev pub flagged_mode : Bool → AccessMode
+flagged_mode true = ReadOnly
+flagged_mode false = ReadWrite
+
+-- the entries with a new one behind them for each name and value, and for each name, flag and value
+abbrev pub extended : List Entry → List (List ℕ × Tree) → List Entry
+extended es xs = es ++ map (λ x. new_entry x.0 (paint ReadWrite x.1)) xs
+
+abbrev pub extended_flagged : List Entry → List (List ℕ × Bool × Tree) → List Entry
+extended_flagged es xs = es ++ map (λ x. new_entry x.0 (paint (flagged_mode x.1) x.2)) xs

@@ -1,0 +1,95 @@
+//! Entries that come from an iterator.
+ghost use Rattle.std.specs.Prelude.{◌≡◌, ℕ, Bool, List, [], IfOk, OnOk, OnErr};
+ghost use Rattle.std.specs.Iterator.{IsFinite, Drains};
+ghost use Rattle.rhai_value.specs.Tree.{Tree};
+ghost use Rattle.rhai_scope.specs.Extended.{flagged_mode, extended, extended_flagged};
+
+use crate::scope::Scope;
+use rhai_text::ImmutableString;
+use rhai_value::{AccessMode, Dynamic};
+use std::alloc::{AllocError, Global};
+
+fn mode_of_flag(is_constant: bool) -> AccessMode
+    ensures { result ≡ flagged_mode is_constant }
+{
+    if is_constant {
+        AccessMode::ReadOnly
+    } else {
+        AccessMode::ReadWrite
+    }
+}
+
+impl Scope {
+    /// Adds an entry for each name with its value, painted ReadWrite, in the order in which they come. No name is copied, and where
+    /// the iterator knows how many come, room is made once. Where memory is refused, no entry stays.
+    /// (`Extend` of pairs, of rhai's `Scope`)
+    #[tactic(auto, using(crate::proofs::Extended::extended_last, crate::proofs::Extended::taken_back))]
+    pub fn extend<U: IntoIterator<Item = (ImmutableString, Dynamic)>>(
+        &mut self,
+        items: U,
+    ) -> Result<(), AllocError>
+        requires { (it : U.IntoIter) → U.into_iter_gives items it → U.IntoIter.can_next it × IsFinite (U.IntoIter.remaining it) }
+        ensures ok { OnOk result ((it : U.IntoIter) × (xs : List (List ℕ × Tree)) × U.into_iter_gives items it × Drains U.IntoIter.next_gives it xs × self.new ≡ extended self.old xs) }
+        ensures err { OnErr result (self.new ≡ self.old) }
+    {
+        let len = self.len();
+        let items = items.into_iter();
+        self.columns.reserve(items.size_hint().0)?;
+        for (name, value) in items {
+            if let Err(refused) = self.push_moved(name, AccessMode::ReadWrite, value) {
+                self.rewind(len);
+                return Err(refused);
+            }
+        }
+        Ok(())
+    }
+
+    /// The same, each value painted ReadOnly where `true` stands before it, and else ReadWrite.
+    /// (`Extend` of triples, of rhai's `Scope`)
+    #[tactic(auto, using(crate::proofs::Extended::flagged_last, crate::proofs::Extended::flagged_back))]
+    pub fn extend_flagged<U: IntoIterator<Item = (ImmutableString, bool, Dynamic)>>(
+        &mut self,
+        items: U,
+    ) -> Result<(), AllocError>
+        requires { (it : U.IntoIter) → U.into_iter_gives items it → U.IntoIter.can_next it × IsFinite (U.IntoIter.remaining it) }
+        ensures ok { OnOk result ((it : U.IntoIter) × (xs : List (List ℕ × Bool × Tree)) × U.into_iter_gives items it × Drains U.IntoIter.next_gives it xs × self.new ≡ extended_flagged self.old xs) }
+        ensures err { OnErr result (self.new ≡ self.old) }
+    {
+        let len = self.len();
+        let items = items.into_iter();
+        self.columns.reserve(items.size_hint().0)?;
+        for (name, is_constant, value) in items {
+            if let Err(refused) = self.push_moved(name, mode_of_flag(is_constant), value) {
+                self.rewind(len);
+                return Err(refused);
+            }
+        }
+        Ok(())
+    }
+
+    /// A scope of these entries, made as by `extend`. (`FromIterator` of pairs, of rhai's `Scope`)
+    pub fn from_pairs<U: IntoIterator<Item = (ImmutableString, Dynamic)>>(
+        alloc: Global,
+        items: U,
+    ) -> Result<Scope, AllocError>
+        requires { (it : U.IntoIter) → U.into_iter_gives items it → U.IntoIter.can_next it × IsFinite (U.IntoIter.remaining it) }
+        ensures { IfOk result (λ s. (it : U.IntoIter) × (xs : List (List ℕ × Tree)) × U.into_iter_gives items it × Drains U.IntoIter.next_gives it xs × s ≡ extended [] xs) }
+    {
+        let mut scope = Scope::new(alloc);
+        scope.extend(items)?;
+        Ok(scope)
+    }
+
+    /// A scope of these entries, made as by `extend_flagged`. (`FromIterator` of triples, of rhai's `Scope`)
+    pub fn from_flagged<U: IntoIterator<Item = (ImmutableString, bool, Dynamic)>>(
+        alloc: Global,
+        items: U,
+    ) -> Result<Scope, AllocError>
+        requires { (it : U.IntoIter) → U.into_iter_gives items it → U.IntoIter.can_next it × IsFinite (U.IntoIter.remaining it) }
+        ensures { IfOk result (λ s. (it : U.IntoIter) × (xs : List (List ℕ × Bool × Tree)) × U.into_iter_gives items it × Drains U.IntoIter.next_gives it xs × s ≡ extended_flagged [] xs) }
+    {
+        let mut scope = Scope::new(alloc);
+        scope.extend_flagged(items)?;
+        Ok(scope)
+    }
+}

@@ -1,0 +1,108 @@
+//! The hash bytes of a scope.
+ghost use Rattle.std.specs.Prelude.{◌≡◌, ◌++◌, length, IfOk, OnOk, Some, option_map};
+ghost use Rattle.std.specs.List.{flat_map};
+ghost use Rattle.std.specs.Str.{chars};
+ghost use Rattle.rhai_show.specs.HashBytes.{count_bytes, name_bytes, sized};
+ghost use Rattle.rhai_scope.specs.Columns.{entries, AreParallel};
+ghost use Rattle.rhai_scope.specs.Entry.{Entry};
+ghost use Rattle.rhai_scope.specs.ScopeBytes.{aliases_bytes, entry_bytes, scope_bytes, both_bytes};
+
+use crate::alias::Alias;
+use crate::columns::Columns;
+use crate::rest::Rest;
+use crate::scope::Scope;
+use rhai_show::{Hashed, hashed};
+use rhai_text::ImmutableString;
+use rhai_value::{Dynamic, Store};
+use std::alloc::{AllocError, Global};
+
+fn add_bytes(out: &mut Vec<u8>, bytes: &[u8]) -> Result<(), AllocError>
+    ensures { OnOk result (out.new.items ≡ out.old.items ++ bytes.now) }
+{
+    out.extend_from_slice(bytes)
+}
+
+/// Adds how many entries, bytes or aliases follow.
+fn add_count(out: &mut Vec<u8>, count: usize) -> Result<(), AllocError>
+    ensures { OnOk result (out.new.items ≡ out.old.items ++ count_bytes count) }
+{
+    add_bytes(out, &count.to_le_bytes())
+}
+
+/// Adds bytes behind their number.
+fn add_sized(out: &mut Vec<u8>, bytes: &[u8]) -> Result<(), AllocError>
+    ensures { OnOk result (out.new.items ≡ out.old.items ++ sized bytes.now) }
+{
+    add_count(out, bytes.len())?;
+    add_bytes(out, bytes)
+}
+
+/// Adds a name behind the number of its bytes.
+fn add_name(out: &mut Vec<u8>, name: &str) -> Result<(), AllocError>
+    ensures { OnOk result (out.new.items ≡ out.old.items ++ name_bytes (chars name.now)) }
+{
+    add_sized(out, name.as_bytes())
+}
+
+/// Adds aliases behind their number.
+fn add_aliases(out: &mut Vec<u8>, aliases: &[Alias]) -> Result<(), AllocError>
+    ensures { OnOk result (out.new.items ≡ out.old.items ++ aliases_bytes aliases.now) }
+{
+    add_count(out, aliases.len())?;
+    for alias in aliases {
+        add_name(out, alias.as_str())?;
+    }
+    Ok(())
+}
+
+/// The bytes with those of an entry behind them, where it has some.
+fn with_entry(
+    alloc: Global,
+    mut out: Vec<u8>,
+    name: &ImmutableString,
+    value: &Dynamic,
+    aliases: &[Alias],
+    s: &Store,
+) -> Result<Option<Vec<u8>>, AllocError>
+    ensures { IfOk result (λ o. option_map (λ v. v.items) o ≡ both_bytes (Some out.items) (entry_bytes s.now (record { name = name.now; value = value.now; aliases = aliases.now }))) }
+{
+    match hashed(alloc, value, s)? {
+        None => Ok(None),
+        Some(hashed) => {
+            add_name(&mut out, name.as_str())?;
+            add_bytes(&mut out, hashed.bytes())?;
+            add_aliases(&mut out, aliases)?;
+            Ok(Some(out))
+        }
+    }
+}
+
+fn bytes_of(alloc: Global, columns: &Columns, s: &Store) -> Result<Option<Vec<u8>>, AllocError>
+    requires { AreParallel columns.now }
+    ensures { IfOk result (λ o. option_map (λ v. v.items) o ≡ scope_bytes s.now (entries columns.now)) }
+{
+    let mut out = Vec::new(alloc);
+    let mut rest = Rest::of(columns);
+    add_count(&mut out, rest.len())?;
+    while let Some((name, value, aliases)) = rest.next() {
+        match with_entry(alloc, out, name, value, aliases, s)? {
+            None => return Ok(None),
+            Some(longer) => out = longer,
+        }
+    }
+    Ok(Some(out))
+}
+
+impl Scope {
+    /// The hash bytes of the scope, `None` where a value isn't hashable: the number of entries, and of each its name, its value
+    /// and its aliases, with the numbers of bytes and of aliases before them. Tags, modes and sharing aren't seen. Costs what
+    /// `rhai_show::hashed` costs for each value, and the number of the bytes. (`Hash` of rhai's `Scope`, which feeds any hasher)
+    pub fn hashed(&self, s: &Store) -> Result<Option<Hashed>, AllocError>
+        ensures { IfOk result (λ o. o ≡ scope_bytes s.now self.now) }
+    {
+        match bytes_of(self.alloc, &self.columns, s)? {
+            None => Ok(None),
+            Some(bytes) => Ok(Some(Hashed::from_bytes(bytes))),
+        }
+    }
+}

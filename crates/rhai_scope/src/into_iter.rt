@@ -1,0 +1,93 @@
+//! Taking a scope apart.
+
+use crate::alias::AliasList;
+use crate::scope::Scope;
+use rhai_text::ImmutableString;
+use rhai_value::Dynamic;
+use smallvec::SmallVec;
+use std::alloc::Global;
+use std::iter::{ExactSizeIterator, FusedIterator, IntoIterator, Iterator};
+use std::marker::Model;
+use std::vec;
+
+/// The entries of a scope that are left, from the first to the last. Contracts see the list of them.
+#[derive(Drop)]
+pub struct IntoIter {
+    alloc: Global,
+    names: vec::IntoIter<ImmutableString>,
+    values: vec::IntoIter<Dynamic>,
+    aliases: vec::IntoIter<AliasList>,
+}
+
+impl Model for IntoIter {
+    ghost use Rattle.std.specs.Prelude.{List};
+    ghost use Rattle.std.specs.Coded.{coded_list};
+    ghost use Rattle.std.specs.Vec.Iter.{into_iter_items, into_iter_len};
+    ghost use Rattle.rhai_scope.specs.Code.{entry_code};
+    ghost use Rattle.rhai_scope.specs.Columns.{entries_of};
+    ghost use Rattle.rhai_scope.specs.Entry.{Entry};
+    ghost use Rattle.rhai_scope.specs.Left.{AreLeft};
+
+    ghost Value = { List Entry };
+
+    ghost coded = { coded_list entry_code };
+
+    ghost view = { λ r. entries_of (into_iter_items r.names) (into_iter_items r.values) (into_iter_items r.aliases) };
+
+    ghost invariant = { λ r. AreLeft r.names r.values r.aliases };
+}
+
+impl Iterator for IntoIter {
+    ghost use Rattle.std.specs.Iterator.{YieldsFirstBy, item_count};
+    ghost use Rattle.rhai_scope.specs.Items.{moved_entry};
+
+    type Item = (ImmutableString, Dynamic, AliasList);
+
+    ghost next_gives = { YieldsFirstBy moved_entry (λ rest. rest) };
+
+    ghost remaining = { item_count (λ rest. rest) };
+
+    fn next(&mut self) -> Option<(ImmutableString, Dynamic, AliasList)> {
+        let name = self.names.next()?;
+        let value = self.values.next()?;
+        let aliases = match self.aliases.next() {
+            Some(aliases) => aliases,
+            None => SmallVec::new(self.alloc),
+        };
+        Some((name, value, aliases))
+    }
+
+    fn size_hint(&self) -> (usize, Option<usize>) {
+        let len = self.len();
+        (len, Some(len))
+    }
+}
+
+impl ExactSizeIterator for IntoIter {
+    #[tactic(auto, using(crate::proofs::Parallel::length_entries))]
+    fn len(&self) -> usize {
+        self.names.len()
+    }
+}
+
+impl FusedIterator for IntoIter {}
+
+/// Name, own value and aliases of each entry, from the first to the last.
+impl IntoIterator for Scope {
+    ghost use Rattle.std.specs.Prelude.{◌≡◌};
+
+    type Item = (ImmutableString, Dynamic, AliasList);
+
+    type IntoIter = IntoIter;
+
+    ghost into_iter_gives = { λ s r. r ≡ s };
+
+    fn into_iter(self) -> IntoIter {
+        IntoIter {
+            alloc: self.alloc,
+            names: self.columns.names.into_iter(),
+            values: self.columns.values.into_iter(),
+            aliases: self.columns.aliases.into_iter(),
+        }
+    }
+}

@@ -1,0 +1,200 @@
+//! Going over the entries of a scope that stays.
+ghost use Rattle.std.specs.Prelude.{◌≡◌, IfOk};
+ghost use Rattle.rhai_value.specs.End.{first, flat, constant_in};
+ghost use Rattle.rhai_scope.specs.Items.{given_flat};
+
+use crate::alias::Alias;
+use crate::rest::Rest;
+use crate::scope::Scope;
+use rhai_text::ImmutableString;
+use rhai_value::{Dynamic, Store};
+use std::alloc::{AllocError, Global};
+use std::iter::{ExactSizeIterator, FusedIterator, IntoIterator, Iterator};
+use std::marker::Model;
+
+/// The entries that are left, from the first to the last. Contracts see the list of them.
+#[derive(Drop)]
+pub struct Entries<'a> {
+    rest: Rest<'a>,
+}
+
+impl<'a> Model for Entries<'a> {
+    ghost use Rattle.std.specs.Prelude.{List};
+    ghost use Rattle.std.specs.Coded.{coded_list};
+    ghost use Rattle.rhai_scope.specs.Code.{entry_code};
+    ghost use Rattle.rhai_scope.specs.Entry.{Entry};
+
+    ghost Value = { List Entry };
+
+    ghost coded = { coded_list entry_code };
+
+    ghost view = { λ a. a.rest };
+}
+
+impl<'a> Iterator for Entries<'a> {
+    ghost use Rattle.std.specs.Iterator.{YieldsFirstBy, item_count};
+    ghost use Rattle.rhai_scope.specs.Items.{lent_entry};
+
+    type Item = (&'a str, &'a Dynamic, &'a [Alias]);
+
+    ghost next_gives = { YieldsFirstBy lent_entry (λ rest. rest) };
+
+    ghost remaining = { item_count (λ rest. rest) };
+
+    fn next(&mut self) -> Option<(&'a str, &'a Dynamic, &'a [Alias])> {
+        match self.rest.next() {
+            Some((name, value, aliases)) => Some((name.as_str(), value, aliases)),
+            None => None,
+        }
+    }
+
+    fn size_hint(&self) -> (usize, Option<usize>) {
+        let len = self.len();
+        (len, Some(len))
+    }
+}
+
+impl<'a> ExactSizeIterator for Entries<'a> {
+    fn len(&self) -> usize {
+        self.rest.len()
+    }
+}
+
+impl<'a> FusedIterator for Entries<'a> {}
+
+/// Name, own value and aliases of each entry, from the first to the last.
+impl<'a> IntoIterator for &'a Scope {
+    ghost use Rattle.std.specs.Prelude.{◌≡◌};
+
+    type Item = (&'a str, &'a Dynamic, &'a [Alias]);
+
+    type IntoIter = Entries<'a>;
+
+    ghost into_iter_gives = { λ s r. r ≡ s.now };
+
+    fn into_iter(self) -> Entries<'a> {
+        Entries {
+            rest: Rest::of(&self.columns),
+        }
+    }
+}
+
+fn flat_item<'a>(
+    alloc: Global,
+    store: &Store,
+    name: &'a ImmutableString,
+    value: &Dynamic,
+) -> Result<(&'a str, bool, Dynamic), AllocError>
+    ensures { IfOk result (λ p. given_flat p ≡ (name.now, constant_in (first store.now value.now), flat store.now value.now)) }
+{
+    let is_constant = value.is_read_only(store);
+    Ok((
+        name.as_str(),
+        is_constant,
+        value.flatten_clone(alloc, store)?,
+    ))
+}
+
+/// The entries that are left to `Scope::iter`, which makes their values flat.
+#[derive(Drop)]
+pub struct Iter<'a> {
+    alloc: Global,
+    store: &'a Store,
+    rest: Rest<'a>,
+}
+
+impl<'a> Iterator for Iter<'a> {
+    ghost use Rattle.std.specs.Iterator.{item_count};
+    ghost use Rattle.rhai_scope.specs.Items.{flat_left, GivesFlat};
+
+    type Item = Result<(&'a str, bool, Dynamic), AllocError>;
+
+    ghost next_gives = { GivesFlat };
+
+    ghost remaining = { item_count flat_left };
+
+    fn next(&mut self) -> Option<Result<(&'a str, bool, Dynamic), AllocError>> {
+        match self.rest.next() {
+            Some((name, value, _)) => Some(flat_item(self.alloc, self.store, name, value)),
+            None => None,
+        }
+    }
+
+    fn size_hint(&self) -> (usize, Option<usize>) {
+        let len = self.len();
+        (len, Some(len))
+    }
+}
+
+impl<'a> ExactSizeIterator for Iter<'a> {
+    fn len(&self) -> usize {
+        self.rest.len()
+    }
+}
+
+impl<'a> FusedIterator for Iter<'a> {}
+
+/// The entries that are left to `Scope::iter_raw`, which goes from the last to the first.
+#[derive(Drop)]
+pub struct IterRaw<'a> {
+    store: &'a Store,
+    rest: Rest<'a>,
+}
+
+impl<'a> Iterator for IterRaw<'a> {
+    ghost use Rattle.std.specs.Iterator.{YieldsFirstBy, item_count};
+    ghost use Rattle.rhai_scope.specs.Items.{given_raw, raw_left};
+
+    type Item = (&'a str, bool, &'a Dynamic);
+
+    ghost next_gives = { YieldsFirstBy given_raw raw_left };
+
+    ghost remaining = { item_count raw_left };
+
+    fn next(&mut self) -> Option<(&'a str, bool, &'a Dynamic)> {
+        let (name, value, _) = self.rest.next_back()?;
+        Some((name.as_str(), value.is_read_only(self.store), value))
+    }
+
+    fn size_hint(&self) -> (usize, Option<usize>) {
+        let len = self.len();
+        (len, Some(len))
+    }
+}
+
+impl<'a> ExactSizeIterator for IterRaw<'a> {
+    fn len(&self) -> usize {
+        self.rest.len()
+    }
+}
+
+impl<'a> FusedIterator for IterRaw<'a> {}
+
+impl Scope {
+    ghost use Rattle.std.specs.Prelude.{◌≡◌, map, reverse};
+    ghost use Rattle.rhai_scope.specs.Items.{flat_left, raw_left, shown_flat, shown_raw};
+
+    /// Each entry, from the first to the last: its name, whether it is a constant by `Dynamic::is_read_only`, and its flat value.
+    /// Each item costs what `Dynamic::flatten_clone` costs; where that is refused memory, the item is an `Err`, and the next one
+    /// goes on behind it. (`Scope::iter`)
+    pub fn iter<'a>(&'a self, s: &'a Store) -> Iter<'a>
+        ensures { flat_left result ≡ map (shown_flat s.now) self.now }
+    {
+        Iter {
+            alloc: self.alloc,
+            store: s,
+            rest: Rest::of(&self.columns),
+        }
+    }
+
+    /// Each entry, from the last to the first: its name, whether it is a constant by `Dynamic::is_read_only`, and its own value.
+    /// No item takes memory. (`Scope::iter_raw`)
+    pub fn iter_raw<'a>(&'a self, s: &'a Store) -> IterRaw<'a>
+        ensures { raw_left result ≡ map (shown_raw s.now) (reverse self.now) }
+    {
+        IterRaw {
+            store: s,
+            rest: Rest::of(&self.columns),
+        }
+    }
+}

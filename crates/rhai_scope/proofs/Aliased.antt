@@ -1,10 +1,10 @@
 -- What becomes of the entries where aliases are added.
-use Rattle.std.proofs.Common.{◌≡◌, ℕ, zero, suc, ◌<◌, List, [], ◌∷◌, ◌++◌, length, get_or, slice_set, refl, sym, ap, ◌∙◌, arith}
+use Rattle.std.proofs.Common.{◌≡◌, ℕ, zero, suc, ◌<◌, List, [], ◌∷◌, ◌++◌, length, get_or, slice_set, refl, ap, arith}
 use Rattle.smallvec.specs.SmallVec.{SmallVec}
 use Rattle.rhai_value.specs.Tree.{Tree}
 use Rattle.rhai_scope.specs.Alias.{with_alias, aliased}
 use Rattle.rhai_scope.specs.Entry.{Entry}
-use Rattle.rhai_scope.specs.Columns.{first_aliases, later_aliases, entries_of}
+use Rattle.rhai_scope.specs.Columns.{entries_of}
 use Rattle.rhai_scope.specs.Lookup.{changed_at}
 use Rattle.rhai_scope.proofs.Parallel.{Aliases}
 

@@ -1,10 +1,9 @@
 -- Copies of entries.
-use Rattle.std.proofs.Common.{◌≡◌, ◌≤◌, ℕ, List, [], ◌∷◌, length, map, refl, sym, ap, ap₂, ◌∙◌, arith}
+use Rattle.std.proofs.Common.{◌≡◌, ℕ, List, [], ◌∷◌, length, map, refl, sym, ap, ap₂, ◌∙◌}
 use Rattle.std.proofs.lemmas.List.{length-map}
-use Rattle.smallvec.specs.SmallVec.{SmallVec}
 use Rattle.rhai_value.specs.Tree.{Tree}
 use Rattle.rhai_scope.specs.Entry.{Entry, copied_value, copied_entry}
-use Rattle.rhai_scope.specs.Columns.{first_aliases, later_aliases, entries_of}
+use Rattle.rhai_scope.specs.Columns.{entries_of}
 use Rattle.rhai_scope.proofs.Parallel.{Aliases}
 
 abbrev pub items_of : Aliases → List (List (List ℕ))

@@ -1,10 +1,10 @@
 -- Entries without the first, and without the last.
-use Rattle.std.proofs.Common.{◌≡◌, ℕ, suc, ◌+◌, ◌≤◌, List, [], ◌∷◌, ◌++◌, length, refl, sym, ap, ap₂, ◌∙◌, arith}
+use Rattle.std.proofs.Common.{◌≡◌, ℕ, ◌≤◌, List, [], ◌∷◌, ◌++◌, length, refl, ap, arith}
 use Rattle.smallvec.specs.SmallVec.{SmallVec}
 use Rattle.rhai_value.specs.Tree.{Tree}
 use Rattle.rhai_scope.specs.Entry.{Entry}
-use Rattle.rhai_scope.specs.Columns.{first_aliases, later_aliases, entries_of}
-use Rattle.rhai_scope.proofs.Parallel.{Aliases, with_one_more, later_fewer}
+use Rattle.rhai_scope.specs.Columns.{entries_of}
+use Rattle.rhai_scope.proofs.Parallel.{Aliases, with_one_more}
 
 -- the first one, which has an alias list
 pub first_split : (ns ms : List (List ℕ)) (vs ws : List Tree) (bs cs : Aliases) (n : List ℕ) (v : Tree) (b : SmallVec (List ℕ)) → ns ≡ n ∷ ms → vs ≡ v ∷ ws → bs ≡ b ∷ cs

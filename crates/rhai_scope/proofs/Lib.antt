@@ -8,3 +8,4 @@ pub mod Extended
 pub mod TakenOut
 pub mod FromBelow
 pub mod Lines
+pub mod MovedOut

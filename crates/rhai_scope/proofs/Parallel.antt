@@ -1,11 +1,11 @@
 -- What becomes of the entries where the three columns change.
-use Rattle.std.proofs.Common.{◌≡◌, ℕ, zero, suc, ◌≤◌, List, [], ◌∷◌, ◌++◌, length, take, nat_eq, slice_get, Option, Some, None, option_map, option_and_then, refl, sym, ap, ap₂, ◌∙◌, arith}
+use Rattle.std.proofs.Common.{◌≡◌, ℕ, zero, suc, ◌≤◌, ◌<◌, Bool, true, false, List, [], ◌∷◌, ◌++◌, length, take, nat_eq, slice_get, Option, Some, None, option_map, option_and_then, refl, sym, ap, ap₂, ◌∙◌, arith}
 use Rattle.std.proofs.Common.{length-set, slice_set}
 use Rattle.std.specs.Cmp.Lexicographic.{pointwise}
 use Rattle.smallvec.specs.SmallVec.{SmallVec}
 use Rattle.rhai_value.specs.Tree.{Tree}
 use Rattle.rhai_scope.specs.Entry.{Entry, new_entry, with_value}
-use Rattle.rhai_scope.specs.Columns.{first_aliases, later_aliases, entries_of, entries, last_name, writable_value, with_value_if, AreParallel}
+use Rattle.rhai_scope.specs.Columns.{first_aliases, later_aliases, entries_of, entries, last_name, writable_value, with_value_if, AreAligned, AreParallel}
 use Rattle.rhai_scope.specs.declared.columns.Columns.{Columns}
 use Rattle.rhai_scope.specs.Lookup.{later_or_here, last_position, value_named, unless_constant, writable_position, changed_at, with_value_at}
 
@@ -93,3 +93,16 @@ first_entries (suc k) [] vs bs = refl
 first_entries (suc k) (n ∷ ns) [] bs = refl
 first_entries (suc k) (n ∷ ns) (v ∷ vs) bs =
     ap₂ (λ x (es : List Entry). record { name = n; value = v; aliases = x } ∷ es) (first_taken k bs) (ap (entries_of (take k ns) (take k vs)) (later_taken k bs) ∙ first_entries k ns vs (later_aliases bs))
+
+pub parallel_set : (ns : List (List ℕ)) (vs : List Tree) (bs : Aliases) (i : ℕ) (t : Tree) → AreAligned ns vs bs → AreAligned ns (slice_set vs i t) bs
+parallel_set ns vs bs i t h = record { values = length-set vs i t ∙ h.values; aliases = h.aliases }
+
+-- an entry that is found is one of the entries
+within_step : (o : Option ℕ) (here : Bool) (n i : ℕ) → ((k : ℕ) → o ≡ Some k → k < n) → later_or_here o here ≡ Some i → i < suc n
+within_step (Some k) here n i before e = let same : suc k ≡ i = cc in omega (arith, before k refl)
+within_step None true n i before e = let same : 0 ≡ i = cc in omega arith
+within_step None false n i before e = cc
+
+pub position_within : (name : List ℕ) (es : List Entry) (i : ℕ) → last_position name es ≡ Some i → i < length es
+position_within name [] i e = cc
+position_within name (x ∷ es) i e = within_step (last_position name es) (pointwise nat_eq x.name name) (length es) i (λ k. position_within name es k) e

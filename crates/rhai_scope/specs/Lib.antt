@@ -8,3 +8,4 @@ pub mod Left
 pub mod Lookup
 pub mod ScopeBytes
 pub mod ScopeText
+pub mod Typed

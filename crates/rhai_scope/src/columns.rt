@@ -1,6 +1,8 @@
 //! How a scope lies in memory.
-ghost use Rattle.std.specs.Prelude.{◌≡◌, ◌<◌, ◌≤◌, ◌+◌, [], ◌∷◌, ◌++◌, length, take, remove, vec_len, vec_capacity, OnOk};
-ghost use Rattle.rhai_scope.specs.Entry.{new_entry};
+ghost use Rattle.std.specs.Prelude.{◌≡◌, ◌<◌, ◌≤◌, ◌+◌, [], ◌∷◌, ◌++◌, length, take, remove, slice_get, Some, vec_len, vec_capacity, OnOk};
+ghost use Rattle.rhai_value.specs.Tree.{fresh, unit};
+ghost use Rattle.rhai_scope.specs.Entry.{new_entry, with_value};
+ghost use Rattle.rhai_scope.specs.Lookup.{changed_at};
 ghost use Rattle.rhai_scope.specs.Columns.{entries, AreParallel};
 
 use crate::alias::AliasList;
@@ -104,5 +106,30 @@ impl Columns {
         if i < self.aliases.len() {
             drop(self.aliases.remove(i));
         }
+    }
+
+    /// Sets the value at a place.
+    #[tactic(auto, using(crate::proofs::Parallel::set_at, crate::proofs::Parallel::parallel_set))]
+    pub(crate) fn set(&mut self, i: usize, value: Dynamic)
+        requires parallel { AreParallel self.old }
+        requires within { i < length self.old.names.items }
+        ensures entries { entries self.new ≡ changed_at (with_value value) (entries self.old) i }
+        ensures parallel { AreParallel self.new }
+        ensures names { self.new.names ≡ self.old.names }
+    {
+        self.values[i] = value;
+    }
+
+    /// Moves the value at a place out, and leaves unit.
+    #[tactic(auto, using(crate::proofs::Parallel::set_at, crate::proofs::Parallel::parallel_set))]
+    pub(crate) fn lift(&mut self, i: usize) -> Dynamic
+        requires parallel { AreParallel self.old }
+        requires within { i < length self.old.names.items }
+        ensures value { slice_get self.old.values.items i ≡ Some result }
+        ensures entries { entries self.new ≡ changed_at (with_value (fresh unit)) (entries self.old) i }
+        ensures parallel { AreParallel self.new }
+        ensures names { self.new.names ≡ self.old.names }
+    {
+        self.values[i].take()
     }
 }

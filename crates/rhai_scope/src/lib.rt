@@ -13,6 +13,7 @@ mod lookup;
 mod rest;
 mod scope;
 mod shown;
+mod typed;
 mod visible;
 
 pub use alias::{Alias, AliasList};

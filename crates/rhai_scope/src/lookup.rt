@@ -82,7 +82,7 @@ impl Columns {
 
     /// The position of the last entry of a name, if its value may be written.
     #[tactic(auto, using(crate::proofs::Parallel::writable_is))]
-    fn writable(&self, name: &str) -> Option<usize>
+    pub(crate) fn writable(&self, name: &str) -> Option<usize>
         requires { AreParallel self.now }
         ensures place { result ≡ writable_position (chars name.now) (entries self.now) }
         ensures within { IfSome result (λ i. i < length self.now.values.items) }
@@ -100,6 +100,19 @@ impl Columns {
         ensures value { option_copied_mut result ≡ value_at (entries self.old) (writable_position (chars name.now) (entries self.old)) }
     {
         match self.writable(name) {
+            Some(i) => Some(self.value_at_mut(i)),
+            None => None,
+        }
+    }
+
+    /// The value of the last entry of a name, to write to, also of a constant.
+    #[tactic(auto, using(crate::proofs::Names::found_within))]
+    pub(crate) fn last_mut(&mut self, name: &str) -> Option<&mut Dynamic>
+        requires { AreParallel self.old }
+        ensures* writes_back { sem 𝓛 (LendsIf columns_type.the_row dynamic_type.the_row self.entry result (with_value_if self.old (last_position (chars name.now) (entries self.old))) self.old) }
+        ensures value { option_copied_mut result ≡ value_at (entries self.old) (last_position (chars name.now) (entries self.old)) }
+    {
+        match self.search(name) {
             Some(i) => Some(self.value_at_mut(i)),
             None => None,
         }
@@ -148,6 +161,13 @@ impl Scope {
         ensures value { option_copied_mut result ≡ value_at self.old (writable_position (chars name.now) self.old) }
     {
         self.columns.get_mut(name)
+    }
+
+    pub(crate) fn last_mut(&mut self, name: &str) -> Option<&mut Dynamic>
+        ensures* writes_back { sem 𝓛 (LendsIf scope_type.the_row dynamic_type.the_row self.entry result (with_value_at self.old (last_position (chars name.now) self.old)) self.old) }
+        ensures value { option_copied_mut result ≡ value_at self.old (last_position (chars name.now) self.old) }
+    {
+        self.columns.last_mut(name)
     }
 
     /// Whether the last entry of a name is a constant by its own mode, at the cost of `search`. (`Scope::is_constant`)

@@ -1,4 +1,4 @@
-use Rattle.std.proofs.Common.{string_bytes, List, ℕ}
+use Rattle.std.proofs.Common.{string_bytes}
 use Rattle.std.specs.Str.{chars}
 use Rattle.rhai_scope.proofs.Lines.{line_added}
 use Rattle.rhai_scope.proofs.shown.add_line.Goals as goal

@@ -1,0 +1,41 @@
+-- A value that is moved out of its entry for a while.
+use Rattle.std.proofs.Common.{◌≡◌, ℕ, zero, suc, List, [], ◌∷◌, slice_get, Option, Some, None, option_map, refl, sym, ap}
+use Rattle.std.specs.Prelude.{remove}
+use Rattle.rhai_value.specs.Tree.{Tree}
+use Rattle.rhai_scope.specs.Entry.{Entry, with_value}
+use Rattle.rhai_value.specs.declared.type_id.TypeId.{TypeId}
+use Rattle.rhai_variant.specs.Reads.{written_as}
+use Rattle.rhai_scope.specs.Lookup.{changed_at, changed_if, value_at, with_value_at}
+use Rattle.rhai_scope.specs.Typed.{written_entry}
+
+-- an entry goes whatever its value became
+pub taken : (t : Tree) (es : List Entry) (i : ℕ) → remove (changed_at (with_value t) es i) i ≡ remove es i
+taken t [] i = refl
+taken t (e ∷ es) zero = refl
+taken t (e ∷ es) (suc i) = ap (λ xs. e ∷ xs) (taken t es i)
+
+-- a value that comes back
+pub put_back : (t u : Tree) (es : List Entry) (i : ℕ) → option_map (λ (e : Entry). e.value) (slice_get es i) ≡ Some t → changed_at (with_value t) (changed_at (with_value u) es i) i ≡ es
+put_back t u [] i h = refl
+put_back t u (e ∷ es) zero h = let same : e.value ≡ t = cc in ap (λ x. with_value x e ∷ es) (sym same)
+put_back t u (e ∷ es) (suc i) h = ap (λ xs. e ∷ xs) (put_back t u es i h)
+
+-- a value that is written where it stands
+written_there : (k : TypeId) (w t : Tree) (es : List Entry) (i : ℕ) → option_map (λ (e : Entry). e.value) (slice_get es i) ≡ Some t → changed_at (with_value (written_as k w t)) es i ≡ changed_at (written_entry k w) es i
+written_there k w t [] i h = refl
+written_there k w t (e ∷ es) zero h = let same : e.value ≡ t = cc in ap (λ x. with_value (written_as k w x) e ∷ es) (sym same)
+written_there k w t (e ∷ es) (suc i) h = ap (λ xs. e ∷ xs) (written_there k w t es i h)
+
+pub written_at : (k : TypeId) (w t : Tree) (es : List Entry) (o : Option ℕ) → Some t ≡ value_at es o → with_value_at es o (written_as k w t) ≡ changed_if (written_entry k w) es o
+written_at k w t es None h = refl
+written_at k w t es (Some i) h = written_there k w t es i (sym h)
+
+-- and one that is written over itself
+kept_there : (t : Tree) (es : List Entry) (i : ℕ) → option_map (λ (e : Entry). e.value) (slice_get es i) ≡ Some t → changed_at (with_value t) es i ≡ es
+kept_there t [] i h = refl
+kept_there t (e ∷ es) zero h = let same : e.value ≡ t = cc in ap (λ x. with_value x e ∷ es) (sym same)
+kept_there t (e ∷ es) (suc i) h = ap (λ xs. e ∷ xs) (kept_there t es i h)
+
+pub kept_at : (t : Tree) (es : List Entry) (o : Option ℕ) → Some t ≡ value_at es o → with_value_at es o t ≡ es
+kept_at t es None h = refl
+kept_at t es (Some i) h = kept_there t es i (sym h)

@@ -1,0 +1,218 @@
+//! Entries by types of Rust.
+ghost use Rattle.std.specs.Prelude.{◌≡◌, ◌<◌, false, None, Some, length, option_map, option_and_then, remove, IfSome, IfOk, IfErr, OnOk, OnErr, IsOk};
+ghost use Rattle.std.specs.Borrow.{LendsIf, sem};
+ghost use Rattle.std.specs.Str.{chars};
+ghost use Rattle.rhai_value.specs.declared.access_mode.AccessMode.TheVariants.{ReadWrite, ReadOnly};
+ghost use Rattle.rhai_value.specs.End.{flat, flattened};
+ghost use Rattle.rhai_value.specs.Tree.{cell_of};
+ghost use Rattle.rhai_variant.specs.Reads.{read, viewed};
+ghost use Rattle.rhai_scope.specs.Columns.{entries, AreParallel};
+ghost use Rattle.rhai_scope.specs.Entry.{is_constant_entry, pushed};
+ghost use Rattle.rhai_scope.specs.Lookup.{changed_named, last_position, last_entry, value_at, value_named, writable_position};
+ghost use Rattle.rhai_scope.specs.Typed.{set_or_pushed, removed_at, written_entry};
+ghost use Rattle.rhai_scope.specs.contracts.scope.Scope as scope_type;
+
+use crate::columns::Columns;
+use crate::scope::Scope;
+use rhai_cast::DynamicCast;
+use rhai_value::{AccessMode, Dynamic, Store};
+use rhai_variant::{CastError, Variant};
+use std::alloc::{AllocError, Global};
+
+/// The value that is made of one of Rust's.
+fn made<T: Variant>(alloc: Global, value: T) -> Result<Dynamic, AllocError>
+    ensures { IfOk result (λ d. d ≡ T.tree value) }
+{
+    match value.into_dynamic(alloc) {
+        Ok(made) => Ok(made),
+        Err(_) => Err(AllocError),
+    }
+}
+
+/// What is read of the flat copy of a value, if it is of the type.
+fn read_flat<T: Variant>(alloc: Global, value: &Dynamic, s: &Store) -> Result<Option<T>, AllocError>
+    ensures { IfOk result (λ found. option_map T.tree found ≡ read T.KIND (flat s.now value.now)) }
+{
+    match T::from_dynamic(alloc, value.flatten_clone(alloc, s)?) {
+        Ok(found) => Ok(Some(found)),
+        Err(CastError::Mismatch(_)) => Ok(None),
+        Err(CastError::Memory(_)) => Err(AllocError),
+    }
+}
+
+/// What is read of a value without its holders, if it is of the type; the value as it was where memory is refused.
+fn cast_out<T: Variant>(alloc: Global, value: Dynamic, s: &Store) -> Result<Option<T>, Dynamic>
+    ensures ok { IfOk result (λ found. option_map T.tree found ≡ read T.KIND (flattened s.now value)) }
+    ensures err { IfErr result (λ back. back ≡ value) }
+{
+    match value.try_cast_result::<T>(alloc, s) {
+        Ok(found) => Ok(Some(found)),
+        Err(CastError::Mismatch(_)) => Ok(None),
+        Err(CastError::Memory(back)) => Err(back),
+    }
+}
+
+impl Columns {
+    /// Takes the entry at a place out, and casts its value; the entry stays where memory is refused.
+    #[tactic(auto, using(crate::proofs::MovedOut::taken))]
+    fn take_out<T: Variant>(
+        &mut self,
+        alloc: Global,
+        i: usize,
+        s: &Store,
+    ) -> Result<Option<T>, AllocError>
+        requires parallel { AreParallel self.old }
+        requires within { i < length self.old.names.items }
+        ensures found { IfOk result (λ found. option_map T.tree found ≡ option_and_then (λ t. read T.KIND (flattened s.now t)) (value_at (entries self.old) (Some i))) }
+        ensures ok { OnOk result (entries self.new ≡ remove (entries self.old) i) }
+        ensures err { OnErr result (entries self.new ≡ entries self.old) }
+        ensures parallel { AreParallel self.new }
+    {
+        let value = self.lift(i);
+        match cast_out(alloc, value, s) {
+            Ok(found) => {
+                self.remove(i);
+                Ok(found)
+            }
+            Err(back) => {
+                self.set(i, back);
+                Err(AllocError)
+            }
+        }
+    }
+
+    /// Takes the last entry of a name out.
+    #[tactic(auto, using(crate::proofs::Names::found_within))]
+    fn remove_named<T: Variant>(
+        &mut self,
+        alloc: Global,
+        name: &str,
+        s: &Store,
+    ) -> Result<Option<T>, AllocError>
+        requires { AreParallel self.old }
+        ensures found { IfOk result (λ found. option_map T.tree found ≡ option_and_then (λ t. read T.KIND (flattened s.now t)) (value_named (chars name.now) (entries self.old))) }
+        ensures ok { OnOk result (entries self.new ≡ removed_at (last_position (chars name.now) (entries self.old)) (entries self.old)) }
+        ensures err { OnErr result (entries self.new ≡ entries self.old) }
+        ensures parallel { AreParallel self.new }
+    {
+        match self.search(name) {
+            Some(i) => self.take_out(alloc, i, s),
+            None => Ok(None),
+        }
+    }
+}
+
+impl Scope {
+    /// Adds an entry behind the others. The text of the name is copied. (`Scope::push`)
+    pub fn push<T: Variant>(&mut self, name: &str, value: T) -> Result<(), AllocError>
+        ensures ok { OnOk result (self.new ≡ pushed ReadWrite (chars name.now) (T.tree value) self.old) }
+        ensures err { OnErr result (self.new ≡ self.old) }
+    {
+        let value = made(self.alloc, value)?;
+        self.push_named(name, AccessMode::ReadWrite, value)
+    }
+
+    /// Adds a constant behind the other entries. (`Scope::push_constant`)
+    pub fn push_constant<T: Variant>(&mut self, name: &str, value: T) -> Result<(), AllocError>
+        ensures ok { OnOk result (self.new ≡ pushed ReadOnly (chars name.now) (T.tree value) self.old) }
+        ensures err { OnErr result (self.new ≡ self.old) }
+    {
+        let value = made(self.alloc, value)?;
+        self.push_named(name, AccessMode::ReadOnly, value)
+    }
+
+    /// Gives the last entry of a name another value, which isn't painted, unless that entry is a constant by its own mode. Then, and
+    /// where there is none of the name, an entry is added behind the others. No cell is written. At the cost of `search`.
+    /// (`Scope::set_or_push`)
+    #[tactic(auto, using(crate::proofs::Parallel::length_entries))]
+    pub fn set_or_push<T: Variant>(&mut self, name: &str, value: T) -> Result<(), AllocError>
+        ensures ok { OnOk result (self.new ≡ set_or_pushed (writable_position (chars name.now) self.old) (chars name.now) (T.tree value) self.old) }
+        ensures err { OnErr result (self.new ≡ self.old) }
+    {
+        let value = made(self.alloc, value)?;
+        let place = self.columns.writable(name);
+        self.set_at(place, name, value)
+    }
+
+    /// Gives the last entry of a name another value, which isn't painted; where there is none of the name, an entry is added
+    /// behind the others. No cell is written. At the cost of `search`. (`Scope::set_value`, which panics on a constant)
+    #[tactic(auto, using(crate::proofs::Parallel::position_within))]
+    pub fn set_value<T: Variant>(&mut self, name: &str, value: T) -> Result<(), AllocError>
+        requires { IfSome (last_entry (chars name.now) self.old) (λ e. is_constant_entry e ≡ false) }
+        ensures ok { OnOk result (self.new ≡ set_or_pushed (last_position (chars name.now) self.old) (chars name.now) (T.tree value) self.old) }
+        ensures err { OnErr result (self.new ≡ self.old) }
+    {
+        let value = made(self.alloc, value)?;
+        let place = self.search(name);
+        self.set_at(place, name, value)
+    }
+
+    #[tactic(auto, using(crate::proofs::Parallel::length_entries))]
+    fn set_at(&mut self, place: Option<usize>, name: &str, value: Dynamic) -> Result<(), AllocError>
+        requires { IfSome place (λ i. i < length self.old) }
+        ensures ok { OnOk result (self.new ≡ set_or_pushed place (chars name.now) value self.old) }
+        ensures err { OnErr result (self.new ≡ self.old) }
+    {
+        match place {
+            Some(i) => {
+                self.columns.set(i, value);
+                Ok(())
+            }
+            None => self.push_named(name, AccessMode::ReadWrite, value),
+        }
+    }
+
+    /// What the flat copy of the last entry's value of a name has of this type. At the cost of `search` and of the copy.
+    /// (`Scope::get_value`)
+    ///
+    /// # Errors
+    ///
+    /// Where memory is refused, for the copy or for a `String`.
+    pub fn get_value<T: Variant>(&self, name: &str, s: &Store) -> Result<Option<T>, AllocError>
+        ensures { IfOk result (λ found. option_map T.tree found ≡ option_and_then (λ t. read T.KIND (flat s.now t)) (value_named (chars name.now) self.now)) }
+    {
+        match self.get(name) {
+            Some(value) => read_flat(self.alloc, value, s),
+            None => Ok(None),
+        }
+    }
+
+    /// What the own value of the last entry of a name has of this type, by reference: no value has a `String`. At the cost of
+    /// `search`. (`Scope::get_value_ref`, which panics on a shared value)
+    pub fn get_value_ref<T: Variant>(&self, name: &str) -> Option<&T>
+        requires { IfSome (value_named (chars name.now) self.now) (λ t. cell_of t ≡ None) }
+        ensures { option_map (λ x. T.tree x.now) result ≡ option_and_then (viewed T.KIND) (value_named (chars name.now) self.now) }
+    {
+        match self.get(name) {
+            Some(value) => T::view(value),
+            None => None,
+        }
+    }
+
+    /// The same to write, also of a constant: what is written is then the content of the value, tag and mode staying; of a `Dynamic`
+    /// it is the whole value. (`Scope::get_value_mut`, which panics on a shared value)
+    pub fn get_value_mut<T: Variant>(&mut self, name: &str) -> Option<&mut T>
+        requires { IfSome (value_named (chars name.now) self.old) (λ t. cell_of t ≡ None) }
+        ensures* writes_back { sem 𝓛 (LendsIf scope_type.the_row T.row self.entry result (λ w. changed_named (written_entry T.KIND (T.tree w)) (chars name.now) self.old) self.old) }
+        ensures value { option_map (λ x. T.tree x.now) result ≡ option_and_then (viewed T.KIND) (value_named (chars name.now) self.old) }
+    {
+        match self.last_mut(name) {
+            Some(value) => T::view_mut(value),
+            None => None,
+        }
+    }
+
+    /// Takes the last entry of a name out with its aliases, and answers what its value without its holders has of this type. The
+    /// entry goes also where that is `None`. The time is that of `search`, and the number of entries behind it. (`Scope::remove`)
+    ///
+    /// # Errors
+    ///
+    /// Where memory is refused, for a copy out of a cell or for a `String`; the entry stays then.
+    pub fn remove<T: Variant>(&mut self, name: &str, s: &Store) -> Result<Option<T>, AllocError>
+        ensures found { IfOk result (λ found. option_map T.tree found ≡ option_and_then (λ t. read T.KIND (flattened s.now t)) (value_named (chars name.now) self.old)) }
+        ensures ok { OnOk result (self.new ≡ removed_at (last_position (chars name.now) self.old) self.old) }
+        ensures err { OnErr result (self.new ≡ self.old) }
+    {
+        self.columns.remove_named(self.alloc, name, s)
+    }
+}

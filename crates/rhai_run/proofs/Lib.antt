@@ -7,7 +7,9 @@ pub mod Casts
 pub mod ChangeSteps
 pub mod OperatorSteps
 pub mod ScanSteps
+pub mod SameEntries
 pub mod ScopeSteps
+pub mod EntrySteps
 pub mod AskSteps
 pub mod Step
 pub mod Fitting

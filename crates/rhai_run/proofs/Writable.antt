@@ -1,9 +1,11 @@
 -- The last entry of a name that is no constant.
-use Rattle.std.proofs.Common.{◌≡◌, ℕ, Bool, true, false, List, slice_get, Option, Some, None, option_map, option_and_then, is_some, refl, ap}
+use Rattle.std.proofs.Common.{◌≡◌, ℕ, suc, nat_eq, Bool, true, false, List, [], ◌∷◌, slice_get, Option, Some, None, option_map, option_and_then, is_some, refl, ap, subst}
+use Rattle.std.specs.Cmp.Lexicographic.{pointwise}
 use Rattle.std.proofs.lemmas.Option.{same_Some}
 use Rattle.rhai_value.specs.Tree.{Tree}
 use Rattle.rhai_scope.specs.Entry.{Entry, is_constant_entry, with_value as holding}
-use Rattle.rhai_scope.specs.Lookup.{last_position, last_entry, unless_constant, writable_position, value_at, changed_if, changed_named, with_value_at}
+use Rattle.rhai_scope.specs.Typed.{set_or_pushed}
+use Rattle.rhai_scope.specs.Lookup.{later_or_here, last_position, last_entry, unless_constant, writable_position, value_at, changed_if, changed_named, with_value_at}
 
 -- it may be written
 is_writable : (es : List Entry) (o : Option ℕ) → option_map is_constant_entry (option_and_then (slice_get es) o) ≡ Some false
@@ -18,6 +20,68 @@ is_writable es (Some k) h = at (slice_get es k) h
 pub written_entry : (name : List ℕ) (es : List Entry) (t : Tree) → option_map is_constant_entry (last_entry name es) ≡ Some false → with_value_at es (writable_position name es) t ≡ changed_named (holding t) name es
 written_entry name es t h = ap (changed_if (holding t) es) (is_writable es (last_position name es) h).0
 
--- and is there
+-- a value is set there
+pub set_over : (name : List ℕ) (es : List Entry) (t : Tree) → option_map is_constant_entry (last_entry name es) ≡ Some false
+    → changed_named (holding t) name es ≡ set_or_pushed (writable_position name es) name t es
+set_over name es t h = at (last_position name es) h
+  where
+    at : (o : Option ℕ) → option_map is_constant_entry (option_and_then (slice_get es) o) ≡ Some false
+        → changed_if (holding t) es o ≡ set_or_pushed (option_and_then (λ k. option_and_then (unless_constant k) (slice_get es k)) o) name t es
+    at None h = cc
+    at (Some k) h = rw (is_writable es (Some k) h).0 refl
+
+pub set_there : (name : List ℕ) (es : List Entry) (t : Tree) → option_map is_constant_entry (last_entry name es) ≡ Some false
+    → changed_named (holding t) name es ≡ set_or_pushed (last_position name es) name t es
+set_there name es t h = at (last_position name es) h
+  where
+    at : (o : Option ℕ) → option_map is_constant_entry (option_and_then (slice_get es) o) ≡ Some false → changed_if (holding t) es o ≡ set_or_pushed o name t es
+    at None h = cc
+    at (Some k) h = refl
+
+-- an entry is there
 pub entry_is_there : (name : List ℕ) (es : List Entry) → option_map is_constant_entry (last_entry name es) ≡ Some false → is_some (value_at es (writable_position name es)) ≡ true
 entry_is_there name es h = rw (is_writable es (last_position name es) h).0 (is_writable es (last_position name es) h).1
+
+-- no position may be written where there is a constant or no entry
+pub not_over_constant : (name : List ℕ) (es : List Entry) → option_map is_constant_entry (last_entry name es) ≡ Some true → writable_position name es ≡ None
+not_over_constant name es h = at (last_position name es) h
+  where
+    at : (o : Option ℕ) → option_map is_constant_entry (option_and_then (slice_get es) o) ≡ Some true → option_and_then (λ k. option_and_then (unless_constant k) (slice_get es k)) o ≡ None
+    at None h = refl
+    at (Some k) h = here (slice_get es k) h
+      where
+        here : (x : Option Entry) → option_map is_constant_entry x ≡ Some true → option_and_then (unless_constant k) x ≡ None
+        here None h = refl
+        here (Some e) h = rw (same_Some (is_constant_entry e) true h) refl
+
+pub not_over_none : (name : List ℕ) (es : List Entry) → option_map is_constant_entry (last_entry name es) ≡ None → writable_position name es ≡ None
+not_over_none name es h = at (last_position name es) h
+  where
+    at : (o : Option ℕ) → option_map is_constant_entry (option_and_then (slice_get es) o) ≡ None → option_and_then (λ k. option_and_then (unless_constant k) (slice_get es k)) o ≡ None
+    at None h = refl
+    at (Some k) h = here (slice_get es k) h
+      where
+        here : (x : Option Entry) → option_map is_constant_entry x ≡ None → option_and_then (unless_constant k) x ≡ None
+        here None h = refl
+        here (Some e) h = cc
+
+-- an entry stands at the last position of a name
+there : (name : List ℕ) (es : List Entry) (k : ℕ) → last_position name es ≡ Some k → is_some (slice_get es k) ≡ true
+there name [] k h = cc
+there name (e ∷ es) k h = later (last_position name es) (pointwise nat_eq e.name name) (there name es) h
+  where
+    later : (o : Option ℕ) (b : Bool) → ((j : ℕ) → o ≡ Some j → is_some (slice_get es j) ≡ true) → later_or_here o b ≡ Some k → is_some (slice_get (e ∷ es) k) ≡ true
+    later (Some j) b m h = subst (λ n. is_some (slice_get (e ∷ es) n) ≡ true) (same_Some (suc j) k h) (m j refl)
+    later None true m h = subst (λ n. is_some (slice_get (e ∷ es) n) ≡ true) (same_Some 0 k h) refl
+    later None false m h = cc
+
+pub no_position : (name : List ℕ) (es : List Entry) → option_map is_constant_entry (last_entry name es) ≡ None → last_position name es ≡ None
+no_position name es h = at (last_position name es) (there name es) h
+  where
+    at : (o : Option ℕ) → ((k : ℕ) → o ≡ Some k → is_some (slice_get es k) ≡ true) → option_map is_constant_entry (option_and_then (slice_get es) o) ≡ None → o ≡ None
+    at None m h = refl
+    at (Some k) m h = here (slice_get es k) (m k refl) h
+      where
+        here : (x : Option Entry) → is_some x ≡ true → option_map is_constant_entry x ≡ None → Some k ≡ None
+        here None n h = cc
+        here (Some e) n h = cc

@@ -1,10 +1,11 @@
 -- Which commands take memory.
-use Rattle.std.specs.Prelude.{Bool, true, false, if◌then◌else◌, Option, Some, None, is_some, slice_get}
+use Rattle.std.specs.Prelude.{ℕ, Bool, true, false, if◌then◌else◌, Option, Some, None, is_some, slice_get}
 use Rattle.rhai_value.specs.Tree.{Tree, cell_of}
 use Rattle.rhai_run.specs.declared.command.Command.{Command}
 use Rattle.rhai_run.specs.declared.command.Command.TheVariants as command
 use Rattle.rhai_run.specs.declared.command.Question.{Question}
 use Rattle.rhai_run.specs.declared.command.Question.TheVariants as question
+use Rattle.rhai_scope.specs.Lookup.{last_position, writable_position}
 use Rattle.rhai_run.specs.State.{State}
 use Rattle.rhai_run.specs.Reply.{Reply, done, truth, number, told, bytes, nothing, refused}
 
@@ -41,6 +42,11 @@ abbrev pub hash_cost : Option Tree → Cost
 hash_cost None = free
 hash_cost (Some t) = looks_first
 
+-- an entry that is there is written over
+abbrev pub place_cost : Option ℕ → Cost
+place_cost (Some k) = free
+place_cost None = keeps_all
+
 -- the cost of each command
 abbrev pub cost : State → Command → Cost
 cost w (command.Put literal) = keeps_all
@@ -65,6 +71,8 @@ cost w (command.Push name i) = keeps_all
 cost w (command.PushDynamic name i) = keeps_all
 cost w (command.PushConstant name i) = keeps_all
 cost w (command.SetEntry name i) = free
+cost w (command.SetOrPush name i) = place_cost (writable_position name w.entries)
+cost w (command.SetValue name i) = place_cost (last_position name w.entries)
 cost w command.Pop = free
 cost w (command.Rewind n) = free
 cost w command.Clear = free
@@ -74,6 +82,12 @@ cost w (command.Contains name) = free
 cost w (command.Search name) = free
 cost w (command.IsConstant name) = free
 cost w (command.Get name) = keeps_all
+cost w (command.GetValue name kind) = keeps_all
+cost w (command.SetAlias name alias) = keeps_all
+cost w command.KeepVisible = keeps_all
+cost w command.CopyScope = keeps_all
+cost w command.ShowScope = keeps_all
+cost w command.HashScope = looks_first
 cost w (command.Show i) = keeps_all
 cost w (command.Debug i) = keeps_all
 cost w (command.Hash i) = hash_cost (slice_get w.hand i)

@@ -13,6 +13,7 @@ pub mod Hand
 pub mod Change
 pub mod Scanners
 pub mod Scope
+pub mod Entries
 pub mod Ask
 pub mod Step
 pub mod Cost

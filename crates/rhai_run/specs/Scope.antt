@@ -1,13 +1,15 @@
--- Steps on the entries of the scope.
-use Rattle.std.specs.Prelude.{ℕ, pos, nat_eq, Bool, List, [], length, take, Option, Some, None, option_map, is_some}
+-- Steps on the scope as a whole, and pushes.
+use Rattle.std.specs.Prelude.{ℕ, pos, nat_eq, List, [], length, take, map, Option, Some, None, is_some}
 use Rattle.rhai_value.specs.declared.access_mode.AccessMode.{AccessMode}
 use Rattle.rhai_value.specs.declared.access_mode.AccessMode.TheVariants.{ReadWrite, ReadOnly}
-use Rattle.rhai_value.specs.Tree.{Tree, copy, mode_of}
-use Rattle.rhai_scope.specs.Entry.{pushed, popped, is_constant_entry, with_value as holding}
-use Rattle.rhai_scope.specs.Lookup.{last_position, last_entry, value_named, changed_named}
-use Rattle.rhai_run.specs.State.{State, with_entries, with_scope, appended, moved_from}
-use Rattle.rhai_run.specs.Reply.{Reply, done, truth, number, nothing, no_entry, empty_scope, constant_entry}
-use Rattle.rhai_run.specs.Outcome.{Outcome, unless, given, with_value}
+use Rattle.rhai_value.specs.Tree.{Tree, mode_of}
+use Rattle.rhai_scope.specs.Entry.{pushed, popped, is_constant_entry, copied_entry}
+use Rattle.rhai_scope.specs.Lookup.{last_position, last_entry, visible}
+use Rattle.rhai_scope.specs.ScopeBytes.{scope_bytes}
+use Rattle.rhai_scope.specs.ScopeText.{scope_text}
+use Rattle.rhai_run.specs.State.{State, with_entries, with_scope, moved_from}
+use Rattle.rhai_run.specs.Reply.{Reply, done, truth, number, told, bytes, nothing, refused, empty_scope, not_hashable}
+use Rattle.rhai_run.specs.Outcome.{Outcome, unless, with_value}
 
 -- the value, painted with a mode, goes into a new last entry, and unit stands in its place
 abbrev pub moved_into_entry : (Tree → AccessMode) → State → List ℕ → ℕ → Outcome
@@ -23,12 +25,6 @@ step_push_dynamic w name i = moved_into_entry (λ t. mode_of t) w name i
 abbrev pub step_push_constant : State → List ℕ → ℕ → Outcome
 step_push_constant w name i = moved_into_entry (λ t. ReadOnly) w name i
 
--- the value becomes that of the last entry of the name, unless that is a constant
-abbrev pub step_set_entry : State → List ℕ → ℕ → Outcome
-step_set_entry w name i =
-    with_value w i (λ t. given (last_entry name w.entries) no_entry w (λ e.
-    unless (is_constant_entry e) constant_entry w (done, with_scope w (changed_named (holding t) name w.entries) (moved_from w.hand i))))
-
 -- the entries without the last one
 abbrev pub step_pop : State → Outcome
 step_pop w = unless (nat_eq (length w.entries) 0) empty_scope w (done, with_entries w (popped w.entries))
@@ -40,10 +36,6 @@ step_rewind w n = (done, with_entries w (take n w.entries))
 -- no entries
 abbrev pub step_clear : State → Outcome
 step_clear w = (done, with_entries w [])
-
--- a copy of the value of the last entry of the name
-abbrev pub step_get : State → List ℕ → Outcome
-step_get w name = given (value_named name w.entries) no_entry w (λ t. (done, appended w (copy t)))
 
 -- how many entries there are, and whether there is none
 abbrev pub step_len : State → Outcome
@@ -67,3 +59,21 @@ step_search w name = (or_nothing (λ k. number (pos k)) (last_position name w.en
 
 abbrev pub step_is_constant : State → List ℕ → Outcome
 step_is_constant w name = (or_nothing (λ e. truth (is_constant_entry e)) (last_entry name w.entries), w)
+
+-- the last entry of each name alone, the newest first; and all entries copied
+abbrev pub step_keep_visible : State → Outcome
+step_keep_visible w = (done, with_entries w (map copied_entry (visible w.entries)))
+
+abbrev pub step_copy_scope : State → Outcome
+step_copy_scope w = (done, with_entries w (map copied_entry w.entries))
+
+-- the text of the scope, and its hash bytes where it has some
+abbrev pub step_show_scope : State → Outcome
+step_show_scope w = (told (scope_text w.store w.entries), w)
+
+abbrev pub bytes_or_refused : Option (List ℕ) → Reply
+bytes_or_refused None = refused not_hashable
+bytes_or_refused (Some bs) = bytes bs
+
+abbrev pub step_hash_scope : State → Outcome
+step_hash_scope w = (bytes_or_refused (scope_bytes w.store w.entries), w)

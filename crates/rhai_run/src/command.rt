@@ -119,6 +119,10 @@ pub enum Command {
     PushConstant(ImmutableString, usize),
     /// Moves the value at the hand position over the value of the last entry of the name, and leaves unit.
     SetEntry(ImmutableString, usize),
+    /// The same; where there is no such entry that may be written, the value goes into a new one.
+    SetOrPush(ImmutableString, usize),
+    /// The same; where there is no such entry, the value goes into a new one.
+    SetValue(ImmutableString, usize),
     /// Drops the last entry.
     Pop,
     /// Keeps as many entries as the number says, the first ones.
@@ -137,6 +141,18 @@ pub enum Command {
     IsConstant(ImmutableString),
     /// Appends a copy of the value of the last entry of the name.
     Get(ImmutableString),
+    /// Appends what the value of the last entry of the name is as this type, copied without its holders; or answers nothing.
+    GetValue(ImmutableString, TypeId),
+    /// Gives the last entry of the name the alias, if it hasn't got it; an empty alias means the name.
+    SetAlias(ImmutableString, ImmutableString),
+    /// Keeps copies of the last entries of each name, the newest first.
+    KeepVisible,
+    /// Keeps copies of all entries.
+    CopyScope,
+    /// Answers the text of the scope.
+    ShowScope,
+    /// Answers the hash bytes of the scope.
+    HashScope,
     /// Answers the text of the value at the hand position, as it is displayed.
     Show(usize),
     /// Answers the text of the value at the hand position, as it is debugged.

@@ -8,6 +8,7 @@ mod cast;
 mod change;
 pub mod command;
 mod desk;
+mod entries;
 mod hand;
 pub mod laws;
 pub mod lists;

@@ -1,21 +1,21 @@
-//! Commands on the scope.
+//! Commands on the scope as a whole, and pushes.
 ghost use Rattle.rhai_value.specs.Tree.{mode_of};
 ghost use Rattle.rhai_value.specs.declared.access_mode.AccessMode.TheVariants.{ReadWrite, ReadOnly};
-ghost use Rattle.rhai_run.specs.Cost.{free, keeps_all};
-ghost use Rattle.rhai_run.specs.Scope.{step_push, step_push_dynamic, step_push_constant, step_set_entry, step_pop, step_rewind, step_clear, step_len, step_is_empty, step_contains, step_search, step_is_constant, step_get, moved_into_entry};
+ghost use Rattle.rhai_run.specs.Cost.{free, keeps_all, looks_first};
+ghost use Rattle.rhai_run.specs.Scope.{step_push, step_push_dynamic, step_push_constant, step_pop, step_rewind, step_clear, step_len, step_is_empty, step_contains, step_search, step_is_constant, step_keep_visible, step_copy_scope, step_show_scope, step_hash_scope, moved_into_entry};
 ghost use Rattle.rhai_run.specs.Does.{Does};
 
 use crate::answer::Refusal;
 use crate::brief::Brief;
 use crate::desk::Desk;
 use crate::not_done::NotDone;
-use crate::places::{replace_at, write_entry};
+use crate::places::replace_at;
 use rhai_text::ImmutableString;
 use rhai_value::{AccessMode, Dynamic};
 
 impl Desk {
     /// Moves a value of the hand into a new entry, painted with a mode.
-    fn push_as(
+    pub(crate) fn push_as(
         &mut self,
         name: &ImmutableString,
         access: AccessMode,
@@ -58,22 +58,6 @@ impl Desk {
         ensures { Does keeps_all result self.old self.new (step_push_constant self.old name.now i) }
     {
         self.push_as(name, AccessMode::ReadOnly, i)
-    }
-
-    pub(crate) fn set_entry(&mut self, name: &ImmutableString, i: usize) -> Result<Brief, NotDone>
-        ensures { Does free result self.old self.new (step_set_entry self.old name.now i) }
-    {
-        self.value(i)?;
-        if self
-            .scope
-            .is_constant(name.as_str())
-            .ok_or(Refusal::NoEntry)?
-        {
-            return Err(NotDone::Refused(Refusal::ConstantEntry));
-        }
-        let value = replace_at(&mut self.hand, i, Dynamic::UNIT);
-        write_entry(&mut self.scope, name.as_str(), value);
-        Ok(Brief::Done)
     }
 
     pub(crate) fn pop(&mut self) -> Result<Brief, NotDone>
@@ -136,15 +120,33 @@ impl Desk {
         }
     }
 
-    pub(crate) fn get(&mut self, name: &ImmutableString) -> Result<Brief, NotDone>
-        ensures { Does keeps_all result self.old self.new (step_get self.old name.now) }
+    pub(crate) fn keep_visible(&mut self) -> Result<Brief, NotDone>
+        ensures { Does keeps_all result self.old self.new (step_keep_visible self.old) }
     {
-        let value = self
-            .scope
-            .get(name.as_str())
-            .ok_or(Refusal::NoEntry)?
-            .copy(self.alloc)?;
-        self.hand.push(value)?;
+        self.scope = self.scope.clone_visible()?;
         Ok(Brief::Done)
+    }
+
+    pub(crate) fn copy_scope(&mut self) -> Result<Brief, NotDone>
+        ensures { Does keeps_all result self.old self.new (step_copy_scope self.old) }
+    {
+        self.scope = self.scope.copy()?;
+        Ok(Brief::Done)
+    }
+
+    pub(crate) fn show_scope(&self) -> Result<Brief, NotDone>
+        ensures { Does keeps_all result self.now self.now (step_show_scope self.now) }
+    {
+        let text = self.scope.shown(&self.store)?.into_text();
+        Ok(Brief::Text(text))
+    }
+
+    pub(crate) fn hash_scope(&self) -> Result<Brief, NotDone>
+        ensures { Does looks_first result self.now self.now (step_hash_scope self.now) }
+    {
+        match self.scope.hashed(&self.store)? {
+            None => Err(NotDone::Refused(Refusal::NotHashable)),
+            Some(hashed) => Ok(Brief::Bytes(hashed.into_bytes())),
+        }
     }
 }

@@ -5,6 +5,7 @@ use std::alloc::{AllocError, Global};
 mod asks;
 mod casts;
 mod cells;
+mod entries;
 mod gathers;
 mod hashes;
 mod operators;

@@ -48,6 +48,13 @@ impl Shown {
     {
         Shown { text }
     }
+
+    /// The text, moved out.
+    pub fn into_text(self) -> String
+        ensures { chars (string_bytes result) ≡ self }
+    {
+        self.text
+    }
 }
 
 impl fmt::Display for Shown {

@@ -1,0 +1,52 @@
+-- Steps on the last entry of a name.
+use Rattle.std.specs.Prelude.{ℕ, Bool, false, List, Option, Some, None}
+use Rattle.rhai_value.specs.declared.type_id.TypeId.{TypeId}
+use Rattle.rhai_value.specs.End.{flat}
+use Rattle.rhai_value.specs.Tree.{Tree, copy}
+use Rattle.rhai_scope.specs.Alias.{meant_alias, aliased}
+use Rattle.rhai_scope.specs.Entry.{Entry, is_constant_entry, with_value as holding}
+use Rattle.rhai_scope.specs.Lookup.{last_position, last_entry, value_named, writable_position, changed_named}
+use Rattle.rhai_scope.specs.Typed.{set_or_pushed}
+use Rattle.rhai_run.specs.Hand.{read_as}
+use Rattle.rhai_run.specs.State.{State, with_entries, with_scope, appended, moved_from}
+use Rattle.rhai_run.specs.Reply.{done, nothing, no_entry, constant_entry}
+use Rattle.rhai_run.specs.Outcome.{Outcome, unless, given, with_value}
+
+-- the value becomes that of the last entry of the name, unless that is a constant
+abbrev pub step_set_entry : State → List ℕ → ℕ → Outcome
+step_set_entry w name i =
+    with_value w i (λ t. given (last_entry name w.entries) no_entry w (λ e.
+    unless (is_constant_entry e) constant_entry w (done, with_scope w (changed_named (holding t) name w.entries) (moved_from w.hand i))))
+
+-- the same; where there is no such entry that may be written, a new one is pushed
+abbrev pub step_set_or_push : State → List ℕ → ℕ → Outcome
+step_set_or_push w name i =
+    with_value w i (λ t. (done, with_scope w (set_or_pushed (writable_position name w.entries) name t w.entries) (moved_from w.hand i)))
+
+-- whether an entry is there that is a constant
+abbrev pub is_there_constant : Option Entry → Bool
+is_there_constant None = false
+is_there_constant (Some e) = is_constant_entry e
+
+-- the same; where there is no such entry, a new one is pushed, and a constant is refused
+abbrev pub step_set_value : State → List ℕ → ℕ → Outcome
+step_set_value w name i =
+    with_value w i (λ t. unless (is_there_constant (last_entry name w.entries)) constant_entry w
+    (done, with_scope w (set_or_pushed (last_position name w.entries) name t w.entries) (moved_from w.hand i)))
+
+-- a copy of the value of the last entry of the name
+abbrev pub step_get : State → List ℕ → Outcome
+step_get w name = given (value_named name w.entries) no_entry w (λ t. (done, appended w (copy t)))
+
+-- a value at the end of the hand, where there is one
+abbrev pub appended_or_nothing : State → Option Tree → Outcome
+appended_or_nothing w None = (nothing, w)
+appended_or_nothing w (Some t) = (done, appended w t)
+
+-- the same without its holders, read as a type
+abbrev pub step_get_value : State → List ℕ → TypeId → Outcome
+step_get_value w name kind = given (value_named name w.entries) no_entry w (λ t. appended_or_nothing w (read_as kind (flat w.store t)))
+
+-- one more alias of the last entry of the name, if there is one
+abbrev pub step_set_alias : State → List ℕ → List ℕ → Outcome
+step_set_alias w name alias = (done, with_entries w (changed_named (aliased (meant_alias name alias)) name w.entries))

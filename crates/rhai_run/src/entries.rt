@@ -1,0 +1,102 @@
+//! Commands on the last entry of a name.
+ghost use Rattle.rhai_scope.specs.Lookup.{last_position, writable_position};
+ghost use Rattle.rhai_run.specs.Cost.{free, keeps_all, place_cost};
+ghost use Rattle.rhai_run.specs.Entries.{step_set_entry, step_set_or_push, step_set_value, step_get, step_get_value, step_set_alias};
+ghost use Rattle.rhai_run.specs.Does.{Does};
+
+use crate::answer::Refusal;
+use crate::brief::Brief;
+use crate::cast::{can_cast, cast_to};
+use crate::desk::Desk;
+use crate::not_done::NotDone;
+use crate::places::{replace_at, write_entry};
+use rhai_text::ImmutableString;
+use rhai_value::{Dynamic, TypeId};
+
+impl Desk {
+    pub(crate) fn set_entry(&mut self, name: &ImmutableString, i: usize) -> Result<Brief, NotDone>
+        ensures { Does free result self.old self.new (step_set_entry self.old name.now i) }
+    {
+        self.value(i)?;
+        if self
+            .scope
+            .is_constant(name.as_str())
+            .ok_or(Refusal::NoEntry)?
+        {
+            return Err(NotDone::Refused(Refusal::ConstantEntry));
+        }
+        let value = replace_at(&mut self.hand, i, Dynamic::UNIT);
+        write_entry(&mut self.scope, name.as_str(), value);
+        Ok(Brief::Done)
+    }
+
+    #[tactic(auto, using(crate::proofs::Writable::set_over, crate::proofs::Writable::not_over_constant, crate::proofs::Writable::not_over_none))]
+    pub(crate) fn set_or_push(&mut self, name: &ImmutableString, i: usize) -> Result<Brief, NotDone>
+        ensures { Does (place_cost (writable_position name.now self.old.entries)) result self.old self.new (step_set_or_push self.old name.now i) }
+    {
+        self.value(i)?;
+        match self.scope.is_constant(name.as_str()) {
+            None | Some(true) => self.push(name, i),
+            Some(false) => {
+                let value = replace_at(&mut self.hand, i, Dynamic::UNIT);
+                write_entry(&mut self.scope, name.as_str(), value);
+                Ok(Brief::Done)
+            }
+        }
+    }
+
+    #[tactic(auto, using(crate::proofs::Writable::set_there, crate::proofs::Writable::no_position))]
+    pub(crate) fn set_value(&mut self, name: &ImmutableString, i: usize) -> Result<Brief, NotDone>
+        ensures { Does (place_cost (last_position name.now self.old.entries)) result self.old self.new (step_set_value self.old name.now i) }
+    {
+        self.value(i)?;
+        match self.scope.is_constant(name.as_str()) {
+            None => self.push(name, i),
+            Some(true) => Err(NotDone::Refused(Refusal::ConstantEntry)),
+            Some(false) => {
+                let value = replace_at(&mut self.hand, i, Dynamic::UNIT);
+                write_entry(&mut self.scope, name.as_str(), value);
+                Ok(Brief::Done)
+            }
+        }
+    }
+
+    pub(crate) fn get(&mut self, name: &ImmutableString) -> Result<Brief, NotDone>
+        ensures { Does keeps_all result self.old self.new (step_get self.old name.now) }
+    {
+        let value = self
+            .scope
+            .get(name.as_str())
+            .ok_or(Refusal::NoEntry)?
+            .copy(self.alloc)?;
+        self.hand.push(value)?;
+        Ok(Brief::Done)
+    }
+
+    pub(crate) fn get_value(
+        &mut self,
+        name: &ImmutableString,
+        kind: TypeId,
+    ) -> Result<Brief, NotDone>
+        ensures { Does keeps_all result self.old self.new (step_get_value self.old name.now kind) }
+    {
+        let value = self.scope.get(name.as_str()).ok_or(Refusal::NoEntry)?;
+        if !can_cast(value, &self.store, kind) {
+            return Ok(Brief::Nothing);
+        }
+        let value = cast_to(value, self.alloc, &self.store, kind)?;
+        self.hand.push(value)?;
+        Ok(Brief::Done)
+    }
+
+    pub(crate) fn set_alias(
+        &mut self,
+        name: &ImmutableString,
+        alias: &ImmutableString,
+    ) -> Result<Brief, NotDone>
+        ensures { Does keeps_all result self.old self.new (step_set_alias self.old name.now alias.now) }
+    {
+        self.scope.set_alias(name.as_str(), alias.as_str())?;
+        Ok(Brief::Done)
+    }
+}

@@ -1,22 +1,27 @@
 -- Steps on the last entry of a name, on two states that are the same up to a renaming.
-use Rattle.std.proofs.Common.{◌≡◌, ℕ, List, Option, Some, None, refl, subst}
+use Rattle.std.proofs.Common.{◌≡◌, ℕ, zero, suc, ℤ, Bool, true, false, cond, List, [], ◌∷◌, remove, Option, Some, None, option_map, is_some, refl, subst}
 use Rattle.std.specs.List.{AllZip}
 use Rattle.rhai_value.specs.declared.type_id.TypeId.{TypeId}
+use Rattle.rhai_value.specs.declared.type_id.TypeId.TheVariants as id
 use Rattle.rhai_value.specs.End.{flat}
-use Rattle.rhai_value.specs.Tree.{Tree, copy}
+use Rattle.rhai_value.specs.Tree.{Tree, cell_of, copy, fresh, int}
+use Rattle.rhai_value.specs.Types.{is_type}
 use Rattle.rhai_value.specs.Relation.{Renaming, Related, Alike}
-use Rattle.rhai_value.proofs.ForCallers.{same_copy}
+use Rattle.rhai_value.proofs.ForCallers.{same_copy, same_shared, zip_append}
+use Rattle.rhai_variant.proofs.ForCallers.{same_viewed, same_written_as}
+use Rattle.rhai_cast.proofs.ForCallers.{same_moved}
 use Rattle.rhai_scope.specs.Alias.{meant_alias, aliased}
-use Rattle.rhai_scope.specs.Entry.{with_value as holding}
+use Rattle.rhai_scope.specs.Entry.{Entry, with_value as holding}
 use Rattle.rhai_scope.specs.Lookup.{last_position, writable_position}
-use Rattle.rhai_scope.specs.Typed.{set_or_pushed}
+use Rattle.rhai_scope.specs.Typed.{set_or_pushed, removed_at, written_entry}
 use Rattle.rhai_run.specs.Hand.{read_as}
-use Rattle.rhai_run.specs.State.{State}
-use Rattle.rhai_run.specs.Reply.{nothing, no_entry, constant_entry}
-use Rattle.rhai_run.specs.Entries.{step_set_entry, step_set_or_push, step_set_value, step_get, appended_or_nothing, step_get_value, step_set_alias}
+use Rattle.rhai_run.specs.State.{State, with_entries}
+use Rattle.rhai_run.specs.Reply.{nothing, no_entry, constant_entry, shared_entry}
+use Rattle.rhai_run.specs.Entries.{step_set_entry, step_set_or_push, step_set_value, step_get, appended_or_nothing, step_get_value, viewed_as, step_get_ref, step_set_ref, step_remove, step_set_alias}
+use Rattle.rhai_run.specs.Outcome.{Outcome}
 use Rattle.rhai_run.specs.Correspondence.{RelatedEntry, RelatedStates}
-use Rattle.rhai_run.proofs.HandSteps.{same_flat_read}
-use Rattle.rhai_run.proofs.Outcome.{Matches, m_stays, m_unless, m_given, m_value, m_entries, m_scope, m_appended, moved_hand}
+use Rattle.rhai_run.proofs.HandSteps.{unless_shared, same_flat_read}
+use Rattle.rhai_run.proofs.Outcome.{Matches, no_cell, m_stays, m_unless, m_given, m_value, m_entries, m_scope, m_appended, moved_hand}
 use Rattle.rhai_run.proofs.SameEntries.{same_last_position, same_last_entry, value_of_entry, same_constant, same_changed_named, same_holding, same_aliased, same_set_or_pushed, same_writable_position, same_there_constant}
 
 module _ (r : Renaming) (w v : State) (h : RelatedStates r w v) where
@@ -59,3 +64,67 @@ module _ (r : Renaming) (w v : State) (h : RelatedStates r w v) where
 
   pub same_set_alias : (name alias : List ℕ) → Matches r w v (step_set_alias w name alias) (step_set_alias v name alias)
   same_set_alias name alias = m_entries r w v h _ _ (same_changed_named r name _ _ (same_aliased r (meant_alias name alias)) w.entries v.entries h.entries)
+
+  same_viewed_as : (kind : TypeId) (t u : Tree) → Related r t u → Alike (Related r) (viewed_as kind t) (viewed_as kind u)
+  same_viewed_as kind t u e = unless_shared r w v h (is_type kind id.Shared) _ _ (same_viewed r kind t u e)
+
+  copies_alike : (o p : Option Tree) → Alike (Related r) o p → Alike (Related r) (option_map copy o) (option_map copy p)
+  copies_alike None None e = tt
+  copies_alike (Some t) (Some u) e = same_copy r t u e
+  copies_alike None (Some u) e = absurd e
+  copies_alike (Some t) None e = absurd e
+
+  pub same_get_ref : (name : List ℕ) (kind : TypeId) → Matches r w v (step_get_ref w name kind) (step_get_ref v name kind)
+  same_get_ref name kind =
+      m_given r w v h (Related r) no_entry _ _ _ _ (value_of_entry r _ _ (same_last_entry r name w.entries v.entries h.entries)) (λ t u e.
+      m_unless r w v h shared_entry _ _ _ _ (same_shared r t u e) (m_appended_or_nothing _ _ (copies_alike _ _ (same_viewed_as kind t u e))))
+
+  some_alike : (o p : Option Tree) → Alike (Related r) o p → is_some o ≡ is_some p
+  some_alike None None e = refl
+  some_alike (Some t) (Some u) e = refl
+  some_alike None (Some u) e = absurd e
+  some_alike (Some t) None e = absurd e
+
+  m_either : (b d : Bool) (o p x y : Outcome) → b ≡ d → Matches r w v o p → Matches r w v x y → Matches r w v (cond b o x) (cond d p y)
+  m_either true true o p x y e m n = m
+  m_either false false o p x y e m n = n
+  m_either true false o p x y e m n = cc
+  m_either false true o p x y e m n = cc
+
+  same_written : (n : ℤ) (a b : Entry) → RelatedEntry r a b → RelatedEntry r (written_entry id.Int (fresh (int n)) a) (written_entry id.Int (fresh (int n)) b)
+  same_written n a b e = (e.0, e.1, same_written_as r id.Int (fresh (int n)) (fresh (int n)) a.value b.value (refl, refl, refl) e.2)
+
+  pub same_set_ref : (name : List ℕ) (n : ℤ) → Matches r w v (step_set_ref w name n) (step_set_ref v name n)
+  same_set_ref name n =
+      m_given r w v h (Related r) no_entry _ _ _ _ (value_of_entry r _ _ (same_last_entry r name w.entries v.entries h.entries)) (λ t u e.
+      m_unless r w v h shared_entry _ _ _ _ (same_shared r t u e)
+      (m_either _ _ _ _ _ _ (some_alike _ _ (same_viewed r id.Int t u e))
+      (m_entries r w v h _ _ (same_changed_named r name _ _ (same_written n) w.entries v.entries h.entries)) (m_stays r w v h nothing nothing refl)))
+
+  same_removed : (o : Option ℕ) (es fs : List Entry) → AllZip (RelatedEntry r) es fs → AllZip (RelatedEntry r) (removed_at o es) (removed_at o fs)
+  same_removed None es fs e = e
+  same_removed (Some k) es fs e = zip_remove k es fs e
+    where
+      zip_remove : (k : ℕ) (es fs : List Entry) → AllZip (RelatedEntry r) es fs → AllZip (RelatedEntry r) (remove es k) (remove fs k)
+      zip_remove k [] [] e = tt
+      zip_remove zero (x ∷ es) (y ∷ fs) e = e.1
+      zip_remove (suc k) (x ∷ es) (y ∷ fs) e = (e.0, zip_remove k es fs e.1)
+      zip_remove k [] (y ∷ fs) e = absurd e
+      zip_remove k (x ∷ es) [] e = absurd e
+
+  removed_entries : (name : List ℕ) → AllZip (RelatedEntry r) (removed_at (last_position name w.entries) w.entries) (removed_at (last_position name v.entries) v.entries)
+  removed_entries name =
+      subst (λ o. AllZip (RelatedEntry r) (removed_at (last_position name w.entries) w.entries) (removed_at o v.entries)) (same_last_position r name w.entries v.entries h.entries)
+      (same_removed (last_position name w.entries) w.entries v.entries h.entries)
+
+  -- other entries, and a value at the end of the hand where there is one
+  m_taken : (es fs : List Entry) (o p : Option Tree) → AllZip (RelatedEntry r) es fs → Alike (Related r) o p → Matches r w v (appended_or_nothing (with_entries w es) o) (appended_or_nothing (with_entries v fs) p)
+  m_taken es fs None None e k = no_cell r w v h _ _ nothing nothing refl refl refl (record { one = h.one; cells = h.cells; entries = e; marks = h.marks; hand = h.hand; limits = h.limits }) (λ k. k)
+  m_taken es fs (Some t) (Some u) e k = m_scope r w v h es fs _ _ e (zip_append (Related r) w.hand (t ∷ []) v.hand (u ∷ []) h.hand (k, tt))
+  m_taken es fs None (Some u) e k = absurd k
+  m_taken es fs (Some t) None e k = absurd k
+
+  pub same_remove : (name : List ℕ) (kind : TypeId) → Matches r w v (step_remove w name kind) (step_remove v name kind)
+  same_remove name kind =
+      m_given r w v h (Related r) no_entry _ _ _ _ (value_of_entry r _ _ (same_last_entry r name w.entries v.entries h.entries)) (λ t u e.
+      m_taken _ _ _ _ (removed_entries name) (unless_shared r w v h (is_type kind id.Shared) _ _ (same_moved r kind w.store v.store t u h.one h.cells e)))

@@ -1,15 +1,18 @@
 -- Steps on the last entry of a name.
-use Rattle.std.specs.Prelude.{ℕ, Bool, false, List, Option, Some, None}
+use Rattle.std.specs.Prelude.{ℕ, ℤ, Bool, false, if◌then◌else◌, List, Option, Some, None, option_map, is_some}
 use Rattle.rhai_value.specs.declared.type_id.TypeId.{TypeId}
-use Rattle.rhai_value.specs.End.{flat}
-use Rattle.rhai_value.specs.Tree.{Tree, copy}
+use Rattle.rhai_value.specs.declared.type_id.TypeId.TheVariants as id
+use Rattle.rhai_value.specs.End.{flat, flattened}
+use Rattle.rhai_value.specs.Tree.{Tree, copy, cell_of, fresh, int}
+use Rattle.rhai_value.specs.Types.{is_type}
+use Rattle.rhai_variant.specs.Reads.{viewed}
 use Rattle.rhai_scope.specs.Alias.{meant_alias, aliased}
 use Rattle.rhai_scope.specs.Entry.{Entry, is_constant_entry, with_value as holding}
 use Rattle.rhai_scope.specs.Lookup.{last_position, last_entry, value_named, writable_position, changed_named}
-use Rattle.rhai_scope.specs.Typed.{set_or_pushed}
+use Rattle.rhai_scope.specs.Typed.{set_or_pushed, removed_at, written_entry}
 use Rattle.rhai_run.specs.Hand.{read_as}
 use Rattle.rhai_run.specs.State.{State, with_entries, with_scope, appended, moved_from}
-use Rattle.rhai_run.specs.Reply.{done, nothing, no_entry, constant_entry}
+use Rattle.rhai_run.specs.Reply.{done, nothing, no_entry, constant_entry, shared_entry}
 use Rattle.rhai_run.specs.Outcome.{Outcome, unless, given, with_value}
 
 -- the value becomes that of the last entry of the name, unless that is a constant
@@ -50,3 +53,24 @@ step_get_value w name kind = given (value_named name w.entries) no_entry w (λ t
 -- one more alias of the last entry of the name, if there is one
 abbrev pub step_set_alias : State → List ℕ → List ℕ → Outcome
 step_set_alias w name alias = (done, with_entries w (changed_named (aliased (meant_alias name alias)) name w.entries))
+
+-- the entry itself as a type, by reference, copied; a holder is refused
+abbrev pub viewed_as : TypeId → Tree → Option Tree
+viewed_as kind t = if is_type kind id.Shared then None else viewed kind t
+
+abbrev pub step_get_ref : State → List ℕ → TypeId → Outcome
+step_get_ref w name kind =
+    given (value_named name w.entries) no_entry w (λ t. unless (is_some (cell_of t)) shared_entry w
+    (appended_or_nothing w (option_map copy (viewed_as kind t))))
+
+-- the int that the entry itself is becomes n; a holder is refused
+abbrev pub step_set_ref : State → List ℕ → ℤ → Outcome
+step_set_ref w name n =
+    given (value_named name w.entries) no_entry w (λ t. unless (is_some (cell_of t)) shared_entry w
+    (if is_some (viewed id.Int t) then (done, with_entries w (changed_named (written_entry id.Int (fresh (int n))) name w.entries)) else (nothing, w)))
+
+-- the entry is taken out, and its value at the end of the hand, without its holders and read as a type
+abbrev pub step_remove : State → List ℕ → TypeId → Outcome
+step_remove w name kind =
+    given (value_named name w.entries) no_entry w (λ t.
+    appended_or_nothing (with_entries w (removed_at (last_position name w.entries) w.entries)) (read_as kind (flattened w.store t)))

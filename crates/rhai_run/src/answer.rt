@@ -15,6 +15,8 @@ pub enum Refusal {
     EmptyScope,
     /// The last entry of the name is a constant.
     ConstantEntry,
+    /// The last entry of the name is a holder.
+    SharedEntry,
     /// The operator isn't built in for the two values.
     NoBuiltin,
     /// The value has no hash bytes.

@@ -1,8 +1,8 @@
 //! Casts to a type that is known when a command is done.
 ghost use Rattle.std.specs.Prelude.{◌≡◌, [], true, false, Some, is_some, IfOk, IsTrue};
 ghost use Rattle.rhai_value.specs.declared.type_id.TypeId.TheVariants as type_id;
-ghost use Rattle.rhai_value.specs.End.{end, end_type, flat};
-ghost use Rattle.rhai_value.specs.Tree.{cell_of};
+ghost use Rattle.rhai_value.specs.End.{end, end_type, flat, flattened};
+ghost use Rattle.rhai_value.specs.Tree.{cell_of, content_of, made};
 ghost use Rattle.rhai_value.specs.Types.{is_type};
 ghost use Rattle.rhai_variant.specs.Reads.{held_type, read};
 ghost use Rattle.rhai_cast.specs.Casts.{is_of, is_castable};
@@ -12,7 +12,8 @@ ghost use Rattle.rhai_run.specs.Hand.{read_as};
 use rhai_cast::DynamicCast;
 use rhai_text::ImmutableString;
 use rhai_value::{
-    Array, Blob, Dynamic, ExclusiveRange, FnPtr, INT, InclusiveRange, Map, Store, TypeId,
+    AccessMode, Array, Blob, Dynamic, ExclusiveRange, FnPtr, INT, InclusiveRange, Map, Store, TypeId,
+    Union,
 };
 use rhai_variant::Variant;
 use std::alloc::{AllocError, Global};
@@ -108,5 +109,45 @@ pub(crate) fn cast_to(
         TypeId::InclusiveRange => cast_as::<InclusiveRange>(value, alloc, s),
         TypeId::Dynamic => cast_as::<Dynamic>(value, alloc, s),
         TypeId::Shared => unreachable!(),
+    }
+}
+
+/// Whether what a value is without its holders can be read as a type.
+#[tactic(auto, using(crate::proofs::Casts::moved_by_type))]
+pub(crate) fn can_move(value: &Dynamic, s: &Store, kind: TypeId) -> bool
+    ensures { result ≡ is_some (read_as kind (flattened s.now value.now)) }
+{
+    can_cast(value, s, kind)
+}
+
+/// The value with tag 0 and mode ReadWrite, what stands in it being as it was.
+fn made_anew(value: Dynamic) -> Dynamic
+    ensures { result ≡ made (content_of value) }
+{
+    Dynamic::from_parts(match value.into_parts() {
+        Union::Unit(_, _, value) => Union::Unit(0, AccessMode::ReadWrite, value),
+        Union::Bool(_, _, value) => Union::Bool(0, AccessMode::ReadWrite, value),
+        Union::Str(_, _, value) => Union::Str(0, AccessMode::ReadWrite, value),
+        Union::Char(_, _, value) => Union::Char(0, AccessMode::ReadWrite, value),
+        Union::Int(_, _, value) => Union::Int(0, AccessMode::ReadWrite, value),
+        Union::Array(_, _, value) => Union::Array(0, AccessMode::ReadWrite, value),
+        Union::Blob(_, _, value) => Union::Blob(0, AccessMode::ReadWrite, value),
+        Union::Map(_, _, value) => Union::Map(0, AccessMode::ReadWrite, value),
+        Union::FnPtr(_, _, value) => Union::FnPtr(0, AccessMode::ReadWrite, value),
+        Union::Variant(_, _, value) => Union::Variant(0, AccessMode::ReadWrite, value),
+        Union::Shared(_, _, value) => Union::Shared(0, AccessMode::ReadWrite, value),
+    })
+}
+
+/// What is read of a value as a type.
+#[tactic(auto, using(crate::proofs::Casts::read_content))]
+pub(crate) fn read_as(value: Dynamic, kind: TypeId) -> Dynamic
+    requires { is_some (read_as kind value) ≡ true }
+    ensures { Some result ≡ read_as kind value }
+{
+    if kind == TypeId::Dynamic {
+        value
+    } else {
+        made_anew(value)
     }
 }

@@ -143,6 +143,12 @@ pub enum Command {
     Get(ImmutableString),
     /// Appends what the value of the last entry of the name is as this type, copied without its holders; or answers nothing.
     GetValue(ImmutableString, TypeId),
+    /// Appends a copy of what the last entry of the name itself is as this type, by reference; or answers nothing.
+    GetRef(ImmutableString, TypeId),
+    /// Writes over the int that the last entry of the name itself is; or answers nothing.
+    SetRef(ImmutableString, INT),
+    /// Takes the last entry of the name out, and appends what its value is as this type, without its holders; or answers nothing.
+    Remove(ImmutableString, TypeId),
     /// Gives the last entry of the name the alias, if it hasn't got it; an empty alias means the name.
     SetAlias(ImmutableString, ImmutableString),
     /// Keeps copies of the last entries of each name, the newest first.

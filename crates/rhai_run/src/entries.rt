@@ -1,17 +1,17 @@
 //! Commands on the last entry of a name.
 ghost use Rattle.rhai_scope.specs.Lookup.{last_position, writable_position};
 ghost use Rattle.rhai_run.specs.Cost.{free, keeps_all, place_cost};
-ghost use Rattle.rhai_run.specs.Entries.{step_set_entry, step_set_or_push, step_set_value, step_get, step_get_value, step_set_alias};
+ghost use Rattle.rhai_run.specs.Entries.{step_set_entry, step_set_or_push, step_set_value, step_get, step_get_value, step_get_ref, step_set_ref, step_remove, step_set_alias};
 ghost use Rattle.rhai_run.specs.Does.{Does};
 
 use crate::answer::Refusal;
 use crate::brief::Brief;
-use crate::cast::{can_cast, cast_to};
+use crate::cast::{can_cast, can_move, cast_to, read_as};
 use crate::desk::Desk;
 use crate::not_done::NotDone;
-use crate::places::{replace_at, write_entry};
+use crate::places::{push_in_room, replace_at, write_entry};
 use rhai_text::ImmutableString;
-use rhai_value::{Dynamic, TypeId};
+use rhai_value::{Dynamic, INT, TypeId};
 
 impl Desk {
     pub(crate) fn set_entry(&mut self, name: &ImmutableString, i: usize) -> Result<Brief, NotDone>
@@ -86,6 +86,54 @@ impl Desk {
         }
         let value = cast_to(value, self.alloc, &self.store, kind)?;
         self.hand.push(value)?;
+        Ok(Brief::Done)
+    }
+
+    #[tactic(auto, using(crate::proofs::Casts::viewed_some, crate::proofs::Casts::viewed_none, crate::proofs::Casts::unviewed_string))]
+    pub(crate) fn get_ref(&mut self, name: &ImmutableString, kind: TypeId) -> Result<Brief, NotDone>
+        ensures { Does keeps_all result self.old self.new (step_get_ref self.old name.now kind) }
+    {
+        let value = self.scope.get(name.as_str()).ok_or(Refusal::NoEntry)?;
+        if value.is_shared() {
+            return Err(NotDone::Refused(Refusal::SharedEntry));
+        }
+        if kind == TypeId::String || !can_cast(value, &self.store, kind) {
+            return Ok(Brief::Nothing);
+        }
+        let value = cast_to(value, self.alloc, &self.store, kind)?;
+        self.hand.push(value)?;
+        Ok(Brief::Done)
+    }
+
+    pub(crate) fn set_ref(&mut self, name: &ImmutableString, value: INT) -> Result<Brief, NotDone>
+        ensures { Does free result self.old self.new (step_set_ref self.old name.now value) }
+    {
+        let entry = self.scope.get(name.as_str()).ok_or(Refusal::NoEntry)?;
+        if entry.is_shared() {
+            return Err(NotDone::Refused(Refusal::SharedEntry));
+        }
+        match self.scope.get_value_mut::<INT>(name.as_str()) {
+            Some(place) => {
+                *place = value;
+                Ok(Brief::Done)
+            }
+            None => Ok(Brief::Nothing),
+        }
+    }
+
+    pub(crate) fn remove(&mut self, name: &ImmutableString, kind: TypeId) -> Result<Brief, NotDone>
+        ensures { Does keeps_all result self.old self.new (step_remove self.old name.now kind) }
+    {
+        let value = self.scope.get(name.as_str()).ok_or(Refusal::NoEntry)?;
+        let is_castable = can_move(value, &self.store, kind);
+        self.hand.reserve(1)?;
+        let Some(value) = self.scope.remove::<Dynamic>(name.as_str(), &self.store)? else {
+            unreachable!();
+        };
+        if !is_castable {
+            return Ok(Brief::Nothing);
+        }
+        push_in_room(&mut self.hand, read_as(value, kind));
         Ok(Brief::Done)
     }
 

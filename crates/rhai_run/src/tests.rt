@@ -33,6 +33,7 @@ fn told(answer: &Answer) -> &str {
         Answer::Refused(Refusal::NoEntry) => "NoEntry",
         Answer::Refused(Refusal::EmptyScope) => "EmptyScope",
         Answer::Refused(Refusal::ConstantEntry) => "ConstantEntry",
+        Answer::Refused(Refusal::SharedEntry) => "SharedEntry",
         Answer::Refused(Refusal::NoBuiltin) => "NoBuiltin",
         Answer::Refused(Refusal::NotHashable) => "NotHashable",
         Answer::Refused(Refusal::Mismatch(_)) => "Mismatch",

@@ -3,7 +3,7 @@ use Rattle.std.specs.Prelude.{ℕ, List, [], ◌∷◌, ◌++◌, take, length, 
 use Rattle.std.specs.List.{slice_split}
 use Rattle.rhai_run.specs.declared.command.Command.{Command}
 use Rattle.rhai_run.specs.State.{State, empty_state}
-use Rattle.rhai_run.specs.Reply.{Reply, done, truth, number, told, bytes, nothing, refused, Reason, no_value, same_value, no_entry, empty_scope, constant_entry, no_builtin, not_hashable, mismatch, fault}
+use Rattle.rhai_run.specs.Reply.{Reply, done, truth, number, told, bytes, nothing, refused, Reason, no_value, same_value, no_entry, empty_scope, constant_entry, shared_entry, no_builtin, not_hashable, mismatch, fault}
 use Rattle.rhai_run.specs.Step.{step}
 use Rattle.rhai_world.specs.Line.{command_of}
 
@@ -27,6 +27,7 @@ reason_text (mismatch name) = codes "Mismatch " ++ name
 reason_text same_value = codes "BadLine"
 reason_text not_hashable = codes "BadLine"
 reason_text constant_entry = codes "BadLine"
+reason_text shared_entry = codes "BadLine"
 reason_text (fault why) = codes "BadLine"
 
 abbrev pub printed : Reply → List ℕ

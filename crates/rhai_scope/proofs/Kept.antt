@@ -1,0 +1,35 @@
+-- What the copy of an entry keeps.
+use Rattle.std.proofs.Common.{◌≡◌, pos, refl, ap}
+use Rattle.rhai_value.specs.declared.access_mode.AccessMode.{AccessMode}
+use Rattle.rhai_value.specs.Copied.{SameButModes, SameContentButModes, AllSameButModes, SameFieldsButModes}
+use Rattle.rhai_value.specs.Tree.{Tree, node, Content, leaf, branch, fields, holder, array, function, Trees, no_trees, tree_then, Fields, no_fields, field_then, copy, copy_content, copy_trees, copy_fields, paint, paint_content, paint_trees, paint_fields, mode_of, is_constant}
+use Rattle.rhai_value.proofs.Copied.{same_but_modes}
+use Rattle.rhai_scope.specs.Entry.{Entry, copied_value, copied_entry, is_constant_entry}
+
+mutual
+  pub painted_copy : (m : AccessMode) (t : Tree) → SameButModes (paint m (copy t)) t
+  painted_copy m (node c g n) = (painted_content m c, refl)
+
+  painted_content : (m : AccessMode) (c : Content) → SameContentButModes (paint_content m (copy_content c)) c
+  painted_content m (leaf l) = refl
+  painted_content m (branch array ts) = (refl, painted_trees m ts)
+  painted_content m (branch (function f) ts) = (same_but_modes (node (branch (function f) ts) (pos 0) m)).0
+  painted_content m (fields fs) = painted_fields m fs
+  painted_content m (holder c) = refl
+
+  painted_trees : (m : AccessMode) (ts : Trees) → AllSameButModes (paint_trees m (copy_trees ts)) ts
+  painted_trees m no_trees = tt
+  painted_trees m (tree_then t ts) = (painted_copy m t, painted_trees m ts)
+
+  painted_fields : (m : AccessMode) (fs : Fields) → SameFieldsButModes (paint_fields m (copy_fields fs)) fs
+  painted_fields m no_fields = tt
+  painted_fields m (field_then k t fs) = (refl, painted_copy m t, painted_fields m fs)
+
+pub kept_value : (e : Entry) → SameButModes (copied_entry e).value e.value
+kept_value e = painted_copy (mode_of e.value) e.value
+
+mode_kept : (t : Tree) → mode_of (copied_value t) ≡ mode_of t
+mode_kept (node c g m) = refl
+
+pub kept_constant : (e : Entry) → is_constant_entry (copied_entry e) ≡ is_constant_entry e
+kept_constant e = ap is_constant (mode_kept e.value)

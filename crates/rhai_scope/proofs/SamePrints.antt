@@ -1,11 +1,10 @@
 -- Texts, bytes and items of entries that are equal up to the numbers of cells.
-use Rattle.std.proofs.Common.{◌≡◌, ℕ, suc, Bool, List, [], ◌∷◌, ◌++◌, length, map, reverse, Option, Some, None, option_map, refl, sym, ap, ap₂, ◌∙◌, subst}
-use Rattle.std.specs.List.{AllZip}
+use Rattle.std.proofs.Common.{◌≡◌, ℕ, suc, List, [], ◌∷◌, ◌++◌, Option, Some, None, option_map, refl, ap, ap₂, ◌∙◌}
 use Rattle.rhai_value.specs.declared.store.Cell.{Cell}
-use Rattle.rhai_value.specs.End.{first, flat, constant_in}
+use Rattle.rhai_value.specs.End.{first, constant_in}
 use Rattle.rhai_value.specs.Relation.{Renaming, Related, Alike, IsOneToOne, RelatedCells}
 use Rattle.rhai_value.specs.Tree.{Tree, is_constant}
-use Rattle.rhai_value.proofs.ForCallers.{same_first, same_flat, same_mode, zip_append, zip_length}
+use Rattle.rhai_value.proofs.ForCallers.{same_first, same_flat, same_mode, zip_length}
 use Rattle.rhai_show.proofs.SamePlain.{same_plain}
 use Rattle.rhai_show.proofs.SamePrinted.{same_printed}
 use Rattle.rhai_show.specs.declared.form.Form.TheVariants.{Debug}

@@ -9,7 +9,7 @@ pub cond_or : (b x : Bool) → cond b true x ≡ b || x
 cond_or true x = refl
 cond_or false x = refl
 
-append_nil : {A : Type 0} (xs : List A) → xs ++ [] ≡ xs
+pub append_nil : {A : Type 0} (xs : List A) → xs ++ [] ≡ xs
 append_nil [] = refl
 append_nil (x ∷ xs) = ap (λ ys. x ∷ ys) (append_nil xs)
 

@@ -9,3 +9,10 @@ pub mod TakenOut
 pub mod FromBelow
 pub mod Lines
 pub mod MovedOut
+pub mod Rewound
+pub mod Found
+pub mod Once
+pub mod Kept
+pub mod SameEntries
+pub mod SamePrints
+pub mod ForCallers

@@ -6,6 +6,8 @@ pub mod Extended
 pub mod Items
 pub mod Left
 pub mod Lookup
+pub mod Pushes
+pub mod Relation
 pub mod ScopeBytes
 pub mod ScopeText
 pub mod Typed

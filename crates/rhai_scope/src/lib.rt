@@ -9,6 +9,7 @@ mod extend;
 mod hashed;
 mod into_iter;
 mod iter;
+pub mod laws;
 mod lookup;
 mod rest;
 mod scope;

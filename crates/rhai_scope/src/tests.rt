@@ -1,11 +1,17 @@
 use super::*;
+use readme::{own_value, set, write_int};
 use rhai_text::ImmutableString;
 use rhai_value::{AccessMode, Dynamic, Store};
 use std::alloc::{AllocError, Global};
 use std::process::Abort;
 use std::test::Fail;
 
+mod aliases;
+mod holders;
+mod iterators;
 mod readme;
+mod typed;
+mod whole;
 
 fn push(scope: &mut Scope, name: &str, value: i64) -> Result<(), AllocError> {
     scope.push_dynamic(name, Dynamic::from_int(value))
@@ -17,6 +23,28 @@ fn int(scope: &Scope, store: &Store, name: &str) -> i64 {
         Some(value) => value.as_int(store).unwrap_or(-1),
         None => -1,
     }
+}
+
+/// A holder of a new cell with the value.
+fn shared(value: Dynamic, store: &mut Store) -> Result<Dynamic, Fail> {
+    match value.into_shared(store) {
+        Ok(holder) => Ok(holder),
+        Err(_) => Err("no room for a cell".into()),
+    }
+}
+
+/// Asserts what the scope prints.
+fn prints(
+    rt: &impl Abort,
+    alloc: Global,
+    scope: &Scope,
+    store: &Store,
+    wanted: &str,
+) -> Result<(), Fail> {
+    let shown = scope.shown(store)?;
+    let text = format!(in alloc; "{shown}")?;
+    assert_eq!(rt; text.as_str(), wanted);
+    Ok(())
 }
 
 #[test]

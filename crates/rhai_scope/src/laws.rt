@@ -1,0 +1,44 @@
+//! Laws of the scope, each the contract of a function that does nothing.
+ghost use Rattle.std.specs.Prelude.{◌≡◌, ◌≢◌, ◌∷◌, ◌++◌, ℕ, List, length, map, nat_eq, take, Some, None, option_map};
+ghost use Rattle.std.specs.Cmp.Lexicographic.{pointwise};
+ghost use Rattle.std.specs.List.{AllByRecursion, IsDistinct};
+ghost use Rattle.rhai_value.specs.Copied.{SameButModes};
+ghost use Rattle.rhai_value.specs.Tree.{Tree};
+ghost use Rattle.rhai_value.specs.declared.access_mode.AccessMode.{AccessMode};
+ghost use Rattle.rhai_scope.specs.Entry.{Entry, copied_entry, is_constant_entry};
+ghost use Rattle.rhai_scope.specs.Lookup.{last_position, last_entry, visible};
+ghost use Rattle.rhai_scope.specs.Pushes.{all_pushed};
+
+pub mod renamed;
+
+/// After pushes alone `rewind` to the number of entries before gives the entries and the aliases from before.
+#[tactic(auto, using(crate::proofs::Rewound::rewound))]
+pub fn rewind_undoes_pushes()
+    ensures { (ps : List (AccessMode × List ℕ × Tree)) (es : List Entry) → take (length es) (all_pushed ps es) ≡ es }
+{}
+
+/// A name means its last entry, and nothing where no entry has it.
+#[tactic(auto, using(crate::proofs::Found::found, crate::proofs::Found::found_entry, crate::proofs::Found::missing))]
+pub fn a_name_means_its_last_entry()
+    ensures position { (name : List ℕ) (before after : List Entry) (e : Entry) → e.name ≡ name → AllByRecursion (λ (x : Entry). x.name ≢ name) after
+        → last_position name (before ++ e ∷ after) ≡ Some (length before) }
+    ensures entry { (name : List ℕ) (before after : List Entry) (e : Entry) → e.name ≡ name → AllByRecursion (λ (x : Entry). x.name ≢ name) after
+        → last_entry name (before ++ e ∷ after) ≡ Some e }
+    ensures missing { (name : List ℕ) (es : List Entry) → AllByRecursion (λ (x : Entry). x.name ≢ name) es → last_position name es ≡ None }
+{}
+
+/// `clone_visible` has each name once, and each name means the copy of the entry that it meant.
+#[tactic(auto, using(crate::proofs::Once::once, crate::proofs::Found::visible_means))]
+pub fn the_visible_copy_keeps_what_names_mean()
+    ensures once { (es : List Entry) → IsDistinct (pointwise nat_eq) (map (λ (e : Entry). e.name) (visible es)) }
+    ensures means { (name : List ℕ) (es : List Entry) → last_entry name (map copied_entry (visible es)) ≡ option_map copied_entry (last_entry name es) }
+{}
+
+/// The copy of an entry keeps its name, its aliases, the content and the tags of its value, and whether it is a constant.
+#[tactic(auto, using(crate::proofs::Kept::kept_value, crate::proofs::Kept::kept_constant))]
+pub fn copies_keep_entries()
+    ensures name { (e : Entry) → (copied_entry e).name ≡ e.name }
+    ensures aliases { (e : Entry) → (copied_entry e).aliases ≡ e.aliases }
+    ensures value { (e : Entry) → SameButModes (copied_entry e).value e.value }
+    ensures constant { (e : Entry) → is_constant_entry (copied_entry e) ≡ is_constant_entry e }
+{}

@@ -27,7 +27,7 @@ same_named reply (Some a) (Some b) e f h k = ap reply (same_Some a b h)
 same_named reply None (Some b) e f h k = cc
 same_named reply (Some a) None e f h k = cc
 
-pub same_constant : (r : Renaming) (o q : Option Tree) → Alike (Related r) o q → constant_in o ≡ constant_in q
+same_constant : (r : Renaming) (o q : Option Tree) → Alike (Related r) o q → constant_in o ≡ constant_in q
 same_constant r None None h = refl
 same_constant r (Some t) (Some u) h = ap is_constant (same_mode r t u h)
 same_constant r None (Some u) h = absurd h

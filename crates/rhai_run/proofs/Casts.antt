@@ -1,11 +1,12 @@
 -- To which types a value can be cast.
-use Rattle.std.proofs.Common.{◌≡◌, Bool, true, false, cond, Option, Some, None, option_map, is_some, List, [], refl, sym, ap, ◌∙◌}
+use Rattle.std.proofs.Common.{◌≡◌, Bool, true, false, cond, Option, Some, None, option_map, is_some, List, [], refl, sym, ap, ◌∙◌, unwrap_or}
 use Rattle.rhai_value.specs.declared.store.Cell.{Cell}
 use Rattle.rhai_value.specs.declared.type_id.TypeId.{TypeId}
 use Rattle.rhai_value.specs.declared.type_id.TypeId.TheVariants as id
-use Rattle.rhai_value.specs.End.{End, end, end_type, flat, flattened}
+use Rattle.rhai_value.specs.End.{End, end, end_of, end_type, value_ahead, flat, flattened}
 use Rattle.rhai_value.specs.Tree.{Tree, node, leaf, branch, fields, holder, cell_of, content_of, copy, made}
 use Rattle.rhai_value.specs.Types.{is_type, tree_type, typed_content}
+use Rattle.rhai_value.proofs.ForCallers.{walk_opens}
 use Rattle.rhai_variant.specs.Reads.{held_type, read, viewed}
 use Rattle.rhai_cast.specs.Casts.{is_castable}
 use Rattle.rhai_cast.proofs.ForCallers.{copied_castable, moved_castable}
@@ -50,10 +51,11 @@ read_content k t h n = by (is_type k id.Shared) (is_type (held_type k) (tree_typ
     by false false e = cc
 
 -- a value that is no holder is its own flat copy
-pub unshared_flat : (s : List Cell) (t : Tree) → cell_of t ≡ None → flat s t ≡ copy t
-unshared_flat s (node (leaf l) g m) h = refl
-unshared_flat s (node (branch k ts) g m) h = refl
-unshared_flat s (node (fields fs) g m) h = refl
+unshared_flat : (s : List Cell) (t : Tree) → cell_of t ≡ None → flat s t ≡ copy t
+unfolding end
+unshared_flat s (node (leaf l) g m) h = ap (λ e. copy (unwrap_or (value_ahead e) (node (leaf l) g m))) (walk_opens end_of s [] (node (leaf l) g m))
+unshared_flat s (node (branch k ts) g m) h = ap (λ e. copy (unwrap_or (value_ahead e) (node (branch k ts) g m))) (walk_opens end_of s [] (node (branch k ts) g m))
+unshared_flat s (node (fields fs) g m) h = ap (λ e. copy (unwrap_or (value_ahead e) (node (fields fs) g m))) (walk_opens end_of s [] (node (fields fs) g m))
 unshared_flat s (node (holder c) g m) h = cc
 
 copied_type : (t : Tree) → tree_type (copy t) ≡ tree_type t

@@ -12,7 +12,8 @@ use Rattle.rhai_run.specs.State.{State, with_cells}
 use Rattle.rhai_run.specs.Reply.{done, refused, mismatch, fault, data_race}
 use Rattle.rhai_run.specs.Outcome.{Outcome}
 use Rattle.rhai_run.specs.Change.{step_share, step_flatten, step_make_read_only, step_set_tag, int_written, step_write_int, nowhere, step_write}
-use Rattle.rhai_run.specs.Correspondence.{RelatedEntry, RelatedStates}
+use Rattle.rhai_scope.specs.Relation.{RelatedEntry}
+use Rattle.rhai_run.specs.Correspondence.{RelatedStates}
 use Rattle.rhai_run.proofs.Outcome.{Matches, same_marked, m_stays, m_given, m_value, m_two, m_cells, m_replaced, m_hand, set_hand, moved_hand}
 
 abbrev share_at : State → ℕ → Tree → Outcome

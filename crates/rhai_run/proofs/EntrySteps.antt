@@ -1,5 +1,5 @@
 -- Steps on the last entry of a name, on two states that are the same up to a renaming.
-use Rattle.std.proofs.Common.{◌≡◌, ℕ, zero, suc, ℤ, Bool, true, false, cond, List, [], ◌∷◌, remove, Option, Some, None, option_map, is_some, refl, subst}
+use Rattle.std.proofs.Common.{◌≡◌, ℕ, ℤ, Bool, true, false, cond, List, [], ◌∷◌, Option, Some, None, option_map, is_some, refl, subst}
 use Rattle.std.specs.List.{AllZip}
 use Rattle.rhai_value.specs.declared.type_id.TypeId.{TypeId}
 use Rattle.rhai_value.specs.declared.type_id.TypeId.TheVariants as id
@@ -8,8 +8,9 @@ use Rattle.rhai_value.specs.Tree.{Tree, cell_of, copy, fresh, int}
 use Rattle.rhai_value.specs.Types.{is_type}
 use Rattle.rhai_value.specs.Relation.{Renaming, Related, Alike}
 use Rattle.rhai_value.proofs.ForCallers.{same_copy, same_shared, zip_append}
-use Rattle.rhai_variant.proofs.ForCallers.{same_viewed, same_written_as}
+use Rattle.rhai_variant.proofs.ForCallers.{same_viewed}
 use Rattle.rhai_cast.proofs.ForCallers.{same_moved}
+use Rattle.rhai_scope.proofs.ForCallers.{same_position, same_last_entry, same_named, same_constant, same_changed_named, same_with_value, same_aliased, same_set_or_pushed, same_writable, same_written_entry, same_removed_at}
 use Rattle.rhai_scope.specs.Alias.{meant_alias, aliased}
 use Rattle.rhai_scope.specs.Entry.{Entry, with_value as holding}
 use Rattle.rhai_scope.specs.Lookup.{last_position, writable_position}
@@ -17,12 +18,12 @@ use Rattle.rhai_scope.specs.Typed.{set_or_pushed, removed_at, written_entry}
 use Rattle.rhai_run.specs.Hand.{read_as}
 use Rattle.rhai_run.specs.State.{State, with_entries}
 use Rattle.rhai_run.specs.Reply.{nothing, no_entry, constant_entry, shared_entry}
-use Rattle.rhai_run.specs.Entries.{step_set_entry, step_set_or_push, step_set_value, step_get, appended_or_nothing, step_get_value, viewed_as, step_get_ref, step_set_ref, step_remove, step_set_alias}
+use Rattle.rhai_run.specs.Entries.{step_set_entry, step_set_or_push, is_there_constant, step_set_value, step_get, appended_or_nothing, step_get_value, viewed_as, step_get_ref, step_set_ref, step_remove, step_set_alias}
 use Rattle.rhai_run.specs.Outcome.{Outcome}
-use Rattle.rhai_run.specs.Correspondence.{RelatedEntry, RelatedStates}
+use Rattle.rhai_scope.specs.Relation.{RelatedEntry}
+use Rattle.rhai_run.specs.Correspondence.{RelatedStates}
 use Rattle.rhai_run.proofs.HandSteps.{unless_shared, same_flat_read}
 use Rattle.rhai_run.proofs.Outcome.{Matches, no_cell, m_stays, m_unless, m_given, m_value, m_entries, m_scope, m_appended, moved_hand}
-use Rattle.rhai_run.proofs.SameEntries.{same_last_position, same_last_entry, value_of_entry, same_constant, same_changed_named, same_holding, same_aliased, same_set_or_pushed, same_writable_position, same_there_constant}
 
 module _ (r : Renaming) (w v : State) (h : RelatedStates r w v) where
   pub same_set_entry : (name : List ℕ) (i : ℕ) → Matches r w v (step_set_entry w name i) (step_set_entry v name i)
@@ -30,7 +31,7 @@ module _ (r : Renaming) (w v : State) (h : RelatedStates r w v) where
       m_value r w v h i _ _ (λ t u e.
       m_given r w v h (RelatedEntry r) no_entry _ _ _ _ (same_last_entry r name w.entries v.entries h.entries) (λ a b n.
       m_unless r w v h constant_entry _ _ _ _ (same_constant r a b n)
-      (m_scope r w v h _ _ _ _ (same_changed_named r name (holding t) (holding u) (same_holding r t u e) w.entries v.entries h.entries) (moved_hand r w v h i))))
+      (m_scope r w v h _ _ _ _ (same_changed_named r (holding t) (holding u) name w.entries v.entries (same_with_value r t u e) h.entries) (moved_hand r w v h i))))
 
   -- an entry that is written over or pushed
   set_at : (o p : Option ℕ) → o ≡ p → (name : List ℕ) (i : ℕ) (t u : Tree) → Related r t u → AllZip (RelatedEntry r) (set_or_pushed o name t w.entries) (set_or_pushed p name u v.entries)
@@ -39,17 +40,23 @@ module _ (r : Renaming) (w v : State) (h : RelatedStates r w v) where
 
   pub same_set_or_push : (name : List ℕ) (i : ℕ) → Matches r w v (step_set_or_push w name i) (step_set_or_push v name i)
   same_set_or_push name i =
-      m_value r w v h i _ _ (λ t u e. m_scope r w v h _ _ _ _ (set_at _ _ (same_writable_position r name w.entries v.entries h.entries) name i t u e) (moved_hand r w v h i))
+      m_value r w v h i _ _ (λ t u e. m_scope r w v h _ _ _ _ (set_at _ _ (same_writable r name w.entries v.entries h.entries) name i t u e) (moved_hand r w v h i))
+
+  same_there_constant : (o p : Option Entry) → Alike (RelatedEntry r) o p → is_there_constant o ≡ is_there_constant p
+  same_there_constant None None k = refl
+  same_there_constant (Some e) (Some f) k = same_constant r e f k
+  same_there_constant None (Some f) k = absurd k
+  same_there_constant (Some e) None k = absurd k
 
   pub same_set_value : (name : List ℕ) (i : ℕ) → Matches r w v (step_set_value w name i) (step_set_value v name i)
   same_set_value name i =
       m_value r w v h i _ _ (λ t u e.
-      m_unless r w v h constant_entry _ _ _ _ (same_there_constant r _ _ (same_last_entry r name w.entries v.entries h.entries))
-      (m_scope r w v h _ _ _ _ (set_at _ _ (same_last_position r name w.entries v.entries h.entries) name i t u e) (moved_hand r w v h i)))
+      m_unless r w v h constant_entry _ _ _ _ (same_there_constant _ _ (same_last_entry r name w.entries v.entries h.entries))
+      (m_scope r w v h _ _ _ _ (set_at _ _ (same_position r name w.entries v.entries h.entries) name i t u e) (moved_hand r w v h i)))
 
   pub same_get : (name : List ℕ) → Matches r w v (step_get w name) (step_get v name)
   same_get name =
-      m_given r w v h (Related r) no_entry _ _ _ _ (value_of_entry r _ _ (same_last_entry r name w.entries v.entries h.entries)) (λ t u e. m_appended r w v h (copy t) (copy u) (same_copy r t u e))
+      m_given r w v h (Related r) no_entry _ _ _ _ (same_named r name w.entries v.entries h.entries) (λ t u e. m_appended r w v h (copy t) (copy u) (same_copy r t u e))
 
   m_appended_or_nothing : (o p : Option Tree) → Alike (Related r) o p → Matches r w v (appended_or_nothing w o) (appended_or_nothing v p)
   m_appended_or_nothing None None k = m_stays r w v h nothing nothing refl
@@ -59,11 +66,11 @@ module _ (r : Renaming) (w v : State) (h : RelatedStates r w v) where
 
   pub same_get_value : (name : List ℕ) (kind : TypeId) → Matches r w v (step_get_value w name kind) (step_get_value v name kind)
   same_get_value name kind =
-      m_given r w v h (Related r) no_entry _ _ _ _ (value_of_entry r _ _ (same_last_entry r name w.entries v.entries h.entries))
+      m_given r w v h (Related r) no_entry _ _ _ _ (same_named r name w.entries v.entries h.entries)
       (λ t u e. m_appended_or_nothing _ _ (same_flat_read r w v h kind t u e))
 
   pub same_set_alias : (name alias : List ℕ) → Matches r w v (step_set_alias w name alias) (step_set_alias v name alias)
-  same_set_alias name alias = m_entries r w v h _ _ (same_changed_named r name _ _ (same_aliased r (meant_alias name alias)) w.entries v.entries h.entries)
+  same_set_alias name alias = m_entries r w v h _ _ (same_changed_named r _ _ name w.entries v.entries (same_aliased r (meant_alias name alias)) h.entries)
 
   same_viewed_as : (kind : TypeId) (t u : Tree) → Related r t u → Alike (Related r) (viewed_as kind t) (viewed_as kind u)
   same_viewed_as kind t u e = unless_shared r w v h (is_type kind id.Shared) _ _ (same_viewed r kind t u e)
@@ -76,7 +83,7 @@ module _ (r : Renaming) (w v : State) (h : RelatedStates r w v) where
 
   pub same_get_ref : (name : List ℕ) (kind : TypeId) → Matches r w v (step_get_ref w name kind) (step_get_ref v name kind)
   same_get_ref name kind =
-      m_given r w v h (Related r) no_entry _ _ _ _ (value_of_entry r _ _ (same_last_entry r name w.entries v.entries h.entries)) (λ t u e.
+      m_given r w v h (Related r) no_entry _ _ _ _ (same_named r name w.entries v.entries h.entries) (λ t u e.
       m_unless r w v h shared_entry _ _ _ _ (same_shared r t u e) (m_appended_or_nothing _ _ (copies_alike _ _ (same_viewed_as kind t u e))))
 
   some_alike : (o p : Option Tree) → Alike (Related r) o p → is_some o ≡ is_some p
@@ -91,31 +98,17 @@ module _ (r : Renaming) (w v : State) (h : RelatedStates r w v) where
   m_either true false o p x y e m n = cc
   m_either false true o p x y e m n = cc
 
-  same_written : (n : ℤ) (a b : Entry) → RelatedEntry r a b → RelatedEntry r (written_entry id.Int (fresh (int n)) a) (written_entry id.Int (fresh (int n)) b)
-  same_written n a b e = (e.0, e.1, same_written_as r id.Int (fresh (int n)) (fresh (int n)) a.value b.value (refl, refl, refl) e.2)
-
   pub same_set_ref : (name : List ℕ) (n : ℤ) → Matches r w v (step_set_ref w name n) (step_set_ref v name n)
   same_set_ref name n =
-      m_given r w v h (Related r) no_entry _ _ _ _ (value_of_entry r _ _ (same_last_entry r name w.entries v.entries h.entries)) (λ t u e.
+      m_given r w v h (Related r) no_entry _ _ _ _ (same_named r name w.entries v.entries h.entries) (λ t u e.
       m_unless r w v h shared_entry _ _ _ _ (same_shared r t u e)
       (m_either _ _ _ _ _ _ (some_alike _ _ (same_viewed r id.Int t u e))
-      (m_entries r w v h _ _ (same_changed_named r name _ _ (same_written n) w.entries v.entries h.entries)) (m_stays r w v h nothing nothing refl)))
-
-  same_removed : (o : Option ℕ) (es fs : List Entry) → AllZip (RelatedEntry r) es fs → AllZip (RelatedEntry r) (removed_at o es) (removed_at o fs)
-  same_removed None es fs e = e
-  same_removed (Some k) es fs e = zip_remove k es fs e
-    where
-      zip_remove : (k : ℕ) (es fs : List Entry) → AllZip (RelatedEntry r) es fs → AllZip (RelatedEntry r) (remove es k) (remove fs k)
-      zip_remove k [] [] e = tt
-      zip_remove zero (x ∷ es) (y ∷ fs) e = e.1
-      zip_remove (suc k) (x ∷ es) (y ∷ fs) e = (e.0, zip_remove k es fs e.1)
-      zip_remove k [] (y ∷ fs) e = absurd e
-      zip_remove k (x ∷ es) [] e = absurd e
+      (m_entries r w v h _ _ (same_changed_named r _ _ name w.entries v.entries (same_written_entry r id.Int (fresh (int n)) (fresh (int n)) (refl, refl, refl)) h.entries)) (m_stays r w v h nothing nothing refl)))
 
   removed_entries : (name : List ℕ) → AllZip (RelatedEntry r) (removed_at (last_position name w.entries) w.entries) (removed_at (last_position name v.entries) v.entries)
   removed_entries name =
-      subst (λ o. AllZip (RelatedEntry r) (removed_at (last_position name w.entries) w.entries) (removed_at o v.entries)) (same_last_position r name w.entries v.entries h.entries)
-      (same_removed (last_position name w.entries) w.entries v.entries h.entries)
+      subst (λ o. AllZip (RelatedEntry r) (removed_at (last_position name w.entries) w.entries) (removed_at o v.entries)) (same_position r name w.entries v.entries h.entries)
+      (same_removed_at r (last_position name w.entries) w.entries v.entries h.entries)
 
   -- other entries, and a value at the end of the hand where there is one
   m_taken : (es fs : List Entry) (o p : Option Tree) → AllZip (RelatedEntry r) es fs → Alike (Related r) o p → Matches r w v (appended_or_nothing (with_entries w es) o) (appended_or_nothing (with_entries v fs) p)
@@ -126,5 +119,5 @@ module _ (r : Renaming) (w v : State) (h : RelatedStates r w v) where
 
   pub same_remove : (name : List ℕ) (kind : TypeId) → Matches r w v (step_remove w name kind) (step_remove v name kind)
   same_remove name kind =
-      m_given r w v h (Related r) no_entry _ _ _ _ (value_of_entry r _ _ (same_last_entry r name w.entries v.entries h.entries)) (λ t u e.
+      m_given r w v h (Related r) no_entry _ _ _ _ (same_named r name w.entries v.entries h.entries) (λ t u e.
       m_taken _ _ _ _ (removed_entries name) (unless_shared r w v h (is_type kind id.Shared) _ _ (same_moved r kind w.store v.store t u h.one h.cells e)))

@@ -7,7 +7,6 @@ pub mod Casts
 pub mod ChangeSteps
 pub mod OperatorSteps
 pub mod ScanSteps
-pub mod SameEntries
 pub mod ScopeSteps
 pub mod EntrySteps
 pub mod AskSteps
@@ -16,4 +15,4 @@ pub mod Fitting
 pub mod Runs
 pub mod Moves
 pub mod MapRows
-pub mod Writable
+pub mod LastEntry

@@ -10,7 +10,8 @@ use Rattle.rhai_scope.specs.Entry.{Entry}
 use Rattle.rhai_run.specs.State.{State, with_hand, with_entries, with_scope, with_cells, appended, moved_from, last_values, values_before}
 use Rattle.rhai_run.specs.Reply.{Reply, done, refused, Reason, no_value, same_value}
 use Rattle.rhai_run.specs.Outcome.{Outcome, refuse, unless, given, with_value, with_two, answered, replaced, gathered}
-use Rattle.rhai_run.specs.Correspondence.{RelatedEntry, RelatedStates, grown}
+use Rattle.rhai_scope.specs.Relation.{RelatedEntry}
+use Rattle.rhai_run.specs.Correspondence.{RelatedStates, grown}
 
 -- the marks are the marked cells, each once
 abbrev pub MarksAre : List Cell → List ℕ → Type 0

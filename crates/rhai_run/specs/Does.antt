@@ -1,5 +1,5 @@
 -- What the code of a command owes.
-use Rattle.std.specs.Prelude.{◌≡◌, true, pos, string_bytes, Result, Ok, Err}
+use Rattle.std.specs.Prelude.{◌≡◌, true, pos, string_bytes, Option, Result, Ok, Err}
 use Rattle.std.specs.Str.{chars}
 use Rattle.rhai_run.specs.declared.brief.Brief.{Brief}
 use Rattle.rhai_run.specs.declared.brief.Brief.TheVariants as brief
@@ -12,6 +12,7 @@ use Rattle.rhai_run.specs.declared.answer.Refusal.TheVariants.{Fault}
 use Rattle.rhai_run.specs.State.{State, appended}
 use Rattle.rhai_run.specs.Reply.{Reply, done, truth, number, told, bytes, nothing, refused, reason_of}
 use Rattle.rhai_run.specs.Outcome.{Outcome}
+use Rattle.rhai_run.specs.Entries.{appended_or_nothing}
 use Rattle.rhai_run.specs.Cost.{Cost, is_granted, may_want}
 
 -- an answer in brief
@@ -36,6 +37,12 @@ abbrev pub Gives : Result Tree NotDone → State → Outcome → Type 0
 Gives (Ok t) w o = o ≡ (done, appended w t)
 Gives (Err (Refused why)) w o = o ≡ (refused (reason_of why), w)
 Gives (Err Memory) w o = is_granted o.0 ≡ true
+
+-- The same where a value may be found: the outcome is that it stands at the end of the hand, if there is one.
+abbrev pub Finds : Result (Option Tree) NotDone → State → Outcome → Type 0
+Finds (Ok o) w x = x ≡ appended_or_nothing w o
+Finds (Err (Refused why)) w x = x ≡ (refused (reason_of why), w)
+Finds (Err Memory) w x = is_granted x.0 ≡ true
 
 -- the error of a call as why a command isn't done
 abbrev pub not_done_of : EvalAltResult → NotDone

@@ -139,15 +139,17 @@ fn made_anew(value: Dynamic) -> Dynamic
     })
 }
 
-/// What is read of a value as a type.
-#[tactic(auto, using(crate::proofs::Casts::read_content))]
-pub(crate) fn read_as(value: Dynamic, kind: TypeId) -> Dynamic
-    requires { is_some (read_as kind value) ≡ true }
-    ensures { Some result ≡ read_as kind value }
+/// What is read of a value as a type, if something is.
+#[tactic(auto, using(crate::proofs::Casts::read_content, crate::proofs::Casts::not_some))]
+pub(crate) fn read_as(value: Dynamic, kind: TypeId, is_readable: bool) -> Option<Dynamic>
+    requires { is_readable ≡ is_some (read_as kind value) }
+    ensures { result ≡ read_as kind value }
 {
-    if kind == TypeId::Dynamic {
-        value
+    if !is_readable {
+        None
+    } else if kind == TypeId::Dynamic {
+        Some(value)
     } else {
-        made_anew(value)
+        Some(made_anew(value))
     }
 }

@@ -2,7 +2,7 @@
 ghost use Rattle.rhai_scope.specs.Lookup.{last_position, writable_position};
 ghost use Rattle.rhai_run.specs.Cost.{free, keeps_all, place_cost};
 ghost use Rattle.rhai_run.specs.Entries.{step_set_entry, step_set_or_push, step_set_value, step_get, step_get_value, step_get_ref, step_set_ref, step_remove, step_set_alias};
-ghost use Rattle.rhai_run.specs.Does.{Does};
+ghost use Rattle.rhai_run.specs.Does.{Does, Finds};
 
 use crate::answer::Refusal;
 use crate::brief::Brief;
@@ -30,7 +30,7 @@ impl Desk {
         Ok(Brief::Done)
     }
 
-    #[tactic(auto, using(crate::proofs::Writable::set_over, crate::proofs::Writable::not_over_constant, crate::proofs::Writable::not_over_none))]
+    #[tactic(auto, using(crate::proofs::LastEntry::set_over, crate::proofs::LastEntry::not_over_constant, crate::proofs::LastEntry::not_over_none))]
     pub(crate) fn set_or_push(&mut self, name: &ImmutableString, i: usize) -> Result<Brief, NotDone>
         ensures { Does (place_cost (writable_position name.now self.old.entries)) result self.old self.new (step_set_or_push self.old name.now i) }
     {
@@ -45,7 +45,7 @@ impl Desk {
         }
     }
 
-    #[tactic(auto, using(crate::proofs::Writable::set_there, crate::proofs::Writable::no_position))]
+    #[tactic(auto, using(crate::proofs::LastEntry::set_there, crate::proofs::LastEntry::no_position))]
     pub(crate) fn set_value(&mut self, name: &ImmutableString, i: usize) -> Result<Brief, NotDone>
         ensures { Does (place_cost (last_position name.now self.old.entries)) result self.old self.new (step_set_value self.old name.now i) }
     {
@@ -89,20 +89,32 @@ impl Desk {
         Ok(Brief::Done)
     }
 
+    /// A copy of what the last entry of a name itself is as a type, by reference, if it is of the type.
     #[tactic(auto, using(crate::proofs::Casts::viewed_some, crate::proofs::Casts::viewed_none, crate::proofs::Casts::unviewed_string))]
-    pub(crate) fn get_ref(&mut self, name: &ImmutableString, kind: TypeId) -> Result<Brief, NotDone>
-        ensures { Does keeps_all result self.old self.new (step_get_ref self.old name.now kind) }
+    fn viewed(&self, name: &ImmutableString, kind: TypeId) -> Result<Option<Dynamic>, NotDone>
+        ensures { Finds result self.now (step_get_ref self.now name.now kind) }
     {
         let value = self.scope.get(name.as_str()).ok_or(Refusal::NoEntry)?;
         if value.is_shared() {
             return Err(NotDone::Refused(Refusal::SharedEntry));
         }
         if kind == TypeId::String || !can_cast(value, &self.store, kind) {
-            return Ok(Brief::Nothing);
+            return Ok(None);
         }
         let value = cast_to(value, self.alloc, &self.store, kind)?;
-        self.hand.push(value)?;
-        Ok(Brief::Done)
+        Ok(Some(value))
+    }
+
+    pub(crate) fn get_ref(&mut self, name: &ImmutableString, kind: TypeId) -> Result<Brief, NotDone>
+        ensures { Does keeps_all result self.old self.new (step_get_ref self.old name.now kind) }
+    {
+        match self.viewed(name, kind)? {
+            None => Ok(Brief::Nothing),
+            Some(value) => {
+                self.hand.push(value)?;
+                Ok(Brief::Done)
+            }
+        }
     }
 
     pub(crate) fn set_ref(&mut self, name: &ImmutableString, value: INT) -> Result<Brief, NotDone>
@@ -130,11 +142,13 @@ impl Desk {
         let Some(value) = self.scope.remove::<Dynamic>(name.as_str(), &self.store)? else {
             unreachable!();
         };
-        if !is_castable {
-            return Ok(Brief::Nothing);
+        match read_as(value, kind, is_castable) {
+            None => Ok(Brief::Nothing),
+            Some(value) => {
+                push_in_room(&mut self.hand, value);
+                Ok(Brief::Done)
+            }
         }
-        push_in_room(&mut self.hand, read_as(value, kind));
-        Ok(Brief::Done)
     }
 
     pub(crate) fn set_alias(

@@ -96,7 +96,7 @@ pub(crate) fn write_over(value: &mut Dynamic, store: &mut Store, content: Dynami
 }
 
 /// Writes over the value of the last entry of a name, which is no constant.
-#[tactic(auto, using(crate::proofs::Writable::written_entry, crate::proofs::Writable::entry_is_there))]
+#[tactic(auto, using(crate::proofs::LastEntry::written_entry, crate::proofs::LastEntry::entry_is_there))]
 pub(crate) fn write_entry(scope: &mut Scope, name: &str, value: Dynamic)
     requires { option_map is_constant_entry (last_entry (chars name.now) scope.old) ≡ Some false }
     ensures { scope.new ≡ changed_named (holding value) (chars name.now) scope.old }

@@ -1,11 +1,14 @@
--- The last entry of a name that is no constant.
+-- The last entry of a name.
 use Rattle.std.proofs.Common.{◌≡◌, ℕ, suc, nat_eq, Bool, true, false, List, [], ◌∷◌, slice_get, Option, Some, None, option_map, option_and_then, is_some, refl, ap, subst}
 use Rattle.std.specs.Cmp.Lexicographic.{pointwise}
 use Rattle.std.proofs.lemmas.Option.{same_Some}
-use Rattle.rhai_value.specs.Tree.{Tree}
+use Rattle.rhai_value.specs.Tree.{Tree, cell_of, copy}
+use Rattle.rhai_value.specs.declared.type_id.TypeId.{TypeId}
 use Rattle.rhai_scope.specs.Entry.{Entry, is_constant_entry, with_value as holding}
 use Rattle.rhai_scope.specs.Typed.{set_or_pushed}
-use Rattle.rhai_scope.specs.Lookup.{later_or_here, last_position, last_entry, unless_constant, writable_position, value_at, changed_if, changed_named, with_value_at}
+use Rattle.rhai_scope.specs.Lookup.{later_or_here, last_position, last_entry, value_named, unless_constant, writable_position, value_at, changed_if, changed_named, with_value_at}
+use Rattle.rhai_run.specs.Entries.{viewed_as, appended_or_nothing, step_get_ref}
+use Rattle.rhai_run.specs.State.{State}
 
 -- it may be written
 is_writable : (es : List Entry) (o : Option ℕ) → option_map is_constant_entry (option_and_then (slice_get es) o) ≡ Some false
@@ -85,3 +88,8 @@ no_position name es h = at (last_position name es) (there name es) h
         here : (x : Option Entry) → is_some x ≡ true → option_map is_constant_entry x ≡ None → Some k ≡ None
         here None n h = cc
         here (Some e) n h = cc
+
+-- what becomes of an entry that is no holder
+pub get_ref_is : (w : State) (name : List ℕ) (kind : TypeId) (t : Tree) (o : Option Tree) → value_named name w.entries ≡ Some t → is_some (cell_of t) ≡ false → option_map copy (viewed_as kind t) ≡ o
+    → step_get_ref w name kind ≡ appended_or_nothing w o
+get_ref_is w name kind t o e f g = rw (e, f, g) refl

@@ -1,0 +1,3 @@
+pub mod Offset
+pub mod Bits
+pub mod Change

@@ -1,1 +1,2 @@
 pub mod IntBits
+pub mod Kept

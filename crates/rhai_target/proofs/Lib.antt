@@ -1,2 +1,3 @@
 pub mod IntBits
 pub mod Kept
+pub mod MarkedTexts

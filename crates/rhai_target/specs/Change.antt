@@ -12,6 +12,7 @@ use Rattle.rhai_value.specs.Store.{marked_with}
 use Rattle.rhai_value.specs.End.{End, end, held_part, held_cell, end_name, value_after, store_after}
 use Rattle.rhai_show.specs.declared.form.Form.TheVariants.{Display}
 use Rattle.rhai_show.specs.Text.{printed}
+use Rattle.rhai_target.specs.declared.slice.Slice.{Slice}
 use Rattle.rhai_target.specs.Bits.{with_bit, with_field}
 
 -- the value with this leaf as its content, tag and mode staying, if there is one
@@ -50,12 +51,13 @@ byte_change s value index = option_map (λ n. on_bytes (λ bs. slice_set bs inde
 abbrev pub char_change : List Cell → Tree → ℕ → Change
 char_change s value index = option_map (λ c. on_text (λ cs. slice_set cs index c)) (held_part char_of (end s [] value))
 
--- the working value's text, taken while the cell in which the source's text stands is marked
-abbrev pub slice_text : List Cell → Tree → Tree → List ℕ
-slice_text s source value = printed (marked_with (held_cell (end s [] source)) s) [] value Display
+-- the characters with a slice of them replaced by what a value prints as
+abbrev pub sliced : List Cell → Tree → Slice → List ℕ → List ℕ
+sliced s value slice cs = with_slice cs slice.start slice.end slice.exclusive (printed s [] value Display)
 
-abbrev pub slice_change : List Cell → Tree → Tree → ℕ → ℕ → Bool → Change
-slice_change s source value start end_place exclusive = Some (on_text (λ cs. with_slice cs start end_place exclusive (slice_text s source value)))
+-- the working value prints while the cell in which the source's text stands is marked
+abbrev pub slice_change : List Cell → Tree → Tree → Slice → Change
+slice_change s source value slice = Some (on_text (sliced (marked_with (held_cell (end s [] source)) s) value slice))
 
 -- a value, and a store, after a change of what is held where the chain from the value ends
 abbrev pub value_changed : Change → End → Tree → Tree

@@ -4,9 +4,11 @@
 mod bits;
 pub mod laws;
 mod offset;
+mod slice;
 mod write_back;
 
 pub use offset::{calc_index, calc_offset_len};
+pub use slice::{Slice, write_slice};
 pub use write_back::{write_bit, write_byte, write_char, write_field};
 
 #[cfg(test)]

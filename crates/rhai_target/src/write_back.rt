@@ -2,7 +2,7 @@
 ghost use Rattle.std.specs.Prelude.{◌≡◌, ◌<◌, [], ℕ, ⊤, true, codes, length, is_some, MatchOption, OnOk, OnErr, Ok, Some, None};
 ghost use Rattle.rhai_value.specs.End.{end, end_name, held_part};
 ghost use Rattle.rhai_value.specs.Parts.{int_of, text_of, blob_of};
-ghost use Rattle.rhai_target.specs.Change.{bit_change, field_change, byte_change, char_change, slice_change, value_changed, store_changed, IsAnswer};
+ghost use Rattle.rhai_target.specs.Change.{bit_change, field_change, byte_change, char_change, value_changed, store_changed, IsAnswer};
 
 use crate::bits::{with_bit, with_field};
 use rhai_text::{EvalAltResult, ImmutableString, Position};

@@ -1,11 +1,13 @@
 -- Numbers of 64 bits by their bits.
-use Rattle.std.proofs.Common.{◌≡◌, ℕ, zero, suc, ◌+◌, ◌-◌, ◌*◌, ◌/◌, ◌%◌, ◌^◌, ◌<◌, ◌≤◌, Bool, true, false, nat_eq, nat_lt, cond, min, max, bit_and, bit_or, ap, sym, add-zero, ◌∙◌, refl, arith, w64, ℤ, to_z, of_z, FitsSigned, ◌⊎◌, inl, inr}
+use Rattle.std.proofs.Common.{◌≡◌, ℕ, zero, suc, ◌+◌, ◌-◌, ◌*◌, ◌/◌, ◌%◌, ◌^◌, ◌<◌, ◌≤◌, Bool, true, false, nat_eq, nat_lt, cond, min, max, bit_and, bit_or, ap, sym, add-zero, ◌∙◌, refl, arith, w64, ℤ, pos, ◌*ℤ◌, to_z, of_z, FitsSigned, ◌⊎◌, inl, inr}
 use Rattle.std.specs.Int.{bit_at, bit_not}
 use Rattle.std.proofs.Math.Facts.{Fits-of_z, to_z-of_z}
-use Rattle.std.proofs.Math.Nat.{pow-suc, lt_of_le_of_lt}
+use Rattle.std.proofs.Math.Nat.{pow-suc, lt_of_le_of_lt, mul_comm, mod-eq_of_lt}
+use Rattle.std.proofs.Math.IntN.{*ℤ_comm}
+use Rattle.std.specs.Int.{int_wrap}
 use Rattle.std.proofs.lemmas.Bool.{cases_lt, cases_Bool, eqb-true, eqb-false, eq-eqb, ne_eqb, ltb-true, ltb-false}
-use Rattle.std.proofs.lemmas.Int.{of_z-to_z}
-use Rattle.std.proofs.lemmas.Nat.{mod_below, pow_pos, or_lt, and_le_l, and_le_r, div-add-mod'}
+use Rattle.std.proofs.lemmas.Int.{of_z-to_z, wrapping_mul_onto, int_wrap-mul_left}
+use Rattle.std.proofs.lemmas.Nat.{mod_below, pow_pos, pow_below, or_lt, and_le_l, and_le_r, div-add-mod'}
 use Rattle.std.proofs.lemmas.Nat.Bits.{bit_at-lt, bit_at_and, bit_at_or, bit_at_not, bit_at_set_same, bit_at_set_other, bit_at_clear_same, bit_at_clear_other, bit_at_cat_low, bit_at_cat_high, bit_at_above, bit_at-zero, same_from_bits_below}
 use Rattle.rhai_target.specs.Bits.{bit, digit, natural, int_of_bits, with_bit, with_field}
 
@@ -118,3 +120,44 @@ field_is n mask v s fn fm h =
       ∙ ap (λ x. max x (bit_at (bit_and w m) i)) (bit_at_and a (bit_not w64 m) i ∙ ap (λ y. min y (bit_at (bit_not w64 m) i)) (bit_digit a i) ∙ ap (min (digit (bit n i))) (bit_at_not w64 m i (bits_below mask fm) l ∙ ap (λ y. 1 - y) (bit_digit m i)))
       ∙ ap (max (min (digit (bit n i)) (1 - digit (bit mask i)))) (bit_at_and w m i ∙ ap (λ y. min y (bit_at m i)) (rest_digit (of_z w64 v * 2 ^ s) i l ∙ shifted_digit (of_z w64 v) s i (nat_lt i s) refl) ∙ ap (min (digit (cond (nat_lt i s) false (bit v (i - s))))) (bit_digit m i))
       ∙ merged (bit mask i) (cond (nat_lt i s) false (bit v (i - s))) (bit n i))
+
+-- ---- what is read of a bit that was written
+pub bit_written : (place : ℕ) (b : Bool) (n : ℤ) → place < 64 → bit (with_bit place b n) place ≡ b
+bit_written place b n h = bit_of_bits (λ i. cond (nat_eq i place) b (bit n i)) place h ∙ ap (λ t. cond t b (bit n place)) (eq-eqb place place refl)
+
+pub other_bits : (place i : ℕ) (b : Bool) (n : ℤ) → i < 64 → (i ≡ place → ⊥) → bit (with_bit place b n) i ≡ bit n i
+other_bits place i b n h other = bit_of_bits (λ j. cond (nat_eq j place) b (bit n j)) i h ∙ ap (λ t. cond t b (bit n i)) (ne_eqb i place other)
+
+same_bit : (n : ℤ) (place i : ℕ) (t : Bool) → nat_eq i place ≡ t → bit n i ≡ cond t (bit n place) (bit n i)
+same_bit n place i true e = ap (bit n) (eqb-true i place e)
+same_bit n place i false e = refl
+
+pub bit_kept : (place : ℕ) (n : ℤ) → FitsSigned w64 n → with_bit place (bit n place) n ≡ n
+bit_kept place n fits = int_kept n (λ i. cond (nat_eq i place) (bit n place) (bit n i)) fits (λ i l. same_bit n place i (nat_eq i place) refl)
+
+pub outside_field : (mask v n : ℤ) (shift i : ℕ) → i < 64 → bit mask i ≡ false → bit (with_field mask shift v n) i ≡ bit n i
+outside_field mask v n shift i h out =
+    bit_of_bits (λ j. cond (bit mask j) (cond (nat_lt j shift) false (bit v (j - shift))) (bit n j)) i h
+    ∙ ap (λ t. cond t (cond (nat_lt i shift) false (bit v (i - shift))) (bit n i)) out
+
+-- a left shift is a product with a power of 2
+wrap_pos : (m : ℕ) → m < 2 ^ 64 → int_wrap w64 (pos m) ≡ to_z w64 m
+unfolding int_wrap
+wrap_pos m h = ap (to_z w64) (mod-eq_of_lt h)
+
+shift_wraps : (v : ℤ) (s : ℕ) → FitsSigned w64 v → s < 64 → to_z w64 (of_z w64 v * 2 ^ s % 2 ^ 64) ≡ int_wrap w64 (v *ℤ pos (2 ^ s))
+shift_wraps v s fits h =
+    let low : 2 ^ s < 2 ^ 64 = pow_below s 64 h in
+    ap (λ n. to_z w64 (n % 2 ^ 64)) (mul_comm (of_z w64 v) (2 ^ s)) ∙ wrapping_mul_onto w64 (2 ^ s) v low fits
+    ∙ ap (λ z. int_wrap w64 (z *ℤ v)) (sym (wrap_pos (2 ^ s) low)) ∙ int_wrap-mul_left w64 (pos (2 ^ s)) v ∙ ap (int_wrap w64) (*ℤ_comm (pos (2 ^ s)) v)
+
+pub inside_field : (mask v n : ℤ) (shift i : ℕ) → i < 64 → shift < 64 → FitsSigned w64 v → bit mask i ≡ true
+    → bit (with_field mask shift v n) i ≡ bit (int_wrap w64 (v *ℤ pos (2 ^ shift))) i
+inside_field mask v n shift i h small fits inside =
+    let x = of_z w64 v * 2 ^ shift in
+    let b = cond (nat_lt i shift) false (bit v (i - shift)) in
+    let read : bit (to_z w64 (x % 2 ^ 64)) i ≡ b =
+      ap (λ m. nat_eq (bit_at m i) 1) (of_z-to_z w64 (x % 2 ^ 64) (mod_below x (2 ^ 64) (pow_pos 64)))
+      ∙ ap (λ d. nat_eq d 1) (rest_digit x i h ∙ shifted_digit (of_z w64 v) shift i (nat_lt i shift) refl) ∙ test_digit b in
+    bit_of_bits (λ j. cond (bit mask j) (cond (nat_lt j shift) false (bit v (j - shift))) (bit n j)) i h
+    ∙ ap (λ t. cond t b (bit n i)) inside ∙ sym read ∙ ap (λ z. bit z i) (shift_wraps v shift fits small)

@@ -1,3 +1,6 @@
+pub mod FromBelow
 pub mod IntBits
+pub mod Items
 pub mod Kept
 pub mod MarkedTexts
+pub mod SameChanges

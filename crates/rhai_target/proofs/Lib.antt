@@ -4,3 +4,4 @@ pub mod Items
 pub mod Kept
 pub mod MarkedTexts
 pub mod SameChanges
+pub mod Owned

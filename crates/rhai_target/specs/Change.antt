@@ -70,10 +70,10 @@ store_changed (Some f) e s = store_after f e s
 
 -- A write-back that is made answers nothing. One that isn't says which type is wanted and which is held, at this place of the
 -- script; want of memory may stand in the place of one that is made alone, and only where memory may be wanted.
-abbrev pub IsAnswer : Type 0 → Change → List ℕ → List ℕ → Position → Result (Unit {0}) EvalAltResult → Type 0
-IsAnswer MayWant change wanted found place (Ok x) = is_some change ≡ true
-IsAnswer MayWant change wanted found place (Err (ErrorMismatchDataType w f p)) = (change ≡ None) × (w.now ≡ wanted) × (f.now ≡ found) × (p ≡ place)
-IsAnswer MayWant change wanted found place (Err (ErrorMemory e)) = MayWant × (is_some change ≡ true)
-IsAnswer MayWant change wanted found place (Err (ErrorDataRace p)) = ⊥
-IsAnswer MayWant change wanted found place (Err (ErrorArithmetic fault p)) = ⊥
-IsAnswer MayWant change wanted found place (Err (ErrorDataTooLarge size p)) = ⊥
+abbrev pub IsAnswer : Bool → Change → List ℕ → List ℕ → Position → Result (Unit {0}) EvalAltResult → Type 0
+IsAnswer may_want change wanted found place (Ok x) = is_some change ≡ true
+IsAnswer may_want change wanted found place (Err (ErrorMismatchDataType w f p)) = (change ≡ None) × (w.now ≡ wanted) × (f.now ≡ found) × (p ≡ place)
+IsAnswer may_want change wanted found place (Err (ErrorMemory e)) = (may_want ≡ true) × (is_some change ≡ true)
+IsAnswer may_want change wanted found place (Err (ErrorDataRace p)) = ⊥
+IsAnswer may_want change wanted found place (Err (ErrorArithmetic fault p)) = ⊥
+IsAnswer may_want change wanted found place (Err (ErrorDataTooLarge size p)) = ⊥

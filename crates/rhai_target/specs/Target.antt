@@ -195,4 +195,4 @@ store_written (Some w) s = store_changed w.change (end s [] w.source) s
 -- what the write-back answers; a target that isn't a part of its source has none, and nothing is wrong
 abbrev pub IsWrittenBack : List Cell → Position → Option WriteBack → Result (Unit {0}) EvalAltResult → Type 0
 IsWrittenBack s place None result = result ≡ Ok tt
-IsWrittenBack s place (Some w) result = IsAnswer (w.wants_memory ≡ true) w.change w.wanted (end_name (end s [] w.value)) place result
+IsWrittenBack s place (Some w) result = IsAnswer w.wants_memory w.change w.wanted (end_name (end s [] w.value)) place result

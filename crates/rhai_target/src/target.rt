@@ -1,5 +1,5 @@
 //! What an assignment writes to: a value, a shared value, a temporary one, or a part of a value.
-ghost use Rattle.std.specs.Prelude.{◌≡◌, true, is_some, option_map, option_copied, IfOk, IfErr, OnOk, OnErr, Some, None};
+ghost use Rattle.std.specs.Prelude.{◌≡◌, true, is_some, option_map, option_copied, IfOk, IfErr, IsOk, MatchOption, OnOk, OnErr, Some, None};
 ghost use Rattle.rhai_text.specs.declared.error.EvalAltResult.TheVariants.{ErrorDataRace};
 ghost use Rattle.rhai_value.specs.End.{first_cell};
 ghost use Rattle.rhai_value.specs.Store.{marked_with};
@@ -113,6 +113,310 @@ impl<'a> Target<'a> {
                 shared_value,
             }),
             None => Err(EvalAltResult::ErrorDataRace(Position::NONE)),
+        }
+    }
+}
+
+/// What a target is.
+impl<'a> Target<'a> {
+    /// Whether it refers to other data: a value, or what is in a cell. (`Target::is_ref`)
+    pub const fn is_ref(&self) -> bool
+        ensures { result ≡ is_reference self.now }
+    {
+        matches!(self, Target::RefMut(_) | Target::SharedValue { .. })
+    }
+
+    /// Whether it is a value of its own. (`Target::is_temp_value`)
+    pub const fn is_temp_value(&self) -> bool
+        ensures { result ≡ is_temporary self.now }
+    {
+        matches!(self, Target::TempValue(_))
+    }
+
+    /// Whether it is shared: what is in a cell, or a holder. (`Target::is_shared`)
+    pub fn is_shared(&self) -> bool
+        ensures { result ≡ is_shared_target self.now }
+    {
+        match self {
+            Target::RefMut(r) => r.is_shared(),
+            Target::SharedValue { .. } => true,
+            Target::TempValue(value) => value.is_shared(),
+            Target::Bit { .. }
+            | Target::BitField { .. }
+            | Target::BlobByte { .. }
+            | Target::StringChar { .. }
+            | Target::StringSlice { .. } => false,
+        }
+    }
+}
+
+/// What a target refers to.
+impl<'a> Target<'a> {
+    /// The value that it refers to; of a part of a value that value. (`Target::source`)
+    pub fn source<'s>(&'s self, s: &'s Store) -> &'s Dynamic
+        requires { IsMarkedIn s.now self.now }
+        ensures { source_in s.now self.now ≡ Some result.now }
+    {
+        match self {
+            Target::RefMut(r) => r,
+            Target::SharedValue { token, .. } => s.through(token),
+            Target::TempValue(value) => value,
+            Target::Bit { source, .. }
+            | Target::BitField { source, .. }
+            | Target::BlobByte { source, .. }
+            | Target::StringChar { source, .. }
+            | Target::StringSlice { source, .. } => source,
+        }
+    }
+
+    /// The value that it refers to; of a part of a value the working value. (`AsRef` and `Borrow`)
+    pub fn as_ref<'s>(&'s self, s: &'s Store) -> &'s Dynamic
+        requires { IsMarkedIn s.now self.now }
+        ensures { value_in s.now self.now ≡ Some result.now }
+    {
+        match self {
+            Target::RefMut(r) => r,
+            Target::SharedValue { token, .. } => s.through(token),
+            Target::TempValue(value)
+            | Target::Bit { value, .. }
+            | Target::BitField { value, .. }
+            | Target::BlobByte { value, .. }
+            | Target::StringChar { value, .. }
+            | Target::StringSlice { value, .. } => value,
+        }
+    }
+
+    /// The same, to write. What target and store are once it was written is said by `put`. (`AsMut` and `BorrowMut`)
+    pub fn as_mut<'s>(&'s mut self, m: &'s mut Store) -> &'s mut Dynamic
+        requires { IsMarkedIn m.old self.old }
+        ensures { value_in m.old self.old ≡ Some result.now }
+    {
+        match self {
+            Target::RefMut(r) => r,
+            Target::SharedValue { token, .. } => m.through_mut(token),
+            Target::TempValue(value)
+            | Target::Bit { value, .. }
+            | Target::BitField { value, .. }
+            | Target::BlobByte { value, .. }
+            | Target::StringChar { value, .. }
+            | Target::StringSlice { value, .. } => value,
+        }
+    }
+
+    /// Writes a whole value over what `as_mut` lends.
+    pub fn put(&mut self, m: &mut Store, new: Dynamic)
+        requires { IsMarkedIn m.old self.old }
+        ensures own { self.new ≡ with_value new self.old }
+        ensures store { m.new ≡ put_marked (mark_in self.old) new m.old }
+    {
+        match self {
+            Target::RefMut(r) => write(r, new),
+            Target::SharedValue { token, .. } => write(m.through_mut(token), new),
+            Target::TempValue(value) => write(value, new),
+            Target::Bit { value, .. } => write(value, new),
+            Target::BitField { value, .. } => write(value, new),
+            Target::BlobByte { value, .. } => write(value, new),
+            Target::StringChar { value, .. } => write(value, new),
+            Target::StringSlice { value, .. } => write(value, new),
+        }
+    }
+}
+
+/// One value is written over another, in a function of its own, since the old one is dropped.
+fn write(place: &mut Dynamic, new: Dynamic)
+    ensures { place.new ≡ new }
+{
+    *place = new;
+}
+
+/// Spending targets.
+impl<'a> Target<'a> {
+    /// A copy of the value that a reference leads to, the holder of a shared value, or the value itself; a mark is cleared. An `Err`,
+    /// where memory for a copy is refused, hands the target back with nothing changed. (`Target::take_or_clone`)
+    pub fn take_or_clone(self, alloc: Global, m: &mut Store) -> Result<Dynamic, Target<'a>>
+        requires { IsMarkedIn m.old self }
+        ensures ok { IfOk result (λ v. v ≡ taken self.entry) }
+        ensures store { OnOk result (m.new ≡ unmarked_from (mark_in self.entry) m.old) }
+        ensures err { IfErr result (λ t. t ≡ self.entry) }
+        ensures stays { OnErr result (m.new ≡ m.old) }
+        ensures free { MatchOption (reference_in self.entry) (IsOk result) (λ r. TakesNoMemory r.now → IsOk result) }
+    {
+        match self {
+            Target::RefMut(r) => match r.copy(alloc) {
+                Ok(copy) => Ok(copy),
+                Err(_) => Err(Target::RefMut(r)),
+            },
+            Target::SharedValue {
+                token,
+                shared_value,
+            } => {
+                m.release(token);
+                Ok(shared_value)
+            }
+            Target::TempValue(value) => Ok(value),
+            Target::Bit {
+                source: _source,
+                value,
+                bit: _bit,
+            } => Ok(value),
+            Target::BitField {
+                source: _source,
+                value,
+                mask: _mask,
+                shift: _shift,
+            } => Ok(value),
+            Target::BlobByte {
+                source: _source,
+                value,
+                index: _index,
+            } => Ok(value),
+            Target::StringChar {
+                source: _source,
+                value,
+                index: _index,
+            } => Ok(value),
+            Target::StringSlice {
+                source: _source,
+                value,
+                start: _start,
+                end: _end,
+                exclusive: _exclusive,
+            } => Ok(value),
+        }
+    }
+}
+
+impl<'a> Target<'a> {
+    /// The reference that the target is; `None` for any other target, a mark being cleared. Takes no memory. (`Target::take_ref`)
+    pub fn take_ref(self, m: &mut Store) -> Option<&'a mut Dynamic>
+        requires { IsMarkedIn m.old self }
+        ensures which { result ≡ reference_in self.entry }
+        ensures store { m.new ≡ unmarked_from (mark_in self.entry) m.old }
+    {
+        match self {
+            Target::RefMut(r) => Some(r),
+            Target::SharedValue {
+                token,
+                shared_value: _holder,
+            } => {
+                m.release(token);
+                None
+            }
+            Target::TempValue(_value) => None,
+            Target::Bit {
+                source: _source,
+                value: _value,
+                bit: _bit,
+            } => None,
+            Target::BitField {
+                source: _source,
+                value: _value,
+                mask: _mask,
+                shift: _shift,
+            } => None,
+            Target::BlobByte {
+                source: _source,
+                value: _value,
+                index: _index,
+            } => None,
+            Target::StringChar {
+                source: _source,
+                value: _value,
+                index: _index,
+            } => None,
+            Target::StringSlice {
+                source: _source,
+                value: _value,
+                start: _start,
+                end: _end,
+                exclusive: _exclusive,
+            } => None,
+        }
+    }
+
+    /// Spends the target; a mark is cleared. Takes no memory.
+    pub fn release(self, m: &mut Store)
+        requires { IsMarkedIn m.old self }
+        ensures { m.new ≡ unmarked_from (mark_in self.entry) m.old }
+    {
+        let _reference = self.take_ref(m);
+    }
+
+    /// A reference and a shared value become a value of their own, which is what `take_or_clone` gives, and a mark is cleared; any
+    /// other target stays. An `Err` hands the target back with nothing changed. (`Target::into_owned`)
+    #[tactic(auto, using(crate::proofs::Owned::owned_reference, crate::proofs::Owned::owned_already, crate::proofs::Owned::marks_nothing))]
+    pub fn into_owned(self, alloc: Global, m: &mut Store) -> Result<Target<'a>, Target<'a>>
+        requires { IsMarkedIn m.old self }
+        ensures ok { IfOk result (λ t. t ≡ owned self.entry) }
+        ensures store { OnOk result (m.new ≡ unmarked_from (mark_in self.entry) m.old) }
+        ensures err { IfErr result (λ t. t ≡ self.entry) }
+        ensures stays { OnErr result (m.new ≡ m.old) }
+    {
+        if !self.is_ref() {
+            return Ok(self);
+        }
+        match self.take_or_clone(alloc, m) {
+            Ok(value) => Ok(Target::TempValue(value)),
+            Err(target) => Err(target),
+        }
+    }
+}
+
+/// Write-back.
+impl<'a> Target<'a> {
+    /// Writes the working value of a part back into its source; nothing happens to any other target.
+    ///
+    /// A working value of the wrong type is refused, at this place of the script, before anything is written. After an `Err` target
+    /// and store are as before. The end of the source's chain is found once; a bit, some bits and a byte take no memory, a character
+    /// and a slice one new text. (`Target::propagate_changed_value`)
+    pub fn propagate_changed_value(
+        &mut self,
+        alloc: Global,
+        m: &mut Store,
+        pos: Position,
+    ) -> Result<(), EvalAltResult>
+        requires { HasPart m.old self.old }
+        ensures answer { IsWrittenBack m.old pos (write_back_of m.old self.old) result }
+        ensures own { OnOk result (self.new ≡ target_written m.old (write_back_of m.old self.old) self.old) }
+        ensures store { OnOk result (m.new ≡ store_written (write_back_of m.old self.old) m.old) }
+        ensures err { OnErr result ((self.new ≡ self.old) × (m.new ≡ m.old)) }
+    {
+        match self {
+            Target::RefMut(_) | Target::SharedValue { .. } | Target::TempValue(_) => Ok(()),
+            Target::Bit { source, value, bit } => write_bit(source, m, value, *bit, pos),
+            Target::BitField {
+                source,
+                value,
+                mask,
+                shift,
+            } => write_field(source, m, value, *mask, *shift, pos),
+            Target::BlobByte {
+                source,
+                value,
+                index,
+            } => write_byte(source, m, value, *index, pos),
+            Target::StringChar {
+                source,
+                value,
+                index,
+            } => write_char(source, alloc, m, value, *index, pos),
+            Target::StringSlice {
+                source,
+                value,
+                start,
+                end,
+                exclusive,
+            } => {
+                let slice = Slice {
+                    start: *start,
+                    end: *end,
+                    exclusive: *exclusive,
+                };
+                match write_slice(source, alloc, m, value, slice) {
+                    Ok(()) => Ok(()),
+                    Err(refused) => Err(EvalAltResult::ErrorMemory(refused)),
+                }
+            }
         }
     }
 }

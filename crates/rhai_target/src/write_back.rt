@@ -1,5 +1,5 @@
 //! Write-back: a working value becomes one part of what a source holds. Each call finds the end of the source's chain once.
-ghost use Rattle.std.specs.Prelude.{◌≡◌, ◌<◌, [], ℕ, ⊤, true, codes, length, is_some, MatchOption, OnOk, OnErr, Ok, Some, None};
+ghost use Rattle.std.specs.Prelude.{◌≡◌, ◌<◌, [], true, false, codes, length, is_some, MatchOption, OnOk, OnErr};
 ghost use Rattle.rhai_value.specs.End.{end, end_name, held_part};
 ghost use Rattle.rhai_value.specs.Parts.{int_of, text_of, blob_of};
 ghost use Rattle.rhai_target.specs.Change.{bit_change, field_change, byte_change, char_change, value_changed, store_changed, IsAnswer};
@@ -19,7 +19,7 @@ pub fn write_bit(
 ) -> Result<(), EvalAltResult>
     requires place { bit < 64 }
     requires held { is_some (held_part int_of (end m.old [] source.old)) ≡ true }
-    ensures answer { IsAnswer ⊥ (bit_change m.old value.now bit) (codes "bool") (end_name (end m.old [] value.now)) pos result }
+    ensures answer { IsAnswer false (bit_change m.old value.now bit) (codes "bool") (end_name (end m.old [] value.now)) pos result }
     ensures own { OnOk result (source.new ≡ value_changed (bit_change m.old value.now bit) (end m.old [] source.old) source.old) }
     ensures store { OnOk result (m.new ≡ store_changed (bit_change m.old value.now bit) (end m.old [] source.old) m.old) }
     ensures err { OnErr result ((source.new ≡ source.old) × (m.new ≡ m.old)) }
@@ -50,7 +50,7 @@ pub fn write_field(
 ) -> Result<(), EvalAltResult>
     requires place { shift < 64 }
     requires held { is_some (held_part int_of (end m.old [] source.old)) ≡ true }
-    ensures answer { IsAnswer ⊥ (field_change m.old value.now mask shift) (codes "integer") (end_name (end m.old [] value.now)) pos result }
+    ensures answer { IsAnswer false (field_change m.old value.now mask shift) (codes "integer") (end_name (end m.old [] value.now)) pos result }
     ensures own { OnOk result (source.new ≡ value_changed (field_change m.old value.now mask shift) (end m.old [] source.old) source.old) }
     ensures store { OnOk result (m.new ≡ store_changed (field_change m.old value.now mask shift) (end m.old [] source.old) m.old) }
     ensures err { OnErr result ((source.new ≡ source.old) × (m.new ≡ m.old)) }
@@ -79,7 +79,7 @@ pub fn write_byte(
     pos: Position,
 ) -> Result<(), EvalAltResult>
     requires place { MatchOption (held_part blob_of (end m.old [] source.old)) ⊥ (λ bytes. index < length bytes) }
-    ensures answer { IsAnswer ⊥ (byte_change m.old value.now index) (codes "INT") (end_name (end m.old [] value.now)) pos result }
+    ensures answer { IsAnswer false (byte_change m.old value.now index) (codes "INT") (end_name (end m.old [] value.now)) pos result }
     ensures own { OnOk result (source.new ≡ value_changed (byte_change m.old value.now index) (end m.old [] source.old) source.old) }
     ensures store { OnOk result (m.new ≡ store_changed (byte_change m.old value.now index) (end m.old [] source.old) m.old) }
     ensures err { OnErr result ((source.new ≡ source.old) × (m.new ≡ m.old)) }
@@ -111,7 +111,7 @@ pub fn write_char(
     pos: Position,
 ) -> Result<(), EvalAltResult>
     requires held { is_some (held_part text_of (end m.old [] source.old)) ≡ true }
-    ensures answer { IsAnswer (Unit {0}) (char_change m.old value.now index) (codes "char") (end_name (end m.old [] value.now)) pos result }
+    ensures answer { IsAnswer true (char_change m.old value.now index) (codes "char") (end_name (end m.old [] value.now)) pos result }
     ensures own { OnOk result (source.new ≡ value_changed (char_change m.old value.now index) (end m.old [] source.old) source.old) }
     ensures store { OnOk result (m.new ≡ store_changed (char_change m.old value.now index) (end m.old [] source.old) m.old) }
     ensures err { OnErr result ((source.new ≡ source.old) × (m.new ≡ m.old)) }

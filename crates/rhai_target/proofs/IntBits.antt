@@ -33,9 +33,10 @@ lowest false = refl
 pub natural_has : (k : ℕ) (f : ℕ → Bool) (i : ℕ) → i < k → bit_at (natural k f) i ≡ digit (f i)
 natural_has zero f i h = absurd (omega arith)
 natural_has (suc k) f i h = elim (cases_lt i k) [
-    inl low ↦ bit_at_cat_low (digit (f k)) k (natural k f) i low ∙ natural_has k f i low
+  | inl low ↦ bit_at_cat_low (digit (f k)) k (natural k f) i low ∙ natural_has k f i low
   | inr high ↦ let same : i ≡ k = omega arith in
-      ap (bit_at (natural (suc k) f)) same ∙ top ∙ ap (λ j. digit (f j)) (sym same) ]
+      ap (bit_at (natural (suc k) f)) same ∙ top ∙ ap (λ j. digit (f j)) (sym same)
+]
   where
     top : bit_at (natural (suc k) f) k ≡ digit (f k)
     top = let none : k - k ≡ 0 = omega arith in
@@ -117,9 +118,9 @@ field_is n mask v s fn fm h =
     let w = of_z w64 v * 2 ^ s % 2 ^ 64 in
     int_is _ _ (or_lt 64 _ _ (lt_of_le_of_lt (and_le_l a _) (bits_below n fn)) (lt_of_le_of_lt (and_le_r w m) (bits_below mask fm)))
     (λ i l. bit_at_or (bit_and a (bit_not w64 m)) (bit_and w m) i
-      ∙ ap (λ x. max x (bit_at (bit_and w m) i)) (bit_at_and a (bit_not w64 m) i ∙ ap (λ y. min y (bit_at (bit_not w64 m) i)) (bit_digit a i) ∙ ap (min (digit (bit n i))) (bit_at_not w64 m i (bits_below mask fm) l ∙ ap (λ y. 1 - y) (bit_digit m i)))
-      ∙ ap (max (min (digit (bit n i)) (1 - digit (bit mask i)))) (bit_at_and w m i ∙ ap (λ y. min y (bit_at m i)) (rest_digit (of_z w64 v * 2 ^ s) i l ∙ shifted_digit (of_z w64 v) s i (nat_lt i s) refl) ∙ ap (min (digit (cond (nat_lt i s) false (bit v (i - s))))) (bit_digit m i))
-      ∙ merged (bit mask i) (cond (nat_lt i s) false (bit v (i - s))) (bit n i))
+    ∙ ap (λ x. max x (bit_at (bit_and w m) i)) (bit_at_and a (bit_not w64 m) i ∙ ap (λ y. min y (bit_at (bit_not w64 m) i)) (bit_digit a i) ∙ ap (min (digit (bit n i))) (bit_at_not w64 m i (bits_below mask fm) l ∙ ap (λ y. 1 - y) (bit_digit m i)))
+    ∙ ap (max (min (digit (bit n i)) (1 - digit (bit mask i)))) (bit_at_and w m i ∙ ap (λ y. min y (bit_at m i)) (rest_digit (of_z w64 v * 2 ^ s) i l ∙ shifted_digit (of_z w64 v) s i (nat_lt i s) refl) ∙ ap (min (digit (cond (nat_lt i s) false (bit v (i - s))))) (bit_digit m i))
+    ∙ merged (bit mask i) (cond (nat_lt i s) false (bit v (i - s))) (bit n i))
 
 -- ---- what is read of a bit that was written
 pub bit_written : (place : ℕ) (b : Bool) (n : ℤ) → place < 64 → bit (with_bit place b n) place ≡ b
@@ -157,7 +158,7 @@ inside_field mask v n shift i h small fits inside =
     let x = of_z w64 v * 2 ^ shift in
     let b = cond (nat_lt i shift) false (bit v (i - shift)) in
     let read : bit (to_z w64 (x % 2 ^ 64)) i ≡ b =
-      ap (λ m. nat_eq (bit_at m i) 1) (of_z-to_z w64 (x % 2 ^ 64) (mod_below x (2 ^ 64) (pow_pos 64)))
-      ∙ ap (λ d. nat_eq d 1) (rest_digit x i h ∙ shifted_digit (of_z w64 v) shift i (nat_lt i shift) refl) ∙ test_digit b in
+    ap (λ m. nat_eq (bit_at m i) 1) (of_z-to_z w64 (x % 2 ^ 64) (mod_below x (2 ^ 64) (pow_pos 64)))
+    ∙ ap (λ d. nat_eq d 1) (rest_digit x i h ∙ shifted_digit (of_z w64 v) shift i (nat_lt i shift) refl) ∙ test_digit b in
     bit_of_bits (λ j. cond (bit mask j) (cond (nat_lt j shift) false (bit v (j - shift))) (bit n j)) i h
     ∙ ap (λ t. cond t b (bit n i)) inside ∙ sym read ∙ ap (λ z. bit z i) (shift_wraps v shift fits small)

@@ -5,3 +5,4 @@ pub mod Kept
 pub mod MarkedTexts
 pub mod SameChanges
 pub mod Owned
+pub mod Fields

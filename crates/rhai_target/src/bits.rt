@@ -10,7 +10,11 @@ pub(crate) fn with_bit(number: INT, place: u8, is_set: bool) -> INT
     ensures { result ≡ specs.with_bit place is_set number }
 {
     let mask = 1 << place as u32;
-    if is_set { number | mask } else { number & !mask }
+    if is_set {
+        number | mask
+    } else {
+        number & !mask
+    }
 }
 
 /// The number in which the bits of the mask are those of the value, from bit `shift` on.

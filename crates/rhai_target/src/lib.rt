@@ -4,6 +4,7 @@
 mod bits;
 pub mod laws;
 mod offset;
+mod propagate;
 mod slice;
 mod target;
 mod write_back;

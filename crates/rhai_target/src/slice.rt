@@ -88,7 +88,13 @@ fn sliced(
     let printed = display_text(alloc, value, s)?;
     match ImmutableString::own(held) {
         Some(text) => {
-            text.with_slice(alloc, slice.start, slice.end, slice.exclusive, printed.as_str())
+            text.with_slice(
+                alloc,
+                slice.start,
+                slice.end,
+                slice.exclusive,
+                printed.as_str(),
+            )
         }
         None => unreachable!(),
     }

@@ -4,10 +4,8 @@ ghost use Rattle.rhai_text.specs.declared.error.EvalAltResult.TheVariants.{Error
 ghost use Rattle.rhai_value.specs.End.{first_cell};
 ghost use Rattle.rhai_value.specs.Store.{marked_with};
 ghost use Rattle.rhai_value.specs.Tree.{cell_of, copy, TakesNoMemory};
-ghost use Rattle.rhai_target.specs.Target.{target_of, mark_in, IsMarkedIn, unmarked_from, source_in, value_in, taken, owned, with_value, put_marked, is_reference, is_temporary, is_shared_target, reference_in, write_back_of, HasPart, target_written, store_written, IsWrittenBack};
+ghost use Rattle.rhai_target.specs.Target.{target_of, mark_in, IsMarkedIn, unmarked_from, source_in, value_in, taken, owned, with_value, put_marked, is_reference, is_temporary, is_shared_target, reference_in};
 
-use crate::slice::{Slice, write_slice};
-use crate::write_back::{write_bit, write_byte, write_char, write_field};
 use rhai_text::{EvalAltResult, Position};
 use rhai_value::{AccessMode, Dynamic, INT, Store, Union, WriteToken};
 use std::alloc::Global;
@@ -105,8 +103,7 @@ impl<'a> Target<'a> {
         let Union::Shared(tag, _, cell) = holder.parts() else {
             unreachable!()
         };
-        let shared_value =
-            Dynamic::from_parts(Union::Shared(*tag, AccessMode::ReadWrite, *cell));
+        let shared_value = Dynamic::from_parts(Union::Shared(*tag, AccessMode::ReadWrite, *cell));
         match m.mark(holder) {
             Some(token) => Ok(Target::SharedValue {
                 token,
@@ -358,65 +355,6 @@ impl<'a> Target<'a> {
         match self.take_or_clone(alloc, m) {
             Ok(value) => Ok(Target::TempValue(value)),
             Err(target) => Err(target),
-        }
-    }
-}
-
-/// Write-back.
-impl<'a> Target<'a> {
-    /// Writes the working value of a part back into its source; nothing happens to any other target.
-    ///
-    /// A working value of the wrong type is refused, at this place of the script, before anything is written. After an `Err` target
-    /// and store are as before. The end of the source's chain is found once; a bit, some bits and a byte take no memory, a character
-    /// and a slice one new text. (`Target::propagate_changed_value`)
-    pub fn propagate_changed_value(
-        &mut self,
-        alloc: Global,
-        m: &mut Store,
-        pos: Position,
-    ) -> Result<(), EvalAltResult>
-        requires { HasPart m.old self.old }
-        ensures answer { IsWrittenBack m.old pos (write_back_of m.old self.old) result }
-        ensures own { OnOk result (self.new ≡ target_written m.old (write_back_of m.old self.old) self.old) }
-        ensures store { OnOk result (m.new ≡ store_written (write_back_of m.old self.old) m.old) }
-        ensures err { OnErr result ((self.new ≡ self.old) × (m.new ≡ m.old)) }
-    {
-        match self {
-            Target::RefMut(_) | Target::SharedValue { .. } | Target::TempValue(_) => Ok(()),
-            Target::Bit { source, value, bit } => write_bit(source, m, value, *bit, pos),
-            Target::BitField {
-                source,
-                value,
-                mask,
-                shift,
-            } => write_field(source, m, value, *mask, *shift, pos),
-            Target::BlobByte {
-                source,
-                value,
-                index,
-            } => write_byte(source, m, value, *index, pos),
-            Target::StringChar {
-                source,
-                value,
-                index,
-            } => write_char(source, alloc, m, value, *index, pos),
-            Target::StringSlice {
-                source,
-                value,
-                start,
-                end,
-                exclusive,
-            } => {
-                let slice = Slice {
-                    start: *start,
-                    end: *end,
-                    exclusive: *exclusive,
-                };
-                match write_slice(source, alloc, m, value, slice) {
-                    Ok(()) => Ok(()),
-                    Err(refused) => Err(EvalAltResult::ErrorMemory(refused)),
-                }
-            }
         }
     }
 }

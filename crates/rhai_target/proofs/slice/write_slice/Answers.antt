@@ -41,8 +41,8 @@ returns-in-Some-clause-store c =
     let read = c.sites_are_read.ensures.held s c.args.source.now t (sym c.in-Some.ensures.which) in
     on_ok_weaker c.write_marked_slice-done.result
     (λ done. cell_changed _ s c.mark_held.new.self c.write_marked_slice-done.new.m c.release.new.self t (on_text (sliced c.mark_held.new.self c.args.value.now c.args.slice))
-      (cell_text h t c.requires.held c.in-Some.ensures.which stands) n c.release.ensures (λ w. c.mark_is_cleared.ensures.written s t w read) done
-      ∙ ap (λ x. store_after (on_text (sliced x c.args.value.now c.args.slice)) (end s [] c.args.source.now) s) c.mark_held.ensures.after)
+    (cell_text h t c.requires.held c.in-Some.ensures.which stands) n c.release.ensures (λ w. c.mark_is_cleared.ensures.written s t w read) done
+    ∙ ap (λ x. store_after (on_text (sliced x c.args.value.now c.args.slice)) (end s [] c.args.source.now) s) c.mark_held.ensures.after)
     c.write_marked_slice-done.ensures.ok
 
 pub returns-in-Some-clause-err : goal.returns-in-Some-clause-err

@@ -1,3 +1,4 @@
+pub mod ForCallers
 pub mod FromBelow
 pub mod IntBits
 pub mod Items

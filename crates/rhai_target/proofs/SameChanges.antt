@@ -1,14 +1,14 @@
 -- Write-backs of values that are the same up to the numbers of their cells.
-use Rattle.std.proofs.Common.{◌≡◌, ℕ, ℤ, true, List, [], Option, Some, None, option_map, refl, sym, ap, ◌∙◌, subst}
+use Rattle.std.proofs.Common.{◌≡◌, ℕ, ℤ, true, List, [], length, Option, Some, None, option_map, refl, sym, ap, ◌∙◌, subst}
 use Rattle.rhai_text.specs.Text.{with_slice}
 use Rattle.rhai_value.specs.declared.access_mode.AccessMode.{AccessMode}
 use Rattle.rhai_value.specs.declared.store.Cell.{Cell}
 use Rattle.rhai_value.specs.Tree.{Tree, node, Leaf, leaf, int, text, blob}
 use Rattle.rhai_value.specs.Parts.{leaf_part, leaf_bool, leaf_int, leaf_char, leaf_text, leaf_blob}
-use Rattle.rhai_value.specs.Store.{marked_with}
+use Rattle.rhai_value.specs.Store.{marked_with, is_marked_at}
 use Rattle.rhai_value.specs.End.{End, end, held_part, held_cell}
 use Rattle.rhai_value.specs.Relation.{Renaming, paired, Related, Alike, Respect, IsOneToOne, RelatedCells, RelatedEnds}
-use Rattle.rhai_value.proofs.ForCallers.{by_trees, same_end, same_held_leaf, same_value_after, same_store_after}
+use Rattle.rhai_value.proofs.ForCallers.{by_trees, same_end, same_held_leaf, same_value_after, same_store_after, length_store_after, marked_store_after}
 use Rattle.rhai_show.specs.declared.form.Form.{Form}
 use Rattle.rhai_show.specs.declared.form.Form.TheVariants.{Display}
 use Rattle.rhai_show.specs.Text.{printed}
@@ -84,3 +84,12 @@ same_store_changed r None None s z e o k one cells q = cells
 same_store_changed r (Some f) (Some g) s z e o k one cells q = same_store_after r f g s z k one cells e o q
 same_store_changed r None (Some g) s z e o k one cells q = absurd k
 same_store_changed r (Some f) None s z e o k one cells q = absurd k
+
+-- no cell is made, and no mark is set or cleared
+pub length_changed : (c : Change) (e : End) (s : List Cell) → length (store_changed c e s) ≡ length s
+length_changed None e s = refl
+length_changed (Some f) e s = length_store_after f e s
+
+pub marked_changed : (c : Change) (e : End) (s : List Cell) (d : ℕ) → is_marked_at (store_changed c e s) d ≡ is_marked_at s d
+marked_changed None e s d = refl
+marked_changed (Some f) e s d = marked_store_after f e s d

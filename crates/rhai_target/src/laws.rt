@@ -4,6 +4,7 @@ ghost use Rattle.std.specs.Int.{w64, int_wrap};
 ghost use Rattle.rhai_value.specs.declared.store.Cell.{Cell};
 ghost use Rattle.rhai_value.specs.Tree.{Tree, Leaf, tag_of, mode_of};
 ghost use Rattle.rhai_value.specs.Parts.{int_of, text_of, blob_of};
+ghost use Rattle.rhai_value.specs.Store.{is_marked_at};
 ghost use Rattle.rhai_value.specs.End.{End};
 ghost use Rattle.rhai_value.specs.Relation.{Renaming, Related, Alike, Respect, IsOneToOne, RelatedCells, RelatedEnds};
 ghost use Rattle.rhai_target.specs.declared.slice.Slice.{Slice};
@@ -76,4 +77,11 @@ pub fn write_back_is_renamed()
         → Related r (value_changed c e t) (value_changed d o u) }
     ensures store { (r : Renaming) (c d : Change) (s z : List Cell) (e o : End) → Alike (Respect r) c d → IsOneToOne r → RelatedCells r s z → RelatedEnds r e o
         → RelatedCells r (store_changed c e s) (store_changed d o z) }
+{}
+
+/// A write-back makes no cell, and sets and clears no mark.
+#[tactic(auto, using(crate::proofs::SameChanges::length_changed, crate::proofs::SameChanges::marked_changed))]
+pub fn write_back_keeps_marks()
+    ensures length { (c : Change) (e : End) (s : List Cell) → length (store_changed c e s) ≡ length s }
+    ensures marks { (c : Change) (e : End) (s : List Cell) (d : ℕ) → is_marked_at (store_changed c e s) d ≡ is_marked_at s d }
 {}

@@ -114,6 +114,14 @@ impl<'a> Target<'a> {
     }
 }
 
+impl<'a> From<Dynamic> for Target<'a> {
+    ghost from_gives = { λ d t. t ≡ Target.TempValue d };
+
+    fn from(value: Dynamic) -> Target<'a> {
+        Target::TempValue(value)
+    }
+}
+
 /// What a target is.
 impl<'a> Target<'a> {
     /// Whether it refers to other data: a value, or what is in a cell. (`Target::is_ref`)

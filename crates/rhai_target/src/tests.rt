@@ -1,5 +1,13 @@
 //! What no clause says: that the definitions mean what is wanted, and that calls succeed with ample memory.
+mod numbers;
+mod slices;
+mod targets;
+
 use super::*;
+use rhai_text::{EvalAltResult, Position};
+use rhai_value::{Dynamic, Store};
+use std::alloc::Global;
+use std::process::Abort;
 use std::test::Fail;
 
 #[test]
@@ -19,4 +27,29 @@ fn an_index_may_count_from_the_end(rt: HostRuntime) -> Result<(), Fail> {
     assert_eq!(rt; calc_index(0, 0, true), None);
     assert_eq!(rt; calc_index(5, -1, false), None);
     Ok(())
+}
+
+/// A holder of a new cell with this value in it, also where the value is a holder.
+fn cell_of(rt: &impl Abort, value: Dynamic, store: &mut Store) -> Dynamic {
+    let mut holder = Dynamic::UNIT.into_shared(store).ok().expect(rt, "memory");
+    *holder.write_whole(store).expect(rt, "an unmarked cell") = value;
+    holder
+}
+
+/// Whether this is the text that is held.
+fn is_text(value: &Dynamic, store: &Store, text: &str) -> bool {
+    match value.as_immutable_string_ref(store) {
+        Ok(held) => held.as_str() == text,
+        Err(_) => false,
+    }
+}
+
+/// Whether a working value was refused, at line 3 and position 4, by these names.
+fn is_refused(done: Result<(), EvalAltResult>, wanted: &str, found: &str) -> bool {
+    match done {
+        Err(EvalAltResult::ErrorMismatchDataType(w, f, pos)) => {
+            w == wanted && f == found && pos == Position::new(3, 4)
+        }
+        _ => false,
+    }
 }

@@ -7,3 +7,4 @@ pub mod MarkedTexts
 pub mod SameChanges
 pub mod Owned
 pub mod Fields
+pub mod TargetMarks

@@ -4,7 +4,7 @@ ghost use Rattle.rhai_value.specs.End.{end, held_part, value_after, store_after}
 ghost use Rattle.rhai_value.specs.Parts.{int_of};
 ghost use Rattle.rhai_target.specs.Bits.{with_field as changed_field};
 ghost use Rattle.rhai_target.specs.Change.{on_int};
-ghost use Rattle.rhai_target.specs.Target.{write_back_of, HasPart, target_written, store_written, IsWrittenBack, IsPropagated, kind_of, a_bit, a_field, a_byte, a_character, a_slice};
+ghost use Rattle.rhai_target.specs.Target.{write_back_of, HasPart, IsMarkedIn, target_written, store_written, IsWrittenBack, IsPropagated, kind_of, a_bit, a_field, a_byte, a_character, a_slice};
 
 use crate::bits::with_field;
 use crate::slice::{Slice, write_slice};
@@ -20,6 +20,7 @@ impl<'a> Target<'a> {
     /// A working value of the wrong type is refused, at this place of the script, before anything is written. After an `Err` target
     /// and store are as before. The end of the source's chain is found once; a bit, some bits and a byte take no memory, a character
     /// and a slice one new text. (`Target::propagate_changed_value`)
+    #[tactic(auto, using(crate::proofs::TargetMarks::still_marked))]
     pub fn propagate_changed_value(
         &mut self,
         alloc: Global,
@@ -31,6 +32,7 @@ impl<'a> Target<'a> {
         ensures own { OnOk result (self.new ≡ target_written m.old (write_back_of m.old self.old) self.old) }
         ensures store { OnOk result (m.new ≡ store_written (write_back_of m.old self.old) m.old) }
         ensures err { OnErr result ((self.new ≡ self.old) × (m.new ≡ m.old)) }
+        ensures marked { IsMarkedIn m.old self.old → IsMarkedIn m.new self.new }
     {
         match self {
             Target::RefMut(_) | Target::SharedValue { .. } | Target::TempValue(_) => Ok(()),

@@ -4,6 +4,7 @@ ghost use Rattle.rhai_text.specs.declared.error.EvalAltResult.TheVariants.{Error
 ghost use Rattle.rhai_value.specs.End.{first_cell};
 ghost use Rattle.rhai_value.specs.Store.{marked_with};
 ghost use Rattle.rhai_value.specs.Tree.{cell_of, copy, TakesNoMemory};
+ghost use Rattle.rhai_target.specs.declared.target.Target.TheVariants.{TempValue};
 ghost use Rattle.rhai_target.specs.Target.{target_of, mark_in, IsMarkedIn, unmarked_from, source_in, value_in, taken, owned, with_value, put_marked, is_reference, is_temporary, is_shared_target, reference_in};
 
 use rhai_text::{EvalAltResult, Position};
@@ -85,6 +86,7 @@ impl<'a> Target<'a> {
         ensures ok { IfOk result (λ t. target_of m.old value.entry ≡ Some t) }
         ensures err { IfErr result (λ e. (target_of m.old value.entry ≡ None) × (e ≡ ErrorDataRace Position.NONE)) }
         ensures marks { m.new ≡ marked_with (first_cell m.old value.old) m.old }
+        ensures marked { IfOk result (λ t. IsMarkedIn m.new t) }
     {
         if value.is_shared() {
             Target::marked(value, m)
@@ -99,6 +101,7 @@ impl<'a> Target<'a> {
         ensures ok { IfOk result (λ t. option_map (λ c. Target.SharedValue c (copy holder.now)) (first_cell m.old holder.now) ≡ Some t) }
         ensures err { IfErr result (λ e. (first_cell m.old holder.now ≡ None) × (e ≡ ErrorDataRace Position.NONE)) }
         ensures marks { m.new ≡ marked_with (first_cell m.old holder.now) m.old }
+        ensures marked { IfOk result (λ t. IsMarkedIn m.new t) }
     {
         let Union::Shared(tag, _, cell) = holder.parts() else {
             unreachable!()
@@ -115,7 +118,7 @@ impl<'a> Target<'a> {
 }
 
 impl<'a> From<Dynamic> for Target<'a> {
-    ghost from_gives = { λ d t. t ≡ Target.TempValue d };
+    ghost from_gives = { λ d t. t ≡ TempValue d };
 
     fn from(value: Dynamic) -> Target<'a> {
         Target::TempValue(value)
@@ -209,10 +212,12 @@ impl<'a> Target<'a> {
     }
 
     /// Writes a whole value over what `as_mut` lends.
+    #[tactic(auto, using(crate::proofs::MarkedTexts::mark_outlasts))]
     pub fn put(&mut self, m: &mut Store, new: Dynamic)
         requires { IsMarkedIn m.old self.old }
         ensures own { self.new ≡ with_value new self.old }
         ensures store { m.new ≡ put_marked (mark_in self.old) new m.old }
+        ensures marked { IsMarkedIn m.new self.new }
     {
         match self {
             Target::RefMut(r) => write(r, new),

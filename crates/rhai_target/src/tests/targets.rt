@@ -1,4 +1,6 @@
 //! Targets, from the making to the spending.
+ghost use Rattle.rhai_target.specs.Target.{HasPart, IsMarkedIn};
+
 use super::*;
 use rhai_show::display_text;
 
@@ -90,12 +92,8 @@ fn a_temporary_value_is_taken(rt: HostRuntime) -> Result<(), Fail> {
     let alloc = rt.alloc();
     let mut store = Store::new(alloc);
     let mut target = Target::from(Dynamic::ONE);
-    *target.as_mut(&mut store) = Dynamic::TRUE;
+    target.put(&mut store, Dynamic::TRUE);
     assert!(rt; target.source(&store).is_bool(&store));
-    match target.propagate_changed_value(alloc, &mut store, Position::NONE) {
-        Ok(()) => {}
-        Err(_) => assert!(rt; false),
-    }
     match target.take_or_clone(alloc, &mut store) {
         Ok(value) => assert!(rt; value.is_bool(&store)),
         Err(target) => target.release(&mut store),
@@ -104,27 +102,28 @@ fn a_temporary_value_is_taken(rt: HostRuntime) -> Result<(), Fail> {
 }
 
 /// Writes the working value back, spends the target, and answers how it went.
-fn propagated(
-    mut target: Target<'_>,
-    alloc: Global,
-    store: &mut Store,
-) -> Result<(), EvalAltResult> {
+fn propagated<'a>(target: Target<'a>, alloc: Global, store: &mut Store) -> Result<(), EvalAltResult>
+    requires part { HasPart store.old target }
+    requires marked { IsMarkedIn store.old target }
+{
+    let mut target = target;
     let done = target.propagate_changed_value(alloc, store, Position::new(3, 4));
     target.release(store);
     done
 }
 
-#[test]
-fn each_part_is_written_back(rt: HostRuntime) -> Result<(), Fail> {
-    let alloc = rt.alloc();
+/// Some bits of an int are written back.
+fn number_is_written(rt: &impl Abort, alloc: Global) {
     let mut store = Store::new(alloc);
     let mut number = Dynamic::from_int(255);
+    assert!(rt; number.is_int(&store));
     let bit = Target::Bit {
         source: &mut number,
         value: Dynamic::FALSE,
         bit: 0,
     };
     assert!(rt; propagated(bit, alloc, &mut store).is_ok());
+    assert!(rt; number.is_int(&store));
     let field = Target::BitField {
         source: &mut number,
         value: Dynamic::from_int(21),
@@ -133,13 +132,20 @@ fn each_part_is_written_back(rt: HostRuntime) -> Result<(), Fail> {
     };
     assert!(rt; propagated(field, alloc, &mut store).is_ok());
     assert_eq!(rt; number.as_int(&store).ok(), Some(94));
+}
+
+/// A character and a slice of a text are written back, and a wrong character isn't.
+fn text_is_written(rt: &impl Abort, alloc: Global) -> Result<(), Fail> {
+    let mut store = Store::new(alloc);
     let mut text = Dynamic::from_text(alloc, "hello")?;
+    assert!(rt; text.is_string(&store));
     let character = Target::StringChar {
         source: &mut text,
         value: Dynamic::from_char('a'),
         index: 1,
     };
     assert!(rt; propagated(character, alloc, &mut store).is_ok());
+    assert!(rt; text.is_string(&store));
     let slice = Target::StringSlice {
         source: &mut text,
         value: Dynamic::from_int(42),
@@ -149,6 +155,7 @@ fn each_part_is_written_back(rt: HostRuntime) -> Result<(), Fail> {
     };
     assert!(rt; propagated(slice, alloc, &mut store).is_ok());
     assert!(rt; is_text(&text, &store, "ha42o"));
+    assert!(rt; text.is_string(&store));
     let wrong = Target::StringChar {
         source: &mut text,
         value: Dynamic::ONE,
@@ -156,4 +163,11 @@ fn each_part_is_written_back(rt: HostRuntime) -> Result<(), Fail> {
     };
     assert!(rt; is_refused(propagated(wrong, alloc, &mut store), "char", "i64"));
     Ok(())
+}
+
+#[test]
+fn each_part_is_written_back(rt: HostRuntime) -> Result<(), Fail> {
+    let alloc = rt.alloc();
+    number_is_written(&rt, alloc);
+    text_is_written(&rt, alloc)
 }

@@ -3,6 +3,7 @@
 
 mod bits;
 pub mod laws;
+mod lent;
 mod offset;
 mod propagate;
 mod slice;

@@ -194,7 +194,8 @@ impl<'a> Target<'a> {
         }
     }
 
-    /// The same, to write. What target and store are once it was written is said by `put`. (`AsMut` and `BorrowMut`)
+    /// The same, to write. What target and store are once it was written is said by `with_mut`
+    /// and `put`. (`AsMut` and `BorrowMut`)
     pub fn as_mut<'s>(&'s mut self, m: &'s mut Store) -> &'s mut Dynamic
         requires { IsMarkedIn m.old self.old }
         ensures { value_in m.old self.old ≡ Some result.now }
@@ -202,12 +203,12 @@ impl<'a> Target<'a> {
         match self {
             Target::RefMut(r) => r,
             Target::SharedValue { token, .. } => m.through_mut(token),
-            Target::TempValue(value)
-            | Target::Bit { value, .. }
+            Target::Bit { value, .. }
             | Target::BitField { value, .. }
             | Target::BlobByte { value, .. }
             | Target::StringChar { value, .. }
-            | Target::StringSlice { value, .. } => value,
+            | Target::StringSlice { value, .. }
+            | Target::TempValue(value) => value,
         }
     }
 

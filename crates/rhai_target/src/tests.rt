@@ -1,5 +1,7 @@
 //! What no clause says: that the definitions mean what is wanted, and that calls succeed with ample memory.
+mod callers;
 mod numbers;
+mod readme;
 mod slices;
 mod targets;
 

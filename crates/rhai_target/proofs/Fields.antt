@@ -1,5 +1,5 @@
 -- A field that is written back.
-use Rattle.std.proofs.Common.{◌≡◌, ℕ, ℤ, List, [], Option, Some, None, Ok, is_some, option_map, refl, sym, ap, ◌∙◌, subst}
+use Rattle.std.proofs.Common.{◌≡◌, ℕ, ℤ, List, [], Some, Ok, is_some, option_map, sym, ap, ◌∙◌, subst}
 use Rattle.std.specs.Borrow.{MutBor}
 use Rattle.rhai_text.specs.declared.position.Position.{Position}
 use Rattle.rhai_value.specs.declared.store.Cell.{Cell}

@@ -1,14 +1,14 @@
 -- Numbers of 64 bits by their bits.
-use Rattle.std.proofs.Common.{◌≡◌, ℕ, zero, suc, ◌+◌, ◌-◌, ◌*◌, ◌/◌, ◌%◌, ◌^◌, ◌<◌, ◌≤◌, Bool, true, false, nat_eq, nat_lt, cond, min, max, bit_and, bit_or, ap, sym, add-zero, ◌∙◌, refl, arith, w64, ℤ, pos, ◌*ℤ◌, to_z, of_z, FitsSigned, ◌⊎◌, inl, inr}
+use Rattle.std.proofs.Common.{◌≡◌, ℕ, zero, suc, ◌+◌, ◌-◌, ◌*◌, ◌/◌, ◌%◌, ◌^◌, ◌<◌, Bool, true, false, nat_eq, nat_lt, cond, min, max, bit_and, bit_or, ap, sym, add-zero, ◌∙◌, refl, arith, w64, ℤ, pos, ◌*ℤ◌, to_z, of_z, FitsSigned, inl, inr}
 use Rattle.std.specs.Int.{bit_at, bit_not}
 use Rattle.std.proofs.Math.Facts.{Fits-of_z, to_z-of_z}
 use Rattle.std.proofs.Math.Nat.{pow-suc, lt_of_le_of_lt, mul_comm, mod-eq_of_lt}
 use Rattle.std.proofs.Math.IntN.{*ℤ_comm}
 use Rattle.std.specs.Int.{int_wrap}
-use Rattle.std.proofs.lemmas.Bool.{cases_lt, cases_Bool, eqb-true, eqb-false, eq-eqb, ne_eqb, ltb-true, ltb-false}
+use Rattle.std.proofs.lemmas.Bool.{cases_lt, eqb-true, eqb-false, eq-eqb, ne_eqb, ltb-true, ltb-false}
 use Rattle.std.proofs.lemmas.Int.{of_z-to_z, wrapping_mul_onto, int_wrap-mul_left}
 use Rattle.std.proofs.lemmas.Nat.{mod_below, pow_pos, pow_below, or_lt, and_le_l, and_le_r, div-add-mod'}
-use Rattle.std.proofs.lemmas.Nat.Bits.{bit_at-lt, bit_at_and, bit_at_or, bit_at_not, bit_at_set_same, bit_at_set_other, bit_at_clear_same, bit_at_clear_other, bit_at_cat_low, bit_at_cat_high, bit_at_above, bit_at-zero, same_from_bits_below}
+use Rattle.std.proofs.lemmas.Nat.Bits.{bit_at-lt, bit_at_and, bit_at_or, bit_at_not, bit_at_set_same, bit_at_set_other, bit_at_clear_same, bit_at_clear_other, bit_at_cat_low, bit_at_cat_high, bit_at-zero, same_from_bits_below}
 use Rattle.rhai_target.specs.Bits.{bit, digit, natural, int_of_bits, with_bit, with_field}
 
 digit_below : (b : Bool) → digit b < 2

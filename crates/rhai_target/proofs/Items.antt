@@ -1,7 +1,7 @@
 -- Items of lists, and leaves of values, that are written.
-use Rattle.std.proofs.Common.{◌≡◌, ℕ, zero, suc, ℤ, pos, ◌<◌, ◌%◌, List, [], ◌∷◌, length, slice_get, slice_set, Option, Some, None, option_map, refl, sym, ap, ◌∙◌, arith}
+use Rattle.std.proofs.Common.{◌≡◌, ℕ, zero, suc, ℤ, pos, ◌<◌, List, [], ◌∷◌, length, slice_get, slice_set, Option, Some, None, option_map, refl, sym, ap, arith}
 use Rattle.std.proofs.Math.Nat.{mod-eq_of_lt}
-use Rattle.rhai_value.specs.Tree.{Tree, node, Leaf, leaf, branch, fields, holder, unit, bool, int, char, text, blob, host, tag_of, mode_of}
+use Rattle.rhai_value.specs.Tree.{Tree, node, Leaf, int, text, blob, tag_of, mode_of}
 use Rattle.rhai_value.specs.Parts.{leaf_part, leaf_int, leaf_text, leaf_blob, int_of, text_of, blob_of}
 use Rattle.rhai_target.specs.Change.{with_leaf, on_int, on_bytes, on_text, low_byte}
 

@@ -1,12 +1,11 @@
 -- A text that is written over itself.
-use Rattle.std.proofs.Common.{◌≡◌, ℕ, ℤ, List, [], Option, Some, None, refl, sym, ap, ◌∙◌}
+use Rattle.std.proofs.Common.{◌≡◌, ℕ, List, [], Some, refl, sym, ap, ◌∙◌}
 use Rattle.rhai_value.specs.declared.in_store.InStore.{InStore}
 use Rattle.rhai_value.specs.declared.chain.Site.TheVariants.{Own, InCell}
-use Rattle.rhai_value.specs.declared.store.Cell.{Cell}
-use Rattle.rhai_value.specs.Tree.{Tree, node, Leaf, leaf, branch, fields, holder, unit, bool, int, char, text, blob, host}
+use Rattle.rhai_value.specs.Tree.{Tree, node, leaf, branch, fields, holder, unit, bool, int, char, text, blob, host}
 use Rattle.rhai_value.specs.Parts.{text_of, with_content}
 use Rattle.rhai_value.specs.Store.{put}
-use Rattle.rhai_value.specs.End.{End, end, held, stuck, closed, held_in, held_part, value_after, store_after}
+use Rattle.rhai_value.specs.End.{End, end, held, stuck, closed, held_in, held_part}
 use Rattle.rhai_value.specs.Writes.{written_at, written}
 use Rattle.rhai_value.proofs.ForCallers.{kept_written}
 

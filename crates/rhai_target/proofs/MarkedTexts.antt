@@ -1,6 +1,5 @@
 -- A text that is changed where it is held: in the value itself, or in a cell that is marked meanwhile.
 use Rattle.std.proofs.Common.{◌≡◌, ℕ, zero, suc, Bool, true, false, List, [], ◌∷◌, Option, Some, None, IfSome, MatchOption, is_some, option_map, refl, sym, ap, ◌∙◌, subst}
-use Rattle.rhai_text.specs.Text.{with_slice}
 use Rattle.rhai_value.specs.declared.in_store.InStore.{InStore}
 use Rattle.rhai_value.specs.declared.chain.Site.TheVariants.{Own, InCell}
 use Rattle.rhai_value.specs.declared.store.Cell.{Cell}

@@ -1,5 +1,5 @@
 -- Targets that hold what they refer to.
-use Rattle.std.proofs.Common.{◌≡◌, ℕ, true, false, Option, None, refl}
+use Rattle.std.proofs.Common.{◌≡◌, true, false, None, refl}
 use Rattle.rhai_target.specs.declared.target.Target.{Target}
 use Rattle.rhai_target.specs.declared.target.Target.TheVariants.{RefMut, SharedValue, TempValue, Bit, BitField, BlobByte, StringChar, StringSlice}
 use Rattle.rhai_target.specs.Target.{mark_in, taken, owned, is_reference}

@@ -1,17 +1,15 @@
 -- Write-backs of values that are the same up to the numbers of their cells.
-use Rattle.std.proofs.Common.{◌≡◌, ℕ, ℤ, true, List, [], length, Option, Some, None, option_map, refl, sym, ap, ◌∙◌, subst}
+use Rattle.std.proofs.Common.{◌≡◌, ℕ, ℤ, true, List, [], length, Option, Some, None, option_map, refl, subst}
 use Rattle.rhai_text.specs.Text.{with_slice}
 use Rattle.rhai_value.specs.declared.access_mode.AccessMode.{AccessMode}
 use Rattle.rhai_value.specs.declared.store.Cell.{Cell}
-use Rattle.rhai_value.specs.Tree.{Tree, node, Leaf, leaf, int, text, blob}
+use Rattle.rhai_value.specs.Tree.{Tree, node, Leaf, leaf}
 use Rattle.rhai_value.specs.Parts.{leaf_part, leaf_bool, leaf_int, leaf_char, leaf_text, leaf_blob}
 use Rattle.rhai_value.specs.Store.{marked_with, is_marked_at}
 use Rattle.rhai_value.specs.End.{End, end, held_part, held_cell}
 use Rattle.rhai_value.specs.Relation.{Renaming, paired, Related, Alike, Respect, IsOneToOne, RelatedCells, RelatedEnds}
 use Rattle.rhai_value.proofs.ForCallers.{by_trees, same_end, same_held_leaf, same_value_after, same_store_after, length_store_after, marked_store_after}
-use Rattle.rhai_show.specs.declared.form.Form.{Form}
 use Rattle.rhai_show.specs.declared.form.Form.TheVariants.{Display}
-use Rattle.rhai_show.specs.Text.{printed}
 use Rattle.rhai_target.specs.declared.slice.Slice.{Slice}
 use Rattle.rhai_target.specs.Change.{Change, with_leaf, on_text, sliced, bit_change, field_change, byte_change, char_change, slice_change, value_changed, store_changed}
 use Rattle.rhai_target.proofs.FromBelow.{same_set_mark, same_held_cell, same_printed}

@@ -1,5 +1,5 @@
 -- A target that has the mark of a cell has it after its write-back too.
-use Rattle.std.proofs.Common.{◌≡◌, List, Result, Ok, Err, ap, sym, subst}
+use Rattle.std.proofs.Common.{List, Result, Ok, Err, sym, subst}
 use Rattle.rhai_text.specs.declared.error.EvalAltResult.{EvalAltResult}
 use Rattle.rhai_text.specs.declared.position.Position.{Position}
 use Rattle.rhai_value.specs.declared.store.Cell.{Cell}

@@ -1,5 +1,5 @@
 -- The 64 bits of an int, and an int with some of them changed.
-use Rattle.std.specs.Prelude.{ℕ, zero, suc, ℤ, ◌+◌, ◌-◌, ◌*◌, ◌^◌, Bool, true, false, nat_eq, nat_lt, if◌then◌else◌}
+use Rattle.std.specs.Prelude.{ℕ, zero, suc, ℤ, ◌+◌, ◌-◌, ◌*◌, ◌^◌, Bool, false, nat_eq, nat_lt, if◌then◌else◌}
 use Rattle.std.specs.Int.{w64, bit_at, cast_signed, cast_unsigned}
 
 -- bit i of a number

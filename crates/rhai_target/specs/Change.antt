@@ -1,5 +1,5 @@
 -- What a write-back makes of what its source holds, and what it answers and leaves.
-use Rattle.std.specs.Prelude.{◌≡◌, ℕ, ℤ, pos, ◌%◌, Bool, true, List, [], slice_set, Option, Some, None, option_map, is_some, Result, Ok, Err, unsigned_abs}
+use Rattle.std.specs.Prelude.{◌≡◌, ℕ, ℤ, pos, Bool, true, List, [], slice_set, Option, Some, None, option_map, is_some, Result, Ok, Err, unsigned_abs}
 use Rattle.std.specs.Int.{int_rem_euclid}
 use Rattle.rhai_text.specs.Text.{with_slice}
 use Rattle.rhai_text.specs.declared.error.EvalAltResult.{EvalAltResult}
@@ -9,7 +9,7 @@ use Rattle.rhai_value.specs.declared.store.Cell.{Cell}
 use Rattle.rhai_value.specs.Tree.{Tree, Leaf, leaf, int, text, blob}
 use Rattle.rhai_value.specs.Parts.{bool_of, int_of, char_of, text_of, blob_of, with_content}
 use Rattle.rhai_value.specs.Store.{marked_with}
-use Rattle.rhai_value.specs.End.{End, end, held_part, held_cell, end_name, value_after, store_after}
+use Rattle.rhai_value.specs.End.{End, end, held_part, held_cell, value_after, store_after}
 use Rattle.rhai_show.specs.declared.form.Form.TheVariants.{Display}
 use Rattle.rhai_show.specs.Text.{printed}
 use Rattle.rhai_target.specs.declared.slice.Slice.{Slice}

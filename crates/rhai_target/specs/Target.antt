@@ -1,5 +1,5 @@
 -- What a target refers to, what is taken of it, and what its calls leave.
-use Rattle.std.specs.Prelude.{◌≡◌, ◌<◌, ℕ, Bool, true, false, List, [], codes, length, Option, Some, None, IfSome, MatchOption, is_some, Result, Ok, Err, OnOk, OnErr}
+use Rattle.std.specs.Prelude.{◌≡◌, ◌<◌, ℕ, Bool, true, false, List, [], codes, length, Option, Some, None, IfSome, MatchOption, is_some, Result, Ok, OnOk, OnErr}
 use Rattle.std.specs.Borrow.{MutBor}
 use Rattle.rhai_text.specs.declared.error.EvalAltResult.{EvalAltResult}
 use Rattle.rhai_text.specs.declared.position.Position.{Position}

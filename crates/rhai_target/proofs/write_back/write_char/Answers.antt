@@ -1,5 +1,4 @@
-use Rattle.std.proofs.Common.{rules, ap, arith}
-use Rattle.rhai_value.specs.declared.in_store.InStore.{InStore}
+use Rattle.std.proofs.Common.{rules, ap}
 use Rattle.rhai_target.proofs.Kept.{text_kept}
 use Rattle.rhai_target.proofs.write_back.write_char.Goals as goal
 

@@ -1,4 +1,4 @@
-use Rattle.std.proofs.Common.{◌≡◌, [], Some, ap, sym, ◌∙◌, rules, w64, FitsSigned}
+use Rattle.std.proofs.Common.{[], ap, sym, ◌∙◌, rules, w64, FitsSigned}
 use Rattle.std.proofs.lemmas.Int.{to_z-of_z}
 use Rattle.rhai_value.specs.Parts.{int_of}
 use Rattle.rhai_value.specs.End.{end, held_part, value_after, store_after}

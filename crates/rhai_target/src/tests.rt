@@ -2,6 +2,7 @@
 mod callers;
 mod numbers;
 mod readme;
+mod refusals;
 mod slices;
 mod targets;
 

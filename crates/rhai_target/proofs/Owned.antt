@@ -2,7 +2,7 @@
 use Rattle.std.proofs.Common.{◌≡◌, true, false, None, refl}
 use Rattle.rhai_target.specs.declared.target.Target.{Target}
 use Rattle.rhai_target.specs.declared.target.Target.TheVariants.{RefMut, SharedValue, TempValue, Bit, BitField, BlobByte, StringChar, StringSlice}
-use Rattle.rhai_target.specs.Target.{mark_in, taken, owned, is_reference}
+use Rattle.rhai_target.specs.Target.{mark_in, taken, owned, is_reference, reference_in}
 
 pub owned_reference : (t : Target) → is_reference t ≡ true → TempValue (taken t) ≡ owned t
 owned_reference (RefMut r) e = refl
@@ -33,3 +33,13 @@ marks_nothing (BitField r v mask shift) e = refl
 marks_nothing (BlobByte r v index) e = refl
 marks_nothing (StringChar r v index) e = refl
 marks_nothing (StringSlice r v start end exclusive) e = refl
+
+pub refers_to_nothing : (t : Target) → is_reference t ≡ false → reference_in t ≡ None
+refers_to_nothing (RefMut r) e = cc
+refers_to_nothing (SharedValue c v) e = cc
+refers_to_nothing (TempValue v) e = refl
+refers_to_nothing (Bit r v place) e = refl
+refers_to_nothing (BitField r v mask shift) e = refl
+refers_to_nothing (BlobByte r v index) e = refl
+refers_to_nothing (StringChar r v index) e = refl
+refers_to_nothing (StringSlice r v start end exclusive) e = refl

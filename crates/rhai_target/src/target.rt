@@ -355,13 +355,14 @@ impl<'a> Target<'a> {
 
     /// A reference and a shared value become a value of their own, which is what `take_or_clone` gives, and a mark is cleared; any
     /// other target stays. An `Err` hands the target back with nothing changed. (`Target::into_owned`)
-    #[tactic(auto, using(crate::proofs::Owned::owned_reference, crate::proofs::Owned::owned_already, crate::proofs::Owned::marks_nothing))]
+    #[tactic(auto, using(crate::proofs::Owned::owned_reference, crate::proofs::Owned::owned_already, crate::proofs::Owned::marks_nothing, crate::proofs::Owned::refers_to_nothing))]
     pub fn into_owned(self, alloc: Global, m: &mut Store) -> Result<Target<'a>, Target<'a>>
         requires { IsMarkedIn m.old self }
         ensures ok { IfOk result (λ t. t ≡ owned self.entry) }
         ensures store { OnOk result (m.new ≡ unmarked_from (mark_in self.entry) m.old) }
         ensures err { IfErr result (λ t. t ≡ self.entry) }
         ensures stays { OnErr result (m.new ≡ m.old) }
+        ensures free { MatchOption (reference_in self.entry) (IsOk result) (λ r. TakesNoMemory r.now → IsOk result) }
     {
         if !self.is_ref() {
             return Ok(self);

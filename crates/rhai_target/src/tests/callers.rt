@@ -5,7 +5,7 @@ ghost use Rattle.rhai_value.specs.Tree.{cell_of};
 
 use super::readme::write_flag;
 use super::*;
-use rhai_value::laws::{mark_is_cleared, sites_are_read};
+use rhai_value::laws::{mark_is_cleared, marks_stay, sites_are_read};
 
 /// Writes over what a holder's cell has: marked, written, released.
 fn assign(holder: &Dynamic, m: &mut Store, new: Dynamic) -> Result<(), EvalAltResult>
@@ -24,6 +24,33 @@ fn assign(holder: &Dynamic, m: &mut Store, new: Dynamic) -> Result<(), EvalAltRe
         }
         Err(race) => Err(race),
     }
+}
+
+/// Moves a value into a cell of its own while another cell is marked.
+fn share_meanwhile(holder: &Dynamic, m: &mut Store, value: Dynamic) -> Result<Dynamic, Dynamic>
+    requires { is_some (cell_of holder.now) ≡ true }
+{
+    marks_stay();
+    match Target::marked(holder, m) {
+        Ok(target) => {
+            let shared = value.into_shared(m);
+            target.release(m);
+            shared
+        }
+        Err(_) => Err(value),
+    }
+}
+
+#[test]
+fn a_cell_is_made_while_another_is_marked(rt: HostRuntime) -> Result<(), Fail> {
+    let mut store = Store::new(rt.alloc());
+    let holder = cell_of(&rt, Dynamic::ONE, &mut store);
+    assert!(rt; holder.is_shared());
+    match share_meanwhile(&holder, &mut store, Dynamic::TRUE) {
+        Ok(shared) => assert!(rt; shared.is_bool(&store) && holder.is_int(&store)),
+        Err(_) => return Err("room for a cell".into()),
+    }
+    Ok(())
 }
 
 #[test]

@@ -1,0 +1,10 @@
+pub mod ForCallers
+pub mod FromBelow
+pub mod IntBits
+pub mod Items
+pub mod Kept
+pub mod MarkedTexts
+pub mod SameChanges
+pub mod Owned
+pub mod Fields
+pub mod TargetMarks

@@ -1,0 +1,26 @@
+//! Bits of an int.
+ghost use Rattle.std.specs.Prelude.{◌≡◌, ◌<◌};
+ghost use Rattle.rhai_target.specs.Bits as specs;
+
+use rhai_value::INT;
+
+/// The number with bit `place` set, or cleared.
+pub(crate) fn with_bit(number: INT, place: u8, is_set: bool) -> INT
+    requires { place < 64 }
+    ensures { result ≡ specs.with_bit place is_set number }
+{
+    let mask = 1 << place as u32;
+    if is_set {
+        number | mask
+    } else {
+        number & !mask
+    }
+}
+
+/// The number in which the bits of the mask are those of the value, from bit `shift` on.
+pub(crate) fn with_field(number: INT, mask: INT, shift: u8, value: INT) -> INT
+    requires { shift < 64 }
+    ensures { result ≡ specs.with_field mask shift value number }
+{
+    number & !mask | value << shift as u32 & mask
+}

@@ -1,0 +1,19 @@
+//! Places under change: write-back of a part of a value, targets, and places in lists by whole numbers.
+#![tactic(auto)]
+
+mod bits;
+pub mod laws;
+mod lent;
+mod offset;
+mod propagate;
+mod slice;
+mod target;
+mod write_back;
+
+pub use offset::{calc_index, calc_offset_len};
+pub use slice::{Slice, write_slice};
+pub use target::Target;
+pub use write_back::{write_bit, write_byte, write_char, write_field};
+
+#[cfg(test)]
+mod tests;

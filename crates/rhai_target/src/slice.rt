@@ -1,0 +1,112 @@
+//! Write-back of a slice of a text, whose new characters are printed while the text's cell is marked.
+ghost use Rattle.std.specs.Prelude.{◌≡◌, [], true, is_some, IfOk, IfSome, MatchOption, OnOk, OnErr};
+ghost use Rattle.rhai_value.specs.End.{end, held_part};
+ghost use Rattle.rhai_value.specs.Parts.{text_of, with_content};
+ghost use Rattle.rhai_value.specs.Store.{content_at, is_marked_at, put};
+ghost use Rattle.rhai_value.specs.Tree.{leaf, text};
+ghost use Rattle.rhai_target.specs.Change.{on_text, sliced as sliced_text, slice_change, value_changed, store_changed};
+
+use rhai_show::display_text;
+use rhai_text::ImmutableString;
+use rhai_value::laws::{mark_is_cleared, sites_are_read};
+use rhai_value::{Dynamic, Part, Store, WriteToken};
+use std::alloc::{AllocError, Global};
+
+/// The places of a slice, in characters; past a text a place means its end.
+#[derive(Clone, Copy)]
+pub struct Slice {
+    /// The first character that is replaced.
+    pub start: usize,
+    /// The first that isn't, or, where the slice is inclusive, the last that is.
+    pub end: usize,
+    /// Whether `end` isn't replaced.
+    pub exclusive: bool,
+}
+
+/// The characters of a slice of the held text become the text that the working value prints as. The text is taken while the cell
+/// in which the held text stands is marked, so that a holder of it prints as `<shared>`. Where the slice ends before it starts, the
+/// characters between stand twice. Makes that text and one new text; goes over both once.
+pub fn write_slice(
+    source: &mut Dynamic,
+    alloc: Global,
+    m: &mut Store,
+    value: &Dynamic,
+    slice: Slice,
+) -> Result<(), AllocError>
+    requires held { is_some (held_part text_of (end m.old [] source.old)) ≡ true }
+    ensures own { OnOk result (source.new ≡ value_changed (slice_change m.old source.old value.now slice) (end m.old [] source.old) source.old) }
+    ensures store { OnOk result (m.new ≡ store_changed (slice_change m.old source.old value.now slice) (end m.old [] source.old) m.old) }
+    ensures err { OnErr result ((source.new ≡ source.old) × (m.new ≡ m.old)) }
+{
+    match m.mark_held(source) {
+        None => {
+            let text = sliced(source, alloc, m, value, slice)?;
+            put_text(source, text);
+            Ok(())
+        }
+        Some(token) => {
+            sites_are_read();
+            mark_is_cleared();
+            let done = write_marked_slice(&token, alloc, m, value, slice);
+            m.release(token);
+            done
+        }
+    }
+}
+
+/// The same for the text in the cell of a token.
+#[tactic(auto, using(crate::proofs::MarkedTexts::mark_outlasts))]
+fn write_marked_slice(
+    token: &WriteToken,
+    alloc: Global,
+    m: &mut Store,
+    value: &Dynamic,
+    slice: Slice,
+) -> Result<(), AllocError>
+    requires marked { is_marked_at m.old token.now ≡ true }
+    requires held { MatchOption (content_at m.old token.now) ⊥ (λ t. is_some (text_of t) ≡ true) }
+    ensures ok { OnOk result (IfSome (content_at m.old token.now) (λ t. m.new ≡ put m.old token.now (on_text (sliced_text m.old value.now slice) t))) }
+    ensures err { OnErr result (m.new ≡ m.old) }
+    ensures marked { is_marked_at m.new token.now ≡ true }
+{
+    let text = sliced(m.through(token), alloc, m, value, slice)?;
+    put_text(m.through_mut(token), text);
+    Ok(())
+}
+
+/// The text of a value with the slice replaced by what the working value prints as.
+fn sliced(
+    held: &Dynamic,
+    alloc: Global,
+    s: &Store,
+    value: &Dynamic,
+    slice: Slice,
+) -> Result<ImmutableString, AllocError>
+    requires { is_some (text_of held.now) ≡ true }
+    ensures { IfOk result (λ new. IfSome (text_of held.now) (λ cs. new ≡ sliced_text s.now value.now slice cs)) }
+{
+    let printed = display_text(alloc, value, s)?;
+    match ImmutableString::own(held) {
+        Some(text) => {
+            text.with_slice(
+                alloc,
+                slice.start,
+                slice.end,
+                slice.exclusive,
+                printed.as_str(),
+            )
+        }
+        None => unreachable!(),
+    }
+}
+
+/// A text becomes another, tag and mode staying.
+fn put_text(held: &mut Dynamic, new: ImmutableString)
+    requires { is_some (text_of held.old) ≡ true }
+    ensures { held.new ≡ with_content (leaf (text new)) held.old }
+{
+    match ImmutableString::own_mut(held) {
+        Some(text) => *text = new,
+        None => unreachable!(),
+    }
+}

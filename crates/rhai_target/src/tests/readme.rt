@@ -1,0 +1,29 @@
+//! The caller that the README shows.
+ghost use Rattle.std.specs.Prelude.{◌≡◌, ◌<◌, [], IfOk, OnErr};
+ghost use Rattle.std.specs.Bool.{OnFalse, OnTrue};
+ghost use Rattle.rhai_value.specs.End.{end};
+ghost use Rattle.rhai_target.specs.Change.{bit_change, value_changed, store_changed};
+
+use crate::write_bit;
+use rhai_text::{EvalAltResult, Position};
+use rhai_value::{Dynamic, Store};
+
+/// Writes a flag among those that a variable holds as bits, and answers whether it holds any.
+pub(crate) fn write_flag(
+    flags: &mut Dynamic,
+    m: &mut Store,
+    value: &Dynamic,
+    place: u8,
+) -> Result<bool, EvalAltResult>
+    requires { place < 64 }
+    ensures own { IfOk result (λ done. OnTrue done (flags.new ≡ value_changed (bit_change m.old value.now place) (end m.old [] flags.old) flags.old)) }
+    ensures store { IfOk result (λ done. OnTrue done (m.new ≡ store_changed (bit_change m.old value.now place) (end m.old [] flags.old) m.old)) }
+    ensures none { IfOk result (λ done. OnFalse done ((flags.new ≡ flags.old) × (m.new ≡ m.old))) }
+    ensures err { OnErr result ((flags.new ≡ flags.old) × (m.new ≡ m.old)) }
+{
+    if !flags.is_int(m) {
+        return Ok(false);
+    }
+    write_bit(flags, m, value, place, Position::NONE)?;
+    Ok(true)
+}

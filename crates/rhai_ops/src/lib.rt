@@ -2,9 +2,11 @@
 #![tactic(auto)]
 
 mod answer;
+mod assign_lookup;
 mod blobs;
 mod bools;
 mod builtin;
+mod call;
 mod chars;
 mod compare;
 mod ints;
@@ -14,7 +16,10 @@ mod own;
 mod ranges;
 mod texts;
 mod token;
+mod way;
+mod write;
 
+pub use assign_lookup::get_builtin_op_assignment_fn;
 pub use builtin::FnBuiltin;
 pub use lookup::get_builtin_binary_op_fn;
 

@@ -1,8 +1,10 @@
 pub mod ForCallers
 pub mod FromBelow
+pub mod Items
 pub mod Characters
 pub mod Lengths
 pub mod SameRows
 pub mod Shifts
 pub mod Suited
+pub mod Bytes
 pub mod Ways

@@ -75,10 +75,14 @@ abbrev pub joined_to_char : Limits → Tree → ℕ → List ℕ → Outcome
 joined_to_char l t c [] = answers t
 joined_to_char l t c (d ∷ w) = limited_text l (c ∷ d ∷ w)
 
+-- bytes behind a blob
+abbrev pub appended : Limits → List ℕ → List ℕ → Outcome
+appended l v w = limited_blob l (v ++ w)
+
 -- the bytes of a text behind a blob; of an empty one no limit is tested
 abbrev pub blob_and_text : Limits → List ℕ → List ℕ → Outcome
 blob_and_text l v [] = answers (fresh (blob v))
-blob_and_text l v (d ∷ w) = limited_blob l (v ++ encode_utf8_all (d ∷ w))
+blob_and_text l v (d ∷ w) = appended l v (encode_utf8_all (d ∷ w))
 
 -- an integer modulo 256
 abbrev pub byte_of : ℤ → ℕ
@@ -102,8 +106,8 @@ abbrev pub pushed : Limits → Trees → Tree → Outcome
 pushed l ts u = limited_array l (then_items ts (tree_then u no_trees))
 
 abbrev pub joined_items : Limits → Trees → Trees → Outcome
-joined_items l ts no_trees = answers (made (branch array ts))
-joined_items l no_trees (tree_then u us) = answers (made (branch array (tree_then u us)))
+joined_items l no_trees us = answers (made (branch array us))
+joined_items l (tree_then t ts) no_trees = answers (made (branch array (then_items (tree_then t ts) no_trees)))
 joined_items l (tree_then t ts) (tree_then u us) = limited_array l (then_items (tree_then t ts) (tree_then u us))
 
 -- what is held, or else the value itself
@@ -143,13 +147,13 @@ outcome row.CharJoinAssign l s x y = both (λ c d. answers (fresh (text (c ∷ d
 outcome row.TextJoinAssign l s x y = both (joined_texts l) (part text_of s x) (part text_of s y)
 outcome row.TextMinusAssign l s x y = both (λ v w. answers (fresh (text (minus v w)))) (part text_of s x) (part text_of s y)
 outcome row.ArrayAppend l s x y = both (joined_items l) (part array_of s x) (array_moved s y)
-outcome row.BlobAppend l s x y = both (λ v w. limited_blob l (v ++ w)) (part blob_of s x) (part blob_of s y)
+outcome row.BlobAppend l s x y = both (appended l) (part blob_of s x) (part blob_of s y)
 outcome row.TextCharAssign l s x y = both (λ v d. limited_text l (v ++ (d ∷ []))) (part text_of s x) (part char_of s y)
 outcome row.TextMinusCharAssign l s x y = both (λ v d. answers (fresh (text (minus_char v d)))) (part text_of s x) (part char_of s y)
 outcome row.CharTextAssign l s x y = both (joined_to_char l (held_or_own s x)) (part char_of s x) (part text_of s y)
 outcome row.ArrayPush l s x y = both (pushed l) (part array_of s x) (Some y)
-outcome row.BlobPush l s x y = both (λ v n. limited_blob l (v ++ (byte_of n ∷ []))) (part blob_of s x) (part int_of s y)
-outcome row.BlobCharAssign l s x y = both (λ v d. limited_blob l (v ++ encode_utf8 d)) (part blob_of s x) (part char_of s y)
+outcome row.BlobPush l s x y = both (appended l) (part blob_of s x) (option_map (λ n. byte_of n ∷ []) (part int_of s y))
+outcome row.BlobCharAssign l s x y = both (appended l) (part blob_of s x) (option_map encode_utf8 (part char_of s y))
 outcome row.BlobTextAssign l s x y = both (blob_and_text l) (part blob_of s x) (part text_of s y)
 
 -- what is held has such a part

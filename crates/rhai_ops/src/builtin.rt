@@ -175,8 +175,10 @@ impl FnBuiltin {
             } else {
                 Way::Assignment(Word::Whole, Second::Stays)
             },
-            FnBuiltin::CharJoinAssign | FnBuiltin::CharTextAssign =>
-                Way::Assignment(Word::Whole, Second::Stays),
+            FnBuiltin::CharJoinAssign | FnBuiltin::CharTextAssign => Way::Assignment(
+                Word::Whole,
+                Second::Stays,
+            ),
             FnBuiltin::BoolAssign(_)
             | FnBuiltin::TextJoinAssign
             | FnBuiltin::TextMinusAssign

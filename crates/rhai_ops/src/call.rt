@@ -12,7 +12,7 @@ use crate::builtin::FnBuiltin;
 use crate::token::without_assign;
 use crate::way::{Second, Way, Word};
 use crate::write::write;
-use crate::{blobs, bools, chars, ints, ranges, texts};
+use crate::{blobs, bools, chars, ints, push, ranges, texts};
 use rhai_text::{EvalAltResult, Limits};
 use rhai_value::{Dynamic, INT, Store};
 use std::alloc::Global;
@@ -106,7 +106,7 @@ impl FnBuiltin {
     }
 
     /// The same, of an assignment.
-    #[tactic(auto, using(crate::proofs::Ways::still_answer, crate::proofs::FromBelow::probe))]
+    #[tactic(auto, using(crate::proofs::Ways::still_answer))]
     fn assign(
         &self,
         word: Word,
@@ -126,22 +126,46 @@ impl FnBuiltin {
         ensures err { IfErr result (λ e. (x.new ≡ x.old) × (y.new ≡ y.old) × (m.new ≡ m.old)) }
     {
         match *self {
-            FnBuiltin::IntAssign(t) =>
-                put(ints::answer(without_assign(t), value(x, m), value(y, m))?, word, m, x),
-            FnBuiltin::BoolAssign(t) =>
-                put(bools::answer(without_assign(t), value(x, m), value(y, m))?, word, m, x),
-            FnBuiltin::CharJoinAssign => put(chars::append(alloc, value(x, m), value(y, m))?, word, m, x),
+            FnBuiltin::IntAssign(t) => put(
+                ints::answer(without_assign(t), value(x, m), value(y, m))?,
+                word,
+                m,
+                x,
+            ),
+            FnBuiltin::BoolAssign(t) => put(
+                bools::answer(without_assign(t), value(x, m), value(y, m))?,
+                word,
+                m,
+                x,
+            ),
+            FnBuiltin::CharJoinAssign => put(
+                chars::append(alloc, value(x, m), value(y, m))?,
+                word,
+                m,
+                x,
+            ),
             FnBuiltin::TextJoinAssign => put(texts::append(alloc, limits, m, x, y)?, word, m, x),
             FnBuiltin::TextMinusAssign => put(texts::minus(alloc, m, x, y)?, word, m, x),
             FnBuiltin::TextCharAssign => put(texts::join_char(alloc, limits, m, x, y)?, word, m, x),
             FnBuiltin::TextMinusCharAssign => put(texts::minus_char(alloc, m, x, y)?, word, m, x),
-            FnBuiltin::CharTextAssign => put(chars::append_text(alloc, limits, m, x, y)?, word, m, x),
-            FnBuiltin::ArrayAppend
-            | FnBuiltin::BlobAppend
-            | FnBuiltin::ArrayPush
-            | FnBuiltin::BlobPush
-            | FnBuiltin::BlobCharAssign
-            | FnBuiltin::BlobTextAssign => unreachable!(),
+            FnBuiltin::CharTextAssign => put(
+                chars::append_text(alloc, limits, m, x, y)?,
+                word,
+                m,
+                x,
+            ),
+            FnBuiltin::ArrayAppend => push::append_items(alloc, limits, m, x, y),
+            FnBuiltin::BlobAppend => push::append_blob(alloc, limits, m, x, y),
+            FnBuiltin::ArrayPush => push::push_item(limits, m, x, y),
+            FnBuiltin::BlobPush => {
+                let byte = value(y, m);
+                push::push_byte(limits, m, x, byte)
+            }
+            FnBuiltin::BlobCharAssign => {
+                let character = value(y, m);
+                push::push_char(limits, m, x, character)
+            }
+            FnBuiltin::BlobTextAssign => push::append_text(alloc, limits, m, x, y),
             FnBuiltin::Int(_)
             | FnBuiltin::IntCompare(_)
             | FnBuiltin::IntRange(_)

@@ -39,10 +39,7 @@ pub(crate) fn join(
     ensures { IsOutcome (Unit {0}) result (limited_text limits.now (a ∷ b ∷ [])) }
 {
     let (mut first, mut second) = ([0; 4], [0; 4]);
-    let lengths = (
-        spelled(a, &mut first).len(),
-        spelled(b, &mut second).len(),
-    );
+    let lengths = (spelled(a, &mut first).len(), spelled(b, &mut second).len());
     if !is_allowed(limits.text, lengths.0, lengths.1) {
         return Err(EvalAltResult::ErrorDataTooLarge(SizeKind::Text, Position::NONE));
     }
@@ -85,7 +82,7 @@ pub(crate) fn join_text(
 }
 
 /// A text behind the character that is held. An empty one leaves the value as it is, and no limit is tested.
-#[tactic(auto, using(crate::proofs::Ways::same_char))]
+#[tactic(auto, using(crate::proofs::FromBelow::same_char))]
 pub(crate) fn append_text(
     alloc: Global,
     limits: &Limits,

@@ -13,6 +13,7 @@ mod ints;
 pub mod laws;
 mod lookup;
 mod own;
+mod push;
 mod ranges;
 mod texts;
 mod token;

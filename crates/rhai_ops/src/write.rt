@@ -24,11 +24,7 @@ pub(crate) fn under(word: Word, old: &Dynamic, new: Dynamic) -> Dynamic
     ensures { result ≡ rewritten word new old.now }
 {
     match word {
-        Word::Keep => Dynamic::from_parts(labelled(
-            new.into_parts(),
-            old.tag(),
-            old.access_mode(),
-        )),
+        Word::Keep => Dynamic::from_parts(labelled(new.into_parts(), old.tag(), old.access_mode())),
         Word::Whole => new,
     }
 }

@@ -1,6 +1,6 @@
 -- What a call does with what its row comes to: an operator answers it; an assignment writes it where the chain of the first operand
 -- ends, and answers unit.
-use Rattle.std.specs.Prelude.{List, [], if◌then◌else◌}
+use Rattle.std.specs.Prelude.{Bool, true, false, List, [], if◌then◌else◌}
 use Rattle.rhai_value.specs.declared.store.Cell.{Cell}
 use Rattle.rhai_value.specs.Tree.{Tree, content_of, fresh, unit}
 use Rattle.rhai_value.specs.Parts.{with_content}
@@ -56,6 +56,10 @@ way row.ArrayPush = Assignment Keep Taken
 way row.BlobPush = Assignment Keep Stays
 way row.BlobCharAssign = Assignment Keep Stays
 way row.BlobTextAssign = Assignment Keep Stays
+
+abbrev pub is_assignment : Way → Bool
+is_assignment Operator = false
+is_assignment (Assignment w q) = true
 
 -- the place where u stood, once t was written there: t's content under the tag and the mode of u, or t as a whole
 abbrev pub rewritten : Word → Tree → Tree → Tree

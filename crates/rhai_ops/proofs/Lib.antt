@@ -1,4 +1,5 @@
 pub mod ForCallers
+pub mod Agree
 pub mod FromBelow
 pub mod Items
 pub mod Characters

@@ -26,7 +26,7 @@ use Rattle.rhai_ops.specs.Results.{part, Holds, Suits, range_type}
 use Rattle.rhai_ops.proofs.Lines.{LineAll, PairAll, pick_all, pair_all, if_all}
 
 -- a value that is no holder is held
-leaf_end : (s : List Cell) (p : List ℕ) (l : Leaf) (g : ℤ) (m : AccessMode) → end s p (node (leaf l) g m) ≡ held (site_after (slice_get p 0)) (node (leaf l) g m)
+pub leaf_end : (s : List Cell) (p : List ℕ) (l : Leaf) (g : ℤ) (m : AccessMode) → end s p (node (leaf l) g m) ≡ held (site_after (slice_get p 0)) (node (leaf l) g m)
 unfolding end
 leaf_end s p l g m = walk_opens end_of s p (node (leaf l) g m)
 

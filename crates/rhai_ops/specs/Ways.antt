@@ -2,7 +2,7 @@
 -- ends, and answers unit.
 use Rattle.std.specs.Prelude.{Bool, true, false, List, [], if◌then◌else◌}
 use Rattle.rhai_value.specs.declared.store.Cell.{Cell}
-use Rattle.rhai_value.specs.Tree.{Tree, content_of, fresh, unit}
+use Rattle.rhai_value.specs.Tree.{Tree, node, leaf, char, text, content_of, fresh, unit}
 use Rattle.rhai_value.specs.Parts.{with_content}
 use Rattle.rhai_value.specs.End.{end, value_after, store_after}
 use Rattle.rhai_ops.specs.declared.builtin.FnBuiltin.{FnBuiltin}
@@ -91,3 +91,8 @@ second_left (Assignment w Taken) o y = on_value (λ t. fresh unit) y o
 abbrev pub store_left : Way → Outcome → List Cell → Tree → List Cell
 store_left Operator o s x = s
 store_left (Assignment w q) o s x = on_value (λ t. store_after (rewritten w t) (end s [] x) s) s o
+
+-- a character and an empty text
+abbrev pub takes_nothing : Tree → Tree → Bool
+takes_nothing (node (leaf (char c)) g m) (node (leaf (text [])) h n) = true
+takes_nothing _ _ = false

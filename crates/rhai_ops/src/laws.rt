@@ -1,21 +1,22 @@
 //! Laws of the operators, each the contract of a function that does nothing.
-ghost use Rattle.std.specs.Prelude.{◌≡◌, ℕ, ℤ, true, [], ◌∷◌, List, Option, Some};
+ghost use Rattle.std.specs.Prelude.{◌≡◌, ℕ, ℤ, true, false, [], ◌∷◌, List, Option, Some};
 ghost use Rattle.rhai_text.specs.declared.limits.Limits.{Limits};
 ghost use Rattle.rhai_text.specs.declared.token.Token.{Token};
 ghost use Rattle.rhai_value.specs.declared.access_mode.AccessMode.{AccessMode};
 ghost use Rattle.rhai_value.specs.declared.store.Cell.{Cell};
 ghost use Rattle.rhai_value.specs.End.{first};
 ghost use Rattle.rhai_value.specs.Relation.{Renaming, Related, IsOneToOne, RelatedCells};
-ghost use Rattle.rhai_value.specs.Tree.{Tree, node, leaf, char as character, text};
+ghost use Rattle.rhai_value.specs.Tree.{Tree, node, leaf, char as character, text, content_of};
 ghost use Rattle.rhai_ops.specs.declared.builtin.FnBuiltin.{FnBuiltin as Row};
 ghost use Rattle.rhai_ops.specs.declared.builtin.FnBuiltin.TheVariants as row;
 ghost use Rattle.rhai_ops.specs.declared.way.Way.{Way};
 ghost use Rattle.rhai_ops.specs.declared.way.Way.TheVariants.{Operator};
 ghost use Rattle.rhai_ops.specs.AssignTable.{assign_row};
-ghost use Rattle.rhai_ops.specs.Outcome.{Outcome, RelatedOutcomes};
+ghost use Rattle.rhai_ops.specs.Outcome.{Outcome, RelatedOutcomes, answers};
 ghost use Rattle.rhai_ops.specs.Results.{Suits, outcome};
 ghost use Rattle.rhai_ops.specs.Table.{row_of};
-ghost use Rattle.rhai_ops.specs.Ways.{first_left, is_assignment, second_left, store_left, way};
+ghost use Rattle.rhai_ops.specs.Tokens.{without_assign};
+ghost use Rattle.rhai_ops.specs.Ways.{first_left, is_assignment, second_left, store_left, takes_nothing, way};
 
 /// The row that an operator has on two operands may be called on them. That of an assignment may be called on a value too whose first
 /// content it was looked up for.
@@ -60,4 +61,16 @@ pub fn characters_compare_as_texts()
     ensures both { (t : Token) (l : Limits) (s : List Cell) (c d : ℕ) (g h : ℤ) (m n : AccessMode)
         → outcome (row.CharCompare t) l s (node (leaf (character c)) g m) (node (leaf (character d)) h n)
         ≡ outcome (row.TextCompare t) l s (node (leaf (text (c ∷ []))) g m) (node (leaf (text (d ∷ []))) h n) }
+{}
+
+/// Where an operator and its assignment both have a row for two operands and both come to a value, the first operand has then the
+/// content of the operator's answer. A character that takes an empty text stays as it is.
+#[tactic(auto, using(crate::proofs::Agree::agree, crate::proofs::Agree::stays))]
+pub fn assignments_agree()
+    ensures content { (t : Token) (l : Limits) (s : List Cell) (x y : Tree) (b a : Row) (v w : Tree)
+        → row_of (without_assign t) s x y ≡ Some b → assign_row t x y ≡ Some a
+        → outcome b l s x y ≡ answers v → outcome a l s x y ≡ answers w → takes_nothing x y ≡ false
+        → content_of (first_left (way a) (outcome a l s x y) s x) ≡ content_of v }
+    ensures character { (l : Limits) (s : List Cell) (x y : Tree) → takes_nothing x y ≡ true
+        → first_left (way row.CharTextAssign) (outcome row.CharTextAssign l s x y) s x ≡ x }
 {}

@@ -23,9 +23,13 @@ stays_at f s x (held (InCell c) v) kept same = (refl, ap (put s c) (same v refl)
 stays_at f s x (stuck v) kept same = (refl, refl)
 stays_at f s x closed kept same = (refl, refl)
 
+-- what is held, written over itself
+pub kept : (s : List Cell) (x v : Tree) → Some v ≡ held_in (end s [] x) → Stays (λ _. v) (end s [] x) s x
+kept s x v p = let h = kept_written (in_store s x) v p in (ap (λ k. k.value.now) h, ap (λ k. k.store.now) h)
+
 -- where f leaves what is held
 pub stays : (f : Tree → Tree) (s : List Cell) (x : Tree) → ((v : Tree) → Some v ≡ held_in (end s [] x) → f v ≡ v) → Stays f (end s [] x) s x
-stays f s x same = stays_at f s x (end s [] x) (λ v p. let h = kept_written (in_store s x) v p in (ap (λ k. k.value.now) h, ap (λ k. k.store.now) h)) same
+stays f s x same = stays_at f s x (end s [] x) (kept s x) same
 
 -- what is held has the part
 there : {A : Type 0} (part : Tree → Option A) (a : A) (e : End) (v : Tree) → held_part part e ≡ Some a → Some v ≡ held_in e → part v ≡ Some a

@@ -126,12 +126,10 @@ impl FnBuiltin {
         ensures err { IfErr result (λ e. (x.new ≡ x.old) × (y.new ≡ y.old) × (m.new ≡ m.old)) }
     {
         match *self {
-            FnBuiltin::IntAssign(t) => put(
-                ints::answer(without_assign(t), value(x, m), value(y, m))?,
-                word,
-                m,
-                x,
-            ),
+            FnBuiltin::IntAssign(t) => {
+                let number = value(y, m);
+                ints::assign(without_assign(t), word, m, x, number)
+            }
             FnBuiltin::BoolAssign(t) => put(
                 bools::answer(without_assign(t), value(x, m), value(y, m))?,
                 word,

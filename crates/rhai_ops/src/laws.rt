@@ -65,7 +65,7 @@ pub fn characters_compare_as_texts()
 
 /// Where an operator and its assignment both have a row for two operands and both come to a value, the first operand has then the
 /// content of the operator's answer. A character that takes an empty text stays as it is.
-#[tactic(auto, using(crate::proofs::Agree::agree, crate::proofs::Agree::stays))]
+#[tactic(auto, using(crate::proofs::Agree::stays))]
 pub fn assignments_agree()
     ensures content { (t : Token) (l : Limits) (s : List Cell) (x y : Tree) (b a : Row) (v w : Tree)
         → row_of (without_assign t) s x y ≡ Some b → assign_row t x y ≡ Some a

@@ -294,13 +294,7 @@ fn an_array_may_hold_its_own_holder(rt: HostRuntime) -> Result<(), Fail> {
     let alloc = rt.alloc();
     let mut own = Place::both(alloc, ints(alloc, &[]))?;
     if own.x.is_array(&own.store) {
-        FnBuiltin::ArrayPush.call(
-            alloc,
-            &mut own.store,
-            &UNLIMITED,
-            &mut own.x,
-            &mut own.y,
-        )?;
+        FnBuiltin::ArrayPush.call(alloc, &mut own.store, &UNLIMITED, &mut own.x, &mut own.y)?;
     }
     assert!(rt; own.is_taken());
     match own.x.as_array_ref(&own.store) {

@@ -1,5 +1,5 @@
 -- An operator and its assignment come to the same content.
-use Rattle.std.proofs.Common.{◌≡◌, ℕ, ℤ, Bool, true, false, ◌||◌, ◌&&◌, List, [], ◌∷◌, ◌++◌, Option, Some, None, option_map, unwrap_or, if◌then◌else◌, refl, sym, ap, ◌∙◌, subst}
+use Rattle.std.proofs.Common.{◌≡◌, ℕ, ℤ, Bool, true, false, ◌||◌, ◌&&◌, List, [], ◌∷◌, ◌++◌, Option, Some, None, unwrap_or, if◌then◌else◌, refl, sym, ap, ◌∙◌, subst}
 use Rattle.std.specs.Char.{encode_utf8}
 use Rattle.std.proofs.lemmas.List.{append-nil}
 use Rattle.std.proofs.lemmas.Option.{same_Some}
@@ -14,7 +14,7 @@ use Rattle.rhai_value.specs.declared.store.Cell.{Cell}
 use Rattle.rhai_value.specs.declared.type_id.TypeId.{TypeId}
 use Rattle.rhai_value.specs.declared.type_id.TypeId.TheVariants as id
 use Rattle.rhai_value.specs.Tree.{Tree, Trees, node, leaf, branch, fields, holder, array, function, Leaf, unit, bool, int, char, text, blob, host, fresh, copy, content_of}
-use Rattle.rhai_value.specs.Parts.{bool_of, int_of, char_of, text_of, blob_of}
+use Rattle.rhai_value.specs.Parts.{char_of, text_of, blob_of}
 use Rattle.rhai_value.specs.Types.{is_type}
 use Rattle.rhai_value.specs.End.{end, end_type, held_in, value_ahead, value_after, flat}
 use Rattle.rhai_ops.specs.declared.builtin.FnBuiltin.{FnBuiltin}
@@ -23,11 +23,10 @@ use Rattle.rhai_ops.specs.declared.own.Own.{Own}
 use Rattle.rhai_ops.specs.declared.own.Own.TheVariants as is
 use Rattle.rhai_ops.specs.declared.way.Way.{Way}
 use Rattle.rhai_ops.specs.declared.way.Way.TheVariants.{Operator, Assignment}
-use Rattle.rhai_ops.specs.declared.way.Word.{Word}
 use Rattle.rhai_ops.specs.declared.way.Word.TheVariants.{Keep, Whole}
 use Rattle.rhai_ops.specs.AssignTable.{assign_row, assign_line}
-use Rattle.rhai_ops.specs.Outcome.{Outcome, answers, too_large, is_allowed, limited_text, limited_blob}
-use Rattle.rhai_ops.specs.Results.{part, outcome, joined_texts, joined_blobs, appended}
+use Rattle.rhai_ops.specs.Outcome.{Outcome, answers, too_large, limited_text, limited_blob}
+use Rattle.rhai_ops.specs.Results.{outcome, joined_texts, joined_blobs}
 use Rattle.rhai_ops.specs.Table.{own, own_leaf, row_of, own_pair, pair_row, type_line, pick, Line, is_numeric, is_range_type}
 use Rattle.rhai_ops.specs.Tokens.{is_assign, is_plus_assign, is_number, without_assign}
 use Rattle.rhai_ops.specs.Ways.{way, is_assignment, rewritten, first_left, takes_nothing}

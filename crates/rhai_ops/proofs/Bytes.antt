@@ -1,5 +1,5 @@
 -- Texts and blobs that a value holds itself, and texts behind blobs.
-use Rattle.std.proofs.Common.{◌≡◌, ℕ, ◌+◌, Bool, true, false, if◌then◌else◌, List, [], ◌∷◌, ◌++◌, length, length-append, Option, Some, None, refl, sym, ap, ◌∙◌}
+use Rattle.std.proofs.Common.{◌≡◌, ℕ, ◌+◌, true, false, List, [], ◌∷◌, length, length-append, Some, refl, ◌∙◌}
 use Rattle.std.specs.Str.{encode_utf8_all}
 use Rattle.rhai_text.specs.declared.error.SizeKind.TheVariants as size
 use Rattle.rhai_text.specs.declared.limits.Limits.{Limits}

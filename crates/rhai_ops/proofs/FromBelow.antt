@@ -1,10 +1,9 @@
 -- Writes in a store that leave what stood there, which the crate of values doesn't export.
-use Rattle.std.proofs.Common.{◌≡◌, List, [], Option, Some, None, refl, sym, ap, ◌∙◌, MutBor, ℕ, ℤ}
-use Rattle.rhai_value.specs.declared.access_mode.AccessMode.{AccessMode}
+use Rattle.std.proofs.Common.{◌≡◌, List, [], Option, Some, refl, ap, ◌∙◌, ℕ}
 use Rattle.rhai_value.specs.declared.chain.Site.TheVariants.{Own, InCell}
 use Rattle.rhai_value.specs.declared.in_store.InStore.{InStore}
 use Rattle.rhai_value.specs.declared.store.Cell.{Cell}
-use Rattle.rhai_value.specs.Tree.{Tree, Trees, node, leaf, branch, fields, holder, Leaf, Kind, array, function, char, blob}
+use Rattle.rhai_value.specs.Tree.{Tree, Trees, node, leaf, branch, array, char, blob}
 use Rattle.rhai_value.specs.Store.{put}
 use Rattle.rhai_value.specs.Parts.{char_of, blob_of, array_of, with_content}
 use Rattle.rhai_value.specs.End.{End, end, held, stuck, closed, held_in, held_part, value_after, store_after}

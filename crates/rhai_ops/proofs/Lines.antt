@@ -1,5 +1,5 @@
 -- What holds of each row of a line whose question is answered yes holds of the row that is picked.
-use Rattle.std.proofs.Common.{◌≡◌, Bool, true, false, List, [], ◌∷◌, Option, Some, None, if◌then◌else◌, refl, subst}
+use Rattle.std.proofs.Common.{◌≡◌, Bool, true, false, [], ◌∷◌, Option, Some, None, if◌then◌else◌, refl, subst}
 use Rattle.std.proofs.lemmas.Option.{same_Some}
 use Rattle.rhai_ops.specs.declared.builtin.FnBuiltin.{FnBuiltin}
 use Rattle.rhai_ops.specs.Table.{pair_row, or_else, pick, Line, Pair, only, first}

@@ -1,5 +1,5 @@
 -- The rows of operators only answer, those of assignments write.
-use Rattle.std.proofs.Common.{◌≡◌, Bool, true, false, ◌||◌, ◌&&◌, List, [], Option, Some, refl}
+use Rattle.std.proofs.Common.{◌≡◌, true, ◌||◌, ◌&&◌, List, [], Some, refl}
 use Rattle.rhai_text.specs.declared.token.Token.{Token}
 use Rattle.rhai_value.specs.declared.store.Cell.{Cell}
 use Rattle.rhai_value.specs.declared.type_id.TypeId.{TypeId}

@@ -1,16 +1,15 @@
 -- Items of arrays that are the same up to the numbers of their cells.
-use Rattle.std.proofs.Common.{◌≡◌, ℕ, suc, Bool, true, false, List, [], Option, Some, None, option_map, unwrap_or, if◌then◌else◌, refl, ap}
+use Rattle.std.proofs.Common.{◌≡◌, suc, Bool, true, false, List, [], Option, Some, None, option_map, unwrap_or, if◌then◌else◌, refl, ap}
 use Rattle.std.specs.Option.{option_or}
 use Rattle.rhai_text.specs.declared.error.SizeKind.TheVariants as size
 use Rattle.rhai_text.specs.declared.limits.Limits.{Limits}
-use Rattle.rhai_value.specs.declared.chain.Site.TheVariants.{Own, InCell}
 use Rattle.rhai_value.specs.declared.store.Cell.{Cell}
 use Rattle.rhai_value.specs.Tree.{Tree, Trees, no_trees, tree_then, node, leaf, branch, fields, holder, array, function, made, copy_trees}
 use Rattle.rhai_value.specs.Parts.{array_of}
 use Rattle.rhai_value.specs.End.{End, end, held, stuck, closed, held_in, held_part, array_moved}
 use Rattle.rhai_value.specs.Relation.{Renaming, Related, AllRelated, Alike, IsOneToOne, RelatedCells, RelatedEnds}
 use Rattle.rhai_value.proofs.ForCallers.{same_copy, same_end}
-use Rattle.rhai_ops.specs.Outcome.{Outcome, answers, too_large, unsuited, both, is_allowed, RelatedOutcomes}
+use Rattle.rhai_ops.specs.Outcome.{Outcome, answers, too_large, both, is_allowed, RelatedOutcomes}
 use Rattle.rhai_ops.specs.Results.{part, count, then_items, limited_array, pushed, joined_items, held_or_own}
 
 -- of what both hold, where it is alike

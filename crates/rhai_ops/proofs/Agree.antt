@@ -1,5 +1,5 @@
 -- An operator and its assignment come to the same content.
-use Rattle.std.proofs.Common.{◌≡◌, ℕ, ℤ, Bool, true, false, ◌||◌, ◌&&◌, List, [], ◌∷◌, ◌++◌, Option, Some, None, unwrap_or, if◌then◌else◌, refl, sym, ap, ◌∙◌, subst}
+use Rattle.std.proofs.Common.{◌≡◌, ℕ, ℤ, Bool, true, false, ◌||◌, ◌&&◌, List, [], ◌∷◌, ◌++◌, Option, Some, None, IsSome, unwrap_or, if◌then◌else◌, refl, sym, ap, ◌∙◌, subst}
 use Rattle.std.specs.Char.{encode_utf8}
 use Rattle.std.proofs.lemmas.List.{append-nil}
 use Rattle.std.proofs.lemmas.Option.{same_Some}
@@ -21,15 +21,13 @@ use Rattle.rhai_ops.specs.declared.builtin.FnBuiltin.{FnBuiltin}
 use Rattle.rhai_ops.specs.declared.builtin.FnBuiltin.TheVariants as row
 use Rattle.rhai_ops.specs.declared.own.Own.{Own}
 use Rattle.rhai_ops.specs.declared.own.Own.TheVariants as is
-use Rattle.rhai_ops.specs.declared.way.Way.{Way}
-use Rattle.rhai_ops.specs.declared.way.Way.TheVariants.{Operator, Assignment}
-use Rattle.rhai_ops.specs.declared.way.Word.TheVariants.{Keep, Whole}
+use Rattle.rhai_ops.specs.declared.word.Word.TheVariants.{Keep, Whole}
 use Rattle.rhai_ops.specs.AssignTable.{assign_row, assign_line}
 use Rattle.rhai_ops.specs.Outcome.{Outcome, answers, too_large, limited_text, limited_blob}
 use Rattle.rhai_ops.specs.Results.{outcome, joined_texts, joined_blobs}
 use Rattle.rhai_ops.specs.Table.{own, own_leaf, row_of, own_pair, pair_row, type_line, pick, Line, is_numeric, is_range_type}
 use Rattle.rhai_ops.specs.Tokens.{is_assign, is_plus_assign, is_number, without_assign}
-use Rattle.rhai_ops.specs.Ways.{way, is_assignment, rewritten, first_left, takes_nothing}
+use Rattle.rhai_ops.specs.Ways.{Way, operator, assignment, way, word_of, rewritten, first_left, takes_nothing}
 use Rattle.rhai_ops.proofs.Roles.{assignments}
 use Rattle.rhai_ops.proofs.Suited.{leaf_end, own_part}
 
@@ -210,10 +208,10 @@ beside t (blob v) = (refl, refl)
 beside t (host h) = (refl, refl)
 
 -- the content of a value that isn't shared, once another value was written there
-written : (w : Way) (v : Tree) (s : List Cell) (i : Leaf) (g : ℤ) (m : AccessMode) → is_assignment w ≡ true → content_of (first_left w (answers v) s (node (leaf i) g m)) ≡ content_of v
-written Operator v s i g m e = cc
-written (Assignment Keep q) v s i g m e = ap (λ d. content_of (value_after (rewritten Keep v) d (node (leaf i) g m))) (leaf_end s [] i g m)
-written (Assignment Whole q) v s i g m e = ap (λ d. content_of (value_after (rewritten Whole v) d (node (leaf i) g m))) (leaf_end s [] i g m)
+written : (w : Way) (v : Tree) (s : List Cell) (i : Leaf) (g : ℤ) (m : AccessMode) → IsSome (word_of w) → content_of (first_left w (answers v) s (node (leaf i) g m)) ≡ content_of v
+written operator v s i g m e = cc
+written (assignment Keep q) v s i g m e = ap (λ d. content_of (value_after (rewritten Keep v) d (node (leaf i) g m))) (leaf_end s [] i g m)
+written (assignment Whole q) v s i g m e = ap (λ d. content_of (value_after (rewritten Whole v) d (node (leaf i) g m))) (leaf_end s [] i g m)
 
 pub agree : (t : Token) (l : Limits) (s : List Cell) (x y : Tree) (b a : FnBuiltin) (v w : Tree) → row_of (without_assign t) s x y ≡ Some b → assign_row t x y ≡ Some a
     → outcome b l s x y ≡ answers v → outcome a l s x y ≡ answers w → takes_nothing x y ≡ false → content_of (first_left (way a) (outcome a l s x y) s x) ≡ content_of v

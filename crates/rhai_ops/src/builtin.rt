@@ -1,10 +1,10 @@
 //! The rows of the tables.
 ghost use Rattle.std.specs.Prelude.{◌≡◌};
 ghost use Rattle.rhai_ops.specs.Results.{is_limited};
-ghost use Rattle.rhai_ops.specs.Ways as ways;
+ghost use Rattle.rhai_ops.specs.Ways.{way, word_of};
 
 use crate::token::is_arithmetic_assign;
-use crate::way::{Second, Way, Word};
+use crate::word::Word;
 use rhai_text::Token;
 
 /// A built-in operator on operands of certain types: a row of the tables. Lookups answer it. The first 25 are between two operands;
@@ -140,9 +140,9 @@ impl FnBuiltin {
         }
     }
 
-    /// What a call of the row does with what it comes to.
-    pub(crate) fn way(&self) -> Way
-        ensures { result ≡ ways.way self.now }
+    /// The word by which an assignment writes; an operator has none.
+    pub(crate) fn word(&self) -> Option<Word>
+        ensures { result ≡ word_of (way self.now) }
     {
         match self {
             FnBuiltin::Int(_)
@@ -169,26 +169,24 @@ impl FnBuiltin {
             | FnBuiltin::FirstCopy
             | FnBuiltin::SecondCopy
             | FnBuiltin::BlobChar
-            | FnBuiltin::RangeEqual(_, _) => Way::Operator,
+            | FnBuiltin::RangeEqual(_, _) => None,
             FnBuiltin::IntAssign(t) => if is_arithmetic_assign(*t) {
-                Way::Assignment(Word::Keep, Second::Stays)
+                Some(Word::Keep)
             } else {
-                Way::Assignment(Word::Whole, Second::Stays)
+                Some(Word::Whole)
             },
-            FnBuiltin::CharJoinAssign | FnBuiltin::CharTextAssign => Way::Assignment(
-                Word::Whole,
-                Second::Stays,
-            ),
+            FnBuiltin::CharJoinAssign | FnBuiltin::CharTextAssign => Some(Word::Whole),
             FnBuiltin::BoolAssign(_)
             | FnBuiltin::TextJoinAssign
             | FnBuiltin::TextMinusAssign
             | FnBuiltin::TextCharAssign
             | FnBuiltin::TextMinusCharAssign
+            | FnBuiltin::ArrayAppend
+            | FnBuiltin::BlobAppend
+            | FnBuiltin::ArrayPush
             | FnBuiltin::BlobPush
             | FnBuiltin::BlobCharAssign
-            | FnBuiltin::BlobTextAssign => Way::Assignment(Word::Keep, Second::Stays),
-            FnBuiltin::ArrayAppend | FnBuiltin::BlobAppend | FnBuiltin::ArrayPush =>
-                Way::Assignment(Word::Keep, Second::Taken),
+            | FnBuiltin::BlobTextAssign => Some(Word::Keep),
         }
     }
 }

@@ -1,16 +1,15 @@
 //! Calls of rows.
-ghost use Rattle.std.specs.Prelude.{◌≡◌, [], Ok, IfOk, IfErr};
+ghost use Rattle.std.specs.Prelude.{◌≡◌, [], Some, None, Ok, IfOk, IfErr};
 ghost use Rattle.rhai_ops.specs.Outcome.{IsOutcome};
 ghost use Rattle.rhai_ops.specs.Results.{MayWant, Suits, outcome};
-ghost use Rattle.rhai_ops.specs.Ways.{answered, first_left, second_left, store_left, rewritten};
-ghost use Rattle.rhai_ops.specs.Ways as ways;
+ghost use Rattle.rhai_ops.specs.Ways.{answered, first_left, rewritten, second_left, store_left, way, word_of};
 ghost use Rattle.rhai_value.specs.End.{end, value_after, store_after};
 ghost use Rattle.rhai_value.specs.Tree.{fresh, unit};
 
 use crate::answer::{part, value};
 use crate::builtin::FnBuiltin;
 use crate::token::without_assign;
-use crate::way::{Second, Way, Word};
+use crate::word::Word;
 use crate::write::write;
 use crate::{blobs, bools, chars, ints, push, ranges, texts};
 use rhai_text::{EvalAltResult, Limits};
@@ -36,15 +35,15 @@ impl FnBuiltin {
         y: &mut Dynamic,
     ) -> Result<Dynamic, EvalAltResult>
         requires { Suits self.now m.old x.old y.old }
-        ensures result { IsOutcome (MayWant self.now x.old y.old) result (answered (ways.way self.now) (outcome self.now limits.now m.old x.old y.old)) }
-        ensures first { IfOk result (λ d. x.new ≡ first_left (ways.way self.now) (outcome self.now limits.now m.old x.old y.old) m.old x.old) }
-        ensures second { IfOk result (λ d. y.new ≡ second_left (ways.way self.now) (outcome self.now limits.now m.old x.old y.old) y.old) }
-        ensures store { IfOk result (λ d. m.new ≡ store_left (ways.way self.now) (outcome self.now limits.now m.old x.old y.old) m.old x.old) }
+        ensures result { IsOutcome (MayWant self.now x.old y.old) result (answered (way self.now) (outcome self.now limits.now m.old x.old y.old)) }
+        ensures first { IfOk result (λ d. x.new ≡ first_left (way self.now) (outcome self.now limits.now m.old x.old y.old) m.old x.old) }
+        ensures second { IfOk result (λ d. y.new ≡ second_left (way self.now) (outcome self.now limits.now m.old x.old y.old) y.old) }
+        ensures store { IfOk result (λ d. m.new ≡ store_left (way self.now) (outcome self.now limits.now m.old x.old y.old) m.old x.old) }
         ensures err { IfErr result (λ e. (x.new ≡ x.old) × (y.new ≡ y.old) × (m.new ≡ m.old)) }
     {
-        match self.way() {
-            Way::Operator => self.answer(alloc, m, limits, x, y),
-            Way::Assignment(word, second) => self.assign(word, second, alloc, m, limits, x, y),
+        match self.word() {
+            None => self.answer(alloc, m, limits, x, y),
+            Some(word) => self.assign(word, alloc, m, limits, x, y),
         }
     }
 
@@ -58,7 +57,7 @@ impl FnBuiltin {
         y: &Dynamic,
     ) -> Result<Dynamic, EvalAltResult>
         requires suits { Suits self.now s.now x.now y.now }
-        requires operator { ways.way self.now ≡ Way.Operator }
+        requires answers { word_of (way self.now) ≡ None }
         ensures { IsOutcome (MayWant self.now x.now y.now) result (outcome self.now limits.now s.now x.now y.now) }
     {
         match *self {
@@ -110,7 +109,6 @@ impl FnBuiltin {
     fn assign(
         &self,
         word: Word,
-        second: Second,
         alloc: Global,
         m: &mut Store,
         limits: &Limits,
@@ -118,11 +116,11 @@ impl FnBuiltin {
         y: &mut Dynamic,
     ) -> Result<Dynamic, EvalAltResult>
         requires suits { Suits self.now m.old x.old y.old }
-        requires way { ways.way self.now ≡ Way.Assignment word second }
-        ensures result { IsOutcome (MayWant self.now x.old y.old) result (answered (ways.way self.now) (outcome self.now limits.now m.old x.old y.old)) }
-        ensures first { IfOk result (λ d. x.new ≡ first_left (ways.way self.now) (outcome self.now limits.now m.old x.old y.old) m.old x.old) }
-        ensures second { IfOk result (λ d. y.new ≡ second_left (ways.way self.now) (outcome self.now limits.now m.old x.old y.old) y.old) }
-        ensures store { IfOk result (λ d. m.new ≡ store_left (ways.way self.now) (outcome self.now limits.now m.old x.old y.old) m.old x.old) }
+        requires writes { word_of (way self.now) ≡ Some word }
+        ensures result { IsOutcome (MayWant self.now x.old y.old) result (answered (way self.now) (outcome self.now limits.now m.old x.old y.old)) }
+        ensures first { IfOk result (λ d. x.new ≡ first_left (way self.now) (outcome self.now limits.now m.old x.old y.old) m.old x.old) }
+        ensures second { IfOk result (λ d. y.new ≡ second_left (way self.now) (outcome self.now limits.now m.old x.old y.old) y.old) }
+        ensures store { IfOk result (λ d. m.new ≡ store_left (way self.now) (outcome self.now limits.now m.old x.old y.old) m.old x.old) }
         ensures err { IfErr result (λ e. (x.new ≡ x.old) × (y.new ≡ y.old) × (m.new ≡ m.old)) }
     {
         match *self {

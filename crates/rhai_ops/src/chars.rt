@@ -11,7 +11,7 @@ ghost use Rattle.rhai_ops.specs.Tokens.{is_cmp};
 
 use crate::answer::{is_allowed, part, value};
 use crate::compare::compared;
-use crate::way::Word;
+use crate::word::Word;
 use crate::write::under;
 use rhai_text::laws::byte_order_is_character_order;
 use rhai_text::{EvalAltResult, ImmutableString, Limits, Position, SizeKind, Token};

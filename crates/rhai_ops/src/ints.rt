@@ -4,15 +4,13 @@ ghost use Rattle.std.specs.Ordering.{int_cmp};
 ghost use Rattle.rhai_ops.specs.Numbers as specs;
 ghost use Rattle.rhai_value.specs.Parts.{int_of};
 ghost use Rattle.rhai_value.specs.Tree.{Tree};
-ghost use Rattle.rhai_ops.specs.declared.way.Way.TheVariants.{Assignment};
-ghost use Rattle.rhai_ops.specs.declared.way.Second.TheVariants.{Stays};
 ghost use Rattle.rhai_ops.specs.Outcome.{IsOutcome, answers, bool_answer, both, number_answer};
 ghost use Rattle.rhai_ops.specs.Results.{Holds, part};
-ghost use Rattle.rhai_ops.specs.Ways.{answered, first_left, rewritten, store_left};
+ghost use Rattle.rhai_ops.specs.Ways.{answered, assignment, first_left, rewritten, stays, store_left};
 ghost use Rattle.rhai_ops.specs.Tokens.{is_cmp, is_number};
 
 use crate::compare::compared;
-use crate::way::Word;
+use crate::word::Word;
 use crate::write::under;
 use rhai_text::{ArithmeticFault, EvalAltResult, Position, Token};
 use rhai_value::{Dynamic, INT, InStore, Part, Store};
@@ -39,9 +37,9 @@ pub(crate) fn assign(
 ) -> Result<Dynamic, EvalAltResult>
     requires number { IsTrue (is_number op) }
     requires holds { Holds int_of m.old x.old }
-    ensures result { IsOutcome ⊥ result (answered (Assignment word Stays) (both (λ i j. number_answer (specs.number op i j)) (part int_of m.old x.old) (Some y))) }
-    ensures first { IfOk result (λ d. x.new ≡ first_left (Assignment word Stays) (both (λ i j. number_answer (specs.number op i j)) (part int_of m.old x.old) (Some y)) m.old x.old) }
-    ensures store { IfOk result (λ d. m.new ≡ store_left (Assignment word Stays) (both (λ i j. number_answer (specs.number op i j)) (part int_of m.old x.old) (Some y)) m.old x.old) }
+    ensures result { IsOutcome ⊥ result (answered (assignment word stays) (both (λ i j. number_answer (specs.number op i j)) (part int_of m.old x.old) (Some y))) }
+    ensures first { IfOk result (λ d. x.new ≡ first_left (assignment word stays) (both (λ i j. number_answer (specs.number op i j)) (part int_of m.old x.old) (Some y)) m.old x.old) }
+    ensures store { IfOk result (λ d. m.new ≡ store_left (assignment word stays) (both (λ i j. number_answer (specs.number op i j)) (part int_of m.old x.old) (Some y)) m.old x.old) }
     ensures err { IfErr result (λ e. (x.new ≡ x.old) × (m.new ≡ m.old)) }
 {
     let mut place = InStore { value: x, store: m };
@@ -55,7 +53,7 @@ pub(crate) fn assign(
 fn assign_held(op: Token, word: Word, held: &mut Dynamic, y: INT) -> Result<Dynamic, EvalAltResult>
     requires number { IsTrue (is_number op) }
     requires holds { IsSome (int_of held.old) }
-    ensures result { IsOutcome ⊥ result (answered (Assignment word Stays) (both (λ i j. number_answer (specs.number op i j)) (int_of held.old) (Some y))) }
+    ensures result { IsOutcome ⊥ result (answered (assignment word stays) (both (λ i j. number_answer (specs.number op i j)) (int_of held.old) (Some y))) }
     ensures ok { IfOk result (λ d. (t : Tree) → both (λ i j. number_answer (specs.number op i j)) (int_of held.old) (Some y) ≡ answers t → held.new ≡ rewritten word t held.old) }
     ensures err { IfErr result (λ e. held.new ≡ held.old) }
 {

@@ -1,5 +1,5 @@
 //! Laws of the operators, each the contract of a function that does nothing.
-ghost use Rattle.std.specs.Prelude.{◌≡◌, ℕ, ℤ, true, false, [], ◌∷◌, List, Option, Some};
+ghost use Rattle.std.specs.Prelude.{◌≡◌, ℕ, ℤ, true, false, [], ◌∷◌, List, Option, Some, IsSome};
 ghost use Rattle.rhai_text.specs.declared.limits.Limits.{Limits};
 ghost use Rattle.rhai_text.specs.declared.token.Token.{Token};
 ghost use Rattle.rhai_value.specs.declared.access_mode.AccessMode.{AccessMode};
@@ -9,14 +9,12 @@ ghost use Rattle.rhai_value.specs.Relation.{Renaming, Related, IsOneToOne, Relat
 ghost use Rattle.rhai_value.specs.Tree.{Tree, node, leaf, char as character, text, content_of};
 ghost use Rattle.rhai_ops.specs.declared.builtin.FnBuiltin.{FnBuiltin as Row};
 ghost use Rattle.rhai_ops.specs.declared.builtin.FnBuiltin.TheVariants as row;
-ghost use Rattle.rhai_ops.specs.declared.way.Way.{Way};
-ghost use Rattle.rhai_ops.specs.declared.way.Way.TheVariants.{Operator};
 ghost use Rattle.rhai_ops.specs.AssignTable.{assign_row};
 ghost use Rattle.rhai_ops.specs.Outcome.{Outcome, RelatedOutcomes, answers};
 ghost use Rattle.rhai_ops.specs.Results.{Suits, outcome};
 ghost use Rattle.rhai_ops.specs.Table.{row_of};
 ghost use Rattle.rhai_ops.specs.Tokens.{without_assign};
-ghost use Rattle.rhai_ops.specs.Ways.{first_left, is_assignment, second_left, store_left, takes_nothing, way};
+ghost use Rattle.rhai_ops.specs.Ways.{Way, first_left, operator, second_left, store_left, takes_nothing, way, word_of};
 
 /// The row that an operator has on two operands may be called on them. That of an assignment may be called on a value too whose first
 /// content it was looked up for.
@@ -30,8 +28,8 @@ pub fn rows_suit()
 /// The rows of operators are those that only answer, the rows of assignments those that write.
 #[tactic(auto, using(crate::proofs::Roles::operators, crate::proofs::Roles::assignments))]
 pub fn operators_write_nothing()
-    ensures operator { (t : Token) (s : List Cell) (x y : Tree) (b : Row) → row_of t s x y ≡ Some b → way b ≡ Operator }
-    ensures assignment { (t : Token) (x y : Tree) (b : Row) → assign_row t x y ≡ Some b → is_assignment (way b) ≡ true }
+    ensures operator { (t : Token) (s : List Cell) (x y : Tree) (b : Row) → row_of t s x y ≡ Some b → way b ≡ operator }
+    ensures assignment { (t : Token) (x y : Tree) (b : Row) → assign_row t x y ≡ Some b → IsSome (word_of (way b)) }
 {}
 
 /// The row of an operator or an assignment, what it comes to, and what its call leaves don't depend on the numbers of cells.

@@ -17,7 +17,7 @@ mod push;
 mod ranges;
 mod texts;
 mod token;
-mod way;
+mod word;
 mod write;
 
 pub use assign_lookup::get_builtin_op_assignment_fn;

@@ -5,7 +5,7 @@ ghost use Rattle.rhai_value.specs.Tree.{Tree, node, content_of};
 ghost use Rattle.rhai_value.specs.View.{tree_of};
 ghost use Rattle.rhai_ops.specs.Ways.{rewritten};
 
-use crate::way::Word;
+use crate::word::Word;
 use rhai_value::{AccessMode, Dynamic, InStore, Store, Tag, Union};
 
 /// Writes a value by its word to the place where the chain ends; nothing changes where the chain is stuck or closed.

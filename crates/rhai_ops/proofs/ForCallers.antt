@@ -1,3 +1,5 @@
 -- What the proofs of crates above may cite, besides the laws: everything else in this folder is private.
 -- rows and what they come to, on related operands
-pub use Rattle.rhai_ops.proofs.SameRows.{same_row, same_outcome}
+pub use Rattle.rhai_ops.proofs.SameRows.{same_row, same_assign_row, same_outcome}
+-- what calls leave of related operands and stores, and that they add no cell and change no mark
+pub use Rattle.rhai_ops.proofs.SameWays.{same_answered, same_first_left, same_second_left, same_store_left, length_store_left, marked_store_left}

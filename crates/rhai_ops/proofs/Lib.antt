@@ -1,6 +1,15 @@
 pub mod ForCallers
+pub mod Agree
+pub mod FromBelow
+pub mod Items
 pub mod Characters
+pub mod Roles
 pub mod Lengths
+pub mod Lines
+pub mod SameItems
 pub mod SameRows
+pub mod SameWays
 pub mod Shifts
 pub mod Suited
+pub mod Bytes
+pub mod Ways

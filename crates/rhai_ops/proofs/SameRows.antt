@@ -1,7 +1,8 @@
 -- Rows and outcomes of values that are the same up to the numbers of their cells.
-use Rattle.std.proofs.Common.{◌≡◌, ℕ, ℤ, Bool, true, false, List, [], ◌∷◌, ◌++◌, length, Option, Some, None, refl, sym, ap, ap₂, ◌∙◌, option_and_then}
+use Rattle.std.proofs.Common.{◌≡◌, ℕ, ℤ, Bool, true, false, List, [], ◌∷◌, ◌++◌, length, Option, Some, None, refl, sym, ap, ap₂, ◌∙◌, option_and_then, option_map}
 use Rattle.std.specs.Prelude.{Ok, Err, nat_eq, if◌then◌else◌}
 use Rattle.std.specs.Cmp.Lexicographic.{pointwise}
+use Rattle.std.specs.Char.{encode_utf8}
 use Rattle.std.specs.Str.{encode_utf8_all}
 use Rattle.rhai_text.specs.declared.error.SizeKind.TheVariants as size
 use Rattle.rhai_text.specs.declared.limits.Limits.{Limits}
@@ -18,9 +19,12 @@ use Rattle.rhai_value.proofs.ForCallers.{by_trees, same_copy, same_end, same_end
 use Rattle.rhai_ops.specs.declared.builtin.FnBuiltin.{FnBuiltin}
 use Rattle.rhai_ops.specs.declared.builtin.FnBuiltin.TheVariants as row
 use Rattle.rhai_ops.specs.Numbers.{Number, number}
-use Rattle.rhai_ops.specs.Table.{own, row_of, own_pair, type_line, pair_row}
+use Rattle.rhai_ops.specs.AssignTable.{assign_line, assign_row}
+use Rattle.rhai_ops.specs.Table.{own, row_of, own_pair, type_line, pair_row, pick}
 use Rattle.rhai_ops.specs.Outcome.{Outcome, answers, too_large, both, number_answer, bool_answer, is_allowed, limited_text, limited_blob, RelatedOutcomes}
-use Rattle.rhai_ops.specs.Results.{part, joined_blobs, outcome, range_type, unless}
+use Rattle.rhai_ops.specs.Results.{part, joined_blobs, joined_texts, joined_to_char, blob_and_text, byte_of, pushed, joined_items, held_or_own, outcome, range_type, unless}
+use Rattle.rhai_ops.specs.Tokens.{without_assign}
+use Rattle.rhai_ops.proofs.SameItems.{both_alike, pushed_related, joined_related, same_items, same_moved, same_held}
 
 pub same_own : (r : Renaming) (t u : Tree) → Related r t u → own t ≡ own u
 same_own r = by_trees r (λ t u. own t ≡ own u) (λ l g m. refl) same_branch (λ fs hs g m h. refl) (λ c d g m p. refl)
@@ -57,6 +61,19 @@ joined_same r l t u v w h q (a ∷ cs) [] = h
 joined_same r l t u v w h q [] (b ∷ bs) = q
 joined_same r l t u v w h q (a ∷ cs) (b ∷ bs) = blob_self r l ((a ∷ cs) ++ (b ∷ bs))
 
+texts_self : (r : Renaming) (l : Limits) (v w : List ℕ) → RelatedOutcomes r (joined_texts l v w) (joined_texts l v w)
+texts_self r l v [] = (refl, refl, refl)
+texts_self r l [] (d ∷ w) = (refl, refl, refl)
+texts_self r l (c ∷ v) (d ∷ w) = text_self r l ((c ∷ v) ++ (d ∷ w))
+
+char_same : (r : Renaming) (l : Limits) (t u : Tree) → Related r t u → (c : ℕ) (w : List ℕ) → RelatedOutcomes r (joined_to_char l t c w) (joined_to_char l u c w)
+char_same r l t u h c [] = h
+char_same r l t u h c (d ∷ w) = text_self r l (c ∷ d ∷ w)
+
+blob_and_text_self : (r : Renaming) (l : Limits) (v w : List ℕ) → RelatedOutcomes r (blob_and_text l v w) (blob_and_text l v w)
+blob_and_text_self r l v [] = (refl, refl, refl)
+blob_and_text_self r l v (d ∷ w) = blob_self r l (v ++ encode_utf8_all (d ∷ w))
+
 -- a value of one of the host's types, as a value of the host's
 typed_held : (k : TypeId) (e : End) → held_part (typed_host_of k) e ≡ option_and_then (host_at k) (held_part host_of e)
 typed_held k (held site t) = refl
@@ -81,6 +98,9 @@ module _ (r : Renaming) (s z : List Cell) (one : IsOneToOne r) (cells : RelatedC
     -- of two leaves that both hold
     by_both : {A B : Type 0} (x : Leaf → Option A) (y : Leaf → Option B) (f : A → B → Outcome) → ((a : A) (b : B) → RelatedOutcomes r (f a b) (f a b)) → RelatedOutcomes r (both f (part (leaf_part x) s t) (part (leaf_part y) s v)) (both f (part (leaf_part x) z u) (part (leaf_part y) z w))
     by_both x y f same = rw (same_leaf x t u h, same_leaf y v w q) (both_self r f f same (part (leaf_part x) z u) (part (leaf_part y) z w))
+
+    pub same_assign_row : (k : Token) → assign_row k t v ≡ assign_row k u w
+    same_assign_row k = ap₂ (λ a b. pick (assign_line k a b)) (same_own r t u h) (same_own r v w q)
 
     pub same_outcome : (b : FnBuiltin) (l : Limits) → RelatedOutcomes r (outcome b l s t v) (outcome b l z u w)
     same_outcome (row.Int k) l = by_both leaf_int leaf_int _ (λ m n. number_self r (number k m n))
@@ -110,3 +130,22 @@ module _ (r : Renaming) (s z : List Cell) (one : IsOneToOne r) (cells : RelatedC
     same_outcome row.BlobChar l = by_both leaf_blob leaf_char _ (λ a b. blob_self r l _)
     same_outcome (row.RangeEqual i n) l =
         rw (same_typed (range_type i) t u h, same_typed (range_type i) v w q) (both_self r _ _ (λ a b. bool_self r _) (part (typed_host_of (range_type i)) z u) (part (typed_host_of (range_type i)) z w))
+    same_outcome (row.IntAssign k) l = by_both leaf_int leaf_int _ (λ m n. number_self r (number (without_assign k) m n))
+    same_outcome (row.BoolAssign k) l = by_both leaf_bool leaf_bool _ (λ a b. bool_self r _)
+    same_outcome row.CharJoinAssign l = by_both leaf_char leaf_char _ (λ a b. (refl, refl, refl))
+    same_outcome row.TextJoinAssign l = by_both leaf_text leaf_text _ (texts_self r l)
+    same_outcome row.TextMinusAssign l = by_both leaf_text leaf_text _ (λ a b. (refl, refl, refl))
+    same_outcome row.ArrayAppend l =
+        both_alike r (AllRelated r) (AllRelated r) (joined_items l) (joined_items l) (joined_related r l) _ _ _ _ (same_items r s z one cells t u h) (same_moved r s z one cells v w q)
+    same_outcome row.BlobAppend l = by_both leaf_blob leaf_blob _ (λ a b. blob_self r l _)
+    same_outcome row.TextCharAssign l = by_both leaf_text leaf_char _ (λ a b. text_self r l _)
+    same_outcome row.TextMinusCharAssign l = by_both leaf_text leaf_char _ (λ a b. (refl, refl, refl))
+    same_outcome row.CharTextAssign l =
+        rw (same_leaf leaf_char t u h, same_leaf leaf_text v w q) (both_self r _ _ (char_same r l (held_or_own s t) (held_or_own z u) (same_held r s z one cells t u h)) (part (leaf_part leaf_char) z u) (part (leaf_part leaf_text) z w))
+    same_outcome row.ArrayPush l =
+        both_alike r (AllRelated r) (Related r) (pushed l) (pushed l) (pushed_related r l) _ _ _ _ (same_items r s z one cells t u h) q
+    same_outcome row.BlobPush l =
+        rw (same_leaf leaf_blob t u h, same_leaf leaf_int v w q) (both_self r _ _ (λ a b. blob_self r l (a ++ b)) (part (leaf_part leaf_blob) z u) (option_map (λ n. byte_of n ∷ []) (part (leaf_part leaf_int) z w)))
+    same_outcome row.BlobCharAssign l =
+        rw (same_leaf leaf_blob t u h, same_leaf leaf_char v w q) (both_self r _ _ (λ a b. blob_self r l (a ++ b)) (part (leaf_part leaf_blob) z u) (option_map encode_utf8 (part (leaf_part leaf_char) z w)))
+    same_outcome row.BlobTextAssign l = by_both leaf_blob leaf_text _ (blob_and_text_self r l)

@@ -1,60 +1,73 @@
 -- A row that the table has for two operands suits them.
-use Rattle.std.proofs.Common.{◌≡◌, ℤ, Bool, true, false, ◌||◌, ◌&&◌, List, [], ◌∷◌, Option, Some, None, IsSome, is_some, option_map, if◌then◌else◌, refl, sym, ap, ◌∙◌, subst}
+use Rattle.std.proofs.Common.{◌≡◌, ℕ, ℤ, Bool, true, false, ◌||◌, ◌&&◌, List, [], ◌∷◌, slice_get, Option, Some, None, IsSome, option_map, refl, sym, ap, ◌∙◌, subst}
 use Rattle.std.proofs.lemmas.Option.{same_Some}
 use Rattle.rhai_text.specs.declared.token.Token.{Token}
 use Rattle.rhai_value.specs.declared.access_mode.AccessMode.{AccessMode}
-use Rattle.rhai_value.specs.declared.chain.Site.TheVariants.{Own as OwnSite}
+use Rattle.rhai_value.specs.declared.chain.Site.{Site}
 use Rattle.rhai_value.specs.declared.store.Cell.{Cell}
 use Rattle.rhai_value.specs.declared.type_id.TypeId.{TypeId}
 use Rattle.rhai_value.specs.declared.type_id.TypeId.TheVariants as id
-use Rattle.rhai_value.specs.Tree.{Tree, node, leaf, branch, fields, holder, array, function, Leaf, unit, bool, int, char, text, blob, host, content_of}
-use Rattle.rhai_value.specs.Parts.{unit_of, bool_of, int_of, char_of, text_of, blob_of, typed_host_of}
+use Rattle.rhai_value.specs.Tree.{Tree, Trees, Kind, node, leaf, branch, fields, holder, array, function, Leaf, unit, bool, int, char, text, blob, host, content_of}
+use Rattle.rhai_value.specs.Parts.{unit_of, bool_of, int_of, char_of, text_of, blob_of, array_of, typed_host_of}
+use Rattle.rhai_value.specs.Store.{at}
+use Rattle.rhai_value.specs.Walk.{visit_of, visit_map, walk}
 use Rattle.rhai_value.specs.Types.{is_type, is_host_type, tree_type}
 use Rattle.rhai_value.specs.Kinds.{host_reads, one_type}
-use Rattle.rhai_value.specs.End.{End, held, stuck, closed, end, end_of, end_type, held_part}
+use Rattle.rhai_value.specs.End.{End, held, stuck, closed, site_after, end, end_at, end_of, end_type, held_part, first}
 use Rattle.rhai_value.proofs.ForCallers.{walk_opens}
 use Rattle.rhai_ops.specs.declared.builtin.FnBuiltin.{FnBuiltin}
 use Rattle.rhai_ops.specs.declared.builtin.FnBuiltin.TheVariants as row
 use Rattle.rhai_ops.specs.declared.own.Own.{Own}
 use Rattle.rhai_ops.specs.declared.own.Own.TheVariants as is
 use Rattle.rhai_ops.specs.Tokens.{is_unequal}
-use Rattle.rhai_ops.specs.Table.{own, row_of, own_pair, type_line, pair_row, or_else, pick, Line, Pair, only, first, is_numeric, is_range_type}
+use Rattle.rhai_ops.specs.Table.{own, own_leaf, row_of, own_pair, type_line, pick, is_numeric, is_range_type}
+use Rattle.rhai_ops.specs.AssignTable.{assign_line, assign_row}
 use Rattle.rhai_ops.specs.Results.{part, Holds, Suits, range_type}
+use Rattle.rhai_ops.proofs.Lines.{LineAll, PairAll, pick_all, pair_all, if_all}
 
 -- a value that is no holder is held
-own_end : (s : List Cell) (l : Leaf) (g : ℤ) (m : AccessMode) → end s [] (node (leaf l) g m) ≡ held OwnSite (node (leaf l) g m)
+pub leaf_end : (s : List Cell) (p : List ℕ) (l : Leaf) (g : ℤ) (m : AccessMode) → end s p (node (leaf l) g m) ≡ held (site_after (slice_get p 0)) (node (leaf l) g m)
 unfolding end
-own_end s l g m = walk_opens end_of s [] (node (leaf l) g m)
+leaf_end s p l g m = walk_opens end_of s p (node (leaf l) g m)
+
+branch_end : (s : List Cell) (p : List ℕ) (k : Kind) (ts : Trees) (g : ℤ) (m : AccessMode) → end s p (node (branch k ts) g m) ≡ held (site_after (slice_get p 0)) (node (branch k ts) g m)
+unfolding end
+branch_end s p k ts g m = walk_opens end_of s p (node (branch k ts) g m)
+
+-- the chain from a holder is that from what its cell has
+holder_end : (s : List Cell) (c : ℕ) (g : ℤ) (m : AccessMode) (v : Tree) → at s c ≡ Some v → end s [] (node (holder c) g m) ≡ end s (c ∷ []) v
+unfolding end
+holder_end s c g m v e = walk_opens end_of s [] (node (holder c) g m) ∙ ap (λ o. end_at (node (holder c) g m) (visit_map (walk end_of s (c ∷ [])) (visit_of o false))) e
 
 pub own_part : {A : Type 0} (of : Tree → Option A) (s : List Cell) (l : Leaf) (g : ℤ) (m : AccessMode) → part of s (node (leaf l) g m) ≡ of (node (leaf l) g m)
-own_part of s l g m = ap (held_part of) (own_end s l g m)
+own_part of s l g m = ap (held_part of) (leaf_end s [] l g m)
 
-holds_leaf : {A : Type 0} (of : Tree → Option A) (s : List Cell) (l : Leaf) (g : ℤ) (m : AccessMode) → IsSome (of (node (leaf l) g m)) → Holds of s (node (leaf l) g m)
-holds_leaf of s l g m h = ap is_some (own_part of s l g m) ∙ h
+-- what a value holds by its own constructor, of the end of its chain
+abbrev HoldsOwn : Own → End → Type 0
+HoldsOwn is.Unit e = IsSome (held_part unit_of e)
+HoldsOwn is.Bool e = IsSome (held_part bool_of e)
+HoldsOwn is.Int e = IsSome (held_part int_of e)
+HoldsOwn is.Str e = IsSome (held_part text_of e)
+HoldsOwn is.Char e = IsSome (held_part char_of e)
+HoldsOwn is.Blob e = IsSome (held_part blob_of e)
+HoldsOwn is.Array e = IsSome (held_part array_of e)
+HoldsOwn is.Other e = Unit {0}
 
--- what a value holds by its own constructor
-abbrev HoldsOwn : Own → List Cell → Tree → Type 0
-HoldsOwn is.Unit s t = Holds unit_of s t
-HoldsOwn is.Bool s t = Holds bool_of s t
-HoldsOwn is.Int s t = Holds int_of s t
-HoldsOwn is.Str s t = Holds text_of s t
-HoldsOwn is.Char s t = Holds char_of s t
-HoldsOwn is.Blob s t = Holds blob_of s t
-HoldsOwn is.Array s t = Unit {0}
-HoldsOwn is.Other s t = Unit {0}
+leaf_holds : (site : Site) (l : Leaf) (g : ℤ) (m : AccessMode) → HoldsOwn (own_leaf l) (held site (node (leaf l) g m))
+leaf_holds site unit g m = refl
+leaf_holds site (bool b) g m = refl
+leaf_holds site (int n) g m = refl
+leaf_holds site (text v) g m = refl
+leaf_holds site (char c) g m = refl
+leaf_holds site (blob bs) g m = refl
+leaf_holds site (host h) g m = tt
 
-holds_own : (s : List Cell) (t : Tree) → HoldsOwn (own t) s t
-holds_own s (node (leaf unit) g m) = holds_leaf unit_of s unit g m refl
-holds_own s (node (leaf (bool b)) g m) = holds_leaf bool_of s (bool b) g m refl
-holds_own s (node (leaf (int n)) g m) = holds_leaf int_of s (int n) g m refl
-holds_own s (node (leaf (text v)) g m) = holds_leaf text_of s (text v) g m refl
-holds_own s (node (leaf (char c)) g m) = holds_leaf char_of s (char c) g m refl
-holds_own s (node (leaf (blob bs)) g m) = holds_leaf blob_of s (blob bs) g m refl
-holds_own s (node (leaf (host h)) g m) = tt
-holds_own s (node (branch array ts) g m) = tt
-holds_own s (node (branch (function f) ts) g m) = tt
-holds_own s (node (fields fs) g m) = tt
-holds_own s (node (holder c) g m) = tt
+holds_own : (s : List Cell) (p : List ℕ) (t : Tree) → HoldsOwn (own t) (end s p t)
+holds_own s p (node (leaf l) g m) = subst (HoldsOwn (own_leaf l)) (sym (leaf_end s p l g m)) (leaf_holds (site_after (slice_get p 0)) l g m)
+holds_own s p (node (branch array ts) g m) = subst (HoldsOwn is.Array) (sym (branch_end s p array ts g m)) refl
+holds_own s p (node (branch (function f) ts) g m) = tt
+holds_own s p (node (fields fs) g m) = tt
+holds_own s p (node (holder c) g m) = tt
 
 -- a range that is held
 some_of_map : {A B : Type 0} (f : A → B) (o : Option A) (b : B) → option_map f o ≡ Some b → IsSome o
@@ -73,32 +86,10 @@ holds_host k (stuck t) h e = absurd (shared_is_no_host (sym (ap is_host_type (on
 holds_host k closed h e = absurd (shared_is_no_host (sym (ap is_host_type (one_type k id.Shared e)) ∙ h))
 
 module _ (t : Token) (s : List Cell) (x y : Tree) where
-  abbrev LineSuits : Line → Type 0
-  LineSuits [] = Unit {0}
-  LineSuits ((b, r) ∷ rest) = (b ≡ true → Suits r s x y) × LineSuits rest
+  abbrev Fit : FnBuiltin → Type 0
+  Fit r = Suits r s x y
 
-  abbrev PairSuits : Pair → Type 0
-  PairSuits (only l) = LineSuits l
-  PairSuits (first l) = LineSuits l
-
-  pick_suits : (l : Line) (r : FnBuiltin) → LineSuits l → pick l ≡ Some r → Suits r s x y
-  pick_suits [] r h e = cc
-  pick_suits ((true, q) ∷ rest) r h e = let same : q ≡ r = same_Some q r e in subst (λ b. Suits b s x y) same (h.0 refl)
-  pick_suits ((false, q) ∷ rest) r h e = pick_suits rest r h.1 e
-
-  else_suits : (o p : Option FnBuiltin) (r : FnBuiltin) → (o ≡ Some r → Suits r s x y) → (p ≡ Some r → Suits r s x y) → or_else o p ≡ Some r → Suits r s x y
-  else_suits (Some q) p r h k e = h e
-  else_suits None p r h k e = k e
-
-  pair_suits : (p : Pair) (l : Line) (r : FnBuiltin) → PairSuits p → LineSuits l → pair_row p l ≡ Some r → Suits r s x y
-  pair_suits (only k) l r h q e = pick_suits k r h e
-  pair_suits (first k) l r h q e = else_suits (pick k) (pick l) r (pick_suits k r h) (pick_suits l r q) e
-
-  if_suits : (b : Bool) (k l : Line) → (b ≡ true → LineSuits k) → (b ≡ false → LineSuits l) → LineSuits (if b then k else l)
-  if_suits true k l h q = h refl
-  if_suits false k l h q = q refl
-
-  own_suits : (a b : Own) → HoldsOwn a s x → HoldsOwn b s y → PairSuits (own_pair t a b)
+  own_suits : (a b : Own) → HoldsOwn a (end s [] x) → HoldsOwn b (end s [] y) → PairAll Fit (own_pair t a b)
   own_suits is.Int is.Int h k = (λ e. (e, h, k), (λ e. (e, h, k), (λ e. (h, k), tt)))
   own_suits is.Bool is.Bool h k = (λ e. (e, h, k), (λ e. (e, h, k), tt))
   own_suits is.Str is.Str h k = (λ e. (h, k), (λ e. (h, k), (λ e. (e, h, k), tt)))
@@ -137,11 +128,46 @@ module _ (t : Token) (s : List Cell) (x y : Tree) where
       let self : is_type first_type first_type ≡ true = ap (is_type first_type) same ∙ e in
       subst (λ k. Holds (typed_host_of k) s x × Holds (typed_host_of k) s y) (sym h.1) (holds_host first_type (end s [] x) h.0 self, holds_host first_type (end s [] y) h.0 e)
 
-  types_suit : LineSuits (type_line t first_type second_type)
+  types_suit : LineAll Fit (type_line t first_type second_type)
   types_suit =
-      if_suits (is_type first_type id.Shared || is_type second_type id.Shared) _ _ (λ e. tt) (λ e.
-      if_suits (is_range_type first_type && is_range_type second_type) _ _ (λ b. if_suits (is_type first_type second_type) _ _ (λ i. (λ d. ranges_suit (is_unequal t) (both_true _ _ b).0 i, tt)) (λ i. (λ d. tt, (λ d. tt, tt))))
-      (λ b. if_suits (is_type first_type second_type || (is_numeric first_type && is_numeric second_type)) _ _ (λ i. tt) (λ i. (λ d. tt, (λ d. tt, tt)))))
+      if_all Fit (is_type first_type id.Shared || is_type second_type id.Shared) _ _ (λ e. tt) (λ e.
+      if_all Fit (is_range_type first_type && is_range_type second_type) _ _ (λ b. if_all Fit (is_type first_type second_type) _ _ (λ i. (λ d. ranges_suit (is_unequal t) (both_true _ _ b).0 i, tt)) (λ i. (λ d. tt, (λ d. tt, tt))))
+      (λ b. if_all Fit (is_type first_type second_type || (is_numeric first_type && is_numeric second_type)) _ _ (λ i. tt) (λ i. (λ d. tt, (λ d. tt, tt)))))
+
+  assign_suits : (a b : Own) → HoldsOwn a (end s [] x) → HoldsOwn b (end s [] y) → LineAll Fit (assign_line t a b)
+  assign_suits is.Int is.Int h k = (λ e. (e, h, k), tt)
+  assign_suits is.Bool is.Bool h k = (λ e. (e, h, k), tt)
+  assign_suits is.Char is.Char h k = (λ e. (h, k), tt)
+  assign_suits is.Str is.Str h k = (λ e. (h, k), (λ e. (h, k), tt))
+  assign_suits is.Array is.Array h k = (λ e. (h, k), tt)
+  assign_suits is.Blob is.Blob h k = (λ e. (h, k), tt)
+  assign_suits is.Str is.Char h k = (λ e. (h, k), (λ e. (h, k), tt))
+  assign_suits is.Char is.Str h k = (λ e. (h, k), tt)
+  assign_suits is.Array _ h k = (λ e. h, tt)
+  assign_suits is.Blob is.Int h k = (λ e. (h, k), tt)
+  assign_suits is.Blob is.Char h k = (λ e. (h, k), tt)
+  assign_suits is.Blob is.Str h k = (λ e. (h, k), tt)
+  assign_suits _ _ h k = tt
+
+  -- the first operand holds what its first content is by its own constructor
+  assign_row_suits : (a : Own) (r : FnBuiltin) → HoldsOwn a (end s [] x) → pick (assign_line t a (own y)) ≡ Some r → Suits r s x y
+  assign_row_suits a r h e = pick_all Fit (assign_line t a (own y)) r (assign_suits a (own y) h (holds_own s [] y)) e
 
   pub row_suits : (r : FnBuiltin) → row_of t s x y ≡ Some r → Suits r s x y
-  row_suits r e = pair_suits (own_pair t (own x) (own y)) (type_line t first_type second_type) r (own_suits (own x) (own y) (holds_own s x) (holds_own s y)) types_suit e
+  row_suits r e = pair_all Fit (own_pair t (own x) (own y)) (type_line t first_type second_type) r (own_suits (own x) (own y) (holds_own s [] x) (holds_own s [] y)) types_suit e
+
+-- the row that is looked up for the first content of x may be called on x
+own_first : (s : List Cell) (x v : Tree) → Some x ≡ Some v → HoldsOwn (own v) (end s [] x)
+own_first s x v e = subst (λ u. HoldsOwn (own u) (end s [] x)) (same_Some x v e) (holds_own s [] x)
+
+holds_first : (s : List Cell) (x v : Tree) → first s x ≡ Some v → HoldsOwn (own v) (end s [] x)
+holds_first s (node (holder c) g m) v e = subst (HoldsOwn (own v)) (sym (holder_end s c g m v e)) (holds_own s (c ∷ []) v)
+holds_first s (node (leaf l) g m) v e = own_first s (node (leaf l) g m) v e
+holds_first s (node (branch k ts) g m) v e = own_first s (node (branch k ts) g m) v e
+holds_first s (node (fields fs) g m) v e = own_first s (node (fields fs) g m) v e
+
+pub place_suits : (t : Token) (s : List Cell) (x v y : Tree) (r : FnBuiltin) → first s x ≡ Some v → assign_row t v y ≡ Some r → Suits r s x y
+place_suits t s x v y r f e = assign_row_suits t s x y (own v) r (holds_first s x v f) e
+
+pub assigned_suits : (t : Token) (s : List Cell) (x y : Tree) (r : FnBuiltin) → assign_row t x y ≡ Some r → Suits r s x y
+assigned_suits t s x y r e = assign_row_suits t s x y (own x) r (holds_own s [] x) e

@@ -1,5 +1,7 @@
 pub mod Tokens
 pub mod Table
+pub mod AssignTable
 pub mod Numbers
 pub mod Outcome
 pub mod Results
+pub mod Ways

@@ -1,24 +1,27 @@
 -- What each row asks for, what it answers, and what it may want: one line a row.
-use Rattle.std.specs.Prelude.{ℕ, ℤ, pos, ◌-◌, ◌^◌, Bool, true, false, not, ◌&&◌, List, [], ◌∷◌, ◌++◌, Option, Some, None, option_map, nat_eq, IsTrue, IsSome}
+use Rattle.std.specs.Prelude.{ℕ, ℤ, pos, suc, ◌-◌, ◌^◌, Bool, true, false, not, ◌&&◌, List, [], ◌∷◌, ◌++◌, Option, Some, None, option_map, unwrap_or, unsigned_abs, nat_eq, IsTrue, IsSome, if◌then◌else◌}
 use Rattle.std.specs.Cmp.Lexicographic.{slice_cmp, pointwise}
 use Rattle.std.specs.Ordering.{bool_cmp, int_cmp, int_eq, nat_cmp}
 use Rattle.std.specs.Char.{encode_utf8}
+use Rattle.std.specs.Int.{int_rem_euclid}
+use Rattle.std.specs.Str.{encode_utf8_all}
 use Rattle.std.specs.declared.cmp.Ordering.{Ordering}
 use Rattle.rhai_text.specs.Text.{minus, minus_char}
+use Rattle.rhai_text.specs.declared.error.SizeKind.TheVariants as size
 use Rattle.rhai_text.specs.declared.limits.Limits.{Limits}
 use Rattle.rhai_value.specs.declared.host.Host.{Host}
 use Rattle.rhai_value.specs.declared.host.Host.TheVariants.{ExclusiveRange, InclusiveRange}
 use Rattle.rhai_value.specs.declared.store.Cell.{Cell}
 use Rattle.rhai_value.specs.declared.type_id.TypeId.{TypeId}
 use Rattle.rhai_value.specs.declared.type_id.TypeId.TheVariants as id
-use Rattle.rhai_value.specs.Tree.{Tree, fresh, bool, text, host, copy, TakesNoMemory}
-use Rattle.rhai_value.specs.Parts.{unit_of, bool_of, int_of, char_of, text_of, blob_of, typed_host_of}
-use Rattle.rhai_value.specs.End.{end, held_part, flat}
+use Rattle.rhai_value.specs.Tree.{Tree, Trees, no_trees, tree_then, branch, array, made, fresh, bool, text, blob, host, copy, TakesNoMemory}
+use Rattle.rhai_value.specs.Parts.{unit_of, bool_of, int_of, char_of, text_of, blob_of, array_of, typed_host_of}
+use Rattle.rhai_value.specs.End.{end, held_in, held_part, flat, array_moved}
 use Rattle.rhai_ops.specs.declared.builtin.FnBuiltin.{FnBuiltin}
 use Rattle.rhai_ops.specs.declared.builtin.FnBuiltin.TheVariants as row
-use Rattle.rhai_ops.specs.Tokens.{is_number, is_bits, is_cmp}
+use Rattle.rhai_ops.specs.Tokens.{is_number, is_bits, is_cmp, is_assign, is_bits_assign, without_assign}
 use Rattle.rhai_ops.specs.Numbers.{number, both_bits, compared}
-use Rattle.rhai_ops.specs.Outcome.{Outcome, answers, both, number_answer, bool_answer, limited_text, limited_blob}
+use Rattle.rhai_ops.specs.Outcome.{Outcome, answers, too_large, both, number_answer, bool_answer, is_allowed, limited_text, limited_blob}
 
 -- what is held of a kind
 abbrev pub part : {A : Type 0} → (Tree → Option A) → List Cell → Tree → Option A
@@ -61,7 +64,57 @@ joined_blobs l x y v [] = answers x
 joined_blobs l x y [] (b ∷ w) = answers y
 joined_blobs l x y (a ∷ v) (b ∷ w) = limited_blob l ((a ∷ v) ++ (b ∷ w))
 
--- what a row comes to on x and y in the store s, under the limits l
+-- a text behind a text; beside an empty one no limit is tested
+abbrev pub joined_texts : Limits → List ℕ → List ℕ → Outcome
+joined_texts l v [] = answers (fresh (text v))
+joined_texts l [] (d ∷ w) = answers (fresh (text (d ∷ w)))
+joined_texts l (c ∷ v) (d ∷ w) = limited_text l ((c ∷ v) ++ (d ∷ w))
+
+-- a text behind the character of t; an empty one leaves t as it is, and no limit is tested
+abbrev pub joined_to_char : Limits → Tree → ℕ → List ℕ → Outcome
+joined_to_char l t c [] = answers t
+joined_to_char l t c (d ∷ w) = limited_text l (c ∷ d ∷ w)
+
+-- bytes behind a blob
+abbrev pub appended : Limits → List ℕ → List ℕ → Outcome
+appended l v w = limited_blob l (v ++ w)
+
+-- the bytes of a text behind a blob; of an empty one no limit is tested
+abbrev pub blob_and_text : Limits → List ℕ → List ℕ → Outcome
+blob_and_text l v [] = answers (fresh (blob v))
+blob_and_text l v (d ∷ w) = appended l v (encode_utf8_all (d ∷ w))
+
+-- an integer modulo 256
+abbrev pub byte_of : ℤ → ℕ
+byte_of n = unsigned_abs (int_rem_euclid n (pos 256))
+
+-- how many items there are, and items behind items
+abbrev pub count : Trees → ℕ
+count no_trees = 0
+count (tree_then t ts) = suc (count ts)
+
+abbrev pub then_items : Trees → Trees → Trees
+then_items no_trees us = us
+then_items (tree_then t ts) us = tree_then t (then_items ts us)
+
+-- an array whose items the limit allows
+abbrev pub limited_array : Limits → Trees → Outcome
+limited_array l ts = if is_allowed l.items (count ts) then answers (made (branch array ts)) else too_large size.Items
+
+-- an item behind the others; and items behind items, where beside none no limit is tested
+abbrev pub pushed : Limits → Trees → Tree → Outcome
+pushed l ts u = limited_array l (then_items ts (tree_then u no_trees))
+
+abbrev pub joined_items : Limits → Trees → Trees → Outcome
+joined_items l no_trees us = answers (made (branch array us))
+joined_items l (tree_then t ts) no_trees = answers (made (branch array (then_items (tree_then t ts) no_trees)))
+joined_items l (tree_then t ts) (tree_then u us) = limited_array l (then_items (tree_then t ts) (tree_then u us))
+
+-- what is held, or else the value itself
+abbrev pub held_or_own : List Cell → Tree → Tree
+held_or_own s t = unwrap_or (held_in (end s [] t)) t
+
+-- what a row comes to on x and y in the store s, under the limits l; both are read before anything is written
 abbrev pub outcome : FnBuiltin → Limits → List Cell → Tree → Tree → Outcome
 outcome (row.Int t) l s x y = both (λ m n. number_answer (number t m n)) (part int_of s x) (part int_of s y)
 outcome (row.IntCompare t) l s x y = both (λ m n. bool_answer (compared t (int_cmp m n))) (part int_of s x) (part int_of s y)
@@ -88,6 +141,20 @@ outcome row.FirstCopy l s x y = answers (copy x)
 outcome row.SecondCopy l s x y = answers (copy y)
 outcome row.BlobChar l s x y = both (λ v d. limited_blob l (v ++ encode_utf8 d)) (part blob_of s x) (part char_of s y)
 outcome (row.RangeEqual i n) l s x y = both (λ a b. range_answer n (same_range a b)) (part (typed_host_of (range_type i)) s x) (part (typed_host_of (range_type i)) s y)
+outcome (row.IntAssign t) l s x y = both (λ m n. number_answer (number (without_assign t) m n)) (part int_of s x) (part int_of s y)
+outcome (row.BoolAssign t) l s x y = both (λ a b. bool_answer (both_bits (without_assign t) a b)) (part bool_of s x) (part bool_of s y)
+outcome row.CharJoinAssign l s x y = both (λ c d. answers (fresh (text (c ∷ d ∷ [])))) (part char_of s x) (part char_of s y)
+outcome row.TextJoinAssign l s x y = both (joined_texts l) (part text_of s x) (part text_of s y)
+outcome row.TextMinusAssign l s x y = both (λ v w. answers (fresh (text (minus v w)))) (part text_of s x) (part text_of s y)
+outcome row.ArrayAppend l s x y = both (joined_items l) (part array_of s x) (array_moved s y)
+outcome row.BlobAppend l s x y = both (appended l) (part blob_of s x) (part blob_of s y)
+outcome row.TextCharAssign l s x y = both (λ v d. limited_text l (v ++ (d ∷ []))) (part text_of s x) (part char_of s y)
+outcome row.TextMinusCharAssign l s x y = both (λ v d. answers (fresh (text (minus_char v d)))) (part text_of s x) (part char_of s y)
+outcome row.CharTextAssign l s x y = both (joined_to_char l (held_or_own s x)) (part char_of s x) (part text_of s y)
+outcome row.ArrayPush l s x y = both (pushed l) (part array_of s x) (Some y)
+outcome row.BlobPush l s x y = both (appended l) (part blob_of s x) (option_map (λ n. byte_of n ∷ []) (part int_of s y))
+outcome row.BlobCharAssign l s x y = both (appended l) (part blob_of s x) (option_map encode_utf8 (part char_of s y))
+outcome row.BlobTextAssign l s x y = both (blob_and_text l) (part blob_of s x) (part text_of s y)
 
 -- what is held has such a part
 abbrev pub Holds : {A : Type 0} → (Tree → Option A) → List Cell → Tree → Type 0
@@ -120,6 +187,20 @@ Suits row.FirstCopy s x y = Unit {0}
 Suits row.SecondCopy s x y = Unit {0}
 Suits row.BlobChar s x y = Holds blob_of s x × Holds char_of s y
 Suits (row.RangeEqual i n) s x y = Holds (typed_host_of (range_type i)) s x × Holds (typed_host_of (range_type i)) s y
+Suits (row.IntAssign t) s x y = IsTrue (is_assign t) × Holds int_of s x × Holds int_of s y
+Suits (row.BoolAssign t) s x y = IsTrue (is_bits_assign t) × Holds bool_of s x × Holds bool_of s y
+Suits row.CharJoinAssign s x y = Holds char_of s x × Holds char_of s y
+Suits row.TextJoinAssign s x y = Holds text_of s x × Holds text_of s y
+Suits row.TextMinusAssign s x y = Holds text_of s x × Holds text_of s y
+Suits row.ArrayAppend s x y = Holds array_of s x × Holds array_of s y
+Suits row.BlobAppend s x y = Holds blob_of s x × Holds blob_of s y
+Suits row.TextCharAssign s x y = Holds text_of s x × Holds char_of s y
+Suits row.TextMinusCharAssign s x y = Holds text_of s x × Holds char_of s y
+Suits row.CharTextAssign s x y = Holds char_of s x × Holds text_of s y
+Suits row.ArrayPush s x y = Holds array_of s x
+Suits row.BlobPush s x y = Holds blob_of s x × Holds int_of s y
+Suits row.BlobCharAssign s x y = Holds blob_of s x × Holds char_of s y
+Suits row.BlobTextAssign s x y = Holds blob_of s x × Holds text_of s y
 
 -- whether a row makes a text, a blob or a copy, for which memory may be wanted
 abbrev pub MayWant : FnBuiltin → Tree → Tree → Type 0
@@ -148,6 +229,20 @@ MayWant row.FirstCopy x y = TakesNoMemory x → ⊥
 MayWant row.SecondCopy x y = TakesNoMemory y → ⊥
 MayWant row.BlobChar x y = Unit {0}
 MayWant (row.RangeEqual i n) x y = ⊥
+MayWant (row.IntAssign t) x y = ⊥
+MayWant (row.BoolAssign t) x y = ⊥
+MayWant row.CharJoinAssign x y = Unit {0}
+MayWant row.TextJoinAssign x y = Unit {0}
+MayWant row.TextMinusAssign x y = Unit {0}
+MayWant row.ArrayAppend x y = Unit {0}
+MayWant row.BlobAppend x y = Unit {0}
+MayWant row.TextCharAssign x y = Unit {0}
+MayWant row.TextMinusCharAssign x y = Unit {0}
+MayWant row.CharTextAssign x y = Unit {0}
+MayWant row.ArrayPush x y = Unit {0}
+MayWant row.BlobPush x y = Unit {0}
+MayWant row.BlobCharAssign x y = Unit {0}
+MayWant row.BlobTextAssign x y = Unit {0}
 
 -- whether a row looks at the limits
 abbrev pub is_limited : FnBuiltin → Bool
@@ -176,3 +271,17 @@ is_limited row.FirstCopy = false
 is_limited row.SecondCopy = false
 is_limited row.BlobChar = true
 is_limited (row.RangeEqual i n) = false
+is_limited (row.IntAssign t) = false
+is_limited (row.BoolAssign t) = false
+is_limited row.CharJoinAssign = false
+is_limited row.TextJoinAssign = true
+is_limited row.TextMinusAssign = false
+is_limited row.ArrayAppend = true
+is_limited row.BlobAppend = true
+is_limited row.TextCharAssign = true
+is_limited row.TextMinusCharAssign = false
+is_limited row.CharTextAssign = true
+is_limited row.ArrayPush = true
+is_limited row.BlobPush = true
+is_limited row.BlobCharAssign = true
+is_limited row.BlobTextAssign = true

@@ -1,16 +1,15 @@
-//! The rows of the table.
+//! The rows of the tables.
 ghost use Rattle.std.specs.Prelude.{◌≡◌};
-ghost use Rattle.rhai_ops.specs.Outcome.{IsOutcome};
-ghost use Rattle.rhai_ops.specs.Results.{MayWant, Suits, is_limited, outcome};
+ghost use Rattle.rhai_ops.specs.Results.{is_limited};
+ghost use Rattle.rhai_ops.specs.Ways.{way, word_of};
 
-use crate::answer::{part, value};
-use crate::{blobs, bools, chars, ints, ranges, texts};
-use rhai_text::{EvalAltResult, Limits, Token};
-use rhai_value::{Dynamic, INT, Store};
-use std::alloc::Global;
+use crate::token::is_arithmetic_assign;
+use crate::word::Word;
+use rhai_text::Token;
 
-/// A built-in operator on operands of certain types: a row of the table. Lookups answer it. (The function with a flag that rhai's
-/// lookups answer)
+/// A built-in operator on operands of certain types: a row of the tables. Lookups answer it. The first 25 are between two operands;
+/// the others assign: they write the place where the chain of the first operand ends. (The function with a flag that rhai's lookups
+/// answer)
 #[derive(Clone, Copy, Debug, PartialEq, Eq)]
 pub enum FnBuiltin {
     /// Two ints, by one of the first eleven operators.
@@ -63,6 +62,34 @@ pub enum FnBuiltin {
     BlobChar,
     /// Whether two ranges, with their ends where the first flag is set, are the same; the opposite where the second one is.
     RangeEqual(bool, bool),
+    /// Two ints, by one of the eleven assignments.
+    IntAssign(Token),
+    /// Two booleans, by `&=`, `|=` or `^=`.
+    BoolAssign(Token),
+    /// The text of two characters in the place of the first.
+    CharJoinAssign,
+    /// A text behind a text.
+    TextJoinAssign,
+    /// The occurrences of a text out of a text.
+    TextMinusAssign,
+    /// The items of an array behind those of an array.
+    ArrayAppend,
+    /// A blob behind a blob.
+    BlobAppend,
+    /// A character behind a text.
+    TextCharAssign,
+    /// A character out of a text.
+    TextMinusCharAssign,
+    /// A text behind a character, in its place.
+    CharTextAssign,
+    /// A value behind the items of an array.
+    ArrayPush,
+    /// The low byte of an int behind a blob.
+    BlobPush,
+    /// The UTF-8 bytes of a character behind a blob.
+    BlobCharAssign,
+    /// The UTF-8 bytes of a text behind a blob.
+    BlobTextAssign,
 }
 
 impl FnBuiltin {
@@ -76,7 +103,16 @@ impl FnBuiltin {
             | FnBuiltin::BlobJoin
             | FnBuiltin::CharText
             | FnBuiltin::TextChar
-            | FnBuiltin::BlobChar => true,
+            | FnBuiltin::BlobChar
+            | FnBuiltin::TextJoinAssign
+            | FnBuiltin::ArrayAppend
+            | FnBuiltin::BlobAppend
+            | FnBuiltin::TextCharAssign
+            | FnBuiltin::CharTextAssign
+            | FnBuiltin::ArrayPush
+            | FnBuiltin::BlobPush
+            | FnBuiltin::BlobCharAssign
+            | FnBuiltin::BlobTextAssign => true,
             FnBuiltin::Int(_)
             | FnBuiltin::IntCompare(_)
             | FnBuiltin::IntRange(_)
@@ -95,72 +131,62 @@ impl FnBuiltin {
             | FnBuiltin::TextCharCompare(_)
             | FnBuiltin::FirstCopy
             | FnBuiltin::SecondCopy
-            | FnBuiltin::RangeEqual(_, _) => false,
+            | FnBuiltin::RangeEqual(_, _)
+            | FnBuiltin::IntAssign(_)
+            | FnBuiltin::BoolAssign(_)
+            | FnBuiltin::CharJoinAssign
+            | FnBuiltin::TextMinusAssign
+            | FnBuiltin::TextMinusCharAssign => false,
         }
     }
 
-    /// What the row answers on these operands, which hold what it asks for. Nothing changes, the operands and the store stay.
-    ///
-    /// # Errors
-    ///
-    /// `ErrorArithmetic` where an int has no answer, `ErrorDataTooLarge` where the answer is longer than its limit allows, each at
-    /// `Position::NONE`; `ErrorMemory` where a growth was refused, which is of the rows that make a text, a blob or a copy alone.
-    pub fn call(
-        &self,
-        alloc: Global,
-        m: &mut Store,
-        limits: &Limits,
-        x: &mut Dynamic,
-        y: &mut Dynamic,
-    ) -> Result<Dynamic, EvalAltResult>
-        requires { Suits self.now m.old x.old y.old }
-        ensures result { IsOutcome (MayWant self.now x.old y.old) result (outcome self.now limits.now m.old x.old y.old) }
-        ensures first { x.new ≡ x.old }
-        ensures second { y.new ≡ y.old }
-        ensures store { m.new ≡ m.old }
+    /// The word by which an assignment writes; an operator has none.
+    pub(crate) fn word(&self) -> Option<Word>
+        ensures { result ≡ word_of (way self.now) }
     {
-        self.answer(alloc, m, limits, x, y)
-    }
-
-    /// The same, of the binary rows.
-    fn answer(
-        &self,
-        alloc: Global,
-        s: &Store,
-        limits: &Limits,
-        x: &Dynamic,
-        y: &Dynamic,
-    ) -> Result<Dynamic, EvalAltResult>
-        requires { Suits self.now s.now x.now y.now }
-        ensures { IsOutcome (MayWant self.now x.now y.now) result (outcome self.now limits.now s.now x.now y.now) }
-    {
-        match *self {
-            FnBuiltin::Int(t) => ints::answer(t, value(x, s), value(y, s)),
-            FnBuiltin::IntCompare(t) => ints::compare(t, value(x, s), value(y, s)),
-            FnBuiltin::IntRange(i) => ranges::between(i, value(x, s), value(y, s)),
-            FnBuiltin::BoolCompare(t) => bools::compare(t, value(x, s), value(y, s)),
-            FnBuiltin::Bool(t) => bools::answer(t, value(x, s), value(y, s)),
-            FnBuiltin::TextJoin => texts::join(alloc, limits, part(x, s), part(y, s)),
-            FnBuiltin::TextMinus => texts::minus(alloc, part(x, s), part(y, s)),
-            FnBuiltin::TextCompare(t) => texts::compare(t, part(x, s), part(y, s)),
-            FnBuiltin::CharJoin => chars::join(alloc, limits, value(x, s), value(y, s)),
-            FnBuiltin::CharCompare(t) => chars::compare(t, value(x, s), value(y, s)),
-            FnBuiltin::BlobJoin => blobs::join(alloc, s, limits, x, y),
-            FnBuiltin::BlobEqual(n) => blobs::equal(n, part(x, s), part(y, s)),
-            FnBuiltin::ConstTrue => Ok(Dynamic::TRUE),
-            FnBuiltin::ConstFalse => Ok(Dynamic::FALSE),
-            FnBuiltin::RangeFrom(i) => ranges::between(i, value(x, s), INT::MAX),
-            FnBuiltin::RangeTo(i) => ranges::between(i, 0, value(y, s)),
-            FnBuiltin::CharText => chars::join_text(alloc, limits, value(x, s), part(y, s)),
-            FnBuiltin::CharTextCompare(t) => chars::compare_text(t, value(x, s), part(y, s)),
-            FnBuiltin::TextChar => texts::join_char(alloc, limits, part(x, s), value(y, s)),
-            FnBuiltin::TextMinusChar => texts::minus_char(alloc, part(x, s), value(y, s)),
-            FnBuiltin::TextCharCompare(t) => texts::compare_char(t, part(x, s), value(y, s)),
-            FnBuiltin::FirstCopy => Ok(x.copy(alloc)?),
-            FnBuiltin::SecondCopy => Ok(y.copy(alloc)?),
-            FnBuiltin::BlobChar => blobs::join_char(alloc, limits, part(x, s), value(y, s)),
-            FnBuiltin::RangeEqual(false, n) => ranges::equal_exclusive(n, value(x, s), value(y, s)),
-            FnBuiltin::RangeEqual(true, n) => ranges::equal_inclusive(n, value(x, s), value(y, s)),
+        match self {
+            FnBuiltin::Int(_)
+            | FnBuiltin::IntCompare(_)
+            | FnBuiltin::IntRange(_)
+            | FnBuiltin::BoolCompare(_)
+            | FnBuiltin::Bool(_)
+            | FnBuiltin::TextJoin
+            | FnBuiltin::TextMinus
+            | FnBuiltin::TextCompare(_)
+            | FnBuiltin::CharJoin
+            | FnBuiltin::CharCompare(_)
+            | FnBuiltin::BlobJoin
+            | FnBuiltin::BlobEqual(_)
+            | FnBuiltin::ConstTrue
+            | FnBuiltin::ConstFalse
+            | FnBuiltin::RangeFrom(_)
+            | FnBuiltin::RangeTo(_)
+            | FnBuiltin::CharText
+            | FnBuiltin::CharTextCompare(_)
+            | FnBuiltin::TextChar
+            | FnBuiltin::TextMinusChar
+            | FnBuiltin::TextCharCompare(_)
+            | FnBuiltin::FirstCopy
+            | FnBuiltin::SecondCopy
+            | FnBuiltin::BlobChar
+            | FnBuiltin::RangeEqual(_, _) => None,
+            FnBuiltin::IntAssign(t) => if is_arithmetic_assign(*t) {
+                Some(Word::Keep)
+            } else {
+                Some(Word::Whole)
+            },
+            FnBuiltin::CharJoinAssign | FnBuiltin::CharTextAssign => Some(Word::Whole),
+            FnBuiltin::BoolAssign(_)
+            | FnBuiltin::TextJoinAssign
+            | FnBuiltin::TextMinusAssign
+            | FnBuiltin::TextCharAssign
+            | FnBuiltin::TextMinusCharAssign
+            | FnBuiltin::ArrayAppend
+            | FnBuiltin::BlobAppend
+            | FnBuiltin::ArrayPush
+            | FnBuiltin::BlobPush
+            | FnBuiltin::BlobCharAssign
+            | FnBuiltin::BlobTextAssign => Some(Word::Keep),
         }
     }
 }

@@ -3,15 +3,19 @@ ghost use Rattle.std.specs.Prelude.{IsTrue, ◌≡◌, ◌≤◌, ◌∷◌, [],
 ghost use Rattle.std.specs.Str.{chars, encode_utf8_all};
 ghost use Rattle.std.specs.Ordering.{nat_cmp};
 ghost use Rattle.rhai_ops.specs.Numbers as specs;
-ghost use Rattle.rhai_ops.specs.Outcome.{IsOutcome, bool_answer, limited_text};
-ghost use Rattle.rhai_ops.specs.Results.{text_order};
+ghost use Rattle.rhai_value.specs.Parts.{char_of, text_of};
+ghost use Rattle.rhai_value.specs.Tree.{fresh, text as a_text};
+ghost use Rattle.rhai_ops.specs.Outcome.{IsOutcome, answers, bool_answer, both, limited_text};
+ghost use Rattle.rhai_ops.specs.Results.{Holds, held_or_own, joined_to_char, part as part_in, text_order};
 ghost use Rattle.rhai_ops.specs.Tokens.{is_cmp};
 
-use crate::answer::is_allowed;
+use crate::answer::{is_allowed, part, value};
 use crate::compare::compared;
+use crate::word::Word;
+use crate::write::under;
 use rhai_text::laws::byte_order_is_character_order;
 use rhai_text::{EvalAltResult, ImmutableString, Limits, Position, SizeKind, Token};
-use rhai_value::Dynamic;
+use rhai_value::{Dynamic, Store};
 use std::alloc::Global;
 
 /// The text of a character alone, in the buffer.
@@ -24,7 +28,7 @@ pub(crate) fn spelled(c: char, buffer: &mut [u8]) -> &str
     c.encode_utf8(buffer)
 }
 
-/// The text of two characters.
+/// The text of two characters, which the limit allows.
 #[tactic(auto, using(crate::proofs::Lengths::joined_length))]
 pub(crate) fn join(
     alloc: Global,
@@ -35,13 +39,20 @@ pub(crate) fn join(
     ensures { IsOutcome (Unit {0}) result (limited_text limits.now (a ∷ b ∷ [])) }
 {
     let (mut first, mut second) = ([0; 4], [0; 4]);
-    let a = spelled(a, &mut first);
-    let b = spelled(b, &mut second);
-    if !is_allowed(limits.text, a.len(), b.len()) {
+    let lengths = (spelled(a, &mut first).len(), spelled(b, &mut second).len());
+    if !is_allowed(limits.text, lengths.0, lengths.1) {
         return Err(EvalAltResult::ErrorDataTooLarge(SizeKind::Text, Position::NONE));
     }
-    let text = ImmutableString::from_str(alloc, a)?;
-    Ok(Dynamic::from(text.concat(alloc, b)?))
+    append(alloc, a, b)
+}
+
+/// The text of two characters, for which no limit is tested.
+pub(crate) fn append(alloc: Global, a: char, b: char) -> Result<Dynamic, EvalAltResult>
+    ensures { IsOutcome (Unit {0}) result (answers (fresh (a_text (a ∷ b ∷ [])))) }
+{
+    let (mut first, mut second) = ([0; 4], [0; 4]);
+    let front = ImmutableString::from_str(alloc, spelled(a, &mut first))?;
+    Ok(Dynamic::from(front.concat(alloc, spelled(b, &mut second))?))
 }
 
 /// A comparison of two characters.
@@ -68,6 +79,30 @@ pub(crate) fn join_text(
         return Err(EvalAltResult::ErrorDataTooLarge(SizeKind::Text, Position::NONE));
     }
     Ok(Dynamic::from(b.with_slice(alloc, 0, 0, true, a)?))
+}
+
+/// A text behind the character that is held. An empty one leaves the value as it is, and no limit is tested.
+#[tactic(auto, using(crate::proofs::FromBelow::same_char))]
+pub(crate) fn append_text(
+    alloc: Global,
+    limits: &Limits,
+    s: &Store,
+    x: &Dynamic,
+    y: &Dynamic,
+) -> Result<Dynamic, EvalAltResult>
+    requires first { Holds char_of s.now x.now }
+    requires second { Holds text_of s.now y.now }
+    ensures { IsOutcome (Unit {0}) result (both (joined_to_char limits.now (held_or_own s.now x.now)) (part_in char_of s.now x.now) (part_in text_of s.now y.now)) }
+{
+    let a = value(x, s);
+    let b = part::<ImmutableString>(y, s);
+    if !b.is_empty() {
+        return join_text(alloc, limits, a, b);
+    }
+    match x.held(s) {
+        Some(held) => Ok(under(Word::Keep, held, Dynamic::from_char(a))),
+        None => unreachable!(),
+    }
 }
 
 /// A comparison of a character, as the text of it alone, with a text.

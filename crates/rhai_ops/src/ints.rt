@@ -1,13 +1,19 @@
 //! Integers under operators.
-ghost use Rattle.std.specs.Prelude.{◌≡◌, IsTrue, Some};
+ghost use Rattle.std.specs.Prelude.{◌≡◌, [], IsTrue, IsSome, Some, IfOk, IfErr};
 ghost use Rattle.std.specs.Ordering.{int_cmp};
 ghost use Rattle.rhai_ops.specs.Numbers as specs;
-ghost use Rattle.rhai_ops.specs.Outcome.{IsOutcome, bool_answer, number_answer};
+ghost use Rattle.rhai_value.specs.Parts.{int_of};
+ghost use Rattle.rhai_value.specs.Tree.{Tree};
+ghost use Rattle.rhai_ops.specs.Outcome.{IsOutcome, answers, bool_answer, both, number_answer};
+ghost use Rattle.rhai_ops.specs.Results.{Holds, part};
+ghost use Rattle.rhai_ops.specs.Ways.{answered, assignment, first_left, rewritten, stays, store_left};
 ghost use Rattle.rhai_ops.specs.Tokens.{is_cmp, is_number};
 
 use crate::compare::compared;
+use crate::word::Word;
+use crate::write::under;
 use rhai_text::{ArithmeticFault, EvalAltResult, Position, Token};
-use rhai_value::{Dynamic, INT};
+use rhai_value::{Dynamic, INT, InStore, Part, Store};
 
 /// One of the first eleven operators on two ints.
 pub(crate) fn answer(op: Token, x: INT, y: INT) -> Result<Dynamic, EvalAltResult>
@@ -18,6 +24,45 @@ pub(crate) fn answer(op: Token, x: INT, y: INT) -> Result<Dynamic, EvalAltResult
         Ok(n) => Ok(Dynamic::from_int(n)),
         Err(fault) => Err(EvalAltResult::ErrorArithmetic(fault, Position::NONE)),
     }
+}
+
+/// The same of the int at a place, where it is written by its word: the place and the second operand are each looked up once.
+#[tactic(auto, using(crate::proofs::FromBelow::kept))]
+pub(crate) fn assign(
+    op: Token,
+    word: Word,
+    m: &mut Store,
+    x: &mut Dynamic,
+    y: INT,
+) -> Result<Dynamic, EvalAltResult>
+    requires number { IsTrue (is_number op) }
+    requires holds { Holds int_of m.old x.old }
+    ensures result { IsOutcome ⊥ result (answered (assignment word stays) (both (λ i j. number_answer (specs.number op i j)) (part int_of m.old x.old) (Some y))) }
+    ensures first { IfOk result (λ d. x.new ≡ first_left (assignment word stays) (both (λ i j. number_answer (specs.number op i j)) (part int_of m.old x.old) (Some y)) m.old x.old) }
+    ensures store { IfOk result (λ d. m.new ≡ store_left (assignment word stays) (both (λ i j. number_answer (specs.number op i j)) (part int_of m.old x.old) (Some y)) m.old x.old) }
+    ensures err { IfErr result (λ e. (x.new ≡ x.old) × (m.new ≡ m.old)) }
+{
+    let mut place = InStore { value: x, store: m };
+    match place.held_mut() {
+        Some(held) => assign_held(op, word, held, y),
+        None => unreachable!(),
+    }
+}
+
+/// The same of an int that is held.
+fn assign_held(op: Token, word: Word, held: &mut Dynamic, y: INT) -> Result<Dynamic, EvalAltResult>
+    requires number { IsTrue (is_number op) }
+    requires holds { IsSome (int_of held.old) }
+    ensures result { IsOutcome ⊥ result (answered (assignment word stays) (both (λ i j. number_answer (specs.number op i j)) (int_of held.old) (Some y))) }
+    ensures ok { IfOk result (λ d. (t : Tree) → both (λ i j. number_answer (specs.number op i j)) (int_of held.old) (Some y) ≡ answers t → held.new ≡ rewritten word t held.old) }
+    ensures err { IfErr result (λ e. held.new ≡ held.old) }
+{
+    let Some(x) = INT::own(held) else {
+        unreachable!();
+    };
+    let new = answer(op, *x, y)?;
+    *held = under(word, held, new);
+    Ok(Dynamic::UNIT)
 }
 
 /// A comparison of two ints.

@@ -1,31 +1,52 @@
 //! Laws of the operators, each the contract of a function that does nothing.
-ghost use Rattle.std.specs.Prelude.{◌≡◌, ℕ, ℤ, Bool, [], ◌∷◌, List, Option, Some};
+ghost use Rattle.std.specs.Prelude.{◌≡◌, ℕ, ℤ, true, false, [], ◌∷◌, List, Option, Some, IsSome};
 ghost use Rattle.rhai_text.specs.declared.limits.Limits.{Limits};
 ghost use Rattle.rhai_text.specs.declared.token.Token.{Token};
 ghost use Rattle.rhai_value.specs.declared.access_mode.AccessMode.{AccessMode};
 ghost use Rattle.rhai_value.specs.declared.store.Cell.{Cell};
+ghost use Rattle.rhai_value.specs.End.{first};
 ghost use Rattle.rhai_value.specs.Relation.{Renaming, Related, IsOneToOne, RelatedCells};
-ghost use Rattle.rhai_value.specs.Tree.{Tree, node, leaf, char as character, text};
+ghost use Rattle.rhai_value.specs.Tree.{Tree, node, leaf, char as character, text, content_of};
 ghost use Rattle.rhai_ops.specs.declared.builtin.FnBuiltin.{FnBuiltin as Row};
 ghost use Rattle.rhai_ops.specs.declared.builtin.FnBuiltin.TheVariants as row;
-ghost use Rattle.rhai_ops.specs.Outcome.{RelatedOutcomes};
+ghost use Rattle.rhai_ops.specs.AssignTable.{assign_row};
+ghost use Rattle.rhai_ops.specs.Outcome.{Outcome, RelatedOutcomes, answers};
 ghost use Rattle.rhai_ops.specs.Results.{Suits, outcome};
 ghost use Rattle.rhai_ops.specs.Table.{row_of};
+ghost use Rattle.rhai_ops.specs.Tokens.{without_assign};
+ghost use Rattle.rhai_ops.specs.Ways.{Way, first_left, operator, second_left, store_left, takes_nothing, way, word_of};
 
-/// The row that an operator has on two operands may be called on them.
-#[tactic(auto, using(crate::proofs::Suited::row_suits))]
+/// The row that an operator has on two operands may be called on them. That of an assignment may be called on a value too whose first
+/// content it was looked up for.
+#[tactic(auto, using(crate::proofs::Suited::row_suits, crate::proofs::Suited::assigned_suits, crate::proofs::Suited::place_suits))]
 pub fn rows_suit()
-    ensures { (t : Token) (s : List Cell) (x y : Tree) (b : Row) → row_of t s x y ≡ Some b → Suits b s x y }
+    ensures operator { (t : Token) (s : List Cell) (x y : Tree) (b : Row) → row_of t s x y ≡ Some b → Suits b s x y }
+    ensures assignment { (t : Token) (s : List Cell) (x y : Tree) (b : Row) → assign_row t x y ≡ Some b → Suits b s x y }
+    ensures place { (t : Token) (s : List Cell) (x v y : Tree) (b : Row) → first s x ≡ Some v → assign_row t v y ≡ Some b → Suits b s x y }
 {}
 
-/// The row of an operator, and what it comes to, don't depend on the numbers of cells.
-#[tactic(auto, using(crate::proofs::SameRows::same_row, crate::proofs::SameRows::same_outcome))]
+/// The rows of operators are those that only answer, the rows of assignments those that write.
+#[tactic(auto, using(crate::proofs::Roles::operators, crate::proofs::Roles::assignments))]
+pub fn operators_write_nothing()
+    ensures operator { (t : Token) (s : List Cell) (x y : Tree) (b : Row) → row_of t s x y ≡ Some b → way b ≡ operator }
+    ensures assignment { (t : Token) (x y : Tree) (b : Row) → assign_row t x y ≡ Some b → IsSome (word_of (way b)) }
+{}
+
+/// The row of an operator or an assignment, what it comes to, and what its call leaves don't depend on the numbers of cells.
+#[tactic(auto, using(crate::proofs::SameRows::same_row, crate::proofs::SameRows::same_assign_row, crate::proofs::SameRows::same_outcome, crate::proofs::SameWays::same_first_left, crate::proofs::SameWays::same_second_left, crate::proofs::SameWays::same_store_left))]
 pub fn rows_are_renamed()
     ensures row { (r : Renaming) (s z : List Cell) (k : Token) (t u v w : Tree)
         → IsOneToOne r → RelatedCells r s z → Related r t u → Related r v w → row_of k s t v ≡ row_of k z u w }
+    ensures assignment { (r : Renaming) (k : Token) (t u v w : Tree) → Related r t u → Related r v w → assign_row k t v ≡ assign_row k u w }
     ensures outcome { (r : Renaming) (s z : List Cell) (b : Row) (l : Limits) (t u v w : Tree)
         → IsOneToOne r → RelatedCells r s z → Related r t u → Related r v w
         → RelatedOutcomes r (outcome b l s t v) (outcome b l z u w) }
+    ensures first { (r : Renaming) (s z : List Cell) (w : Way) (o p : Outcome) (t u : Tree)
+        → IsOneToOne r → RelatedCells r s z → RelatedOutcomes r o p → Related r t u → Related r (first_left w o s t) (first_left w p z u) }
+    ensures second { (r : Renaming) (w : Way) (o p : Outcome) (t u : Tree)
+        → RelatedOutcomes r o p → Related r t u → Related r (second_left w o t) (second_left w p u) }
+    ensures store { (r : Renaming) (s z : List Cell) (w : Way) (o p : Outcome) (t u : Tree)
+        → IsOneToOne r → RelatedCells r s z → RelatedOutcomes r o p → Related r t u → RelatedCells r (store_left w o s t) (store_left w p z u) }
 {}
 
 /// A character compared with a text is ordered as the text of it alone, from either side, and two characters as their texts.
@@ -38,4 +59,16 @@ pub fn characters_compare_as_texts()
     ensures both { (t : Token) (l : Limits) (s : List Cell) (c d : ℕ) (g h : ℤ) (m n : AccessMode)
         → outcome (row.CharCompare t) l s (node (leaf (character c)) g m) (node (leaf (character d)) h n)
         ≡ outcome (row.TextCompare t) l s (node (leaf (text (c ∷ []))) g m) (node (leaf (text (d ∷ []))) h n) }
+{}
+
+/// Where an operator and its assignment both have a row for two operands and both come to a value, the first operand has then the
+/// content of the operator's answer. A character that takes an empty text stays as it is.
+#[tactic(auto, using(crate::proofs::Agree::stays))]
+pub fn assignments_agree()
+    ensures content { (t : Token) (l : Limits) (s : List Cell) (x y : Tree) (b a : Row) (v w : Tree)
+        → row_of (without_assign t) s x y ≡ Some b → assign_row t x y ≡ Some a
+        → outcome b l s x y ≡ answers v → outcome a l s x y ≡ answers w → takes_nothing x y ≡ false
+        → content_of (first_left (way a) (outcome a l s x y) s x) ≡ content_of v }
+    ensures character { (l : Limits) (s : List Cell) (x y : Tree) → takes_nothing x y ≡ true
+        → first_left (way row.CharTextAssign) (outcome row.CharTextAssign l s x y) s x ≡ x }
 {}

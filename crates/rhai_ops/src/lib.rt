@@ -2,19 +2,25 @@
 #![tactic(auto)]
 
 mod answer;
+mod assign_lookup;
 mod blobs;
 mod bools;
 mod builtin;
+mod call;
 mod chars;
 mod compare;
 mod ints;
 pub mod laws;
 mod lookup;
 mod own;
+mod push;
 mod ranges;
 mod texts;
 mod token;
+mod word;
+mod write;
 
+pub use assign_lookup::get_builtin_op_assignment_fn;
 pub use builtin::FnBuiltin;
 pub use lookup::get_builtin_binary_op_fn;
 

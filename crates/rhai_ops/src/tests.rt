@@ -1,11 +1,13 @@
-//! Tests of the binary operators. What is wanted comes from worked cases and from a table that was typed by hand.
+//! Tests of the operators and the assignments. What is wanted comes from worked cases and from a table that was typed by hand.
+mod assigned;
+mod assigned_pairs;
 mod cases;
 mod ints;
 mod limits;
 mod pairs;
 mod readme;
 
-use crate::tests::readme::operate;
+use crate::tests::readme::{assign, operate};
 use crate::*;
 use rhai_text::{ArithmeticFault, EvalAltResult, Limits, Position, SizeKind, Token};
 use rhai_value::{Dynamic, ExclusiveRange, FnPtr, Host, INT, InclusiveRange, Map, Store};

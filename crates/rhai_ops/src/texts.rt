@@ -1,18 +1,19 @@
 //! Texts under operators.
 ghost use Rattle.std.specs.Prelude.{IsTrue, ◌∷◌, [], ◌++◌};
 ghost use Rattle.rhai_text.specs.Text as edits;
+ghost use Rattle.rhai_value.specs.Parts.{char_of, text_of};
 ghost use Rattle.rhai_value.specs.Tree.{fresh, text as a_text};
 ghost use Rattle.rhai_ops.specs.Numbers as specs;
-ghost use Rattle.rhai_ops.specs.Outcome.{IsOutcome, answers, bool_answer, limited_text};
-ghost use Rattle.rhai_ops.specs.Results.{text_order};
+ghost use Rattle.rhai_ops.specs.Outcome.{IsOutcome, answers, bool_answer, both, limited_text};
+ghost use Rattle.rhai_ops.specs.Results.{Holds, joined_texts, part as part_in, text_order};
 ghost use Rattle.rhai_ops.specs.Tokens.{is_cmp};
 
-use crate::answer::is_allowed;
+use crate::answer::{is_allowed, part, value};
 use crate::chars::spelled;
 use crate::compare::compared;
 use rhai_text::laws::byte_order_is_character_order;
 use rhai_text::{EvalAltResult, ImmutableString, Limits, Position, SizeKind, Token};
-use rhai_value::Dynamic;
+use rhai_value::{Dynamic, Store};
 use std::alloc::Global;
 
 /// A text behind a text.
@@ -31,15 +32,43 @@ pub(crate) fn join(
     Ok(Dynamic::from(a.concat(alloc, b.as_str())?))
 }
 
+/// A text behind a text. Beside an empty one no limit is tested.
+pub(crate) fn append(
+    alloc: Global,
+    limits: &Limits,
+    s: &Store,
+    x: &Dynamic,
+    y: &Dynamic,
+) -> Result<Dynamic, EvalAltResult>
+    requires first { Holds text_of s.now x.now }
+    requires second { Holds text_of s.now y.now }
+    ensures { IsOutcome (Unit {0}) result (both (joined_texts limits.now) (part_in text_of s.now x.now) (part_in text_of s.now y.now)) }
+{
+    let a = part::<ImmutableString>(x, s);
+    let b = part::<ImmutableString>(y, s);
+    if b.is_empty() {
+        return Ok(Dynamic::from(a.copy(alloc)?));
+    }
+    if a.is_empty() {
+        return Ok(Dynamic::from(b.copy(alloc)?));
+    }
+    join(alloc, limits, a, b)
+}
+
 /// A text without the occurrences of a text.
 pub(crate) fn minus(
     alloc: Global,
-    a: &ImmutableString,
-    b: &ImmutableString,
+    s: &Store,
+    x: &Dynamic,
+    y: &Dynamic,
 ) -> Result<Dynamic, EvalAltResult>
-    ensures { IsOutcome (Unit {0}) result (answers (fresh (a_text (edits.minus a.now b.now)))) }
+    requires first { Holds text_of s.now x.now }
+    requires second { Holds text_of s.now y.now }
+    ensures { IsOutcome (Unit {0}) result (both (λ v w. answers (fresh (a_text (edits.minus v w)))) (part_in text_of s.now x.now) (part_in text_of s.now y.now)) }
 {
-    Ok(Dynamic::from(a.minus(alloc, b.as_str())?))
+    let b = part::<ImmutableString>(y, s).as_str();
+    let text = part::<ImmutableString>(x, s).minus(alloc, b)?;
+    Ok(Dynamic::from(text))
 }
 
 /// A comparison of two texts.
@@ -59,13 +88,17 @@ pub(crate) fn compare(
 pub(crate) fn join_char(
     alloc: Global,
     limits: &Limits,
-    a: &ImmutableString,
-    b: char,
+    s: &Store,
+    x: &Dynamic,
+    y: &Dynamic,
 ) -> Result<Dynamic, EvalAltResult>
-    ensures { IsOutcome (Unit {0}) result (limited_text limits.now (a.now ++ b ∷ [])) }
+    requires first { Holds text_of s.now x.now }
+    requires second { Holds char_of s.now y.now }
+    ensures { IsOutcome (Unit {0}) result (both (λ v d. limited_text limits.now (v ++ d ∷ [])) (part_in text_of s.now x.now) (part_in char_of s.now y.now)) }
 {
+    let a = part::<ImmutableString>(x, s);
     let mut buffer = [0; 4];
-    let b = spelled(b, &mut buffer);
+    let b = spelled(value(y, s), &mut buffer);
     if !is_allowed(limits.text, a.len(), b.len()) {
         return Err(EvalAltResult::ErrorDataTooLarge(SizeKind::Text, Position::NONE));
     }
@@ -75,12 +108,16 @@ pub(crate) fn join_char(
 /// A text without a character.
 pub(crate) fn minus_char(
     alloc: Global,
-    a: &ImmutableString,
-    b: char,
+    s: &Store,
+    x: &Dynamic,
+    y: &Dynamic,
 ) -> Result<Dynamic, EvalAltResult>
-    ensures { IsOutcome (Unit {0}) result (answers (fresh (a_text (edits.minus_char a.now b)))) }
+    requires first { Holds text_of s.now x.now }
+    requires second { Holds char_of s.now y.now }
+    ensures { IsOutcome (Unit {0}) result (both (λ v d. answers (fresh (a_text (edits.minus_char v d)))) (part_in text_of s.now x.now) (part_in char_of s.now y.now)) }
 {
-    Ok(Dynamic::from(a.minus_char(alloc, b)?))
+    let text = part::<ImmutableString>(x, s).minus_char(alloc, value(y, s))?;
+    Ok(Dynamic::from(text))
 }
 
 /// A comparison of a text with a character, as the text of it alone.

@@ -52,7 +52,7 @@ const PAIRS: [&str; 20] = [
 ];
 
 /// A value of each kind: unit, bool, char, int, text, array, blob, map, function pointer, u8 to u128, i8 to i128, both ranges.
-fn kinds(alloc: Global) -> [Dynamic; 20] {
+pub(super) fn kinds(alloc: Global) -> [Dynamic; 20] {
     [
         Dynamic::UNIT,
         Dynamic::TRUE,

@@ -1,16 +1,18 @@
-//! The caller that the README shows.
+//! The callers that the README shows.
 ghost use Rattle.std.specs.Prelude.{◌≡◌, None, IfNone, IfOk, IfSome};
+ghost use Rattle.rhai_ops.specs.AssignTable.{assign_row};
 ghost use Rattle.rhai_ops.specs.Outcome.{answers};
 ghost use Rattle.rhai_ops.specs.Results.{outcome};
 ghost use Rattle.rhai_ops.specs.Table.{row_of};
+ghost use Rattle.rhai_ops.specs.Ways.{first_left, way};
 
-use crate::get_builtin_binary_op_fn;
-use crate::laws::rows_suit;
+use crate::laws::{operators_write_nothing, rows_suit};
+use crate::{get_builtin_binary_op_fn, get_builtin_op_assignment_fn};
 use rhai_text::{EvalAltResult, Limits, Token};
 use rhai_value::{Dynamic, Store};
 use std::alloc::Global;
 
-/// What an operator answers on two values, or `None` where it isn't built in.
+/// What an operator answers on two values, or `None` where it isn't built in. Both stay.
 pub(crate) fn operate(
     op: Token,
     alloc: Global,
@@ -21,10 +23,31 @@ pub(crate) fn operate(
 ) -> Result<Option<Dynamic>, EvalAltResult>
     ensures none { IfOk result (λ d. IfNone d (row_of op m.old x.old y.old ≡ None)) }
     ensures some { IfOk result (λ d. IfSome d (λ v. IfSome (row_of op m.old x.old y.old) (λ row. outcome row limits.now m.old x.old y.old ≡ answers v))) }
+    ensures first { x.new ≡ x.old }
 {
     let Some(row) = get_builtin_binary_op_fn(&op, x, y, m) else {
         return Ok(None);
     };
     rows_suit();
+    operators_write_nothing();
     Ok(Some(row.call(alloc, m, limits, x, y)?))
+}
+
+/// An assignment to a value, and whether it is built in.
+pub(crate) fn assign(
+    op: Token,
+    alloc: Global,
+    m: &mut Store,
+    limits: &Limits,
+    x: &mut Dynamic,
+    y: &mut Dynamic,
+) -> Result<bool, EvalAltResult>
+    ensures { IfOk result (λ d. IfSome (assign_row op x.old y.old) (λ row. x.new ≡ first_left (way row) (outcome row limits.now m.old x.old y.old) m.old x.old)) }
+{
+    let Some(row) = get_builtin_op_assignment_fn(&op, x, y) else {
+        return Ok(false);
+    };
+    rows_suit();
+    row.call(alloc, m, limits, x, y)?;
+    Ok(true)
 }

@@ -1,0 +1,106 @@
+-- What a call does with what its row comes to: an operator answers it; an assignment writes it where the chain of the first operand
+-- ends, and answers unit.
+use Rattle.std.specs.Prelude.{Bool, true, false, List, [], Option, Some, None, if◌then◌else◌}
+use Rattle.rhai_value.specs.declared.store.Cell.{Cell}
+use Rattle.rhai_value.specs.Tree.{Tree, node, leaf, char, text, content_of, fresh, unit}
+use Rattle.rhai_value.specs.Parts.{with_content}
+use Rattle.rhai_value.specs.End.{end, value_after, store_after}
+use Rattle.rhai_ops.specs.declared.builtin.FnBuiltin.{FnBuiltin}
+use Rattle.rhai_ops.specs.declared.builtin.FnBuiltin.TheVariants as row
+use Rattle.rhai_ops.specs.declared.word.Word.{Word}
+use Rattle.rhai_ops.specs.declared.word.Word.TheVariants.{Keep, Whole}
+use Rattle.rhai_ops.specs.Outcome.{Outcome, fault, too_large, answers, unsuited}
+use Rattle.rhai_ops.specs.Tokens.{is_arithmetic_assign}
+
+-- the second operand of an assignment stays, or unit is left of it
+pub data Second : Type 0 where
+  stays : Second
+  taken : Second
+
+-- a row is of an operator, or of an assignment: with the word by which it writes, and what becomes of the second operand
+pub data Way : Type 0 where
+  operator : Way
+  assignment : Word → Second → Way
+
+-- each row's way
+abbrev pub way : FnBuiltin → Way
+way (row.Int t) = operator
+way (row.IntCompare t) = operator
+way (row.IntRange i) = operator
+way (row.BoolCompare t) = operator
+way (row.Bool t) = operator
+way row.TextJoin = operator
+way row.TextMinus = operator
+way (row.TextCompare t) = operator
+way row.CharJoin = operator
+way (row.CharCompare t) = operator
+way row.BlobJoin = operator
+way (row.BlobEqual n) = operator
+way row.ConstTrue = operator
+way row.ConstFalse = operator
+way (row.RangeFrom i) = operator
+way (row.RangeTo i) = operator
+way row.CharText = operator
+way (row.CharTextCompare t) = operator
+way row.TextChar = operator
+way row.TextMinusChar = operator
+way (row.TextCharCompare t) = operator
+way row.FirstCopy = operator
+way row.SecondCopy = operator
+way row.BlobChar = operator
+way (row.RangeEqual i n) = operator
+way (row.IntAssign t) = assignment (if is_arithmetic_assign t then Keep else Whole) stays
+way (row.BoolAssign t) = assignment Keep stays
+way row.CharJoinAssign = assignment Whole stays
+way row.TextJoinAssign = assignment Keep stays
+way row.TextMinusAssign = assignment Keep stays
+way row.ArrayAppend = assignment Keep taken
+way row.BlobAppend = assignment Keep taken
+way row.TextCharAssign = assignment Keep stays
+way row.TextMinusCharAssign = assignment Keep stays
+way row.CharTextAssign = assignment Whole stays
+way row.ArrayPush = assignment Keep taken
+way row.BlobPush = assignment Keep stays
+way row.BlobCharAssign = assignment Keep stays
+way row.BlobTextAssign = assignment Keep stays
+
+-- the word of an assignment
+abbrev pub word_of : Way → Option Word
+word_of operator = None
+word_of (assignment w q) = Some w
+
+-- the place where u stood, once t was written there: t's content under the tag and the mode of u, or t as a whole
+abbrev pub rewritten : Word → Tree → Tree → Tree
+rewritten Keep t u = with_content (content_of t) u
+rewritten Whole t u = t
+
+-- f of the value that a row comes to; else, as where it refuses, a
+abbrev pub on_value : {A : Type 0} → (Tree → A) → A → Outcome → A
+on_value f a (fault g) = a
+on_value f a (too_large k) = a
+on_value f a (answers t) = f t
+on_value f a unsuited = a
+
+-- what the call answers
+abbrev pub answered : Way → Outcome → Outcome
+answered operator o = o
+answered (assignment w q) o = on_value (λ t. answers (fresh unit)) o o
+
+-- the first operand, the second one and the store s after the call
+abbrev pub first_left : Way → Outcome → List Cell → Tree → Tree
+first_left operator o s x = x
+first_left (assignment w q) o s x = on_value (λ t. value_after (rewritten w t) (end s [] x) x) x o
+
+abbrev pub second_left : Way → Outcome → Tree → Tree
+second_left operator o y = y
+second_left (assignment w stays) o y = y
+second_left (assignment w taken) o y = on_value (λ t. fresh unit) y o
+
+abbrev pub store_left : Way → Outcome → List Cell → Tree → List Cell
+store_left operator o s x = s
+store_left (assignment w q) o s x = on_value (λ t. store_after (rewritten w t) (end s [] x) s) s o
+
+-- a character and an empty text
+abbrev pub takes_nothing : Tree → Tree → Bool
+takes_nothing (node (leaf (char c)) g m) (node (leaf (text [])) h n) = true
+takes_nothing _ _ = false

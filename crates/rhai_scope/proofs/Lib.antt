@@ -16,3 +16,4 @@ pub mod Kept
 pub mod SameEntries
 pub mod SamePrints
 pub mod ForCallers
+pub mod FlatItems

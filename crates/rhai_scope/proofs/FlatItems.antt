@@ -1,0 +1,24 @@
+-- What several calls of `next` of `Scope::iter` gave.
+use Rattle.std.proofs.Common.{◌≡◌, ℕ, Bool, List, [], ◌∷◌, ◌++◌, Result, IfOk, ap, ◌∙◌}
+use Rattle.std.specs.Borrow.{Bor}
+use Rattle.std.specs.Iterator.{Yields}
+use Rattle.std.specs.List.{AllZip}
+use Rattle.std.specs.declared.alloc.AllocError.{AllocError}
+use Rattle.rhai_value.specs.Tree.{Tree}
+use Rattle.rhai_scope.specs.Items.{Named, given_flat, flat_left, GivesFlat}
+use Rattle.rhai_scope.specs.declared.iter.Iter.{Iter}
+
+abbrev pub Given : Type 0
+Given = Result (Bor (List ℕ) × Bool × Tree) AllocError
+
+-- what went of the list of items: each is what was given, unless memory was refused
+pub record Gone (s t : Iter) (xs : List Given) : Type 0 where
+  pub items : List Named
+  pub splits : flat_left s ≡ items ++ flat_left t
+  pub given : AllZip (λ x y. IfOk x (λ p. given_flat p ≡ y)) xs items
+
+pub flat_gone : (s : Iter) (xs : List Given) (t : Iter) → Yields GivesFlat s xs t → Gone s t xs
+flat_gone s [] t y = record { items = []; splits = ap flat_left y; given = tt }
+flat_gone s (x ∷ xs) t y =
+    let rest = flat_gone y.0 xs t y.2 in
+    record { items = y.1.0 ∷ rest.items; splits = y.1.1 ∙ ap (λ zs. y.1.0 ∷ zs) rest.splits; given = (y.1.2, rest.given) }

@@ -1,17 +1,19 @@
 -- A row is called on two values of the hand.
-use Rattle.std.proofs.Common.{◌≡◌, ℕ, suc, zero, Bool, true, false, nat_eq, List, [], ◌∷◌, slice_get, slice_set, Option, Some, None, Result, Ok, Err, refl, sym, ap, subst, ◌∙◌, arith}
+use Rattle.std.proofs.Common.{◌≡◌, ℕ, suc, zero, Bool, true, false, nat_eq, List, [], ◌∷◌, slice_get, slice_set, Option, Some, None, Result, Ok, Err, IfOk, IfErr, refl, sym, ap, subst, ◌∙◌, arith}
 use Rattle.std.proofs.lemmas.Bool.Decides.{nat_tests}
 use Rattle.std.proofs.lemmas.List.{set-set}
 use Rattle.std.proofs.lemmas.Option.{same_Some}
 use Rattle.rhai_text.specs.declared.error.EvalAltResult.{EvalAltResult}
 use Rattle.rhai_text.specs.declared.error.EvalAltResult.TheVariants as error
 use Rattle.rhai_text.specs.declared.token.Token.{Token}
+use Rattle.rhai_value.specs.declared.store.Cell.{Cell}
 use Rattle.rhai_value.specs.Tree.{Tree}
 use Rattle.rhai_value.proofs.ForCallers.{get_set_other}
 use Rattle.rhai_ops.specs.Outcome as call
 use Rattle.rhai_ops.specs.Outcome.{IsOutcome, is_answer}
 use Rattle.rhai_ops.specs.Results.{MayWant, outcome}
 use Rattle.rhai_ops.specs.Table.{row_of}
+use Rattle.rhai_ops.specs.Ways.{operator, way, answered, first_left, second_left, store_left}
 use Rattle.rhai_ops.specs.declared.builtin.FnBuiltin.{FnBuiltin}
 use Rattle.rhai_run.specs.declared.not_done.NotDone.{NotDone}
 use Rattle.rhai_run.specs.State.{State, appended}
@@ -39,6 +41,16 @@ both_back ts us vs i j u v x y ex eu ey ev =
     ap (λ xs. slice_set (slice_set xs j y) i x) ev
     ∙ ap (λ xs. slice_set xs i x) (set-set us j v y ∙ set_own us j y ey)
     ∙ ap (λ xs. slice_set xs i x) eu ∙ set-set ts i u x ∙ set_own ts i x ex
+
+-- a row of an operator writes nothing, and answers what it comes to
+pub kept_by_operator : (b : FnBuiltin) (o : call.Outcome) (s z : List Cell) (x u y v : Tree) (r : Result Tree EvalAltResult) → way b ≡ operator
+    → IfOk r (λ d. u ≡ first_left (way b) o s x) → IfOk r (λ d. v ≡ second_left (way b) o y) → IfOk r (λ d. z ≡ store_left (way b) o s x)
+    → IfErr r (λ e. (u ≡ x) × (v ≡ y) × (z ≡ s)) → (u ≡ x) × (v ≡ y) × (z ≡ s)
+kept_by_operator b o s z x u y v (Ok d) e f g h k = (f ∙ ap (λ w. first_left w o s x) e, g ∙ ap (λ w. second_left w o y) e, h ∙ ap (λ w. store_left w o s x) e)
+kept_by_operator b o s z x u y v (Err why) e f g h k = k
+
+pub answered_by_operator : (MayWant : Type 0) (b : FnBuiltin) (o : call.Outcome) (r : Result Tree EvalAltResult) → way b ≡ operator → IsOutcome MayWant r (answered (way b) o) → IsOutcome MayWant r o
+answered_by_operator M b o r e h = subst (λ w. IsOutcome M r (answered w o)) e h
 
 -- what the step comes to
 pub binary_is : (w : State) (op : Token) (i j : ℕ) (x y : Tree) (row : FnBuiltin) → slice_get w.hand i ≡ Some x → slice_get w.hand j ≡ Some y → nat_eq i j ≡ false → row_of op w.store x y ≡ Some row

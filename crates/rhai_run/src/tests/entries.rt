@@ -137,3 +137,58 @@ fn values_are_got_as_types(rt: HostRuntime) -> Result<(), Fail> {
     assert_eq!(rt; line.as_str(), "ok;ok;ok;ok;\"a\";nothing;nothing;NoEntry;");
     Ok(())
 }
+
+#[test]
+fn entries_are_looked_into_by_reference(rt: HostRuntime) -> Result<(), Fail> {
+    let alloc = rt.alloc();
+    let commands = vec![in alloc;
+        Command::Put(Literal::Text(name(alloc, "a")?)),
+        Command::Push(name(alloc, "t")?, 0),
+        Command::GetRef(name(alloc, "t")?, TypeId::String),
+        Command::GetRef(name(alloc, "t")?, TypeId::ImmutableString),
+        Command::Debug(1),
+        Command::GetRef(name(alloc, "t")?, TypeId::Int),
+        Command::GetRef(name(alloc, "u")?, TypeId::Int),
+        Command::Share(1),
+        Command::Push(name(alloc, "s")?, 1),
+        Command::GetRef(name(alloc, "s")?, TypeId::ImmutableString),
+        Command::SetRef(name(alloc, "s")?, 1),
+        Command::SetRef(name(alloc, "t")?, 1),
+        Command::SetRef(name(alloc, "u")?, 1),
+        Command::Put(Literal::Int(5)),
+        Command::PushConstant(name(alloc, "c")?, 2),
+        Command::SetRef(name(alloc, "c")?, 7),
+        Command::Get(name(alloc, "c")?),
+        Command::Show(3),
+    ]?;
+    let line = answers_anew(alloc, &commands)?;
+    assert_eq!(rt;
+        line.as_str(),
+        "ok;ok;nothing;ok;\"a\";nothing;NoEntry;ok;ok;SharedEntry;SharedEntry;nothing;NoEntry;ok;ok;ok;ok;7;"
+    );
+    Ok(())
+}
+
+#[test]
+fn entries_are_removed(rt: HostRuntime) -> Result<(), Fail> {
+    let alloc = rt.alloc();
+    let commands = vec![in alloc;
+        Command::Put(Literal::Int(123)),
+        Command::Push(name(alloc, "x")?, 0),
+        Command::Put(Literal::Int(42)),
+        Command::Push(name(alloc, "x")?, 1),
+        Command::Remove(name(alloc, "x")?, TypeId::Int),
+        Command::Show(2),
+        Command::GetValue(name(alloc, "x")?, TypeId::Int),
+        Command::Show(3),
+        Command::Remove(name(alloc, "x")?, TypeId::String),
+        Command::Len,
+        Command::Remove(name(alloc, "x")?, TypeId::Int),
+    ]?;
+    let line = answers_anew(alloc, &commands)?;
+    assert_eq!(rt;
+        line.as_str(),
+        "ok;ok;ok;ok;ok;42;ok;123;nothing;number 0;NoEntry;"
+    );
+    Ok(())
+}

@@ -21,6 +21,7 @@ use Rattle.rhai_ops.specs.declared.builtin.FnBuiltin.{FnBuiltin}
 use Rattle.rhai_ops.specs.declared.builtin.FnBuiltin.TheVariants as row
 use Rattle.rhai_ops.specs.declared.own.Own.{Own}
 use Rattle.rhai_ops.specs.declared.own.Own.TheVariants as is
+use Rattle.rhai_ops.specs.declared.word.Word.{Word}
 use Rattle.rhai_ops.specs.declared.word.Word.TheVariants.{Keep, Whole}
 use Rattle.rhai_ops.specs.AssignTable.{assign_row, assign_line}
 use Rattle.rhai_ops.specs.Outcome.{Outcome, answers, too_large, limited_text, limited_blob}
@@ -228,9 +229,19 @@ agree t l s (node (branch (function j) ts) g m) y b a v w e f p q k = absurd (no
 agree t l s (node (fields fs) g m) y b a v w e f p q k = absurd (none_is_some _ a (other_none t (own y)) f)
 agree t l s (node (holder c) g m) y b a v w e f p q k = absurd (none_is_some _ a (other_none t (own y)) f)
 
+-- a value that is written over itself, by either word
+again : (w : Word) (t : Tree) → rewritten w t t ≡ t
+again Keep (node c g m) = refl
+again Whole t = refl
+
+unchanged : (w : Way) (s : List Cell) (i : Leaf) (g : ℤ) (m : AccessMode) → first_left w (answers (node (leaf i) g m)) s (node (leaf i) g m) ≡ node (leaf i) g m
+unchanged operator s i g m = refl
+unchanged (assignment w q) s i g m = ap (λ d. value_after (rewritten w (node (leaf i) g m)) d (node (leaf i) g m)) (leaf_end s [] i g m) ∙ again w (node (leaf i) g m)
+
 -- a character that takes an empty text
 pub stays : (l : Limits) (s : List Cell) (x y : Tree) → takes_nothing x y ≡ true → first_left (way row.CharTextAssign) (outcome row.CharTextAssign l s x y) s x ≡ x
 stays l s (node (leaf (char c)) g m) (node (leaf (text [])) h n) e =
     rw (own_part char_of s (char c) g m, own_part text_of s (text []) h n)
-    (ap (λ d. value_after (rewritten Whole (unwrap_or (held_in d) (node (leaf (char c)) g m))) d (node (leaf (char c)) g m)) (leaf_end s [] (char c) g m))
+    (ap (λ d. first_left (way row.CharTextAssign) (answers (unwrap_or (held_in d) (node (leaf (char c)) g m))) s (node (leaf (char c)) g m)) (leaf_end s [] (char c) g m)
+    ∙ unchanged (way row.CharTextAssign) s (char c) g m)
 stays l s _ _ e = cc

@@ -1,12 +1,14 @@
 -- A value that is moved out of its entry for a while.
-use Rattle.std.proofs.Common.{◌≡◌, ℕ, zero, suc, List, [], ◌∷◌, slice_get, Option, Some, None, option_map, refl, sym, ap}
+use Rattle.std.proofs.Common.{◌∙◌, ◌<◌, length, true, is_some, IfSome, option_and_then, arith, ◌≡◌, ℕ, zero, suc, List, [], ◌∷◌, slice_get, Option, Some, None, option_map, refl, sym, ap}
 use Rattle.std.specs.Prelude.{remove}
 use Rattle.rhai_value.specs.Tree.{Tree}
 use Rattle.rhai_scope.specs.Entry.{Entry, with_value}
 use Rattle.rhai_value.specs.declared.type_id.TypeId.{TypeId}
 use Rattle.rhai_variant.specs.Reads.{written_as}
-use Rattle.rhai_scope.specs.Lookup.{changed_at, changed_if, value_at, with_value_at}
+use Rattle.rhai_scope.specs.Lookup.{changed_at, changed_if, last_position, value_at, value_named, with_value_at}
+use Rattle.rhai_scope.specs.Columns.{entries_of}
 use Rattle.rhai_scope.specs.Typed.{written_entry}
+use Rattle.rhai_scope.proofs.Parallel.{Aliases, value_named_at}
 
 -- an entry goes whatever its value became
 pub taken : (t : Tree) (es : List Entry) (i : ℕ) → remove (changed_at (with_value t) es i) i ≡ remove es i
@@ -39,3 +41,17 @@ kept_there t (e ∷ es) (suc i) h = ap (λ xs. e ∷ xs) (kept_there t es i h)
 pub kept_at : (t : Tree) (es : List Entry) (o : Option ℕ) → Some t ≡ value_at es o → with_value_at es o t ≡ es
 kept_at t es None h = refl
 kept_at t es (Some i) h = kept_there t es i (sym h)
+
+-- what is read of the value at a place of its own column is read of the value of the name that was found there
+read_step : {A : Type 0} (f : Tree → Option A) (x : Option A) (o : Option Tree) → is_some o ≡ true → IfSome o (λ t. x ≡ f t) → x ≡ option_and_then f o
+read_step f x None s h = cc
+read_step f x (Some t) s h = h
+
+there : (vs : List Tree) (i : ℕ) → i < length vs → is_some (slice_get vs i) ≡ true
+there [] i h = absurd (omega (arith, h))
+there (v ∷ vs) zero h = refl
+there (v ∷ vs) (suc i) h = there vs i (omega (arith, h))
+
+pub read_named : {A : Type 0} (f : Tree → Option A) (x : Option A) (name : List ℕ) (ns : List (List ℕ)) (vs : List Tree) (bs : Aliases) (i : ℕ) → length vs ≡ length ns → i < length ns → Some i ≡ last_position name (entries_of ns vs bs)
+    → IfSome (slice_get vs i) (λ t. x ≡ f t) → x ≡ option_and_then f (value_named name (entries_of ns vs bs))
+read_named f x name ns vs bs i h l e k = read_step f x (slice_get vs i) (there vs i (omega (arith, h, l))) k ∙ ap (option_and_then f) (value_named_at name ns vs bs (Some i) h e)

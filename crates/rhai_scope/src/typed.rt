@@ -1,5 +1,5 @@
 //! Entries by types of Rust.
-ghost use Rattle.std.specs.Prelude.{◌≡◌, ◌<◌, false, None, Some, length, option_map, option_and_then, remove, IfSome, IfOk, IfErr, OnOk, OnErr, IsOk};
+ghost use Rattle.std.specs.Prelude.{◌≡◌, ◌<◌, false, None, Some, length, option_map, option_and_then, slice_get, remove, IfSome, IfOk, IfErr, OnOk, OnErr, IsOk};
 ghost use Rattle.std.specs.Borrow.{LendsIf, sem};
 ghost use Rattle.std.specs.Str.{chars};
 ghost use Rattle.rhai_value.specs.declared.access_mode.AccessMode.TheVariants.{ReadWrite, ReadOnly};
@@ -8,7 +8,7 @@ ghost use Rattle.rhai_value.specs.Tree.{cell_of};
 ghost use Rattle.rhai_variant.specs.Reads.{read, viewed};
 ghost use Rattle.rhai_scope.specs.Columns.{entries, AreParallel};
 ghost use Rattle.rhai_scope.specs.Entry.{is_constant_entry, pushed};
-ghost use Rattle.rhai_scope.specs.Lookup.{changed_named, last_position, last_entry, value_at, value_named, writable_position};
+ghost use Rattle.rhai_scope.specs.Lookup.{changed_named, last_position, last_entry, value_named, writable_position};
 ghost use Rattle.rhai_scope.specs.Typed.{set_or_pushed, removed_at, written_entry};
 ghost use Rattle.rhai_scope.specs.contracts.scope.Scope as scope_type;
 
@@ -63,7 +63,7 @@ impl Columns {
     ) -> Result<Option<T>, AllocError>
         requires parallel { AreParallel self.old }
         requires within { i < length self.old.names.items }
-        ensures found { IfOk result (λ found. option_map T.tree found ≡ option_and_then (λ t. read T.KIND (flattened s.now t)) (value_at (entries self.old) (Some i))) }
+        ensures found { IfOk result (λ found. IfSome (slice_get self.old.values.items i) (λ t. option_map T.tree found ≡ read T.KIND (flattened s.now t))) }
         ensures ok { OnOk result (entries self.new ≡ remove (entries self.old) i) }
         ensures err { OnErr result (entries self.new ≡ entries self.old) }
         ensures parallel { AreParallel self.new }

@@ -1,6 +1,4 @@
-use Rattle.std.proofs.Common.{ap, sym, ◌∙◌, option_and_then}
-use Rattle.rhai_value.specs.End.{flattened}
-use Rattle.rhai_variant.specs.Reads.{read}
+use Rattle.std.proofs.Common.{ap, ◌∙◌}
 use Rattle.rhai_value.specs.Tree.{fresh, unit}
 use Rattle.rhai_scope.specs.Columns.{entries}
 use Rattle.rhai_scope.specs.Entry.{with_value}
@@ -17,8 +15,3 @@ returns-in-Err-clause-err g c =
     ∙ (ap (λ t. changed_at (with_value t) (entries c.lift-value.new.self) c.args.i) c.in-Err.ensures.err
     ∙ (ap (λ es. changed_at (with_value value) es c.args.i) c.lift-value.ensures.entries
     ∙ put_back value (fresh unit) (entries own) c.args.i (value_at own.names.items own.values.items own.aliases.items c.args.i c.requires.parallel.values ∙ c.lift-value.ensures.value)))
-
-pub returns-in-Ok-clause-found : goal.returns-in-Ok-clause-found
-returns-in-Ok-clause-found g c =
-    let own = c.args.self.now in
-    c.in-Ok.ensures.ok ∙ sym (ap (option_and_then (λ t. read g.T.Variant.KIND (flattened c.args.s.now t))) (value_at own.names.items own.values.items own.aliases.items c.args.i c.requires.parallel.values ∙ c.lift-value.ensures.value))

@@ -12,8 +12,8 @@ ghost use Rattle.rhai_run.specs.Hand.{read_as};
 use rhai_cast::DynamicCast;
 use rhai_text::ImmutableString;
 use rhai_value::{
-    AccessMode, Array, Blob, Dynamic, ExclusiveRange, FnPtr, INT, InclusiveRange, Map, Store, TypeId,
-    Union,
+    AccessMode, Array, Blob, Dynamic, ExclusiveRange, FnPtr, INT, InclusiveRange, Map, Store,
+    TypeId, Union,
 };
 use rhai_variant::Variant;
 use std::alloc::{AllocError, Global};

@@ -12,18 +12,41 @@ fn values_have_hash_bytes(rt: HostRuntime) -> Result<(), Fail> {
         Command::Hash(1),
         Command::Put(Literal::Host(Host::U8(255))),
         Command::Hash(2),
-        Command::Put(Literal::Bool(true)),
-        Command::MakeArray(1),
         Command::Hash(3),
-        Command::Put(Literal::Unit),
-        Command::MakeMap(keys(alloc, &["a"])?),
-        Command::Hash(4),
-        Command::Hash(5),
     ]?;
     let line = answers_anew(alloc, &commands)?;
     assert_eq!(rt;
         line.as_str(),
-        "ok;bytes 4 1 0 0 0 0 0 0 0;ok;bytes 2 1 0 0 0 0 0 0 0 97;ok;bytes 9 0 255;ok;ok;bytes 5 1 0 0 0 0 0 0 0 1 1;ok;ok;bytes 7 1 0 0 0 0 0 0 0 1 0 0 0 0 0 0 0 97 0;NoValue;"
+        "ok;bytes 4 1 0 0 0 0 0 0 0;ok;bytes 2 1 0 0 0 0 0 0 0 97;ok;bytes 9 0 255;NoValue;"
+    );
+    Ok(())
+}
+
+#[test]
+fn arrays_have_the_hash_bytes_of_their_items(rt: HostRuntime) -> Result<(), Fail> {
+    let alloc = rt.alloc();
+    let commands = vec![in alloc;
+        Command::Put(Literal::Bool(true)),
+        Command::MakeArray(1),
+        Command::Hash(0),
+    ]?;
+    let line = answers_anew(alloc, &commands)?;
+    assert_eq!(rt; line.as_str(), "ok;ok;bytes 5 1 0 0 0 0 0 0 0 1 1;");
+    Ok(())
+}
+
+#[test]
+fn maps_have_the_hash_bytes_of_their_entries(rt: HostRuntime) -> Result<(), Fail> {
+    let alloc = rt.alloc();
+    let commands = vec![in alloc;
+        Command::Put(Literal::Unit),
+        Command::MakeMap(keys(alloc, &["a"])?),
+        Command::Hash(0),
+    ]?;
+    let line = answers_anew(alloc, &commands)?;
+    assert_eq!(rt;
+        line.as_str(),
+        "ok;ok;bytes 7 1 0 0 0 0 0 0 0 1 0 0 0 0 0 0 0 97 0;"
     );
     Ok(())
 }

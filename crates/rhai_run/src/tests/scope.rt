@@ -4,31 +4,36 @@ use std::test::Fail;
 #[test]
 fn names_are_shadowed_and_rewound(rt: HostRuntime) -> Result<(), Fail> {
     let alloc = rt.alloc();
-    let x = name(alloc, "x")?;
-    let y = name(alloc, "y")?;
     let commands = vec![in alloc;
         Command::Put(Literal::Int(1)),
-        Command::Push(x.copy(alloc)?, 0),
+        Command::Push(name(alloc, "x")?, 0),
         Command::Put(Literal::Int(2)),
-        Command::Push(x.copy(alloc)?, 1),
-        Command::Get(x.copy(alloc)?),
+        Command::Push(name(alloc, "x")?, 1),
+        Command::Get(name(alloc, "x")?),
         Command::Show(2),
         Command::Rewind(1),
-        Command::Get(x),
+        Command::Get(name(alloc, "x")?),
         Command::Show(3),
         Command::Show(0),
-        Command::Get(y),
+    ]?;
+    let line = answers_anew(alloc, &commands)?;
+    assert_eq!(rt; line.as_str(), "ok;ok;ok;ok;ok;2;ok;ok;1;;");
+    Ok(())
+}
+
+#[test]
+fn what_is_not_there_is_refused(rt: HostRuntime) -> Result<(), Fail> {
+    let alloc = rt.alloc();
+    let commands = vec![in alloc;
+        Command::Put(Literal::Int(1)),
+        Command::Push(name(alloc, "x")?, 0),
+        Command::Get(name(alloc, "y")?),
         Command::Pop,
         Command::Pop,
         Command::Rewind(9),
     ]?;
-    let mut world = World::new(alloc, UNLIMITED);
-    let line = answers(alloc, &mut world, &commands);
-    world.close();
-    assert_eq!(rt;
-        line?.as_str(),
-        "ok;ok;ok;ok;ok;2;ok;ok;1;;NoEntry;ok;EmptyScope;ok;"
-    );
+    let line = answers_anew(alloc, &commands)?;
+    assert_eq!(rt; line.as_str(), "ok;ok;NoEntry;ok;EmptyScope;ok;");
     Ok(())
 }
 

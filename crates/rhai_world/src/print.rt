@@ -21,9 +21,11 @@ fn write_reason<W: Write>(refusal: &Refusal, writer: &mut W) -> io::Result<()>
             writer.write_all(b"Mismatch ")?;
             writer.write_all(name.as_bytes())
         }
-        Refusal::SameValue | Refusal::ConstantEntry | Refusal::NotHashable | Refusal::Fault(_) => {
-            writer.write_all(b"BadLine")
-        }
+        Refusal::SameValue
+        | Refusal::ConstantEntry
+        | Refusal::SharedEntry
+        | Refusal::NotHashable
+        | Refusal::Fault(_) => { writer.write_all(b"BadLine") }
     }
 }
 

@@ -54,20 +54,20 @@ answered_by_operator M b o r e h = subst (λ w. IsOutcome M r (answered w o)) e 
 
 -- what the step comes to
 pub binary_is : (w : State) (op : Token) (i j : ℕ) (x y : Tree) (row : FnBuiltin) → slice_get w.hand i ≡ Some x → slice_get w.hand j ≡ Some y → nat_eq i j ≡ false → row_of op w.store x y ≡ Some row
-    → step_binary w op i j ≡ called w (outcome row w.limits w.store x y)
+    → step_binary w op i j ≡ called w (appended w) (outcome row w.limits w.store x y)
 binary_is w op i j x y row ex ey e f = rw (ex, ey, e, f) refl
 
-pub gives_value : (MayWant : Type 0) (w : State) (d : Tree) (o : call.Outcome) → IsOutcome MayWant (Ok d) o → called w o ≡ (done, appended w d)
-gives_value M w d o h = ap (called w) h
+pub gives_value : (MayWant : Type 0) (w : State) (d : Tree) (o : call.Outcome) → IsOutcome MayWant (Ok d) o → called w (appended w) o ≡ (done, appended w d)
+gives_value M w d o h = ap (called w (appended w)) h
 
 -- a value is no refusal
-answer_stays : (w : State) (o : call.Outcome) → is_answer o ≡ true → is_granted (called w o).0 ≡ true
+answer_stays : (w : State) (o : call.Outcome) → is_answer o ≡ true → is_granted (called w (appended w) o).0 ≡ true
 answer_stays w (call.answers t) h = refl
 answer_stays w (call.fault f) h = cc
 answer_stays w (call.too_large k) h = cc
 answer_stays w call.unsuited h = cc
 
-pub gives_refusal : (MayWant : Type 0) (w : State) (e : EvalAltResult) (o : call.Outcome) (why : NotDone) → IsOutcome MayWant (Err e) o → why ≡ not_done_of e → Gives (Err why) w (called w o)
+pub gives_refusal : (MayWant : Type 0) (w : State) (e : EvalAltResult) (o : call.Outcome) (why : NotDone) → IsOutcome MayWant (Err e) o → why ≡ not_done_of e → Gives (Err why) w (called w (appended w) o)
 gives_refusal M w (error.ErrorArithmetic f p) o why h k = rw (k, h.0, h.1) refl
 gives_refusal M w (error.ErrorDataTooLarge f p) o why h k = rw (k, h.0, h.1) refl
 gives_refusal M w (error.ErrorMemory a) o why h k = rw k (answer_stays w o h.1)

@@ -1,5 +1,6 @@
 -- Steps on the last entry of a name, on two states that are the same up to a renaming.
-use Rattle.std.proofs.Common.{◌≡◌, ℕ, ℤ, Bool, true, false, cond, List, [], ◌∷◌, Option, Some, None, option_map, is_some, refl, subst}
+use Rattle.std.proofs.Common.{◌≡◌, ℕ, ℤ, Bool, true, false, cond, List, [], ◌∷◌, Option, Some, None, option_map, is_some, refl, ap, subst}
+use Rattle.std.proofs.lemmas.Option.{same_Some}
 use Rattle.std.specs.List.{AllZip}
 use Rattle.rhai_value.specs.declared.type_id.TypeId.{TypeId}
 use Rattle.rhai_value.specs.declared.type_id.TypeId.TheVariants as id
@@ -10,16 +11,17 @@ use Rattle.rhai_value.specs.Relation.{Renaming, Related, Alike}
 use Rattle.rhai_value.proofs.ForCallers.{same_copy, same_shared, zip_append}
 use Rattle.rhai_variant.proofs.ForCallers.{same_viewed}
 use Rattle.rhai_cast.proofs.ForCallers.{same_moved}
-use Rattle.rhai_scope.proofs.ForCallers.{same_position, same_last_entry, same_named, same_constant, same_changed_named, same_with_value, same_aliased, same_set_or_pushed, same_writable, same_written_entry, same_removed_at}
+use Rattle.rhai_scope.proofs.ForCallers.{same_aliases_named, same_position, same_last_entry, same_named, same_constant, same_changed_named, same_with_value, same_aliased, same_set_or_pushed, same_writable, same_written_entry, same_removed_at}
 use Rattle.rhai_scope.specs.Alias.{meant_alias, aliased}
 use Rattle.rhai_scope.specs.Entry.{Entry, with_value as holding}
 use Rattle.rhai_scope.specs.Lookup.{last_position, writable_position}
 use Rattle.rhai_scope.specs.Typed.{set_or_pushed, removed_at, written_entry}
 use Rattle.rhai_run.specs.Hand.{read_as}
 use Rattle.rhai_run.specs.State.{State, with_entries}
-use Rattle.rhai_run.specs.Reply.{nothing, no_entry, constant_entry, shared_entry}
-use Rattle.rhai_run.specs.Entries.{step_set_entry, step_set_or_push, is_there_constant, step_set_value, step_get, appended_or_nothing, step_get_value, viewed_as, step_get_ref, step_set_ref, step_remove, step_set_alias}
-use Rattle.rhai_run.specs.Outcome.{Outcome}
+use Rattle.rhai_run.specs.Reply.{told, nothing, no_entry, constant_entry, shared_entry}
+use Rattle.rhai_run.specs.Entries.{step_set_entry, step_set_or_push, is_there_constant, step_set_value, step_get, appended_or_nothing, step_get_value, viewed_as, step_get_ref, step_set_ref, step_remove, step_set_alias, step_aliases}
+use Rattle.rhai_scope.specs.NamesText.{aliases_text}
+use Rattle.rhai_run.specs.Outcome.{Outcome, given}
 use Rattle.rhai_scope.specs.Relation.{RelatedEntry}
 use Rattle.rhai_run.specs.Correspondence.{RelatedStates}
 use Rattle.rhai_run.proofs.HandSteps.{unless_shared, same_flat_read}
@@ -71,6 +73,15 @@ module _ (r : Renaming) (w v : State) (h : RelatedStates r w v) where
 
   pub same_set_alias : (name alias : List ℕ) → Matches r w v (step_set_alias w name alias) (step_set_alias v name alias)
   same_set_alias name alias = m_entries r w v h _ _ (same_changed_named r _ _ name w.entries v.entries (same_aliased r (meant_alias name alias)) h.entries)
+
+  told_alike : (o p : Option (List (List ℕ))) → o ≡ p → Matches r w v (given o no_entry w (λ bs. (told (aliases_text bs), w))) (given p no_entry v (λ bs. (told (aliases_text bs), v)))
+  told_alike None None e = m_stays r w v h _ _ refl
+  told_alike (Some a) (Some b) e = m_stays r w v h _ _ (ap (λ bs. told (aliases_text bs)) (same_Some a b e))
+  told_alike None (Some b) e = cc
+  told_alike (Some a) None e = cc
+
+  pub same_aliases : (name : List ℕ) → Matches r w v (step_aliases w name) (step_aliases v name)
+  same_aliases name = told_alike _ _ (same_aliases_named r name w.entries v.entries h.entries)
 
   same_viewed_as : (kind : TypeId) (t u : Tree) → Related r t u → Alike (Related r) (viewed_as kind t) (viewed_as kind u)
   same_viewed_as kind t u e = unless_shared r w v h (is_type kind id.Shared) _ _ (same_viewed r kind t u e)

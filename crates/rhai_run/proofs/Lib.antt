@@ -1,10 +1,17 @@
 pub mod FromBelow
 pub mod Outcome
+pub mod MarkLists
+pub mod WorkingValues
+pub mod PlaceValues
+pub mod Assigns
 pub mod HandSteps
 pub mod Kept
 pub mod Called
 pub mod Casts
 pub mod ChangeSteps
+pub mod PlaceSteps
+pub mod MarkSteps
+pub mod WriteBackSteps
 pub mod OperatorSteps
 pub mod ScanSteps
 pub mod ScopeSteps
@@ -12,6 +19,7 @@ pub mod EntrySteps
 pub mod AskSteps
 pub mod Step
 pub mod Fitting
+pub mod KeptWorlds
 pub mod Runs
 pub mod Moves
 pub mod MapRows

@@ -1,4 +1,4 @@
--- Operators, on two states that are the same up to a renaming.
+-- Operators and assignments, on two states that are the same up to a renaming.
 use Rattle.std.proofs.Common.{◌≡◌, ℕ, Option, Some, None, refl, ap, subst}
 use Rattle.std.proofs.lemmas.Option.{same_Some}
 use Rattle.rhai_text.specs.declared.token.Token.{Token}
@@ -8,13 +8,18 @@ use Rattle.rhai_ops.specs.Outcome as call
 use Rattle.rhai_ops.specs.Outcome.{no_place, RelatedOutcomes}
 use Rattle.rhai_ops.specs.Results.{outcome}
 use Rattle.rhai_ops.specs.Table.{row_of}
+use Rattle.rhai_ops.specs.Ways.{way}
 use Rattle.rhai_ops.specs.declared.builtin.FnBuiltin.{FnBuiltin}
-use Rattle.rhai_ops.proofs.ForCallers.{same_row, same_outcome}
+use Rattle.rhai_ops.proofs.ForCallers.{same_row, same_assign_row, same_outcome, same_first_left, same_second_left, same_store_left, length_store_left, marked_store_left}
+use Rattle.rhai_value.proofs.ForCallers.{same_first, zip_set}
+use Rattle.rhai_run.specs.declared.command.Place.{Place}
+use Rattle.rhai_run.specs.Change.{nowhere}
 use Rattle.rhai_run.specs.State.{State}
-use Rattle.rhai_run.specs.Reply.{refused, no_builtin, fault, arithmetic, too_large}
-use Rattle.rhai_run.specs.Operators.{called, step_binary}
+use Rattle.rhai_run.specs.Reply.{done, refused, no_builtin, same_value, fault, arithmetic, data_race, too_large}
+use Rattle.rhai_run.specs.Operators.{assigned, called, step_assign, step_binary}
 use Rattle.rhai_run.specs.Correspondence.{RelatedStates}
-use Rattle.rhai_run.proofs.Outcome.{Matches, m_stays, m_given, m_two, m_appended}
+use Rattle.rhai_run.proofs.Outcome.{Matches, m_stays, m_unless, m_given, m_two, m_appended}
+use Rattle.rhai_run.proofs.PlaceSteps.{hand_states, m_place_and, m_put, m_with_hand}
 
 alike_same : {X : Type 0} (o p : Option X) → o ≡ p → Alike (λ a b. a ≡ b) o p
 alike_same None None e = tt
@@ -23,31 +28,50 @@ alike_same None (Some b) e = cc
 alike_same (Some a) None e = cc
 
 module _ (r : Renaming) (w v : State) (h : RelatedStates r w v) where
-  same_called : (o p : call.Outcome) → RelatedOutcomes r o p → Matches r w v (called w o) (called v p)
-  same_called (call.answers t) (call.answers u) e = m_appended r w v h t u e
-  same_called (call.fault f) (call.fault g) e = m_stays r w v h _ _ (ap (λ x. refused (fault (arithmetic x no_place))) e)
-  same_called (call.too_large k) (call.too_large j) e = m_stays r w v h _ _ (ap (λ x. refused (fault (too_large x no_place))) e)
-  same_called call.unsuited call.unsuited e = m_stays r w v h _ _ refl
-  same_called (call.answers t) (call.fault g) e = absurd e
-  same_called (call.answers t) (call.too_large j) e = absurd e
-  same_called (call.answers t) call.unsuited e = absurd e
-  same_called (call.fault f) (call.answers u) e = absurd e
-  same_called (call.fault f) (call.too_large j) e = absurd e
-  same_called (call.fault f) call.unsuited e = absurd e
-  same_called (call.too_large k) (call.answers u) e = absurd e
-  same_called (call.too_large k) (call.fault g) e = absurd e
-  same_called (call.too_large k) call.unsuited e = absurd e
-  same_called call.unsuited (call.answers u) e = absurd e
-  same_called call.unsuited (call.fault g) e = absurd e
-  same_called call.unsuited (call.too_large j) e = absurd e
+  same_called : (f g : Tree → State) (o p : call.Outcome) → RelatedOutcomes r o p → ((t u : Tree) → o ≡ call.answers t → p ≡ call.answers u → Related r t u → Matches r w v (done, f t) (done, g u))
+      → Matches r w v (called w f o) (called v g p)
+  same_called f g (call.answers t) (call.answers u) e m = m t u refl refl e
+  same_called f g (call.fault a) (call.fault b) e m = m_stays r w v h _ _ (ap (λ x. refused (fault (arithmetic x no_place))) e)
+  same_called f g (call.too_large k) (call.too_large j) e m = m_stays r w v h _ _ (ap (λ x. refused (fault (too_large x no_place))) e)
+  same_called f g call.unsuited call.unsuited e m = m_stays r w v h _ _ refl
+  same_called f g (call.answers t) (call.fault b) e m = absurd e
+  same_called f g (call.answers t) (call.too_large j) e m = absurd e
+  same_called f g (call.answers t) call.unsuited e m = absurd e
+  same_called f g (call.fault a) (call.answers u) e m = absurd e
+  same_called f g (call.fault a) (call.too_large j) e m = absurd e
+  same_called f g (call.fault a) call.unsuited e m = absurd e
+  same_called f g (call.too_large k) (call.answers u) e m = absurd e
+  same_called f g (call.too_large k) (call.fault b) e m = absurd e
+  same_called f g (call.too_large k) call.unsuited e m = absurd e
+  same_called f g call.unsuited (call.answers u) e m = absurd e
+  same_called f g call.unsuited (call.fault b) e m = absurd e
+  same_called f g call.unsuited (call.too_large j) e m = absurd e
 
-  same_rows : (op : Token) (t u x y : Tree) → Related r t u → Related r x y → (row row' : FnBuiltin) → row ≡ row'
-      → Matches r w v (called w (outcome row w.limits w.store t x)) (called v (outcome row' v.limits v.store u y))
-  same_rows op t u x y e d row row' same =
-      same_called _ _ (subst (λ b. RelatedOutcomes r (outcome row w.limits w.store t x) (outcome b v.limits v.store u y)) same
-      (subst (λ l. RelatedOutcomes r (outcome row w.limits w.store t x) (outcome row l v.store u y)) h.limits (same_outcome r w.store v.store h.one h.cells t u x y e d row w.limits)))
+  same_comes : (t u x y : Tree) → Related r t u → Related r x y → (row row' : FnBuiltin) → row ≡ row' → RelatedOutcomes r (outcome row w.limits w.store t x) (outcome row' v.limits v.store u y)
+  same_comes t u x y e d row row' same =
+      subst (λ b. RelatedOutcomes r (outcome row w.limits w.store t x) (outcome b v.limits v.store u y)) same
+      (subst (λ l. RelatedOutcomes r (outcome row w.limits w.store t x) (outcome row l v.store u y)) h.limits (same_outcome r w.store v.store h.one h.cells t u x y e d row w.limits))
 
   pub same_binary : (op : Token) (i j : ℕ) → Matches r w v (step_binary w op i j) (step_binary v op i j)
   same_binary op i j =
       m_two r w v h i j _ _ (λ t u x y e d.
-      m_given r w v h (λ a b. a ≡ b) no_builtin _ _ _ _ (alike_same _ _ (same_row r w.store v.store h.one h.cells op t u x y e d)) (same_rows op t u x y e d))
+      m_given r w v h (λ a b. a ≡ b) no_builtin _ _ _ _ (alike_same _ _ (same_row r w.store v.store h.one h.cells op t u x y e d)) (λ row row' same.
+      same_called _ _ _ _ (same_comes t u x y e d row row' same) (λ a b _ _ k. m_appended r w v h a b k)))
+
+  -- what an assignment leaves at its place and of its second operand
+  same_assigned : (p : Place) (j : ℕ) (row row' : FnBuiltin) (o q : call.Outcome) (t u x y : Tree) → row ≡ row' → RelatedOutcomes r o q → Related r t u → Related r x y
+      → Matches r w v (assigned w p j (way row) t x o) (assigned v p j (way row') u y q)
+  same_assigned p j row row' o q t u x y same k e d =
+      subst (λ b. Matches r w v (assigned w p j (way row) t x o) (assigned v p j (way b) u y q)) same
+      (let how = way row in
+      let hands = zip_set (Related r) w.hand v.hand j _ _ h.hand (same_second_left r how o q x y k d) in
+      same_called _ _ o q k (λ a b _ _ _. m_with_hand r w v _ _ _ _ (m_put r _ _ (hand_states r w v _ _ h hands) p _ _ _ _
+      (length_store_left how o w.store t) (length_store_left how q v.store u) (marked_store_left how o w.store t)
+      (same_store_left r w.store v.store h.one h.cells t u e o q k how) (same_first_left r w.store v.store h.one h.cells t u e o q k how))))
+
+  pub same_assign : (op : Token) (p : Place) (j : ℕ) → Matches r w v (step_assign w op p j) (step_assign v op p j)
+  same_assign op p j =
+      m_place_and r w v h p j _ _ (λ t u x y e d.
+      m_unless r w v h same_value _ _ _ _ refl (m_given r w v h (Related r) (fault (data_race nowhere)) _ _ _ _ (same_first r w.store v.store h.cells t u e) (λ a b k.
+      m_given r w v h (λ c c'. c ≡ c') no_builtin _ _ _ _ (alike_same _ _ (same_assign_row r w.store v.store h.one h.cells a b x y k d op)) (λ row row' same.
+      same_assigned p j row row' _ _ t u x y same (same_comes t u x y e d row row' same) e d))))

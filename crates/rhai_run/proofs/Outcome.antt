@@ -7,15 +7,12 @@ use Rattle.rhai_value.specs.Store.{is_marked_at}
 use Rattle.rhai_value.specs.Relation.{Renaming, Related, RelatedCells, Alike}
 use Rattle.rhai_value.proofs.ForCallers.{zip_get, zip_append, zip_set, zip_take, zip_drop, zip_length}
 use Rattle.rhai_scope.specs.Entry.{Entry}
+use Rattle.rhai_run.specs.Fits.{MarksAre}
 use Rattle.rhai_run.specs.State.{State, with_hand, with_entries, with_scope, with_cells, appended, moved_from, last_values, values_before}
 use Rattle.rhai_run.specs.Reply.{Reply, done, refused, Reason, no_value, same_value}
-use Rattle.rhai_run.specs.Outcome.{Outcome, refuse, unless, given, with_value, with_two, answered, replaced, gathered}
+use Rattle.rhai_run.specs.Outcome.{Outcome, refuse, unless, given, with_value, with_two, answered, replaced, gathered, taken_off}
 use Rattle.rhai_scope.specs.Relation.{RelatedEntry}
 use Rattle.rhai_run.specs.Correspondence.{RelatedStates, grown}
-
--- the marks are the marked cells, each once
-abbrev pub MarksAre : List Cell → List ℕ → Type 0
-MarksAre s ms = (c : ℕ) → count_by (nat_eq c) ms ≡ cond (is_marked_at s c) 1 0
 
 -- x has the marked cells as its marks where w has
 abbrev pub Keeps : State → State → Type 0
@@ -97,18 +94,21 @@ module _ (r : Renaming) (w v : State) (h : RelatedStates r w v) where
   pub m_replaced : (i : ℕ) (f g : Tree → Tree) → ((t u : Tree) → Related r t u → Related r (f t) (g u)) → Matches r w v (replaced w i f) (replaced v i g)
   m_replaced i f g k = m_value i _ _ (λ t u e. m_hand _ _ (set_hand i (f t) (g u) (k t u e)))
 
-  pub m_gathered : (n : ℕ) (make : List Tree → Tree) → ((ts us : List Tree) → AllZip (Related r) ts us → Related r (make ts) (make us)) → Matches r w v (gathered w n make) (gathered v n make)
-  m_gathered n make k =
+  pub m_taken_off : (n : ℕ) (f g : List Tree → List Tree → Outcome) → ((ts us xs ys : List Tree) → AllZip (Related r) ts us → AllZip (Related r) xs ys → Matches r w v (f ts xs) (g us ys))
+      → Matches r w v (taken_off w n f) (taken_off v n g)
+  m_taken_off n f g k =
       let long = zip_length (Related r) w.hand v.hand h.hand in
       let last : AllZip (Related r) (last_values n w.hand) (last_values n v.hand) =
       subst (λ m. AllZip (Related r) (last_values n w.hand) (drop (m - n) v.hand)) long (zip_drop (Related r) (length w.hand - n) w.hand v.hand h.hand) in
       let before : AllZip (Related r) (values_before n w.hand) (values_before n v.hand) =
       subst (λ m. AllZip (Related r) (values_before n w.hand) (take (m - n) v.hand)) long (zip_take (Related r) (length w.hand - n) w.hand v.hand h.hand) in
-      by (nat_le n (length w.hand)) (nat_le n (length v.hand)) (ap (nat_le n) long)
-      (m_hand _ _ (zip_append (Related r) (values_before n w.hand) _ (values_before n v.hand) _ before (k (last_values n w.hand) (last_values n v.hand) last, tt)))
+      by (nat_le n (length w.hand)) (nat_le n (length v.hand)) (ap (nat_le n) long) (k _ _ _ _ before last)
     where
       by : (b d : Bool) {o p : Outcome} → b ≡ d → Matches r w v o p → Matches r w v (cond b o (refuse no_value w)) (cond d p (refuse no_value v))
       by true true e m = m
       by false false e m = m_stays (refused no_value) (refused no_value) refl
       by true false e m = cc
       by false true e m = cc
+
+  pub m_gathered : (n : ℕ) (make : List Tree → Tree) → ((ts us : List Tree) → AllZip (Related r) ts us → Related r (make ts) (make us)) → Matches r w v (gathered w n make) (gathered v n make)
+  m_gathered n make k = m_taken_off n _ _ (λ ts us xs ys before last. m_hand _ _ (zip_append (Related r) ts (make xs ∷ []) us (make ys ∷ []) before (k xs ys last, tt)))

@@ -5,9 +5,11 @@ use Rattle.rhai_run.specs.declared.command.Command.{Command}
 use Rattle.rhai_run.specs.declared.command.Command.TheVariants as command
 use Rattle.rhai_run.specs.declared.command.Question.{Question}
 use Rattle.rhai_run.specs.declared.command.Question.TheVariants as question
+use Rattle.rhai_run.specs.declared.pieces.Piece.{Piece}
+use Rattle.rhai_run.specs.WriteBack.{makes_text}
 use Rattle.rhai_scope.specs.Lookup.{last_position, writable_position}
 use Rattle.rhai_run.specs.State.{State}
-use Rattle.rhai_run.specs.Reply.{Reply, done, truth, number, told, bytes, nothing, refused}
+use Rattle.rhai_run.specs.Reply.{Reply, done, truth, number, told, bytes, pair, nothing, refused}
 
 -- A command is free where it takes no memory. Else it may want memory, and keeps then all as it was: where it is not refused, or even
 -- before it is known whether it is refused.
@@ -47,6 +49,10 @@ abbrev pub place_cost : Option ℕ → Cost
 place_cost (Some k) = free
 place_cost None = keeps_all
 
+-- a write-back takes memory where it makes a text
+abbrev pub piece_cost : Piece → Cost
+piece_cost p = if makes_text p then keeps_all else free
+
 -- the cost of each command
 abbrev pub cost : State → Command → Cost
 cost w (command.Put literal) = keeps_all
@@ -66,6 +72,7 @@ cost w (command.Ask i question) = question_cost question
 cost w (command.WriteInt i n) = free
 cost w (command.Write i j) = free
 cost w (command.Binary op i j) = keeps_all
+cost w (command.Assign op place j) = keeps_all
 cost w (command.Scan i scanner) = free
 cost w (command.Push name i) = keeps_all
 cost w (command.PushDynamic name i) = keeps_all
@@ -87,10 +94,26 @@ cost w (command.GetRef name kind) = keeps_all
 cost w (command.SetRef name n) = free
 cost w (command.Remove name kind) = keeps_all
 cost w (command.SetAlias name alias) = keeps_all
+cost w (command.Aliases name) = keeps_all
 cost w command.KeepVisible = keeps_all
 cost w command.CopyScope = keeps_all
+cost w command.Entries = keeps_all
+cost w command.Names = keeps_all
+cost w (command.Extend names) = keeps_all
+cost w (command.ExtendFlagged names) = keeps_all
 cost w command.ShowScope = keeps_all
 cost w command.HashScope = looks_first
+cost w (command.Mark place) = keeps_all
+cost w (command.Unmark k) = free
+cost w (command.WriteMarked k i) = free
+cost w (command.ReadMarked k) = keeps_all
+cost w (command.WriteBit place bit j) = free
+cost w (command.WriteField place mask shift j) = free
+cost w (command.WriteByte place index j) = free
+cost w (command.WriteChar place index j) = keeps_all
+cost w (command.WriteSlice place start end exclusive j) = keeps_all
+cost w (command.Offset length start len) = free
+cost w (command.Index length index from_end) = free
 cost w (command.Show i) = keeps_all
 cost w (command.Debug i) = keeps_all
 cost w (command.Hash i) = hash_cost (slice_get w.hand i)
@@ -102,6 +125,7 @@ is_granted (truth b) = true
 is_granted (number n) = true
 is_granted (told text) = true
 is_granted (bytes bs) = true
+is_granted (pair m n) = true
 is_granted nothing = true
 is_granted (refused why) = false
 

@@ -1,5 +1,5 @@
 -- What the code of a command owes.
-use Rattle.std.specs.Prelude.{◌≡◌, true, pos, string_bytes, Option, Result, Ok, Err}
+use Rattle.std.specs.Prelude.{◌≡◌, true, pos, string_bytes, Option, Some, None, Result, Ok, Err}
 use Rattle.std.specs.Str.{chars}
 use Rattle.rhai_run.specs.declared.brief.Brief.{Brief}
 use Rattle.rhai_run.specs.declared.brief.Brief.TheVariants as brief
@@ -10,7 +10,7 @@ use Rattle.rhai_text.specs.declared.error.EvalAltResult.TheVariants as error
 use Rattle.rhai_value.specs.Tree.{Tree}
 use Rattle.rhai_run.specs.declared.answer.Refusal.TheVariants.{Fault}
 use Rattle.rhai_run.specs.State.{State, appended}
-use Rattle.rhai_run.specs.Reply.{Reply, done, truth, number, told, bytes, nothing, refused, reason_of}
+use Rattle.rhai_run.specs.Reply.{Reason, Reply, done, truth, number, told, bytes, pair, nothing, refused, reason_of}
 use Rattle.rhai_run.specs.Outcome.{Outcome}
 use Rattle.rhai_run.specs.Entries.{appended_or_nothing}
 use Rattle.rhai_run.specs.Cost.{Cost, is_granted, may_want}
@@ -23,6 +23,7 @@ brief_reply (brief.Int n) = number n
 brief_reply (brief.Count n) = number (pos n)
 brief_reply (brief.Text t) = told (chars (string_bytes t))
 brief_reply (brief.Bytes b) = bytes b.items
+brief_reply (brief.Pair m n) = pair m n
 brief_reply brief.Nothing = nothing
 
 -- The answer or the refusal is this reply; or memory was refused where it may be wanted.
@@ -44,6 +45,17 @@ Finds (Ok o) w x = x ≡ appended_or_nothing w o
 Finds (Err (Refused why)) w x = x ≡ (refused (reason_of why), w)
 Finds (Err Memory) w x = is_granted x.0 ≡ true
 
+-- a test that refuses for this reason, if there is one, and takes no memory
+abbrev pub Tests : {X : Type 0} → Result X NotDone → Option Reason → Type 0
+Tests (Ok x) o = o ≡ None
+Tests (Err (Refused why)) o = o ≡ Some (reason_of why)
+Tests (Err Memory) o = ⊥
+
+-- the refusal of something that isn't there
+abbrev pub IsRefusal : {X : Type 0} → NotDone → Result X Reason → Type 0
+IsRefusal (Refused why) o = o ≡ Err (reason_of why)
+IsRefusal Memory o = ⊥
+
 -- the error of a call as why a command isn't done
 abbrev pub not_done_of : EvalAltResult → NotDone
 not_done_of (error.ErrorMismatchDataType wanted found at) = Refused (Fault (error.ErrorMismatchDataType wanted found at))
@@ -51,6 +63,15 @@ not_done_of (error.ErrorDataRace at) = Refused (Fault (error.ErrorDataRace at))
 not_done_of (error.ErrorArithmetic why at) = Refused (Fault (error.ErrorArithmetic why at))
 not_done_of (error.ErrorDataTooLarge what at) = Refused (Fault (error.ErrorDataTooLarge what at))
 not_done_of (error.ErrorMemory e) = Memory
+
+-- A call is done, and this is the outcome; or its error is that of the outcome, and nothing has changed.
+abbrev pub IsError : NotDone → State → Outcome → Type 0
+IsError (Refused why) w o = o ≡ (refused (reason_of why), w)
+IsError Memory w o = is_granted o.0 ≡ true
+
+abbrev pub Calls : Result Tree EvalAltResult → State → State → Outcome → Type 0
+Calls (Ok t) w v o = o ≡ (done, v)
+Calls (Err e) w v o = IsError (not_done_of e) w o × (v ≡ w)
 
 -- the state after it is this one; where memory was refused it is as before
 abbrev pub Leaves : Result Brief NotDone → State → State → State → Type 0

@@ -8,11 +8,12 @@ use Rattle.rhai_value.specs.Types.{is_type}
 use Rattle.rhai_variant.specs.Reads.{viewed}
 use Rattle.rhai_scope.specs.Alias.{meant_alias, aliased}
 use Rattle.rhai_scope.specs.Entry.{Entry, is_constant_entry, with_value as holding}
-use Rattle.rhai_scope.specs.Lookup.{last_position, last_entry, value_named, writable_position, changed_named}
+use Rattle.rhai_scope.specs.Lookup.{last_position, last_entry, value_named, aliases_named, writable_position, changed_named}
+use Rattle.rhai_scope.specs.NamesText.{aliases_text}
 use Rattle.rhai_scope.specs.Typed.{set_or_pushed, removed_at, written_entry}
 use Rattle.rhai_run.specs.Hand.{read_as}
 use Rattle.rhai_run.specs.State.{State, with_entries, with_scope, appended, moved_from}
-use Rattle.rhai_run.specs.Reply.{done, nothing, no_entry, constant_entry, shared_entry}
+use Rattle.rhai_run.specs.Reply.{done, told, nothing, no_entry, constant_entry, shared_entry}
 use Rattle.rhai_run.specs.Outcome.{Outcome, unless, given, with_value}
 
 -- the value becomes that of the last entry of the name, unless that is a constant
@@ -53,6 +54,10 @@ step_get_value w name kind = given (value_named name w.entries) no_entry w (λ t
 -- one more alias of the last entry of the name, if there is one
 abbrev pub step_set_alias : State → List ℕ → List ℕ → Outcome
 step_set_alias w name alias = (done, with_entries w (changed_named (aliased (meant_alias name alias)) name w.entries))
+
+-- the aliases of the last entry of the name, a line each
+abbrev pub step_aliases : State → List ℕ → Outcome
+step_aliases w name = given (aliases_named name w.entries) no_entry w (λ bs. (told (aliases_text bs), w))
 
 -- the entry itself as a type, by reference, copied; a holder is refused
 abbrev pub viewed_as : TypeId → Tree → Option Tree

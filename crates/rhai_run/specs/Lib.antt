@@ -11,6 +11,11 @@ pub mod Outcome
 pub mod Made
 pub mod Hand
 pub mod Change
+pub mod Places
+pub mod Lent
+pub mod Marks
+pub mod WriteBack
+pub mod Indices
 pub mod Scanners
 pub mod Scope
 pub mod Entries
@@ -21,5 +26,7 @@ pub mod Machine
 pub mod Operators
 pub mod Fits
 pub mod Correspondence
+pub mod KeptWorld
 pub mod Stop
+pub mod Both
 pub mod Does

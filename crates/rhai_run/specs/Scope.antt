@@ -1,15 +1,19 @@
 -- Steps on the scope as a whole, and pushes.
-use Rattle.std.specs.Prelude.{ℕ, pos, nat_eq, List, [], length, take, map, Option, Some, None, is_some}
+use Rattle.std.specs.Prelude.{ℕ, pos, Bool, nat_eq, List, [], ◌++◌, length, take, map, Option, Some, None, is_some}
+use Rattle.std.specs.List.{zip}
 use Rattle.rhai_value.specs.declared.access_mode.AccessMode.{AccessMode}
 use Rattle.rhai_value.specs.declared.access_mode.AccessMode.TheVariants.{ReadWrite, ReadOnly}
 use Rattle.rhai_value.specs.Tree.{Tree, mode_of}
 use Rattle.rhai_scope.specs.Entry.{pushed, popped, is_constant_entry, copied_entry}
+use Rattle.rhai_scope.specs.Extended.{extended, extended_flagged, flagged_values}
+use Rattle.rhai_scope.specs.Items.{flat_values}
+use Rattle.rhai_scope.specs.NamesText.{names_text}
 use Rattle.rhai_scope.specs.Lookup.{last_position, last_entry, visible}
 use Rattle.rhai_scope.specs.ScopeBytes.{scope_bytes}
 use Rattle.rhai_scope.specs.ScopeText.{scope_text}
-use Rattle.rhai_run.specs.State.{State, with_entries, with_scope, moved_from}
+use Rattle.rhai_run.specs.State.{State, with_hand, with_entries, with_scope, moved_from}
 use Rattle.rhai_run.specs.Reply.{Reply, done, truth, number, told, bytes, nothing, refused, empty_scope, not_hashable}
-use Rattle.rhai_run.specs.Outcome.{Outcome, unless, with_value}
+use Rattle.rhai_run.specs.Outcome.{Outcome, unless, with_value, taken_off}
 
 -- the value, painted with a mode, goes into a new last entry, and unit stands in its place
 abbrev pub moved_into_entry : (Tree → AccessMode) → State → List ℕ → ℕ → Outcome
@@ -66,6 +70,21 @@ step_keep_visible w = (done, with_entries w (map copied_entry (visible w.entries
 
 abbrev pub step_copy_scope : State → Outcome
 step_copy_scope w = (done, with_entries w (map copied_entry w.entries))
+
+-- the flat values of all entries at the end of the hand
+abbrev pub step_entries : State → Outcome
+step_entries w = (done, with_hand w (w.hand ++ flat_values w.store w.entries))
+
+-- the names of the entries, a line each, the newest first
+abbrev pub step_names : State → Outcome
+step_names w = (told (names_text w.store w.entries), w)
+
+-- the last values of the hand become those of new entries of these names, which may be written, or are constants where they are flagged
+abbrev pub step_extend : State → List (List ℕ) → Outcome
+step_extend w names = taken_off w (length names) (λ before last. (done, with_scope w (extended w.entries (zip names last)) before))
+
+abbrev pub step_extend_flagged : State → List (List ℕ × Bool) → Outcome
+step_extend_flagged w names = taken_off w (length names) (λ before last. (done, with_scope w (extended_flagged w.entries (flagged_values names last)) before))
 
 -- the text of the scope, and its hash bytes where it has some
 abbrev pub step_show_scope : State → Outcome

@@ -17,6 +17,14 @@ pub enum Refusal {
     ConstantEntry,
     /// The last entry of the name is a holder.
     SharedEntry,
+    /// The list of marks has no such position.
+    NoMark,
+    /// The value at the place is no holder, or holds another type than the command writes to.
+    WrongSource,
+    /// No int has this bit.
+    BitPlace,
+    /// The blob has no such byte.
+    BytePlace,
     /// The operator isn't built in for the two values.
     NoBuiltin,
     /// The value has no hash bytes.
@@ -40,6 +48,8 @@ pub enum Answer {
     Text(String),
     /// Bytes.
     Bytes(Vec<u8>),
+    /// Two numbers.
+    Pair(usize, usize),
     /// There is nothing to answer.
     Nothing,
     /// It was refused.

@@ -15,6 +15,7 @@ pub(crate) enum Brief {
     Count(u64),
     Text(String),
     Bytes(Vec<u8>),
+    Pair(usize, usize),
     Nothing,
 }
 
@@ -29,6 +30,7 @@ impl Brief {
             Brief::Count(count) => Answer::Int(i128::from(count)),
             Brief::Text(text) => Answer::Text(text),
             Brief::Bytes(bytes) => Answer::Bytes(bytes),
+            Brief::Pair(first, second) => Answer::Pair(first, second),
             Brief::Nothing => Answer::Nothing,
         }
     }

@@ -1,6 +1,6 @@
 //! What a world is told to do.
 
-use crate::lists::{Bytes, Names};
+use crate::lists::{Bytes, FlaggedNames, Names};
 use rhai_text::{ImmutableString, Token};
 use rhai_value::{ExclusiveRange, Host, INT, InclusiveRange, Tag, TypeId};
 
@@ -71,6 +71,15 @@ pub enum Scanner {
     Cut(usize),
 }
 
+/// What a command writes to.
+#[derive(Drop)]
+pub enum Place {
+    /// The value at a hand position.
+    Hand(usize),
+    /// The value of the last entry of a name. A constant is refused.
+    Entry(ImmutableString),
+}
+
 /// One command. Hand positions count from 0, and new values go to the end of the hand.
 #[derive(Drop)]
 pub enum Command {
@@ -109,6 +118,8 @@ pub enum Command {
     Write(usize, usize),
     /// Appends what the operator answers on the values at the two hand positions.
     Binary(Token, usize, usize),
+    /// Calls the assignment of the operator on the value at the place and the one at the hand position.
+    Assign(Token, Place, usize),
     /// Goes through the value at the hand position with a scanner, and answers how many values it came to.
     Scan(usize, Scanner),
     /// Moves the value at the hand position into a new entry of the name that may be written, and leaves unit.
@@ -151,14 +162,49 @@ pub enum Command {
     Remove(ImmutableString, TypeId),
     /// Gives the last entry of the name the alias, if it hasn't got it; an empty alias means the name.
     SetAlias(ImmutableString, ImmutableString),
+    /// Answers the aliases of the last entry of the name, each with a line feed.
+    Aliases(ImmutableString),
     /// Keeps copies of the last entries of each name, the newest first.
     KeepVisible,
     /// Keeps copies of all entries.
     CopyScope,
+    /// Appends copies of the values of all entries, without their holders.
+    Entries,
+    /// Answers the names of the entries, the newest first, each with a line feed, and with `const ` before that of a constant.
+    Names,
+    /// Takes as many values off the end of the hand as there are names, and adds an entry of each name with its value, which may be
+    /// written.
+    Extend(Names),
+    /// The same; an entry is a constant where its name is flagged.
+    ExtendFlagged(FlaggedNames),
     /// Answers the text of the scope.
     ShowScope,
     /// Answers the hash bytes of the scope.
     HashScope,
+    /// Marks the cell of the holder at the place: from then on it is read and written by the mark alone. The mark goes to the end of
+    /// the list of marks.
+    Mark(Place),
+    /// Takes the mark at this position out of the list, and frees its cell; later marks close up.
+    Unmark(usize),
+    /// Moves the value at the hand position into the cell of the mark at this position, and leaves unit.
+    WriteMarked(usize, usize),
+    /// Appends a copy of what is in the cell of the mark at this position.
+    ReadMarked(usize),
+    /// Writes the boolean at the hand position to this bit of the int at the place.
+    WriteBit(Place, u8, usize),
+    /// Writes the int at the hand position, shifted left, to the bits of the mask in the int at the place.
+    WriteField(Place, INT, u8, usize),
+    /// Writes the int at the hand position to the byte of this index of the blob at the place.
+    WriteByte(Place, usize, usize),
+    /// Writes the character at the hand position over the one of this index of the text at the place.
+    WriteChar(Place, usize, usize),
+    /// Writes what the value at the hand position prints as over the characters from the first index on, up to the second one; this
+    /// one is replaced too unless the slice is exclusive.
+    WriteSlice(Place, usize, usize, bool, usize),
+    /// Answers where a slice of a list of this length starts and how many items it has, for a start and a number of items.
+    Offset(usize, INT, INT),
+    /// Answers the place of an item of a list of this length, or nothing; with the flag a negative index counts from the end.
+    Index(usize, INT, bool),
     /// Answers the text of the value at the hand position, as it is displayed.
     Show(usize),
     /// Answers the text of the value at the hand position, as it is debugged.

@@ -11,19 +11,21 @@ ghost use Rattle.rhai_run.specs.Does.{Does};
 use crate::answer::Refusal;
 use crate::brief::Brief;
 use crate::command::Command;
+use crate::marks::release_all;
 use crate::not_done::NotDone;
 use rhai_scope::Scope;
 use rhai_text::Limits;
-use rhai_value::{Dynamic, Store};
+use rhai_value::{Dynamic, Store, WriteToken};
 use std::alloc::Global;
 use std::marker::Model;
 
 /// The state of a world. A command makes its growths before it writes, so that one without memory leaves all as it was.
-#[derive(Drop)]
 pub(crate) struct Desk {
     pub(crate) alloc: Global,
     pub(crate) store: Store,
     pub(crate) scope: Scope,
+    /// The tokens of the open marks, in the order of marking.
+    pub(crate) marks: Vec<WriteToken>,
     pub(crate) hand: Vec<Dynamic>,
     pub(crate) limits: Limits,
 }
@@ -37,7 +39,7 @@ impl Model for Desk {
 
     ghost coded = { state_code };
 
-    ghost view = { λ d. state_of d.store d.scope d.hand.items d.limits };
+    ghost view = { λ d. state_of d.store d.scope d.marks.items d.hand.items d.limits };
 }
 
 impl Desk {
@@ -48,9 +50,25 @@ impl Desk {
             alloc,
             store: Store::new(alloc),
             scope: Scope::new(alloc),
+            marks: Vec::new(alloc),
             hand: Vec::new(alloc),
             limits,
         }
+    }
+
+    /// Frees the marked cells.
+    pub(crate) fn close(self)
+        requires { Fits self }
+    {
+        let Desk {
+            alloc: _,
+            mut store,
+            scope: _,
+            marks,
+            hand: _,
+            limits: _,
+        } = self;
+        release_all(&mut store, marks);
     }
 
     /// The value at a hand position.
@@ -98,6 +116,7 @@ impl Desk {
             Command::WriteInt(i, value) => self.write_int(*i, *value),
             Command::Write(i, j) => self.write(*i, *j),
             Command::Binary(op, i, j) => self.binary(*op, *i, *j),
+            Command::Assign(op, place, j) => self.assign(*op, place, *j),
             Command::Scan(i, scanner) => self.scan(*i, *scanner),
             Command::Push(name, i) => self.push(name, *i),
             Command::PushDynamic(name, i) => self.push_dynamic(name, *i),
@@ -119,10 +138,30 @@ impl Desk {
             Command::SetRef(name, value) => self.set_ref(name, *value),
             Command::Remove(name, kind) => self.remove(name, *kind),
             Command::SetAlias(name, alias) => self.set_alias(name, alias),
+            Command::Aliases(name) => self.aliases(name),
             Command::KeepVisible => self.keep_visible(),
             Command::CopyScope => self.copy_scope(),
+            Command::Entries => self.entries(),
+            Command::Names => self.names(),
+            Command::Extend(names) => self.extend(names),
+            Command::ExtendFlagged(names) => self.extend_flagged(names),
             Command::ShowScope => self.show_scope(),
             Command::HashScope => self.hash_scope(),
+            Command::Mark(place) => self.mark(place),
+            Command::Unmark(k) => self.unmark(*k),
+            Command::WriteMarked(k, i) => self.write_marked(*k, *i),
+            Command::ReadMarked(k) => self.read_marked(*k),
+            Command::WriteBit(place, bit, j) => self.write_bit(place, *bit, *j),
+            Command::WriteField(place, mask, shift, j) => {
+                self.write_field(place, *mask, *shift, *j)
+            }
+            Command::WriteByte(place, index, j) => self.write_byte(place, *index, *j),
+            Command::WriteChar(place, index, j) => self.write_char(place, *index, *j),
+            Command::WriteSlice(place, start, end, exclusive, j) => {
+                self.write_slice(place, *start, *end, *exclusive, *j)
+            }
+            Command::Offset(length, start, len) => self.offset(*length, *start, *len),
+            Command::Index(length, index, from_end) => self.index(*length, *index, *from_end),
             Command::Show(i) => self.show(*i),
             Command::Debug(i) => self.debug(*i),
             Command::Hash(i) => self.hash(*i),

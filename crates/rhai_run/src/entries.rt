@@ -1,7 +1,7 @@
 //! Commands on the last entry of a name.
 ghost use Rattle.rhai_scope.specs.Lookup.{last_position, writable_position};
 ghost use Rattle.rhai_run.specs.Cost.{free, keeps_all, place_cost};
-ghost use Rattle.rhai_run.specs.Entries.{step_set_entry, step_set_or_push, step_set_value, step_get, step_get_value, step_get_ref, step_set_ref, step_remove, step_set_alias};
+ghost use Rattle.rhai_run.specs.Entries.{step_set_entry, step_set_or_push, step_set_value, step_get, step_get_value, step_get_ref, step_set_ref, step_remove, step_set_alias, step_aliases};
 ghost use Rattle.rhai_run.specs.Does.{Does, Finds};
 
 use crate::answer::Refusal;
@@ -10,6 +10,7 @@ use crate::cast::{can_cast, can_move, cast_to, read_as};
 use crate::desk::Desk;
 use crate::not_done::NotDone;
 use crate::places::{push_in_room, replace_at, write_entry};
+use rhai_scope::aliases_shown;
 use rhai_text::ImmutableString;
 use rhai_value::{Dynamic, INT, TypeId};
 
@@ -160,5 +161,13 @@ impl Desk {
     {
         self.scope.set_alias(name.as_str(), alias.as_str())?;
         Ok(Brief::Done)
+    }
+
+    pub(crate) fn aliases(&self, name: &ImmutableString) -> Result<Brief, NotDone>
+        ensures { Does keeps_all result self.now self.now (step_aliases self.now name.now) }
+    {
+        let aliases = self.scope.aliases(name.as_str()).ok_or(Refusal::NoEntry)?;
+        let text = aliases_shown(self.alloc, aliases)?.into_text();
+        Ok(Brief::Text(text))
     }
 }

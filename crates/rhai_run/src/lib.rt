@@ -3,26 +3,33 @@
 
 pub mod answer;
 mod ask;
+pub mod both;
 mod brief;
 mod cast;
 mod change;
 pub mod command;
 mod desk;
 mod entries;
+mod extend;
 mod hand;
+mod indices;
 pub mod laws;
 pub mod lists;
 mod maps;
+mod marks;
 mod not_done;
 mod operators;
+mod pieces;
 mod places;
 mod scanners;
 mod scope;
 pub mod world;
+mod write_back;
 
 pub use answer::{Answer, Refusal};
-pub use command::{Command, Literal, Question, Scanner};
-pub use lists::{Bytes, Names};
+pub use both::{StoppedBoth, run_both};
+pub use command::{Command, Literal, Place, Question, Scanner};
+pub use lists::{Bytes, FlaggedNames, Names};
 pub use world::{Stopped, World, apply, run};
 
 #[cfg(test)]

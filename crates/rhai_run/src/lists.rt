@@ -67,3 +67,35 @@ impl Names {
         &self.items
     }
 }
+
+/// Names in order, each with a flag. Contracts see the list of them, each as its characters and the flag.
+#[derive(Drop)]
+pub struct FlaggedNames {
+    items: Vec<(ImmutableString, bool)>,
+}
+
+impl Model for FlaggedNames {
+    ghost use Rattle.std.specs.Prelude.{ℕ, Bool, List};
+
+    ghost Value = { List (List ℕ × Bool) };
+
+    ghost use Rattle.std.specs.Coded.{coded_list, coded_ℕ, coded_bool, coded×};
+
+    ghost coded = { coded_list (coded× (coded_list coded_ℕ) coded_bool) };
+
+    ghost view = { λ n. n.items.items };
+}
+
+impl FlaggedNames {
+    pub fn new(items: Vec<(ImmutableString, bool)>) -> Self
+        ensures { result ≡ items.items }
+    {
+        FlaggedNames { items }
+    }
+
+    pub fn as_slice(&self) -> &[(ImmutableString, bool)]
+        ensures { result.now ≡ self.now }
+    {
+        &self.items
+    }
+}

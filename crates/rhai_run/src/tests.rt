@@ -3,11 +3,16 @@ use rhai_text::{ImmutableString, Limits};
 use std::alloc::{AllocError, Global};
 
 mod asks;
+mod assigns;
+mod both;
 mod casts;
 mod cells;
 mod entries;
+mod extend;
 mod gathers;
 mod hashes;
+mod indices;
+mod marks;
 mod operators;
 mod readme;
 mod refusals;
@@ -15,6 +20,7 @@ mod scans;
 mod scope;
 mod stops;
 mod worlds;
+mod write_back;
 
 const UNLIMITED: Limits = Limits { text: 0, items: 0 };
 
@@ -27,6 +33,7 @@ fn told(answer: &Answer) -> &str {
         Answer::Int(_) => "number",
         Answer::Text(text) => text.as_str(),
         Answer::Bytes(_) => "bytes",
+        Answer::Pair(..) => "pair",
         Answer::Nothing => "nothing",
         Answer::Refused(Refusal::NoValue) => "NoValue",
         Answer::Refused(Refusal::SameValue) => "SameValue",
@@ -34,6 +41,10 @@ fn told(answer: &Answer) -> &str {
         Answer::Refused(Refusal::EmptyScope) => "EmptyScope",
         Answer::Refused(Refusal::ConstantEntry) => "ConstantEntry",
         Answer::Refused(Refusal::SharedEntry) => "SharedEntry",
+        Answer::Refused(Refusal::NoMark) => "NoMark",
+        Answer::Refused(Refusal::WrongSource) => "WrongSource",
+        Answer::Refused(Refusal::BitPlace) => "BitPlace",
+        Answer::Refused(Refusal::BytePlace) => "BytePlace",
         Answer::Refused(Refusal::NoBuiltin) => "NoBuiltin",
         Answer::Refused(Refusal::NotHashable) => "NotHashable",
         Answer::Refused(Refusal::Mismatch(_)) => "Mismatch",
@@ -48,6 +59,11 @@ fn add_answer(line: &mut String, answer: &Answer) -> Result<(), AllocError> {
         Answer::Int(number) => {
             let number = *number;
             write!(line, " {number}")?;
+        }
+        Answer::Pair(first, second) => {
+            let first = *first;
+            let second = *second;
+            write!(line, " {first} {second}")?;
         }
         Answer::Bytes(bytes) => {
             for byte in bytes {

@@ -1,12 +1,12 @@
 -- What the proofs of crates above may cite, besides the laws: everything else in this folder is private.
 -- related entries: look-ups
-pub use Rattle.rhai_scope.proofs.SameEntries.{same_at, same_constant, same_constant_named, same_last_entry, same_map, same_named, same_position, same_writable}
+pub use Rattle.rhai_scope.proofs.SameEntries.{same_aliases_named, same_at, same_constant, same_constant_named, same_last_entry, same_map, same_named, same_position, same_writable}
 -- entries that come, go and change
 pub use Rattle.rhai_scope.proofs.SameEntries.{same_aliased, same_changed_if, same_changed_named, same_popped, same_pushed, same_removed_at, same_set_or_pushed, same_taken, same_with_value, same_with_value_at, same_written_entry}
 -- copies and extensions
-pub use Rattle.rhai_scope.proofs.SameEntries.{same_copied, same_copies, same_extended, same_extended_flagged, same_visible}
+pub use Rattle.rhai_scope.proofs.SameEntries.{same_copied, same_copies, same_extended, same_extended_flagged, same_extended_values, same_flagged_values, same_visible, same_zip}
 -- texts, bytes and items
-pub use Rattle.rhai_scope.proofs.SamePrints.{same_bytes, same_shown_flat, same_shown_raw, same_text}
+pub use Rattle.rhai_scope.proofs.SamePrints.{same_bytes, same_flat_values, same_names_text, same_shown_flat, same_shown_raw, same_text}
 -- an entry that is found
 pub use Rattle.rhai_scope.proofs.Parallel.{position_within}
 -- what calls of `next` of an iterator gave

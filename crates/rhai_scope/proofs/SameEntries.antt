@@ -2,7 +2,7 @@
 use Rattle.std.proofs.Common.{◌≡◌, ℕ, zero, suc, ◌-◌, Bool, nat_eq, if◌then◌else◌, List, [], ◌∷◌, length, map, take, drop, slice_get, Option, Some, None, option_map, option_and_then, refl, ap, ap₂, ◌∙◌, subst}
 use Rattle.std.specs.Prelude.{remove}
 use Rattle.std.specs.Cmp.Lexicographic.{pointwise}
-use Rattle.std.specs.List.{AllZip}
+use Rattle.std.specs.List.{AllZip, zip}
 use Rattle.rhai_value.specs.declared.access_mode.AccessMode.{AccessMode}
 use Rattle.rhai_value.specs.declared.access_mode.AccessMode.TheVariants.{ReadWrite}
 use Rattle.rhai_value.specs.declared.type_id.TypeId.{TypeId}
@@ -12,8 +12,8 @@ use Rattle.rhai_value.proofs.ForCallers.{same_copy, same_mode, same_paint, zip_a
 use Rattle.rhai_variant.proofs.ForCallers.{same_written_as}
 use Rattle.rhai_scope.specs.Alias.{with_alias, aliased}
 use Rattle.rhai_scope.specs.Entry.{Entry, new_entry, pushed, popped, is_constant_entry, with_value, copied_value, copied_entry}
-use Rattle.rhai_scope.specs.Extended.{flagged_mode, extended, extended_flagged}
-use Rattle.rhai_scope.specs.Lookup.{later_or_here, last_position, last_entry, value_named, value_at, unless_constant, writable_position, changed_at, changed_if, changed_named, with_value_at, unless_later, visible}
+use Rattle.rhai_scope.specs.Extended.{flagged_mode, extended, extended_flagged, flagged_values}
+use Rattle.rhai_scope.specs.Lookup.{later_or_here, last_position, last_entry, value_named, aliases_named, value_at, unless_constant, writable_position, changed_at, changed_if, changed_named, with_value_at, unless_later, visible}
 use Rattle.rhai_scope.specs.Relation.{RelatedEntry, RelatedEntries, RelatedPair, RelatedNamed, RespectEntries}
 use Rattle.rhai_scope.specs.Typed.{set_or_pushed, removed_at, written_entry}
 
@@ -62,6 +62,9 @@ module _ (r : Renaming) where
 
   pub same_named : (name : List ℕ) (es fs : List Entry) → RelatedEntries r es fs → Alike (Related r) (value_named name es) (value_named name fs)
   same_named name es fs h = alike_map (RelatedEntry r) (Related r) (λ e. e.value) (λ e. e.value) (λ x y k. k.2) (last_entry name es) (last_entry name fs) (same_last_entry name es fs h)
+
+  pub same_aliases_named : (name : List ℕ) (es fs : List Entry) → RelatedEntries r es fs → aliases_named name es ≡ aliases_named name fs
+  same_aliases_named name es fs h = map_same (RelatedEntry r) (λ e. e.aliases) (λ e. e.aliases) (λ e f k. k.1) (last_entry name es) (last_entry name fs) (same_last_entry name es fs h)
 
   pub same_constant : (e f : Entry) → RelatedEntry r e f → is_constant_entry e ≡ is_constant_entry f
   same_constant e f h = ap is_constant (same_mode r e.value f.value h.2)
@@ -163,3 +166,21 @@ module _ (r : Renaming) where
       zip_append (RelatedEntry r) es (map (λ x. new_entry x.0 (paint (flagged_mode x.1) x.2)) xs) fs (map (λ x. new_entry x.0 (paint (flagged_mode x.1) x.2)) ys) h
       (same_map (RelatedNamed r) (RelatedEntry r) (λ x. new_entry x.0 (paint (flagged_mode x.1) x.2)) (λ x. new_entry x.0 (paint (flagged_mode x.1) x.2))
       (λ x y j. (j.0, refl, subst (λ m. Related r (paint (flagged_mode x.1) x.2) (paint m y.2)) (ap flagged_mode j.1) (same_paint r (flagged_mode x.1) x.2 y.2 j.2))) xs ys k)
+
+  -- ---- values beside their names
+
+  pub same_zip : {A : Type 0} (ns : List A) (ts us : List Tree) → AllZip (Related r) ts us → AllZip (λ x y. (x.0 ≡ y.0) × Related r x.1 y.1) (zip ns ts) (zip ns us)
+  same_zip [] ts us h = tt
+  same_zip (n ∷ ns) [] [] h = tt
+  same_zip (n ∷ ns) (t ∷ ts) (u ∷ us) h = ((refl, h.0), same_zip ns ts us h.1)
+  same_zip (n ∷ ns) [] (u ∷ us) h = absurd h
+  same_zip (n ∷ ns) (t ∷ ts) [] h = absurd h
+
+  pub same_extended_values : (ns : List (List ℕ)) (ts us : List Tree) (es fs : List Entry) → AllZip (Related r) ts us → RelatedEntries r es fs → RelatedEntries r (extended es (zip ns ts)) (extended fs (zip ns us))
+  same_extended_values ns ts us es fs k h = same_extended es fs (zip ns ts) (zip ns us) h (same_zip ns ts us k)
+
+  pub same_flagged_values : (ns : List (List ℕ × Bool)) (ts us : List Tree) (es fs : List Entry) → AllZip (Related r) ts us → RelatedEntries r es fs
+      → RelatedEntries r (extended_flagged es (flagged_values ns ts)) (extended_flagged fs (flagged_values ns us))
+  same_flagged_values ns ts us es fs k h =
+      same_extended_flagged es fs (flagged_values ns ts) (flagged_values ns us) h
+      (same_map (λ x y. (x.0 ≡ y.0) × Related r x.1 y.1) (RelatedNamed r) (λ p. (p.0.0, p.0.1, p.1)) (λ p. (p.0.0, p.0.1, p.1)) (λ x y j. (ap (λ n. n.0) j.0, ap (λ n. n.1) j.0, j.1)) (zip ns ts) (zip ns us) (same_zip ns ts us k))

@@ -1,7 +1,9 @@
 -- Texts, bytes and items of entries that are equal up to the numbers of cells.
-use Rattle.std.proofs.Common.{◌≡◌, ℕ, suc, List, [], ◌∷◌, ◌++◌, Option, Some, None, option_map, refl, ap, ap₂, ◌∙◌}
+use mathlib.Core.List.{reverse_aux}
+use Rattle.std.proofs.Common.{◌≡◌, ℕ, suc, List, [], ◌∷◌, ◌++◌, map, reverse, Option, Some, None, option_map, refl, ap, ap₂, ◌∙◌}
+use Rattle.std.specs.List.{AllZip, flat_map}
 use Rattle.rhai_value.specs.declared.store.Cell.{Cell}
-use Rattle.rhai_value.specs.End.{first, constant_in}
+use Rattle.rhai_value.specs.End.{first, flat, constant_in}
 use Rattle.rhai_value.specs.Relation.{Renaming, Related, Alike, IsOneToOne, RelatedCells}
 use Rattle.rhai_value.specs.Tree.{Tree, is_constant}
 use Rattle.rhai_value.proofs.ForCallers.{same_first, same_flat, same_mode, zip_length}
@@ -12,9 +14,11 @@ use Rattle.rhai_show.specs.HashBytes.{count_bytes}
 use Rattle.rhai_show.specs.Plain.{plain}
 use Rattle.rhai_show.specs.Text.{printed}
 use Rattle.rhai_scope.specs.Entry.{Entry}
-use Rattle.rhai_scope.specs.Items.{shown_raw, shown_flat}
+use Rattle.rhai_scope.specs.Items.{Named, shown_raw, shown_flat, flat_values}
+use Rattle.rhai_scope.specs.NamesText.{name_line, named_line, names_text}
 use Rattle.rhai_scope.specs.Relation.{RelatedEntry, RelatedEntries, RelatedNamed}
 use Rattle.rhai_scope.specs.ScopeBytes.{plain_entry_bytes, entry_bytes, both_bytes, entries_bytes, scope_bytes}
+use Rattle.rhai_scope.proofs.SameEntries.{same_map}
 use Rattle.rhai_scope.specs.ScopeText.{line, entry_line, lines_from, scope_text}
 
 constant_alike : (r : Renaming) (o p : Option Tree) → Alike (Related r) o p → constant_in o ≡ constant_in p
@@ -22,6 +26,25 @@ constant_alike r None None h = refl
 constant_alike r (Some t) (Some u) h = ap is_constant (same_mode r t u h)
 constant_alike r None (Some u) h = absurd h
 constant_alike r (Some t) None h = absurd h
+
+zip_onto : {A B : Type 0} (R : A → B → Type 0) (xs us : List A) (ys vs : List B) → AllZip R xs ys → AllZip R us vs → AllZip R (reverse_aux xs us) (reverse_aux ys vs)
+zip_onto R [] us [] vs h k = k
+zip_onto R (x ∷ xs) us (y ∷ ys) vs h k = zip_onto R xs (x ∷ us) ys (y ∷ vs) h.1 (h.0, k)
+zip_onto R [] us (y ∷ ys) vs h k = absurd h
+zip_onto R (x ∷ xs) us [] vs h k = absurd h
+
+zip_reverse : {A B : Type 0} (R : A → B → Type 0) (xs : List A) (ys : List B) → AllZip R xs ys → AllZip R (reverse xs) (reverse ys)
+zip_reverse R xs ys h = zip_onto R xs [] ys [] h tt
+
+module _ (r : Renaming) where
+  same_named_line : (x y : Named) → RelatedNamed r x y → named_line x ≡ named_line y
+  same_named_line x y h = ap₂ name_line h.1 h.0
+
+  same_lines_of : (xs ys : List Named) → AllZip (RelatedNamed r) xs ys → flat_map named_line xs ≡ flat_map named_line ys
+  same_lines_of [] [] h = refl
+  same_lines_of (x ∷ xs) (y ∷ ys) h = ap₂ ◌++◌ (same_named_line x y h.0) (same_lines_of xs ys h.1)
+  same_lines_of [] (y ∷ ys) h = absurd h
+  same_lines_of (x ∷ xs) [] h = absurd h
 
 module _ (r : Renaming) (s z : List Cell) (one : IsOneToOne r) (cells : RelatedCells r s z) where
   same_flag : (e f : Entry) → RelatedEntry r e f → constant_in (first s e.value) ≡ constant_in (first z f.value)
@@ -32,6 +55,13 @@ module _ (r : Renaming) (s z : List Cell) (one : IsOneToOne r) (cells : RelatedC
 
   pub same_shown_flat : (e f : Entry) → RelatedEntry r e f → RelatedNamed r (shown_flat s e) (shown_flat z f)
   same_shown_flat e f h = (h.0, same_flag e f h, same_flat r s z e.value f.value one cells h.2)
+
+  pub same_flat_values : (es fs : List Entry) → RelatedEntries r es fs → AllZip (Related r) (flat_values s es) (flat_values z fs)
+  same_flat_values es fs h = same_map (RelatedEntry r) (Related r) (λ e. flat s e.value) (λ e. flat z e.value) (λ e f k. same_flat r s z e.value f.value one cells k.2) es fs h
+
+  pub same_names_text : (es fs : List Entry) → RelatedEntries r es fs → names_text s es ≡ names_text z fs
+  same_names_text es fs h = same_lines_of r (map (shown_raw s) (reverse es)) (map (shown_raw z) (reverse fs))
+      (same_map (RelatedEntry r) (RelatedNamed r) (shown_raw s) (shown_raw z) same_shown_raw (reverse es) (reverse fs) (zip_reverse (RelatedEntry r) es fs h))
 
   same_line : (i : ℕ) (e f : Entry) → RelatedEntry r e f → entry_line s i e ≡ entry_line z i f
   same_line i e f h =

@@ -1,5 +1,5 @@
 -- How a scope lies in memory: names, values and alias lists, of which there may be fewer.
-use Rattle.std.specs.Prelude.{◌≡◌, ℕ, ◌≤◌, nat_eq, if◌then◌else◌, List, [], ◌∷◌, length, Option, Some, None}
+use Rattle.std.specs.Prelude.{◌≡◌, ℕ, ◌≤◌, ◌+◌, nat_eq, if◌then◌else◌, List, [], ◌∷◌, length, Option, Some, None, vec_len, vec_capacity}
 use Rattle.std.specs.Borrow.{Bor}
 use Rattle.std.specs.Cmp.Lexicographic.{pointwise}
 use Rattle.std.specs.Vec.{with_item}
@@ -43,6 +43,10 @@ pub record AreAligned (ns : List (List ℕ)) (vs : List Tree) (bs : List (SmallV
 
 abbrev pub AreParallel : Columns → Type 0
 AreParallel c = AreAligned c.names.items c.values.items c.aliases.items
+
+-- room for n more names and values
+abbrev pub HasRoom : ℕ → Columns → Type 0
+HasRoom n c = (vec_len c.names + n ≤ vec_capacity c.names) × (vec_len c.values + n ≤ vec_capacity c.values)
 
 -- the columns with another value at a place, if there is one
 abbrev pub with_value_in : Columns → Tree → ℕ → Columns

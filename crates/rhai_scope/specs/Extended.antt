@@ -1,5 +1,6 @@
 -- Entries that come from elsewhere, in their order.
 use Rattle.std.specs.Prelude.{ℕ, Bool, true, false, List, ◌++◌, map}
+use Rattle.std.specs.List.{zip}
 use Rattle.rhai_value.specs.declared.access_mode.AccessMode.{AccessMode}
 use Rattle.rhai_value.specs.declared.access_mode.AccessMode.TheVariants.{ReadWrite, ReadOnly}
 use Rattle.rhai_value.specs.Tree.{Tree, paint}
@@ -16,3 +17,7 @@ extended es xs = es ++ map (λ x. new_entry x.0 (paint ReadWrite x.1)) xs
 
 abbrev pub extended_flagged : List Entry → List (List ℕ × Bool × Tree) → List Entry
 extended_flagged es xs = es ++ map (λ x. new_entry x.0 (paint (flagged_mode x.1) x.2)) xs
+
+-- each name and flag with its value
+abbrev pub flagged_values : List (List ℕ × Bool) → List Tree → List (List ℕ × Bool × Tree)
+flagged_values ns ts = map (λ p. (p.0.0, p.0.1, p.1)) (zip ns ts)

@@ -31,6 +31,10 @@ shown_raw s e = (e.name, constant_in (first s e.value), e.value)
 abbrev pub shown_flat : List Cell → Entry → Named
 shown_flat s e = (e.name, constant_in (first s e.value), flat s e.value)
 
+-- the flat values of all entries, in their order
+abbrev pub flat_values : List Cell → List Entry → List Tree
+flat_values s es = map (λ e. flat s e.value) es
+
 -- what is given
 abbrev pub given_raw : Bor (List ℕ) × Bool × Bor Tree → Named
 given_raw p = (chars p.0.now, p.1, p.2.now)

@@ -6,6 +6,7 @@ pub mod Extended
 pub mod Items
 pub mod Left
 pub mod Lookup
+pub mod NamesText
 pub mod Pushes
 pub mod Relation
 pub mod ScopeBytes

@@ -22,6 +22,10 @@ last_entry name es = option_and_then (slice_get es) (last_position name es)
 abbrev pub value_named : List ℕ → List Entry → Option Tree
 value_named name es = option_map (λ e. e.value) (last_entry name es)
 
+-- its aliases
+abbrev pub aliases_named : List ℕ → List Entry → Option (List (List ℕ))
+aliases_named name es = option_map (λ e. e.aliases) (last_entry name es)
+
 -- the position, if that entry's own value may be written
 abbrev pub unless_constant : ℕ → Entry → Option ℕ
 unless_constant k e = if is_constant_entry e then None else Some k

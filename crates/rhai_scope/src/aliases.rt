@@ -1,12 +1,12 @@
-//! Giving aliases to entries.
-ghost use Rattle.std.specs.Prelude.{ℕ, List, ◌≡◌, ◌<◌, ◌≤◌, nat_eq, length, max, IfOk, OnOk, OnErr};
+//! The aliases of entries, and giving them some.
+ghost use Rattle.std.specs.Prelude.{ℕ, List, Some, ◌≡◌, ◌<◌, ◌≤◌, nat_eq, length, max, option_copied, option_map, slice_get, IfOk, OnOk, OnErr};
 ghost use Rattle.std.specs.Cmp.Lexicographic.{pointwise};
 ghost use Rattle.std.specs.List.{list_any};
 ghost use Rattle.std.specs.Str.{chars};
 ghost use Rattle.rhai_value.specs.Tree.{Tree};
 ghost use Rattle.rhai_scope.specs.Alias.{meant_alias, with_alias, aliased};
 ghost use Rattle.rhai_scope.specs.Columns.{entries, entries_of, AreParallel};
-ghost use Rattle.rhai_scope.specs.Lookup.{changed_at, changed_named};
+ghost use Rattle.rhai_scope.specs.Lookup.{aliases_named, changed_at, changed_named};
 
 use crate::alias::{Alias, AliasList};
 use crate::columns::Columns;
@@ -71,6 +71,36 @@ fn meant(alloc: Global, name: &ImmutableString, alias: &str) -> Result<Alias, Al
 }
 
 impl Columns {
+    fn alias_list(&self, i: usize) -> Option<&AliasList>
+        ensures { option_copied result ≡ slice_get self.now.aliases.items i }
+    {
+        self.aliases.get(i)
+    }
+
+    /// The aliases of the entry at a place.
+    #[tactic(auto, using(crate::proofs::Aliased::bare_at))]
+    fn aliases_at(&self, i: usize) -> &[Alias]
+        requires parallel { AreParallel self.now }
+        requires within { i < length self.now.names.items }
+        ensures { option_map (λ e. e.aliases) (slice_get (entries self.now) i) ≡ Some result.now }
+    {
+        match self.alias_list(i) {
+            Some(list) => list.as_slice(),
+            None => &[],
+        }
+    }
+
+    /// The aliases of the last entry of a name.
+    fn aliases_named(&self, name: &str) -> Option<&[Alias]>
+        requires { AreParallel self.now }
+        ensures { option_copied result ≡ aliases_named (chars name.now) (entries self.now) }
+    {
+        match self.search(name) {
+            Some(i) => Some(self.aliases_at(i)),
+            None => None,
+        }
+    }
+
     /// Adds an alias to the entry at a place, unless it is there.
     #[tactic(auto, using(crate::proofs::Aliased::aliased_at))]
     fn add_alias(&mut self, alloc: Global, i: usize, alias: Alias) -> Result<(), AllocError>
@@ -106,6 +136,14 @@ impl Columns {
 }
 
 impl Scope {
+    /// The aliases of the last entry of a name, in the order in which they came. It takes no memory; the time is that of `search`.
+    /// (rhai shows aliases by its iterators alone)
+    pub fn aliases(&self, name: &str) -> Option<&[Alias]>
+        ensures { option_copied result ≡ aliases_named (chars name.now) self.now }
+    {
+        self.columns.aliases_named(name)
+    }
+
     /// Gives the last entry of a name one more alias, the name itself if `alias` is empty. No entry of the name, or one that has the
     /// alias: nothing changes. The time is that of `search`, the number of aliases that the entry has, and the number of
     /// the entries before it at the first alias. (`Scope::set_alias`)

@@ -1,13 +1,13 @@
 //! How a scope lies in memory.
-ghost use Rattle.std.specs.Prelude.{◌≡◌, ◌<◌, ◌≤◌, ◌+◌, [], ◌∷◌, ◌++◌, length, take, remove, slice_get, Some, vec_len, vec_capacity, OnOk};
+ghost use Rattle.std.specs.Prelude.{◌≡◌, ◌<◌, ◌+◌, ℕ, [], ◌∷◌, ◌++◌, length, take, remove, slice_get, Some, OnOk};
 ghost use Rattle.rhai_value.specs.Tree.{fresh, unit};
-ghost use Rattle.rhai_scope.specs.Entry.{new_entry, with_value};
+ghost use Rattle.rhai_scope.specs.Entry.{new_entry, pushed, with_value};
 ghost use Rattle.rhai_scope.specs.Lookup.{changed_at};
-ghost use Rattle.rhai_scope.specs.Columns.{entries, AreParallel};
+ghost use Rattle.rhai_scope.specs.Columns.{entries, AreParallel, HasRoom};
 
 use crate::alias::AliasList;
 use rhai_text::ImmutableString;
-use rhai_value::Dynamic;
+use rhai_value::{AccessMode, Dynamic};
 use std::alloc::{AllocError, Global};
 
 /// The least number of entries that a scope has room for, once it has one.
@@ -47,7 +47,7 @@ impl Columns {
         ensures names { self.new.names.items ≡ self.old.names.items }
         ensures values { self.new.values.items ≡ self.old.values.items }
         ensures aliases { self.new.aliases ≡ self.old.aliases }
-        ensures room { OnOk result ((vec_len self.new.names + more ≤ vec_capacity self.new.names) × (vec_len self.new.values + more ≤ vec_capacity self.new.values)) }
+        ensures room { OnOk result (HasRoom more self.new) }
     {
         self.names.reserve(more)?;
         self.values.reserve(more)?;
@@ -59,7 +59,7 @@ impl Columns {
         ensures names { self.new.names.items ≡ self.old.names.items }
         ensures values { self.new.values.items ≡ self.old.values.items }
         ensures aliases { self.new.aliases ≡ self.old.aliases }
-        ensures room { OnOk result ((vec_len self.new.names < vec_capacity self.new.names) × (vec_len self.new.values < vec_capacity self.new.values)) }
+        ensures room { OnOk result (HasRoom 1 self.new) }
     {
         let more = if self.names.is_empty() {
             MIN_SCOPE_ENTRIES
@@ -73,12 +73,30 @@ impl Columns {
     #[tactic(auto, using(crate::proofs::Parallel::with_one_more))]
     pub(crate) fn push_in_room(&mut self, name: ImmutableString, value: Dynamic)
         requires parallel { AreParallel self.old }
-        requires room { (vec_len self.old.names < vec_capacity self.old.names) × (vec_len self.old.values < vec_capacity self.old.values) }
+        requires room { HasRoom 1 self.old }
         ensures entries { entries self.new ≡ entries self.old ++ new_entry name value ∷ [] }
         ensures parallel { AreParallel self.new }
+        ensures room { (n : ℕ) → HasRoom (n + 1) self.old → HasRoom n self.new }
     {
         self.names.push_reserved(name);
         self.values.push_reserved(value);
+    }
+
+    /// The same, the value painted with a mode.
+    pub(crate) fn push_painted(
+        &mut self,
+        name: ImmutableString,
+        access: AccessMode,
+        mut value: Dynamic,
+    )
+        requires parallel { AreParallel self.old }
+        requires room { HasRoom 1 self.old }
+        ensures entries { entries self.new ≡ pushed access name value (entries self.old) }
+        ensures parallel { AreParallel self.new }
+        ensures room { (n : ℕ) → HasRoom (n + 1) self.old → HasRoom n self.new }
+    {
+        value.set_access_mode(access);
+        self.push_in_room(name, value);
     }
 
     /// Keeps the first entries.

@@ -9,7 +9,7 @@ use rhai_text::ImmutableString;
 use rhai_value::{AccessMode, Dynamic};
 use std::alloc::{AllocError, Global};
 
-fn mode_of_flag(is_constant: bool) -> AccessMode
+pub(crate) fn mode_of_flag(is_constant: bool) -> AccessMode
     ensures { result ≡ flagged_mode is_constant }
 {
     if is_constant {

@@ -38,6 +38,9 @@ impl Model for IntoIter {
 }
 
 impl Iterator for IntoIter {
+    ghost use Rattle.std.specs.Prelude.{◌≡◌, length, Some, IfSome};
+    ghost use Rattle.std.specs.Iterator.{UpTo};
+    ghost use Rattle.std.specs.Iterator.SizeHint.{IsWithinCount};
     ghost use Rattle.std.specs.Iterator.{YieldsFirstBy, item_count};
     ghost use Rattle.rhai_scope.specs.Items.{moved_entry};
 
@@ -57,7 +60,11 @@ impl Iterator for IntoIter {
         Some((name, value, aliases))
     }
 
-    fn size_hint(&self) -> (usize, Option<usize>) {
+    fn size_hint(&self) -> (usize, Option<usize>)
+        ensures lower { IsWithinCount result.0 (item_count (λ rest. rest) self.now) }
+        ensures upper { IfSome result.1 (UpTo (item_count (λ rest. rest) self.now)) }
+        ensures exact { result ≡ (length (self.now), Some (length (self.now))) }
+    {
         let len = self.len();
         (len, Some(len))
     }

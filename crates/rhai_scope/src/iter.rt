@@ -1,5 +1,7 @@
 //! Going over the entries of a scope that stays.
-ghost use Rattle.std.specs.Prelude.{◌≡◌, IfOk};
+ghost use Rattle.std.specs.Prelude.{◌≡◌, length, Some, IfOk, IfSome};
+ghost use Rattle.std.specs.Iterator.{UpTo};
+ghost use Rattle.std.specs.Iterator.SizeHint.{IsWithinCount};
 ghost use Rattle.rhai_value.specs.End.{first, flat, constant_in};
 ghost use Rattle.rhai_scope.specs.Items.{given_flat};
 
@@ -48,7 +50,11 @@ impl<'a> Iterator for Entries<'a> {
         }
     }
 
-    fn size_hint(&self) -> (usize, Option<usize>) {
+    fn size_hint(&self) -> (usize, Option<usize>)
+        ensures lower { IsWithinCount result.0 (item_count (λ rest. rest) self.now) }
+        ensures upper { IfSome result.1 (UpTo (item_count (λ rest. rest) self.now)) }
+        ensures exact { result ≡ (length (self.now), Some (length (self.now))) }
+    {
         let len = self.len();
         (len, Some(len))
     }
@@ -120,7 +126,11 @@ impl<'a> Iterator for Iter<'a> {
         }
     }
 
-    fn size_hint(&self) -> (usize, Option<usize>) {
+    fn size_hint(&self) -> (usize, Option<usize>)
+        ensures lower { IsWithinCount result.0 (item_count flat_left self.now) }
+        ensures upper { IfSome result.1 (UpTo (item_count flat_left self.now)) }
+        ensures exact { result ≡ (length (flat_left self.now), Some (length (flat_left self.now))) }
+    {
         let len = self.len();
         (len, Some(len))
     }
@@ -156,7 +166,11 @@ impl<'a> Iterator for IterRaw<'a> {
         Some((name.as_str(), value.is_read_only(self.store), value))
     }
 
-    fn size_hint(&self) -> (usize, Option<usize>) {
+    fn size_hint(&self) -> (usize, Option<usize>)
+        ensures lower { IsWithinCount result.0 (item_count raw_left self.now) }
+        ensures upper { IfSome result.1 (UpTo (item_count raw_left self.now)) }
+        ensures exact { result ≡ (length (raw_left self.now), Some (length (raw_left self.now))) }
+    {
         let len = self.len();
         (len, Some(len))
     }

@@ -6,11 +6,14 @@ mod aliases;
 mod columns;
 mod copy;
 mod extend;
+mod extend_moved;
+mod flat;
 mod hashed;
 mod into_iter;
 mod iter;
 pub mod laws;
 mod lookup;
+mod names_text;
 mod rest;
 mod scope;
 mod shown;
@@ -20,6 +23,7 @@ mod visible;
 pub use alias::{Alias, AliasList};
 pub use into_iter::IntoIter;
 pub use iter::{Entries, Iter, IterRaw};
+pub use names_text::aliases_shown;
 pub use scope::{MIN_SCOPE_ENTRIES, Scope};
 
 #[cfg(test)]

@@ -93,9 +93,7 @@ impl Scope {
         if self.columns.make_room().is_err() {
             return Err((name, value));
         }
-        let mut value = value;
-        value.set_access_mode(access);
-        self.columns.push_in_room(name, value);
+        self.columns.push_painted(name, access, value);
         Ok(())
     }
 

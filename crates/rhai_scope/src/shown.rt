@@ -13,7 +13,7 @@ use rhai_value::Store;
 use std::alloc::{AllocError, Global};
 
 /// Adds a text at the end.
-fn add_text(out: &mut String, text: &str) -> Result<(), AllocError>
+pub(crate) fn add_text(out: &mut String, text: &str) -> Result<(), AllocError>
     ensures { OnOk result (chars (string_bytes out.new) ≡ chars (string_bytes out.old) ++ chars text.now) }
 {
     let _before = out.as_str();
@@ -28,7 +28,7 @@ fn add_number(out: &mut String, number: usize) -> Result<(), AllocError>
     write!(out, "{number}")
 }
 
-fn add_mark(out: &mut String, is_constant: bool) -> Result<(), AllocError>
+pub(crate) fn add_mark(out: &mut String, is_constant: bool) -> Result<(), AllocError>
     ensures { OnOk result (chars (string_bytes out.new) ≡ chars (string_bytes out.old) ++ constant_mark is_constant) }
 {
     if is_constant {

@@ -1,5 +1,5 @@
 use super::*;
-use readme::{own_value, set, write_int};
+use readme::{aliases_of, declare_all, own_value, set, write_int};
 use rhai_text::ImmutableString;
 use rhai_value::{AccessMode, Dynamic, Store};
 use std::alloc::{AllocError, Global};
@@ -11,6 +11,7 @@ mod holders;
 mod iterators;
 mod readme;
 mod typed;
+mod vectors;
 mod whole;
 
 fn push(scope: &mut Scope, name: &str, value: i64) -> Result<(), AllocError> {

@@ -1,5 +1,6 @@
 pub mod Cleans
 pub mod Commas
+pub mod Copies
 pub mod Distinct
 pub mod Hashes
 pub mod Heads

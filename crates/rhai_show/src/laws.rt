@@ -4,7 +4,7 @@ ghost use Rattle.rhai_value.specs.declared.access_mode.AccessMode.{AccessMode};
 ghost use Rattle.rhai_value.specs.declared.store.Cell.{Cell};
 ghost use Rattle.rhai_value.specs.Rows.{Rows, trees_of, fields_of};
 ghost use Rattle.rhai_value.specs.Store.{at};
-ghost use Rattle.rhai_value.specs.Tree.{Tree, node, Leaf, leaf, branch, fields, holder, array, function};
+ghost use Rattle.rhai_value.specs.Tree.{Tree, copy, node, Leaf, leaf, branch, fields, holder, array, function};
 ghost use Rattle.rhai_value.specs.Walk.{is_open, visit, visit_map};
 ghost use Rattle.rhai_value.specs.Relation.{Renaming, Related, IsOneToOne, RelatedCells};
 ghost use Rattle.rhai_show.specs.declared.form.Form.{Form};
@@ -49,6 +49,12 @@ pub fn printed_of_holders()
         → at s c ≡ None → printed s path (node (holder c) g m) form ≡ codes "<shared>" }
     ensures revisited { (s : List Cell) (path : List ℕ) (form : Form) (g : ℤ) (m : AccessMode) (c : ℕ) (u : Tree)
         → at s c ≡ Some u → is_open c path ≡ true → printed s path (node (holder c) g m) form ≡ codes "<shared>" }
+{}
+
+/// A copy prints as the value: a mode is never seen.
+#[tactic(auto, using(crate::proofs::Copies::copy_printed))]
+pub fn copies_print_alike()
+    ensures { (s : List Cell) (path : List ℕ) (t : Tree) → printed s path (copy t) ≡ printed s path t }
 {}
 
 /// The text of a value doesn't depend on the numbers of cells.

@@ -143,3 +143,6 @@ held_alone s t e = ap held_in (end_alone s t e)
 pub end_near : (s : List Cell) (t w : Tree) (c : ℕ) → Some c ≡ cell_of t → Some w ≡ at s c → None ≡ cell_of w → held (InCell c) w ≡ end s [] t
 end_near [] t w c e is alone = cc
 end_near (x ∷ xs) t w c e is alone = chain_alone (length xs) (x ∷ xs) (InCell c) w alone ∙ sym (chain_next (x ∷ xs) t w c (length (x ∷ xs)) (length xs) Own e is refl) ∙ chain-end (x ∷ xs) t
+
+pub held_by_one : (s : List Cell) (t w : Tree) (c : ℕ) → Some c ≡ cell_of t → Some w ≡ at s c → None ≡ cell_of w → Some w ≡ held_in (end s [] t)
+held_by_one s t w c e is alone = ap held_in (end_near s t w c e is alone)

@@ -2,15 +2,17 @@
 -- related values
 pub use Rattle.rhai_value.proofs.SameTrees.{by_related, by_trees, same_copy, same_host, same_mode, same_paint, same_shared, same_tag, same_with_int, same_with_tag}
 -- related ends and stores, and what is written there
-pub use Rattle.rhai_value.proofs.RelatedCells.{length_store_after, marked_added, marked_store_after, same_end_type, same_held_leaf, same_store_after, same_value_after}
+pub use Rattle.rhai_value.proofs.RelatedCells.{length_changed, length_store_after, marked_added, marked_store_after, same_end_type, same_held_leaf, same_put, same_set_mark, same_store_after, same_value_after}
+-- the end of a chain without holders
+pub use Rattle.rhai_value.proofs.Ends.{end_own}
 -- first contents, flat values and locks
-pub use Rattle.rhai_value.proofs.SameFlat.{length_with_first, same_first, same_flat, same_flattened, same_locked, same_store_with_first, same_value_with_first}
+pub use Rattle.rhai_value.proofs.SameFlat.{length_with_first, same_first, same_first_cell, same_flat, same_flattened, same_locked, same_store_with_first, same_value_with_first}
 -- a held value that is written over itself
 pub use Rattle.rhai_value.proofs.InStores.{kept_written}
 -- renamings that grow
 pub use Rattle.rhai_value.proofs.Grow.{new_last, one_more, one_pair, paired_more, pairs_join, related_more, same_added}
 -- marks
-pub use Rattle.rhai_value.proofs.MarkedCells.{marked_with_first}
+pub use Rattle.rhai_value.proofs.MarkedCells.{mark_stands, marked_with_first, others_marked}
 -- walks
 pub use Rattle.rhai_value.proofs.Walks.{unopened, unopened-entry, walk_opens}
 -- walks over related values

@@ -1,15 +1,20 @@
 -- Writes to what a value holds in its store.
-use Rattle.std.proofs.Common.{◌≡◌, ◌<◌, ℕ, ℤ, List, [], length, Option, Some, None, IfSome, is_some, cond, slice_get, refl, sym, ap, ◌∙◌}
+use Rattle.std.proofs.Common.{◌≡◌, ◌<◌, ℕ, ℤ, Bool, true, false, if◌then◌else◌, option_map, List, [], length, Option, Some, None, IfSome, is_some, cond, slice_get, refl, sym, ap, ◌∙◌}
 use Rattle.rhai_value.specs.declared.access_mode.AccessMode.{AccessMode}
 use Rattle.rhai_value.specs.declared.in_store.InStore.{InStore}
 use Rattle.rhai_value.specs.declared.chain.Site.TheVariants.{Own, InCell}
 use Rattle.rhai_value.specs.declared.store.Cell.{Cell}
 use Rattle.rhai_value.specs.Tree.{Tree, node, Content, leaf, branch, fields, holder, cell_of}
 use Rattle.rhai_value.specs.Parts.{text_of, blob_of, with_content, with_part}
+use Rattle.rhai_value.specs.declared.type_id.TypeId.{TypeId}
+use Rattle.rhai_value.specs.declared.type_id.TypeId.TheVariants as id
+use Rattle.rhai_value.specs.Types.{is_type, is_content_type, typed_content}
+use Rattle.rhai_value.specs.Kinds.{one_type}
 use Rattle.rhai_value.specs.Store.{put, at}
 use Rattle.rhai_value.specs.End.{End, end, held, stuck, closed, held_in, held_part, site_of, value_after, store_after}
 use Rattle.rhai_value.specs.Writes.{written_at, written}
-use Rattle.rhai_value.proofs.Ends.{stands, end_opens}
+use Rattle.rhai_value.proofs.Chains.{end_near}
+use Rattle.rhai_value.proofs.Ends.{stands, end_opens, end_own}
 use Rattle.rhai_value.proofs.Stores.{content_is, put-same}
 use Rattle.rhai_value.proofs.Walks.{at_within}
 
@@ -96,6 +101,51 @@ own_held part s (node (leaf l) g m) a none h = ap (held_part part) (end_opens s 
 own_held part s (node (branch k ts) g m) a none h = ap (held_part part) (end_opens s [] (node (branch k ts) g m)) ∙ h
 own_held part s (node (fields fs) g m) a none h = ap (held_part part) (end_opens s [] (node (fields fs) g m)) ∙ h
 own_held part s (node (holder c) g m) a none h = let e : None ≡ Some a = sym (none c g m) ∙ h in cc
+
+-- a holder has no part that is the content of values of one type
+none_of_holder : {A : Type 0} (content : A → Content) (part : Tree → Option A) (k : TypeId) → is_content_type k ≡ true → ((t : Tree) → option_map content (part t) ≡ typed_content k t)
+    → (c : ℕ) (g : ℤ) (m : AccessMode) → part (node (holder c) g m) ≡ None
+none_of_holder {A = A} content part k constructs reads c g m = here (is_type k id.Shared) refl (part (node (holder c) g m)) (reads (node (holder c) g m))
+  where
+    here : (b : Bool) → is_type k id.Shared ≡ b → (o : Option A) → option_map content o ≡ (if b then Some (holder c) else None) → o ≡ None
+    here true same o e = let h : true ≡ false = sym constructs ∙ ap is_content_type (one_type k id.Shared same) in cc
+    here false other None e = refl
+    here false other (Some a) e = cc
+
+pub own_part : {A : Type 0} (content : A → Content) (part : Tree → Option A) (k : TypeId) → is_content_type k ≡ true → ((t : Tree) → option_map content (part t) ≡ typed_content k t)
+    → (s : List Cell) (t : Tree) (a : A) → part t ≡ Some a → held_part part (end s [] t) ≡ Some a
+own_part content part k constructs reads s t a h = own_held part s t a (none_of_holder content part k constructs reads) h
+
+-- what a write over such a part leaves
+put_at_own : {A : Type 0} (part : Tree → Option A) (d : Content) (s : List Cell) (t : Tree) (a : A) → cell_of t ≡ None → part t ≡ Some a
+    → (with_content d t ≡ value_after (with_part part d) (end s [] t) t) × (s ≡ store_after (with_part part d) (end s [] t) s)
+put_at_own part d s t a alone h = rw (end_own s [] t alone, h) (refl, refl)
+
+put_own : {A : Type 0} (part : Tree → Option A) (d : Content) (s : List Cell) (t : Tree) (a : A) → ((c : ℕ) (g : ℤ) (m : AccessMode) → part (node (holder c) g m) ≡ None) → part t ≡ Some a
+    → (with_content d t ≡ value_after (with_part part d) (end s [] t) t) × (s ≡ store_after (with_part part d) (end s [] t) s)
+put_own part d s (node (leaf l) g m) a none h = put_at_own part d s (node (leaf l) g m) a refl h
+put_own part d s (node (branch k ts) g m) a none h = put_at_own part d s (node (branch k ts) g m) a refl h
+put_own part d s (node (fields fs) g m) a none h = put_at_own part d s (node (fields fs) g m) a refl h
+put_own part d s (node (holder c) g m) a none h = let e : None ≡ Some a = sym (none c g m) ∙ h in cc
+
+pub put_own_part : {A : Type 0} (content : A → Content) (part : Tree → Option A) (k : TypeId) → is_content_type k ≡ true → ((t : Tree) → option_map content (part t) ≡ typed_content k t)
+    → (d : Content) (s : List Cell) (t : Tree) (a : A) → part t ≡ Some a
+    → (with_content d t ≡ value_after (with_part part d) (end s [] t) t) × (s ≡ store_after (with_part part d) (end s [] t) s)
+put_own_part content part k constructs reads d s t a h = put_own part d s t a (none_of_holder content part k constructs reads) h
+
+-- the same of a holder whose cell itself has such a part
+part_alone : {A : Type 0} (part : Tree → Option A) (t : Tree) (a : A) → ((c : ℕ) (g : ℤ) (m : AccessMode) → part (node (holder c) g m) ≡ None) → part t ≡ Some a → None ≡ cell_of t
+part_alone part (node (leaf l) g m) a none h = refl
+part_alone part (node (branch k ts) g m) a none h = refl
+part_alone part (node (fields fs) g m) a none h = refl
+part_alone part (node (holder c) g m) a none h = let e : None ≡ Some a = sym (none c g m) ∙ h in cc
+
+pub put_near_part : {A : Type 0} (content : A → Content) (part : Tree → Option A) (k : TypeId) → is_content_type k ≡ true → ((t : Tree) → option_map content (part t) ≡ typed_content k t)
+    → (d : Content) (s : List Cell) (t w : Tree) (c : ℕ) (a : A) → Some c ≡ cell_of t → Some w ≡ at s c → part w ≡ Some a
+    → (held_part part (end s [] t) ≡ Some a) × (t ≡ value_after (with_part part d) (end s [] t) t) × (put s c (with_content d w) ≡ store_after (with_part part d) (end s [] t) s)
+put_near_part content part k constructs reads d s t w c a e is h =
+    let alone : None ≡ cell_of w = part_alone part w a (none_of_holder content part k constructs reads) h in
+    rw (sym (end_near s t w c e is alone), h) (refl, refl, refl)
 
 pub own_text : (s : List Cell) (t : Tree) (x : List ℕ) → text_of t ≡ Some x → held_part text_of (end s [] t) ≡ Some x
 own_text s t x h = own_held text_of s t x (λ c g m. refl) h

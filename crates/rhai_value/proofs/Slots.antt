@@ -1,5 +1,5 @@
 -- Slots, the keys that name them, and a write in one slot.
-use Rattle.std.proofs.Common.{◌≡◌, ℕ, zero, suc, ◌<◌, Bool, true, false, cond, ◌||◌, nat_eq, List, [], ◌∷◌, ◌++◌, length, set, get_or, Option, Some, Global, refl, ap, sym, ◌∙◌, arith}
+use Rattle.std.proofs.Common.{◌≡◌, ℕ, zero, suc, ◌<◌, Bool, true, false, cond, ◌||◌, nat_eq, List, [], ◌∷◌, ◌++◌, length, set, get_or, Option, Some, Global, refl, ap, sym, subst, ◌∙◌, arith}
 use Rattle.std.proofs.lemmas.Bool.Decides.{nat_tests}
 use Rattle.std.proofs.lemmas.List.{get_or-set_same, get_or-set_other, get_or_default}
 use Rattle.std.specs.declared.boxed.Box.{Box}
@@ -113,3 +113,11 @@ stored_last ts t = record { vacant = past ts; here = last ts (Taken t); others =
     before [] x (suc q) other = refl
     before (s ∷ ts) x zero other = refl
     before (s ∷ ts) x (suc q) other = before ts x q (grind (arith, nat_tests))
+
+-- a vacant slot that is added, and then filled
+pub stored_new : (ts us : List Slot) (next : ℕ) (t : Tree) → us ≡ ts ++ Vacant next ∷ [] → IsStored ts (set us (length ts) (Taken t)) (length ts) t
+stored_new ts us next t is = subst (λ xs. IsStored ts xs (length ts) t) (sym (ap (λ xs. set xs (length ts) (Taken t)) is ∙ set_last ts (Vacant next) (Taken t))) (stored_last ts t)
+  where
+    set_last : (ts : List Slot) (x y : Slot) → set (ts ++ x ∷ []) (length ts) y ≡ ts ++ y ∷ []
+    set_last [] x y = refl
+    set_last (s ∷ ts) x y = ap (λ l. s ∷ l) (set_last ts x y)

@@ -1,5 +1,5 @@
 //! Where a chain of holders ends.
-ghost use Rattle.std.specs.Prelude.{◌≡◌, [], option_copied};
+ghost use Rattle.std.specs.Prelude.{◌≡◌, [], Some, IfSome, option_copied};
 ghost use Rattle.rhai_value.specs.End.{end, held_in, site_of, end_type};
 ghost use Rattle.rhai_value.specs.Seen.{end_seen};
 
@@ -105,22 +105,39 @@ impl Dynamic {
 
     /// The value where the chain of holders ends; `None` where the chain is stuck or closed. Takes no memory.
     #[inline(always)]
-    #[tactic(auto, using(crate::proofs::Chains::held_alone))]
     pub fn held<'s>(&'s self, s: &'s Store) -> Option<&'s Dynamic>
         ensures { option_copied result ≡ held_in (end s.now [] self.now) }
     {
-        match self.cell() {
-            None => Some(self),
-            Some(_) => self.held_by_holder(s),
+        match self.held_near(s) {
+            Some(value) => Some(value),
+            None => self.held_far(s),
         }
     }
 
-    /// The same of a holder, in a function of its own, so that the calls on a value that is no holder stay short.
+    /// What is held by a value that is no holder, or by a holder whose cell has none, as most have; `None` of any other value.
+    #[inline(always)]
+    #[tactic(auto, using(crate::proofs::Chains::held_alone, crate::proofs::Chains::held_by_one))]
+    fn held_near<'s>(&'s self, s: &'s Store) -> Option<&'s Dynamic>
+        ensures { IfSome result (λ v. Some v.now ≡ held_in (end s.now [] self.now)) }
+    {
+        let Some(cell) = self.cell() else {
+            return Some(self);
+        };
+        let Some(content) = s.read(cell) else {
+            return None;
+        };
+        match content.cell() {
+            None => Some(content),
+            Some(_) => None,
+        }
+    }
+
+    /// What is held, in a function of its own, so that the calls that ask for what is near stay short.
     #[inline(never)]
-    fn held_by_holder<'s>(&'s self, s: &'s Store) -> Option<&'s Dynamic>
+    fn held_far<'s>(&'s self, s: &'s Store) -> Option<&'s Dynamic>
         ensures { option_copied result ≡ held_in (end s.now [] self.now) }
     {
-        match self.chain_end(s) {
+        match self.long_chain_end(s) {
             ChainEnd::Held(_, value) => Some(value),
             ChainEnd::Stuck(_) | ChainEnd::Closed => None,
         }

@@ -1,5 +1,5 @@
 //! Deep copies.
-ghost use Rattle.std.specs.Prelude.{◌≡◌, ◌++◌, ◌∷◌, [], if◌then◌else◌, IfOk, IfSome, IsOk, map};
+ghost use Rattle.std.specs.Prelude.{◌≡◌, ◌<◌, vec_len, vec_capacity, ◌++◌, ◌∷◌, [], if◌then◌else◌, IfOk, IfSome, IsOk, map};
 ghost use Rattle.rhai_value.specs.Rows.{copied_rows};
 ghost use Rattle.rhai_value.specs.Slots.{AreTaken, IsWhole, rows, rows_of, copied_slot};
 ghost use Rattle.rhai_value.specs.Tree.{TakesNoMemory, copy};
@@ -82,28 +82,30 @@ fn copied_union(union: &Union, alloc: Global) -> Result<Union, AllocError>
 // Adds the copy of what arrays hold most often, each kind by a write of its own; says whether it did.
 #[inline(always)]
 fn push_short(copies: &mut Vec<Dynamic>, union: &Union, alloc: Global) -> Result<bool, AllocError>
-    ensures { IfOk result (λ done. copies.new.items ≡ (if done then copies.old.items ++ copy (tree_of union.now) ∷ [] else copies.old.items)) }
+    requires { vec_len copies.old < vec_capacity copies.old }
+    ensures room { vec_capacity copies.new ≡ vec_capacity copies.old }
+    ensures copied { IfOk result (λ done. copies.new.items ≡ (if done then copies.old.items ++ copy (tree_of union.now) ∷ [] else copies.old.items)) }
 {
     let mode = AccessMode::ReadWrite;
     match union {
         Union::Int(tag, _, value) => {
             let union = Union::Int(*tag, mode, *value);
-            copies.push(Dynamic { union })?;
+            copies.push_reserved(Dynamic { union });
             Ok(true)
         }
         Union::Str(tag, _, text) => {
             let union = Union::Str(*tag, mode, text.copy(alloc)?);
-            copies.push(Dynamic { union })?;
+            copies.push_reserved(Dynamic { union });
             Ok(true)
         }
         Union::Bool(tag, _, value) => {
             let union = Union::Bool(*tag, mode, *value);
-            copies.push(Dynamic { union })?;
+            copies.push_reserved(Dynamic { union });
             Ok(true)
         }
         Union::Shared(tag, _, cell) => {
             let union = Union::Shared(*tag, mode, *cell);
-            copies.push(Dynamic { union })?;
+            copies.push_reserved(Dynamic { union });
             Ok(true)
         }
         _ => Ok(false),
@@ -118,7 +120,7 @@ pub(crate) fn copied_items(items: &Vec<Dynamic>, alloc: Global) -> Result<Vec<Dy
     let mut copies = Vec::with_capacity(alloc, items.len())?;
     for item in items {
         if !push_short(&mut copies, &item.union, alloc)? {
-            copies.push(copied(item, alloc)?)?;
+            copies.push_reserved(copied(item, alloc)?);
         }
     }
     Ok(copies)
@@ -176,9 +178,47 @@ fn copied_slots(slots: &Vec<Slot>, alloc: Global) -> Result<Vec<Slot>, AllocErro
 {
     let mut copies = Vec::with_capacity(alloc, slots.len())?;
     for slot in slots {
-        copies.push(slot_copy(slot, alloc)?)?;
+        if !push_short_slot(&mut copies, slot, alloc)? {
+            copies.push_reserved(slot_copy(slot, alloc)?);
+        }
     }
     Ok(copies)
+}
+
+// Adds the copy of what the slots of maps hold most often, as `push_short` does for arrays.
+#[inline(always)]
+fn push_short_slot(copies: &mut Vec<Slot>, slot: &Slot, alloc: Global) -> Result<bool, AllocError>
+    requires { vec_len copies.old < vec_capacity copies.old }
+    ensures room { vec_capacity copies.new ≡ vec_capacity copies.old }
+    ensures copied { IfOk result (λ done. copies.new.items ≡ (if done then copies.old.items ++ copied_slot slot.now ∷ [] else copies.old.items)) }
+{
+    let Slot::Taken(value) = slot else {
+        return Ok(false);
+    };
+    let mode = AccessMode::ReadWrite;
+    match &value.union {
+        Union::Int(tag, _, value) => {
+            let union = Union::Int(*tag, mode, *value);
+            copies.push_reserved(Slot::Taken(Dynamic { union }));
+            Ok(true)
+        }
+        Union::Str(tag, _, text) => {
+            let union = Union::Str(*tag, mode, text.copy(alloc)?);
+            copies.push_reserved(Slot::Taken(Dynamic { union }));
+            Ok(true)
+        }
+        Union::Bool(tag, _, value) => {
+            let union = Union::Bool(*tag, mode, *value);
+            copies.push_reserved(Slot::Taken(Dynamic { union }));
+            Ok(true)
+        }
+        Union::Shared(tag, _, cell) => {
+            let union = Union::Shared(*tag, mode, *cell);
+            copies.push_reserved(Slot::Taken(Dynamic { union }));
+            Ok(true)
+        }
+        _ => Ok(false),
+    }
 }
 
 #[cycle(copy)]

@@ -21,6 +21,7 @@ impl Dynamic {
     }
 }
 
+#[inline(always)]
 #[cycle(locks)]
 fn locks(value: &Dynamic, s: &Store) -> bool
     ensures { result ≡ is_locked s.now value.now }

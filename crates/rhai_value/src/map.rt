@@ -146,15 +146,24 @@ impl Map {
         ensures absent { OnErr result (lookup (is_at (bytes_cmp (string_bytes key))) self.old ≡ None) }
         ensures ordered { AreRising self.new }
     {
+        if self.parts.is_none() {
+            self.prepare();
+        }
         match &mut self.parts {
             Some(parts) => parts.insert(key, value),
-            None => {
-                let Ok(mut parts) = Box::new(self.alloc, MapParts::new(self.alloc)) else {
-                    return Err((key, value));
-                };
-                let old = parts.insert(key, value)?;
+            None => Err((key, value)),
+        }
+    }
+
+    /// Takes memory for the parts of a map that has none, if it isn't refused.
+    #[cold]
+    #[inline(never)]
+    fn prepare(&mut self)
+        ensures { self.new ≡ self.old }
+    {
+        if self.parts.is_none() {
+            if let Ok(parts) = Box::new(self.alloc, MapParts::new(self.alloc)) {
                 self.parts = Some(parts);
-                Ok(old)
             }
         }
     }

@@ -1,12 +1,13 @@
 //! The index and the slots of a map that has had an entry.
 
-ghost use Rattle.std.specs.Prelude.{◌≡◌, ◌<◌, ℕ, true, false, [], ◌∷◌, None, length, option_copied, IfOk, IfErr, IfSome, OnOk, OnErr, MatchOption, slice_set, string_bytes};
+ghost use Rattle.std.specs.Prelude.{◌≡◌, ◌<◌, ℕ, true, false, [], ◌∷◌, None, length, option_copied, IfOk, IfErr, IfSome, IfNone, OnOk, OnErr, MatchOption, slice_set, string_bytes};
 ghost use Rattle.std.specs.BTreeMap.{insert_entry, is_at};
 ghost use Rattle.std.specs.Borrow.{Lends, LendsIf, sem};
 ghost use Rattle.std.specs.Map.{lookup, remove_entry};
 ghost use Rattle.std.specs.Option.{option_copied_mut};
 ghost use Rattle.rhai_value.specs.Rows.{bytes_cmp};
 ghost use Rattle.rhai_value.specs.Slots.{rows_of, with_value, with_value_at, IsWhole, IsStored, is_taken, tree_in, slot_at};
+ghost use Rattle.rhai_value.specs.Tree.{Tree};
 ghost use Rattle.rhai_value.specs.contracts.dynamic.Dynamic as dynamic_type;
 ghost use Rattle.rhai_value.specs.contracts.map.MapParts as parts_type;
 ghost use Rattle.rhai_value.specs.contracts.map.Slot as slot_type;
@@ -124,25 +125,39 @@ impl MapParts {
         }
     }
 
-    /// Puts a value into the first vacant slot, or into a new one, and answers the number of the slot; the value comes back
-    /// where memory for a new slot is refused.
-    fn store(&mut self, value: Dynamic) -> Result<usize, Dynamic>
-        ensures stored { IfOk result (λ p. IsStored self.old.slots.items self.new.slots.items p value) }
-        ensures err { IfErr result (λ back. (back ≡ value) × (self.new.slots.items ≡ self.old.slots.items)) }
+    /// Finds the first vacant slot, or adds one, and answers its number, so that any value can be put there; `None` where memory for
+    /// a new slot is refused.
+    #[inline(always)]
+    #[tactic(auto, using(crate::proofs::Slots::stored_set, crate::proofs::Slots::stored_new))]
+    fn vacancy(&mut self) -> Option<usize>
+        ensures found { IfSome result (λ p. (p < length self.new.slots.items)
+            × ((t : Tree) → IsStored self.old.slots.items (slice_set self.new.slots.items p (Taken t)) p t)) }
+        ensures none { IfNone result (self.new.slots.items ≡ self.old.slots.items) }
         ensures index { self.new.index ≡ self.old.index }
     {
         let number = self.vacant;
-        if let Some(Slot::Vacant(next)) = self.slots.get(number) {
-            self.vacant = *next;
-            self.slots[number] = Slot::Taken(value);
-            return Ok(number);
-        }
-        if self.slots.reserve(1).is_err() {
-            return Err(value);
+        if let Some(Slot::Vacant(_)) = self.slots.get(number) {
+            return Some(number);
         }
         let number = self.slots.len();
-        self.slots.push_reserved(Slot::Taken(value));
-        Ok(number)
+        if self.slots.push(Slot::Vacant(usize::MAX)).is_err() {
+            return None;
+        }
+        self.vacant = number;
+        Some(number)
+    }
+
+    /// Puts a value into a slot. The slot was the first vacant one, which the next one then is.
+    #[inline(always)]
+    fn fill(&mut self, number: usize, value: Dynamic)
+        requires { number < length self.old.slots.items }
+        ensures slots { self.new.slots.items ≡ slice_set self.old.slots.items number (Taken value) }
+        ensures index { self.new.index ≡ self.old.index }
+    {
+        if let Slot::Vacant(next) = &self.slots[number] {
+            self.vacant = *next;
+        }
+        self.slots[number] = Slot::Taken(value);
     }
 
     /// Takes the value of a slot, which is then the first of the vacant ones.
@@ -170,10 +185,10 @@ impl MapParts {
         ensures absent { OnErr result (lookup (is_at (bytes_cmp (string_bytes key))) (rows_of self.old) ≡ None) }
         ensures whole { IsWhole self.new }
     {
-        let number = match self.store(value) {
-            Ok(number) => number,
-            Err(value) => return self.write_over(key, value),
+        let Some(number) = self.vacancy() else {
+            return self.write_over(key, value);
         };
+        self.fill(number, value);
         match self.index.insert(key, number) {
             Ok(None) => Ok(None),
             Ok(Some(before)) => Ok(Some(self.vacate(before))),

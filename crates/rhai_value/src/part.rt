@@ -1,5 +1,5 @@
 //! Parts of values: the Rust types of which a value may have one, each the content of one constructor.
-ghost use Rattle.std.specs.Prelude.{◌≡◌, [], true, Option, Some, None, option_map, IfOk, IfErr};
+ghost use Rattle.std.specs.Prelude.{◌≡◌, [], true, Option, Some, None, option_map, IfOk, IfErr, OnOk};
 ghost use Rattle.std.specs.Borrow.{sem, LendsIf, LendsIfOk};
 ghost use Rattle.rhai_value.specs.contracts.dynamic.Dynamic as dynamic_type;
 ghost use Rattle.rhai_value.specs.declared.type_id.TypeId.{TypeId};
@@ -69,25 +69,27 @@ pub trait Part: Sized + Drop {
 
 /// What is held, if it is of one kind.
 impl Dynamic {
-    /// What is held, if it is of this kind. Takes no memory.
+    /// What is held, if it is of this kind. Takes no memory; what the value itself has is found without a look at its holders.
+    #[inline(always)]
     pub fn held_part<'s, T: Part>(&'s self, s: &'s Store) -> Option<&'s T>
         ensures { option_map (λ r. T.meaning r.now) result ≡ held_part T.part_of (end s.now [] self.now) }
     {
-        T::own(self.held(s)?)
+        match T::own(self) {
+            Some(part) => Some(part),
+            None => T::own(self.held(s)?),
+        }
     }
 
     /// What is held, if it is of this kind, or the name of the held type. Takes no memory.
+    #[inline(always)]
     pub fn as_part<'s, T: Part>(&'s self, s: &'s Store) -> Result<&'s T, &'static str>
         ensures ok { IfOk result (λ v. held_part T.part_of (end s.now [] self.now) ≡ Some (T.meaning v.now)) }
         ensures err { IfErr result (λ name. (held_part T.part_of (end s.now [] self.now) ≡ None)
             × (name.now ≡ end_name (end s.now [] self.now))) }
     {
-        let Some(value) = self.held(s) else {
-            return Err(TypeId::Shared.name());
-        };
-        match T::own(value) {
+        match self.held_part::<T>(s) {
             Some(part) => Ok(part),
-            None => Err(value.own_name()),
+            None => Err(self.held_name(s)),
         }
     }
 
@@ -110,7 +112,57 @@ impl Dynamic {
 
     /// What is held becomes this, if it is of this kind, tag and mode staying, and what was there comes back; else this comes back,
     /// and nothing changes. Takes no memory.
+    #[inline(always)]
     pub fn put_part<T: Part>(&mut self, m: &mut Store, part: T) -> Result<T, T>
+        ensures ok { IfOk result (λ old. held_part T.part_of (end m.old [] self.old) ≡ Some (T.meaning old)) }
+        ensures own { self.new ≡ value_after (with_part T.part_of (T.content (T.meaning part))) (end m.old [] self.old) self.old }
+        ensures store { m.new ≡ store_after (with_part T.part_of (T.content (T.meaning part))) (end m.old [] self.old) m.old }
+        ensures err { IfErr result (λ back. (back ≡ part) × (self.new ≡ self.old) × (m.new ≡ m.old) × (held_part T.part_of (end m.old [] self.old) ≡ None)) }
+    {
+        match self.put_own_part(part) {
+            Ok(old) => Ok(old),
+            Err(part) => match self.put_near_part(m, part) {
+                Ok(old) => Ok(old),
+                Err(part) => self.put_held_part(m, part),
+            },
+        }
+    }
+
+    /// The same of what the value itself has.
+    #[inline(always)]
+    fn put_own_part<T: Part>(&mut self, part: T) -> Result<T, T>
+        ensures ok { IfOk result (λ old. (T.part_of self.old ≡ Some (T.meaning old)) × (self.new ≡ with_content (T.content (T.meaning part)) self.old)) }
+        ensures err { IfErr result (λ back. (back ≡ part) × (self.new ≡ self.old)) }
+    {
+        match T::own_mut(self) {
+            Some(own) => Ok(mem::replace(own, part)),
+            None => Err(part),
+        }
+    }
+
+    /// The same of a holder whose cell itself has one.
+    #[inline(always)]
+    fn put_near_part<T: Part>(&self, m: &mut Store, part: T) -> Result<T, T>
+        ensures ok { IfOk result (λ old. held_part T.part_of (end m.old [] self.now) ≡ Some (T.meaning old)) }
+        ensures own { OnOk result (self.now ≡ value_after (with_part T.part_of (T.content (T.meaning part))) (end m.old [] self.now) self.now) }
+        ensures store { OnOk result (m.new ≡ store_after (with_part T.part_of (T.content (T.meaning part))) (end m.old [] self.now) m.old) }
+        ensures err { IfErr result (λ back. (back ≡ part) × (m.new ≡ m.old)) }
+    {
+        let Some(cell) = self.cell() else {
+            return Err(part);
+        };
+        match m.read(cell) {
+            None => Err(part),
+            Some(_) => match m.content_mut(cell.index).put_own_part(part) {
+                Ok(old) => Ok(old),
+                Err(part) => Err(part),
+            },
+        }
+    }
+
+    /// The same of any value, in a function of its own, so that writes over what is near stay short.
+    #[inline(never)]
+    fn put_held_part<T: Part>(&mut self, m: &mut Store, part: T) -> Result<T, T>
         ensures ok { IfOk result (λ old. held_part T.part_of (end m.old [] self.old) ≡ Some (T.meaning old)) }
         ensures own { self.new ≡ value_after (with_part T.part_of (T.content (T.meaning part))) (end m.old [] self.old) self.old }
         ensures store { m.new ≡ store_after (with_part T.part_of (T.content (T.meaning part))) (end m.old [] self.old) m.old }

@@ -32,12 +32,13 @@ impl Dynamic {
         self.type_id(s).name()
     }
 
-    /// The name of the value's own type, in a function of its own, since it is asked where a call fails.
+    /// The same in a function of its own, since it is asked where a call fails.
+    #[cold]
     #[inline(never)]
-    pub(crate) fn own_name(&self) -> &'static str
-        ensures { result.now ≡ type_name (tree_type self.now) }
+    pub(crate) fn held_name(&self, s: &Store) -> &'static str
+        ensures { result.now ≡ end_name (end s.now [] self.now) }
     {
-        self.own_type().name()
+        self.type_name(s)
     }
 
     pub(crate) fn own_type(&self) -> TypeId

@@ -9,6 +9,7 @@ use Rattle.std.proofs.Math.Seq.{take-append_seam, take-suc}
 use Rattle.std.proofs.lemmas.List.{take-append-drop}
 use Rattle.rhai_run.specs.State.{State}
 use Rattle.rhai_world.specs.Output.{lines_of, without_empty_rest, line_answer, line_state, answers_to_lines, state_after_lines, output_from, output_of_first_from}
+use Rattle.rhai_world.proofs.Prints.{Appends-nil, Appends-more}
 use Rattle.rhai_world.specs.Fed.{Fed, Feeds, StopsWithin, Completes}
 
 -- ---- lines
@@ -46,16 +47,6 @@ answers-push (l ∷ lines) w line =
 state-push : (lines : List (List ℕ)) (w : State) (line : List ℕ) → state_after_lines w (lines ++ line ∷ []) ≡ line_state (state_after_lines w lines) line
 state-push [] w line = refl
 state-push (l ∷ lines) w line = state-push lines (line_state w l) line
-
-pub Appends-nil : (old : Option (List ℕ)) → Appends old old []
-Appends-nil None = tt
-Appends-nil (Some xs) = sym (append-nil xs)
-
-pub Appends-more : (old mid new : Option (List ℕ)) (a b : List ℕ) → Appends old mid a → Appends mid new b → Appends old new (a ++ b)
-Appends-more None mid new a b h k = tt
-Appends-more (Some xs) None new a b h k = absurd h
-Appends-more (Some xs) (Some ys) None a b h k = absurd k
-Appends-more (Some xs) (Some ys) (Some zs) a b h k = k ∙ ap (λ v. v ++ b) h ∙ append_assoc xs a b
 
 pub Appends-kept : (old mid new : Option (List ℕ)) (a : List ℕ) → Appends old mid a → Keeps mid new → Appends old new a
 Appends-kept None mid new a h k = tt

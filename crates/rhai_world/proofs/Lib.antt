@@ -1,7 +1,11 @@
 pub mod Results
-pub mod Words
-pub mod Numbers
+pub mod Cuts
+pub mod Digits
+pub mod Characters
 pub mod Names
-pub mod Feeds
+pub mod PlaceWords
+pub mod WordLists
+pub mod Subjects
 pub mod Prints
+pub mod Feeds
 pub mod Reaches

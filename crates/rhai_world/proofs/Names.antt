@@ -1,14 +1,14 @@
 -- A name is ASCII, so its bytes are its characters.
 use Rattle.std.proofs.Common.{◌≡◌, ℕ, ◌<◌, Bool, true, false, ◌&&◌, if◌then◌else◌, nat_lt, List, [], ◌∷◌, length, Some, None, refl, sym, ap, ap₂, ◌∙◌, arith}
 use Rattle.std.specs.List.{list_all, AllByRecursion}
-use Rattle.std.specs.Str.{chars}
+use Rattle.std.specs.Str.{chars, IsAscii}
 use Rattle.std.proofs.lemmas.Bool.Decides.{nat_tests}
 use Rattle.std.proofs.lemmas.List.Elements.{All-from_recursion}
 use Rattle.std.proofs.lemmas.Str.{chars-IsAscii}
 use Rattle.std.proofs.lemmas.Str.Ascii.{IsAscii-from_all}
 use Rattle.std.proofs.lemmas.Option.{same_Some}
 use Rattle.std.specs.Option.{option_map}
-use Rattle.rhai_world.specs.Line.{Left, word_of, left_of, asked, is_name_byte, is_name, name_of}
+use Rattle.rhai_world.specs.Words.{Left, word_of, left_of, a_word, is_name_byte, is_name, name_of, a_name}
 
 both : (s t : Bool) → (s && t) ≡ true → (s ≡ true) × (t ≡ true)
 both true t e = (refl, e)
@@ -21,13 +21,16 @@ each_below_128 : (bs : List ℕ) → list_all is_name_byte bs ≡ true → AllBy
 each_below_128 [] e = tt
 each_below_128 (b ∷ bs) e = let h = both (is_name_byte b) (list_all is_name_byte bs) e in (below_128 b h.0, each_below_128 bs h.1)
 
-pub name-chars : (word : List ℕ) → is_name word ≡ true → name_of word ≡ Some (chars word)
-name-chars word e =
+pub name_is_ascii : (word : List ℕ) → is_name word ≡ true → IsAscii word
+name_is_ascii word e =
     let h = both (nat_lt 0 (length word)) (list_all is_name_byte word) e in
-    ap (λ t. if t then Some word else None) e ∙ ap Some (sym (chars-IsAscii word (IsAscii-from_all word (All-from_recursion (λ b. b < 128) word (each_below_128 word h.1)))))
+    IsAscii-from_all word (All-from_recursion (λ b. b < 128) word (each_below_128 word h.1))
+
+pub name-chars : (word : List ℕ) → is_name word ≡ true → name_of word ≡ Some (chars word)
+name-chars word e = ap (λ t. if t then Some word else None) e ∙ ap Some (sym (chars-IsAscii word (name_is_ascii word e)))
 
 -- a word that is a name is read as its characters
-pub name-asked : (left : Left) (word : List ℕ) (rest : Left) → asked (λ w. Some w) left ≡ Some (word, rest) → is_name word ≡ true → asked name_of left ≡ Some (chars word, rest)
+pub name-asked : (left : Left) (word : List ℕ) (rest : Left) → a_word (λ w. Some w) left ≡ Some (word, rest) → is_name word ≡ true → a_name left ≡ Some (chars word, rest)
 name-asked None word rest e n = cc
 name-asked (Some text) word rest e n =
     let p = same_Some (word_of text, left_of text) (word, rest) e in

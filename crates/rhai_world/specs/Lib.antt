@@ -1,5 +1,14 @@
+pub mod Words
+pub mod Numbers
+pub mod Vocabulary
+pub mod Literals
+pub mod HandLines
+pub mod ScopeLines
+pub mod PlaceLines
 pub mod Line
+pub mod Room
 pub mod Cursor
+pub mod Printed
 pub mod Output
 pub mod Fed
 pub mod Faults

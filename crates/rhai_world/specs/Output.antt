@@ -1,10 +1,10 @@
 -- What is written for an input.
-use Rattle.std.specs.Prelude.{ℕ, List, [], ◌∷◌, ◌++◌, take, length, Option, Some, None, if◌then◌else◌, ◌==◌, codes, encode_utf8_all}
+use Rattle.std.specs.Prelude.{ℕ, List, [], ◌∷◌, ◌++◌, take, length, Option, Some, None, if◌then◌else◌, ◌==◌, codes}
 use Rattle.std.specs.List.{slice_split}
 use Rattle.rhai_run.specs.declared.command.Command.{Command}
 use Rattle.rhai_run.specs.State.{State, empty_state}
-use Rattle.rhai_run.specs.Reply.{Reply, done, truth, number, told, bytes, nothing, refused, Reason, no_value, same_value, no_entry, empty_scope, constant_entry, shared_entry, no_builtin, not_hashable, mismatch, fault}
 use Rattle.rhai_run.specs.Step.{step}
+use Rattle.rhai_world.specs.Printed.{printed}
 use Rattle.rhai_world.specs.Line.{command_of}
 
 -- lines without an empty one that stands last
@@ -16,28 +16,6 @@ without_empty_rest (line ∷ next ∷ lines) = line ∷ without_empty_rest (next
 -- the parts between line feeds (10); nothing after the last one is no line
 abbrev pub lines_of : List ℕ → List (List ℕ)
 lines_of input = without_empty_rest (slice_split (λ b. b == 10) input)
-
--- why a command was refused, and an answer, as bytes; those that no line's command gives are printed as a line without a command is
-abbrev pub reason_text : Reason → List ℕ
-reason_text no_value = codes "NoValue"
-reason_text no_entry = codes "NoEntry"
-reason_text empty_scope = codes "EmptyScope"
-reason_text no_builtin = codes "NoBuiltin"
-reason_text (mismatch name) = codes "Mismatch " ++ name
-reason_text same_value = codes "BadLine"
-reason_text not_hashable = codes "BadLine"
-reason_text constant_entry = codes "BadLine"
-reason_text shared_entry = codes "BadLine"
-reason_text (fault why) = codes "BadLine"
-
-abbrev pub printed : Reply → List ℕ
-printed done = codes "ok"
-printed (told characters) = encode_utf8_all characters
-printed (refused why) = codes "refused " ++ reason_text why
-printed (truth b) = codes "refused BadLine"
-printed (number n) = codes "refused BadLine"
-printed (bytes bs) = codes "refused BadLine"
-printed nothing = codes "refused BadLine"
 
 -- what is written for a command or a line without one, and the world after it
 abbrev pub answer_to : State → Option Command → List ℕ

@@ -1,11 +1,18 @@
 //! Runs commands over one world of script values: reads a command a line from standard input, and prints an answer to each.
 #![tactic(auto)]
 
+mod hand_lines;
 mod line;
 mod lines;
+mod literals;
+mod numbers;
+mod place_lines;
 mod print;
+mod scope_lines;
 #[cfg(test)]
 mod tests;
+mod vocabulary;
+mod words;
 
 use crate::lines::{LinesFault, run_lines, status};
 use std::io;

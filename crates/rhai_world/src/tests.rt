@@ -8,6 +8,12 @@ use std::io;
 use std::io::{ErrorKind, Read, Write};
 use std::test::Fail;
 
+mod lines;
+mod operators;
+mod page;
+mod printed;
+mod session;
+
 /// Gives a byte a call, and fails once, at the call before which `calls` others stand.
 #[derive(Drop)]
 struct ByteReader<'a> {
@@ -77,6 +83,27 @@ fn answers(alloc: Global, input: &[u8]) -> Result<Vec<u8>, LinesFault>
     let mut out = Vec::new(alloc);
     run_lines(alloc, &mut reader, &mut out)?;
     Ok(out)
+}
+
+/// What is written for the lines of the rows, as a text.
+fn asked(alloc: Global, rows: &[(&str, &str)]) -> Result<String, Fail> {
+    let mut input = Vec::new(alloc);
+    for (line, _) in rows {
+        input.extend_from_slice(line.as_bytes())?;
+        input.extend_from_slice(b"\n")?;
+    }
+    let out = answers(alloc, &input)?;
+    Ok(String::from_utf8_lossy(alloc, &out)?)
+}
+
+/// The answers of the rows, each on a line of its own.
+fn wanted(alloc: Global, rows: &[(&str, &str)]) -> Result<String, Fail> {
+    let mut text = String::new(alloc);
+    for (_, answer) in rows {
+        text.push_str(answer)?;
+        text.push_str("\n")?;
+    }
+    Ok(text)
 }
 
 #[test]

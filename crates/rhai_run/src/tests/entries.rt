@@ -2,22 +2,24 @@ use super::*;
 use rhai_value::TypeId;
 use std::test::Fail;
 
-#[test]
-fn the_scope_is_shown(rt: HostRuntime) -> Result<(), Fail> {
-    let alloc = rt.alloc();
+/// The scope of a variable and of a constant is shown.
+fn shown(alloc: Global) -> Result<String, AllocError> {
     let commands = vec![in alloc;
-        Command::ShowScope,
         Command::Put(Literal::Int(42)),
         Command::Push(name(alloc, "x")?, 0),
         Command::Put(Literal::Int(1)),
         Command::PushConstant(name(alloc, "y")?, 1),
         Command::ShowScope,
     ]?;
-    let line = answers_anew(alloc, &commands)?;
-    assert_eq!(rt;
-        line.as_str(),
-        ";ok;ok;ok;ok;[1] x = 42\n[2] const y = 1\n;"
-    );
+    answers_anew(alloc, &commands)
+}
+
+#[test]
+fn the_scope_is_shown(rt: HostRuntime) -> Result<(), Fail> {
+    let empty = answers_anew(rt.alloc(), &[Command::ShowScope])?;
+    let line = shown(rt.alloc())?;
+    assert_eq!(rt; empty.as_str(), ";");
+    assert_eq!(rt; line.as_str(), "ok;ok;ok;ok;[1] x = 42\n[2] const y = 1\n;");
     Ok(())
 }
 

@@ -34,21 +34,33 @@ fn a_refusal_names_what_is_wrong(rt: HostRuntime) -> Result<(), Fail> {
 
 #[test]
 fn too_few_values_are_left(rt: HostRuntime) -> Result<(), Fail> {
-    let alloc = rt.alloc();
-    let commands = vec![in alloc;
+    let commands = [
         Command::Put(Literal::Int(4)),
         Command::MakeArray(2),
-        Command::MakeMap(keys(alloc, &["a", "b"])?),
-        Command::MakeFn(name(alloc, "f")?, 2),
         Command::MakeArray(18446744073709551615),
         Command::Debug(0),
         Command::Debug(1),
+    ];
+    let line = answers_anew(rt.alloc(), &commands)?;
+    assert_eq!(rt; line.as_str(), "ok;NoValue;NoValue;4;NoValue;");
+    Ok(())
+}
+
+/// A map and a function pointer of two values, where there is one.
+fn made_of_too_few(alloc: Global) -> Result<String, AllocError> {
+    let commands = vec![in alloc;
+        Command::Put(Literal::Int(4)),
+        Command::MakeMap(keys(alloc, &["a", "b"])?),
+        Command::MakeFn(name(alloc, "f")?, 2),
+        Command::Debug(0),
     ]?;
-    let line = answers_anew(alloc, &commands)?;
-    assert_eq!(rt;
-        line.as_str(),
-        "ok;NoValue;NoValue;NoValue;NoValue;4;NoValue;"
-    );
+    answers_anew(alloc, &commands)
+}
+
+#[test]
+fn too_few_values_are_left_for_keys_and_curried_values(rt: HostRuntime) -> Result<(), Fail> {
+    let line = made_of_too_few(rt.alloc())?;
+    assert_eq!(rt; line.as_str(), "ok;NoValue;NoValue;4;");
     Ok(())
 }
 

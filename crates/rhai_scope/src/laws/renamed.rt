@@ -1,7 +1,7 @@
 //! No definition of the scope looks at the numbers of cells: what it makes of entries that are equal up to these numbers is again
 //! equal up to them.
 ghost use Rattle.std.specs.Prelude.{◌≡◌, ℕ, Bool, List, Option, map, reverse, take, option_map};
-ghost use Rattle.std.specs.List.{AllZip};
+ghost use Rattle.std.specs.List.{AllZip, zip};
 ghost use Rattle.rhai_value.specs.Relation.{Renaming, Related, Alike, IsOneToOne, RelatedCells};
 ghost use Rattle.rhai_value.specs.Tree.{Tree};
 ghost use Rattle.rhai_value.specs.declared.access_mode.AccessMode.{AccessMode};
@@ -9,27 +9,29 @@ ghost use Rattle.rhai_value.specs.declared.store.Cell.{Cell};
 ghost use Rattle.rhai_value.specs.declared.type_id.TypeId.{TypeId};
 ghost use Rattle.rhai_scope.specs.Alias.{aliased};
 ghost use Rattle.rhai_scope.specs.Entry.{Entry, pushed, popped, is_constant_entry, with_value, copied_entry};
-ghost use Rattle.rhai_scope.specs.Extended.{extended, extended_flagged};
-ghost use Rattle.rhai_scope.specs.Items.{shown_flat, shown_raw};
-ghost use Rattle.rhai_scope.specs.Lookup.{last_position, last_entry, value_named, writable_position, changed_named, with_value_at, visible};
+ghost use Rattle.rhai_scope.specs.Extended.{extended, extended_flagged, flagged_values};
+ghost use Rattle.rhai_scope.specs.Items.{flat_values, shown_flat, shown_raw};
+ghost use Rattle.rhai_scope.specs.Lookup.{last_position, last_entry, value_named, aliases_named, writable_position, changed_named, with_value_at, visible};
+ghost use Rattle.rhai_scope.specs.NamesText.{names_text};
 ghost use Rattle.rhai_scope.specs.Relation.{RelatedEntry, RelatedEntries, RelatedPair, RelatedNamed, RespectEntries};
 ghost use Rattle.rhai_scope.specs.ScopeBytes.{scope_bytes};
 ghost use Rattle.rhai_scope.specs.ScopeText.{scope_text};
 ghost use Rattle.rhai_scope.specs.Typed.{set_or_pushed, removed_at, written_entry};
 
 /// Look-ups find the same place, and related entries there.
-#[tactic(auto, using(crate::proofs::SameEntries::same_position, crate::proofs::SameEntries::same_writable, crate::proofs::SameEntries::same_last_entry, crate::proofs::SameEntries::same_named, crate::proofs::SameEntries::same_constant_named))]
+#[tactic(auto, using(crate::proofs::SameEntries::same_position, crate::proofs::SameEntries::same_writable, crate::proofs::SameEntries::same_last_entry, crate::proofs::SameEntries::same_named, crate::proofs::SameEntries::same_aliases_named, crate::proofs::SameEntries::same_constant_named))]
 pub fn lookups_are_renamed()
     ensures position { (r : Renaming) (name : List ℕ) (es fs : List Entry) → RelatedEntries r es fs → last_position name es ≡ last_position name fs }
     ensures writable { (r : Renaming) (name : List ℕ) (es fs : List Entry) → RelatedEntries r es fs → writable_position name es ≡ writable_position name fs }
     ensures entry { (r : Renaming) (name : List ℕ) (es fs : List Entry) → RelatedEntries r es fs → Alike (RelatedEntry r) (last_entry name es) (last_entry name fs) }
     ensures value { (r : Renaming) (name : List ℕ) (es fs : List Entry) → RelatedEntries r es fs → Alike (Related r) (value_named name es) (value_named name fs) }
+    ensures aliases { (r : Renaming) (name : List ℕ) (es fs : List Entry) → RelatedEntries r es fs → aliases_named name es ≡ aliases_named name fs }
     ensures constant { (r : Renaming) (name : List ℕ) (es fs : List Entry) → RelatedEntries r es fs
         → option_map is_constant_entry (last_entry name es) ≡ option_map is_constant_entry (last_entry name fs) }
 {}
 
 /// Entries that come and go.
-#[tactic(auto, using(crate::proofs::SameEntries::same_pushed, crate::proofs::SameEntries::same_taken, crate::proofs::SameEntries::same_popped, crate::proofs::SameEntries::same_removed_at, crate::proofs::SameEntries::same_extended, crate::proofs::SameEntries::same_extended_flagged))]
+#[tactic(auto, using(crate::proofs::SameEntries::same_pushed, crate::proofs::SameEntries::same_taken, crate::proofs::SameEntries::same_popped, crate::proofs::SameEntries::same_removed_at, crate::proofs::SameEntries::same_extended, crate::proofs::SameEntries::same_extended_flagged, crate::proofs::SameEntries::same_extended_values, crate::proofs::SameEntries::same_flagged_values))]
 pub fn entries_that_come_and_go_are_renamed()
     ensures pushed { (r : Renaming) (m : AccessMode) (name : List ℕ) (t u : Tree) (es fs : List Entry) → Related r t u → RelatedEntries r es fs
         → RelatedEntries r (pushed m name t es) (pushed m name u fs) }
@@ -40,6 +42,10 @@ pub fn entries_that_come_and_go_are_renamed()
         → RelatedEntries r (extended es xs) (extended fs ys) }
     ensures flagged { (r : Renaming) (es fs : List Entry) (xs ys : List (List ℕ × Bool × Tree)) → RelatedEntries r es fs → AllZip (RelatedNamed r) xs ys
         → RelatedEntries r (extended_flagged es xs) (extended_flagged fs ys) }
+    ensures values { (r : Renaming) (ns : List (List ℕ)) (ts us : List Tree) (es fs : List Entry) → AllZip (Related r) ts us → RelatedEntries r es fs
+        → RelatedEntries r (extended es (zip ns ts)) (extended fs (zip ns us)) }
+    ensures flagged_values { (r : Renaming) (ns : List (List ℕ × Bool)) (ts us : List Tree) (es fs : List Entry) → AllZip (Related r) ts us → RelatedEntries r es fs
+        → RelatedEntries r (extended_flagged es (flagged_values ns ts)) (extended_flagged fs (flagged_values ns us)) }
 {}
 
 /// Entries that change.
@@ -64,10 +70,12 @@ pub fn copies_are_renamed()
 {}
 
 /// The printed text and the hash bytes are the same, and what the iterators show is related.
-#[tactic(auto, using(crate::proofs::SamePrints::same_text, crate::proofs::SamePrints::same_bytes, crate::proofs::SamePrints::same_shown_flat, crate::proofs::SamePrints::same_shown_raw))]
+#[tactic(auto, using(crate::proofs::SamePrints::same_text, crate::proofs::SamePrints::same_bytes, crate::proofs::SamePrints::same_shown_flat, crate::proofs::SamePrints::same_shown_raw, crate::proofs::SamePrints::same_names_text, crate::proofs::SamePrints::same_flat_values))]
 pub fn what_is_shown_is_renamed()
     ensures text { (r : Renaming) (s z : List Cell) (es fs : List Entry) → IsOneToOne r → RelatedCells r s z → RelatedEntries r es fs → scope_text s es ≡ scope_text z fs }
     ensures bytes { (r : Renaming) (s z : List Cell) (es fs : List Entry) → IsOneToOne r → RelatedCells r s z → RelatedEntries r es fs → scope_bytes s es ≡ scope_bytes z fs }
+    ensures names { (r : Renaming) (s z : List Cell) (es fs : List Entry) → IsOneToOne r → RelatedCells r s z → RelatedEntries r es fs → names_text s es ≡ names_text z fs }
+    ensures values { (r : Renaming) (s z : List Cell) (es fs : List Entry) → IsOneToOne r → RelatedCells r s z → RelatedEntries r es fs → AllZip (Related r) (flat_values s es) (flat_values z fs) }
     ensures flat { (r : Renaming) (s z : List Cell) (e f : Entry) → IsOneToOne r → RelatedCells r s z → RelatedEntry r e f → RelatedNamed r (shown_flat s e) (shown_flat z f) }
     ensures raw { (r : Renaming) (s z : List Cell) (e f : Entry) → IsOneToOne r → RelatedCells r s z → RelatedEntry r e f → RelatedNamed r (shown_raw s e) (shown_raw z f) }
 {}

@@ -1,19 +1,49 @@
-ghost use Rattle.std.specs.Prelude.{◌≡◌, false, None, IfSome, OnOk, pos};
+ghost use Rattle.std.specs.Prelude.{◌≡◌, false, None, option_map, IfSome, IfOk, IfErr, OnOk, pos};
+ghost use Rattle.std.specs.List.{zip};
 ghost use Rattle.std.specs.Str.{chars};
 ghost use Rattle.rhai_value.specs.Tree.{cell_of, fresh, int, mode_of};
 ghost use Rattle.rhai_scope.specs.Entry.{pushed};
-ghost use Rattle.rhai_scope.specs.Lookup.{value_named};
+ghost use Rattle.rhai_scope.specs.Extended.{extended};
+ghost use Rattle.rhai_scope.specs.Lookup.{aliases_named, value_named};
+ghost use Rattle.rhai_scope.specs.NamesText.{aliases_text};
 
-use crate::Scope;
+use crate::{Scope, aliases_shown};
+use rhai_show::Shown;
+use rhai_text::ImmutableString;
 use rhai_value::Dynamic;
 use rhai_variant::Variant;
-use std::alloc::AllocError;
+use std::alloc::{AllocError, Global};
 
 /// Declares a variable of a script, with 0 as its first value.
 pub fn declare(scope: &mut Scope, name: &str) -> Result<(), AllocError>
     ensures { OnOk result (scope.new ≡ pushed (mode_of (fresh (int (pos 0)))) (chars name.now) (fresh (int (pos 0))) scope.old) }
 {
     scope.push_dynamic(name, Dynamic::from_int(0))
+}
+
+/// Declares variables, if there is a value for each name. Names and values come back where there isn't, and where memory is refused.
+pub fn declare_all(
+    scope: &mut Scope,
+    names: Vec<ImmutableString>,
+    values: Vec<Dynamic>,
+) -> Result<(), (Vec<ImmutableString>, Vec<Dynamic>)>
+    ensures ok { OnOk result (scope.new ≡ extended scope.old (zip names.items values.items)) }
+    ensures err { IfErr result (λ back. (back ≡ (names, values)) × (scope.new ≡ scope.old)) }
+{
+    if names.len() != values.len() {
+        return Err((names, values));
+    }
+    scope.extend_moved(names, values)
+}
+
+/// The aliases of a name, a line each, if there is an entry of the name.
+pub fn aliases_of(alloc: Global, scope: &Scope, name: &str) -> Result<Option<Shown>, AllocError>
+    ensures { IfOk result (λ told. told ≡ option_map aliases_text (aliases_named (chars name.now) scope.now)) }
+{
+    match scope.aliases(name) {
+        Some(aliases) => Ok(Some(aliases_shown(alloc, aliases)?)),
+        None => Ok(None),
+    }
 }
 
 /// What the own value of a name has of a type, if that value isn't shared.

@@ -1,4 +1,4 @@
-use Rattle.std.proofs.Common.{◌≡◌, ◌+◌, ◌*◌, ◌≤◌, List, ◌++◌, map, take, drop}
+use Rattle.std.proofs.Common.{◌≡◌, ◌+◌, ◌*◌, ◌≤◌, List, ◌++◌, length, map, take, drop, vec_capacity}
 use denote.Param.Weighed.{most}
 use Rattle.rhai_value.specs.Rows.{copied_rows, trees_of, fields_of}
 use Rattle.rhai_value.specs.Slots.{AreTaken, KeySlot, rows, rows_of, map_size, copied_slot}
@@ -10,6 +10,7 @@ use Rattle.rhai_value.proofs.copy.+copy.Given as goal
 abbrev pub invariant-copied_items-loop-item : goal.invariant-copied_items-loop-item
 invariant-copied_items-loop-item l = record {
   fewer : nodes_trees (trees_of (drop l.item-index l.item-items)) ≤ nodes_trees (trees_of l.items.items);
+  room : length l.item-items ≤ vec_capacity l.copies;
   copied : l.copies.items ≡ map copy (take l.item-index l.item-items);
 }
 
@@ -25,6 +26,7 @@ invariant-copied_entries-loop-key l = record {
 abbrev pub invariant-copied_slots-loop-slot : goal.invariant-copied_slots-loop-slot
 invariant-copied_slots-loop-slot l = record {
   lighter : most deep-Slot (drop l.slot-index l.slot-items) ≤ most deep-Slot l.slots.items;
+  room : length l.slot-items ≤ vec_capacity l.copies;
   copied : l.copies.items ≡ map copied_slot (take l.slot-index l.slot-items);
 }
 

@@ -1,7 +1,8 @@
 use Rattle.std.proofs.Common.{◌≡◌, sym, ap₂, ◌∙◌, subst}
-use Rattle.rhai_world.specs.Line.{said, command_of, SaysNamed}
+use Rattle.rhai_world.specs.Line.{said, command_of}
+use Rattle.rhai_world.specs.Room.{SaysList}
 use Rattle.rhai_world.specs.Cursor.{left_in}
-use Rattle.rhai_world.proofs.Words.{command_of-text, command_of-no_text}
+use Rattle.rhai_world.proofs.Cuts.{command_of-text, command_of-no_text}
 use Rattle.rhai_world.proofs.line.command.Goals as goal
 use Rattle.rhai_world.proofs.line.command.Goals.{After-command_by}
 
@@ -18,4 +19,4 @@ pub returns-in-Err-BadLine-clause-command : goal.returns-in-Err-BadLine-clause-c
 returns-in-Err-BadLine-clause-command c = sym (read (goal.at.returns-in-Err-BadLine-clause-command c).After-command_by ∙ (rw c.in-Err-BadLine.field-0-is at c.in-Err-BadLine.ensures))
 
 pub returns-in-Err-Memory-clause-memory : goal.returns-in-Err-Memory-clause-memory
-returns-in-Err-Memory-clause-memory c = subst SaysNamed (sym (read (goal.at.returns-in-Err-Memory-clause-memory c).After-command_by)) (rw c.in-Err-Memory.field-0-is at c.in-Err-Memory.ensures)
+returns-in-Err-Memory-clause-memory c = subst SaysList (sym (read (goal.at.returns-in-Err-Memory-clause-memory c).After-command_by)) (rw c.in-Err-Memory.field-0-is at c.in-Err-Memory.ensures)

@@ -10,7 +10,7 @@ use Rattle.rhai_run.proofs.desk.Desk.flatten.Goals as goal
 
 pub returns-in_err-put_back : goal.returns-in_err-put_back
 returns-in_err-put_back c =
-    let w : State = state_of c.self.inside.store c.self.inside.scope c.self.inside.hand.items c.self.inside.limits in
+    let w : State = state_of c.self.inside.store c.self.inside.scope c.self.inside.marks.items c.self.inside.hand.items c.self.inside.limits in
     let p = err_from_is_err_and c.from_residual-in_err-put_back.result c.from_residual-in_err-put_back.ensures.1 in
     let m = changed_err c.flatten-flat.result c.put_back.result c.in_err-put_back.field-0.0 c.in_err-put_back.was c.flatten-flat.ensures.err c.put_back.ensures.ok c.put_back.ensures.err in
     rw (p.1, p.2) (
@@ -21,7 +21,7 @@ returns-in_err-put_back c =
 
 pub returns : goal.returns
 returns c =
-    let w : State = state_of c.self.inside.store c.self.inside.scope c.self.inside.hand.items c.self.inside.limits in
+    let w : State = state_of c.self.inside.store c.self.inside.scope c.self.inside.marks.items c.self.inside.hand.items c.self.inside.limits in
     let m = changed_ok c.flatten-flat.result c.put_back.result c.in_ok-put_back.field-0 c.in_ok-put_back.was c.flatten-flat.ensures.ok c.put_back.ensures.ok c.put_back.ensures.err in
     subst (λ v. (done ≡ (step_flatten v c.args.i).0) × (with_hand w c.put_back.new.values.items ≡ (step_flatten v c.args.i).1)) c.self.view_is
     (flatten_done w c.args.i c.replace_at-value.result (fresh unit) m.0 c.put_back.new.values.items c.replace_at-value.ensures.value m.1 (rw (← c.replace_at-value.ensures.after) m.2))

@@ -7,7 +7,7 @@ use Rattle.rhai_run.proofs.desk.Desk.push_as.Goals as goal
 
 pub returns-in-Err : goal.returns-in-Err
 returns-in-Err c =
-    let w : State = state_of c.self.inside.store c.self.inside.scope c.self.inside.hand.items c.self.inside.limits in (
+    let w : State = state_of c.self.inside.store c.self.inside.scope c.self.inside.marks.items c.self.inside.hand.items c.self.inside.limits in (
       push_wants (λ t. c.args.access) c.args.self.now c.args.name.now c.args.i c.in_ok-value.field-0.now c.in_ok-value.ensures.ok,
       subst (λ v. with_scope w c.push_entry.new.self c.replace_at.new.values.items ≡ v) c.self.view_is
           (entry_came_back w c.args.i c.replace_at-value.result (fresh unit) c.in-Err.value c.push_entry.new.self c.replace_at.new.values.items

@@ -14,7 +14,7 @@ returns-then-is_shared c = share_stays c.args.self.now c.args.i c.in_ok-value.fi
 
 pub replace_at-value-requires : goal.replace_at-value-requires
 replace_at-value-requires c =
-    let w : State = state_of c.self.inside.store c.self.inside.scope c.self.inside.hand.items c.self.inside.limits in
+    let w : State = state_of c.self.inside.store c.self.inside.scope c.self.inside.marks.items c.self.inside.hand.items c.self.inside.limits in
     omega (arith, hand_within c.args.self.now w c.args.i c.in_ok-value.field-0.now (sym c.self.view_is) c.in_ok-value.ensures.ok)
 
 pub put_back-requires : goal.put_back-requires
@@ -22,7 +22,7 @@ put_back-requires c = omega (arith, c.replace_at-value.ensures.len, slice_get_wi
 
 pub returns-in_err-put_back : goal.returns-in_err-put_back
 returns-in_err-put_back c =
-    let w : State = state_of c.self.inside.store c.self.inside.scope c.self.inside.hand.items c.self.inside.limits in
+    let w : State = state_of c.self.inside.store c.self.inside.scope c.self.inside.marks.items c.self.inside.hand.items c.self.inside.limits in
     let p = err_from_is_err_and c.from_residual-in_err-put_back.result c.from_residual-in_err-put_back.ensures.1 in
     let m = changed_err c.into_shared-holder.result c.put_back.result c.in_err-put_back.field-0.0 c.in_err-put_back.was c.into_shared-holder.ensures.err c.put_back.ensures.ok c.put_back.ensures.err in
     rw (p.1, p.2) (
@@ -33,7 +33,7 @@ returns-in_err-put_back c =
 
 pub returns : goal.returns
 returns c =
-    let w : State = state_of c.self.inside.store c.self.inside.scope c.self.inside.hand.items c.self.inside.limits in
+    let w : State = state_of c.self.inside.store c.self.inside.scope c.self.inside.marks.items c.self.inside.hand.items c.self.inside.limits in
     let m = changed_ok c.into_shared-holder.result c.put_back.result c.in_ok-put_back.field-0 c.in_ok-put_back.was c.into_shared-holder.ensures.ok c.put_back.ensures.ok c.put_back.ensures.err in
     subst (λ v. (done ≡ (step_share v c.args.i).0) × (with_cells w c.into_shared-holder.new.m c.put_back.new.values.items ≡ (step_share v c.args.i).1)) c.self.view_is
     (share_done w c.args.i c.replace_at-value.result (fresh unit) m.0 c.into_shared-holder.new.m c.put_back.new.values.items c.replace_at-value.ensures.value m.1 (rw (← c.replace_at-value.ensures.after) m.2))

@@ -1,0 +1,152 @@
+-- The call of an assignment's row.
+use Rattle.std.proofs.Common.{◌<◌, length, length-set, IsOkAnd, ◌≡◌, ℕ, zero, suc, true, false, nat_eq, List, [], ◌∷◌, slice_get, slice_set, Option, Some, None, Result, Ok, Err, IfOk, OnOk, OnErr, refl, sym, ap, ◌∙◌, subst, arith}
+use Rattle.std.proofs.lemmas.Bool.Decides.{nat_tests}
+use Rattle.std.proofs.lemmas.List.{set-set}
+use Rattle.std.proofs.lemmas.Option.{same_Some, slice_get_within}
+use Rattle.rhai_text.specs.declared.error.EvalAltResult.{EvalAltResult}
+use Rattle.rhai_text.specs.declared.error.EvalAltResult.TheVariants as error
+use Rattle.rhai_text.specs.declared.token.Token.{Token}
+use Rattle.rhai_value.specs.End.{first}
+use Rattle.rhai_value.specs.Tree.{Tree}
+use Rattle.rhai_value.proofs.ForCallers.{get_set_other}
+use Rattle.rhai_scope.specs.Entry.{Entry}
+use Rattle.rhai_ops.specs.AssignTable.{assign_row}
+use Rattle.rhai_ops.specs.Outcome as call
+use Rattle.rhai_ops.specs.Outcome.{IsOutcome, is_answer}
+use Rattle.rhai_ops.specs.Results.{MayWant, Suits, outcome}
+use Rattle.rhai_ops.specs.Ways.{Way, operator, assignment, way, answered, first_left, second_left, store_left}
+use Rattle.rhai_ops.specs.declared.builtin.FnBuiltin.{FnBuiltin}
+use Rattle.rhai_run.specs.declared.command.Place.{Place}
+use Rattle.rhai_run.specs.declared.command.Place.TheVariants as place
+use Rattle.rhai_run.specs.State.{State, with_hand}
+use Rattle.rhai_run.specs.Reply.{Reason, done}
+use Rattle.rhai_run.specs.Cost.{is_granted}
+use Rattle.rhai_run.specs.Does.{Calls, IsError, not_done_of}
+use Rattle.rhai_run.specs.Operators.{assigned, assigned_at, called, called_at, step_assign, HasOperands}
+use Rattle.rhai_run.specs.Outcome.{Outcome, with_value}
+use Rattle.rhai_run.specs.Places.{source, found, with_place, is_at, is_beyond, put_at}
+use Rattle.rhai_run.proofs.Moves.{set_own}
+
+-- writes to two places of a list
+set_other : (ts : List Tree) (i j : ℕ) (x y d : Tree) → (i ≡ j → ⊥) → slice_set (slice_set (slice_set ts j d) i x) j y ≡ slice_set (slice_set ts j y) i x
+set_other [] i j x y d e = refl
+set_other (t ∷ ts) zero zero x y d e = absurd (e refl)
+set_other (t ∷ ts) zero (suc j) x y d e = ap (λ us. x ∷ us) (set-set ts j d y)
+set_other (t ∷ ts) (suc i) zero x y d e = refl
+set_other (t ∷ ts) (suc i) (suc j) x y d e = ap (λ us. t ∷ us) (set_other ts i j x y d (λ k. e (ap suc k)))
+
+-- the value at a place while another one of the hand is moved
+pub source_apart : (ts : List Tree) (es : List Entry) (p : Place) (j : ℕ) (d : Tree) → is_at p j ≡ false → source (slice_set ts j d) es p ≡ source ts es p
+source_apart ts es (place.Hand i) j d e = let n : i ≡ j → ⊥ = grind (arith, nat_tests, e) in rw (get_set_other ts j i d n) refl
+source_apart ts es (place.Entry name) j d e = refl
+
+-- what the other one becomes is put back
+put_back : (w : State) (p : Place) (j : ℕ) (how : Way) (t d y : Tree) (o : call.Outcome) → is_at p j ≡ false
+    → with_hand (assigned_at (with_hand w (slice_set w.hand j d)) p how t o) (slice_set (assigned_at (with_hand w (slice_set w.hand j d)) p how t o).hand j y) ≡ assigned_at (with_hand w (slice_set w.hand j y)) p how t o
+put_back w (place.Hand i) j how t d y o e = ap (λ ts. record w { store = store_left how o w.store t; hand = ts }) (set_other w.hand i j (first_left how o w.store t) y d (let n : i ≡ j → ⊥ = grind (arith, nat_tests, e) in n))
+put_back w (place.Entry name) j how t d y o e = ap (λ ts. (record (assigned_at w (place.Entry name) how t o) { hand = ts })) (set-set w.hand j d y)
+
+-- what a call that is done comes to
+answered_value : (w : State) (how : Way) (after : State) (d : Tree) (o : call.Outcome) → answered how o ≡ call.answers d → called w (λ _. after) o ≡ (done, after)
+answered_value w operator after d o e = ap (called w (λ _. after)) e
+answered_value w (assignment k q) after d (call.answers t) e = refl
+answered_value w (assignment k q) after d (call.fault f) e = cc
+answered_value w (assignment k q) after d (call.too_large k2) e = cc
+answered_value w (assignment k q) after d call.unsuited e = cc
+
+-- and one that isn't
+answered_fault : (how : Way) (o p : call.Outcome) → answered how o ≡ p → is_answer p ≡ false → o ≡ p
+answered_fault operator o p e h = e
+answered_fault (assignment k q) (call.answers t) p e h = let n = rw (sym e) at h in cc
+answered_fault (assignment k q) (call.fault f) p e h = e
+answered_fault (assignment k q) (call.too_large x) p e h = e
+answered_fault (assignment k q) call.unsuited p e h = e
+
+answered_granted : (w : State) (how : Way) (after : Tree → State) (o : call.Outcome) → is_answer (answered how o) ≡ true → is_granted (called w after o).0 ≡ true
+answered_granted w how after (call.answers t) h = refl
+answered_granted w operator after (call.fault f) h = cc
+answered_granted w operator after (call.too_large k) h = cc
+answered_granted w operator after call.unsuited h = cc
+answered_granted w (assignment k q) after (call.fault f) h = cc
+answered_granted w (assignment k q) after (call.too_large x) h = cc
+answered_granted w (assignment k q) after call.unsuited h = cc
+
+refusal_of : (M : Type 0) (w : State) (how : Way) (after : Tree → State) (e : EvalAltResult) (o : call.Outcome) → IsOutcome M (Err e) (answered how o) → IsError (not_done_of e) w (called w after o)
+refusal_of M w how after (error.ErrorArithmetic f p) o h = rw (answered_fault how o (call.fault f) h.0 refl, h.1) refl
+refusal_of M w how after (error.ErrorDataTooLarge f p) o h = rw (answered_fault how o (call.too_large f) h.0 refl, h.1) refl
+refusal_of M w how after (error.ErrorMemory a) o h = answered_granted w how after o h.1
+refusal_of M w how after (error.ErrorMismatchDataType a b p) o h = absurd h
+refusal_of M w how after (error.ErrorDataRace p) o h = absurd h
+
+-- the step of a row that was looked up
+pub assign_is : (w : State) (op : Token) (p : Place) (j : ℕ) (t u x : Tree) (row : FnBuiltin) → is_beyond w.hand p ≡ false → slice_get w.hand j ≡ Some u → is_at p j ≡ false → source w.hand w.entries p ≡ Ok t
+    → first w.store t ≡ Some x → assign_row op x u ≡ Some row → step_assign w op p j ≡ called_at w p j row
+assign_is w op p j t u x row a b c d e f = rw (a, b, c, d, e, f) refl
+
+-- the call, the second operand being moved out of the hand meanwhile
+pub assign_called : (w v : State) (p : Place) (j : ℕ) (row : FnBuiltin) (t u d y : Tree) (ts : List Tree) (r : Result Tree EvalAltResult)
+    → is_at p j ≡ false → source w.hand w.entries p ≡ Ok t → slice_get w.hand j ≡ Some u → ts ≡ slice_set w.hand j d
+    → IfOk (source ts w.entries p) (λ x. IsOutcome (MayWant row x u) r (answered (way row) (outcome row w.limits w.store x u)))
+    → OnOk r (IfOk (source ts w.entries p) (λ x. assigned_at (with_hand w ts) p (way row) x (outcome row w.limits w.store x u) ≡ v))
+    → OnOk r (IfOk (source ts w.entries p) (λ x. y ≡ second_left (way row) (outcome row w.limits w.store x u) u))
+    → OnErr r ((v ≡ with_hand w ts) × (y ≡ u))
+    → Calls r w (with_hand v (slice_set v.hand j y)) (called_at w p j row)
+assign_called w v p j row t u d y ts r apart at other moved result written second kept = by r result written second kept
+  where
+    o : call.Outcome
+    o = outcome row w.limits w.store t u
+
+    same : source ts w.entries p ≡ Ok t
+    same = ap (λ us. source us w.entries p) moved ∙ source_apart w.hand w.entries p j d apart ∙ at
+
+    is : called_at w p j row ≡ assigned w p j (way row) t u o
+    is = rw (at, other) refl
+
+    of_found : (P : Tree → Type 0) → IfOk (source ts w.entries p) P → P t
+    of_found P h = subst (λ s. IfOk s P) same h
+
+    by : (q : Result Tree EvalAltResult) → IfOk (source ts w.entries p) (λ x. IsOutcome (MayWant row x u) q (answered (way row) (outcome row w.limits w.store x u)))
+        → OnOk q (IfOk (source ts w.entries p) (λ x. assigned_at (with_hand w ts) p (way row) x (outcome row w.limits w.store x u) ≡ v))
+        → OnOk q (IfOk (source ts w.entries p) (λ x. y ≡ second_left (way row) (outcome row w.limits w.store x u) u))
+        → OnErr q ((v ≡ with_hand w ts) × (y ≡ u)) → Calls q w (with_hand v (slice_set v.hand j y)) (called_at w p j row)
+    by (Ok a) h k l m =
+        let left : v ≡ assigned_at (with_hand w (slice_set w.hand j d)) p (way row) t o =
+        sym (of_found (λ x. assigned_at (with_hand w ts) p (way row) x (outcome row w.limits w.store x u) ≡ v) k) ∙ ap (λ us. assigned_at (with_hand w us) p (way row) t o) moved in
+        let what : y ≡ second_left (way row) o u = of_found (λ x. y ≡ second_left (way row) (outcome row w.limits w.store x u) u) l in
+        is ∙ answered_value w (way row) _ a o (of_found (λ x. IsOutcome (MayWant row x u) (Ok a) (answered (way row) (outcome row w.limits w.store x u))) h)
+        ∙ ap (λ z. (done, z)) (sym (ap (λ z. with_hand z (slice_set z.hand j y)) left ∙ put_back w p j (way row) t d y o apart ∙ ap (λ z. assigned_at (with_hand w (slice_set w.hand j z)) p (way row) t o) what))
+    by (Err e) h k l m =
+        let back : with_hand v (slice_set v.hand j y) ≡ w =
+        ap (λ z. with_hand z (slice_set z.hand j y)) m.0 ∙ ap (λ us. with_hand w (slice_set us j y)) moved ∙ ap (with_hand w) (set-set w.hand j d y ∙ ap (slice_set w.hand j) m.1 ∙ set_own w.hand j u other) in
+        (subst (IsError (not_done_of e) w) (sym is) (refusal_of (MayWant row t u) w (way row) _ e o (of_found (λ x. IsOutcome (MayWant row x u) (Err e) (answered (way row) (outcome row w.limits w.store x u))) h)), back)
+
+-- the operands, as the code finds them in memory
+pub operands_moved : (w v : State) (row : FnBuiltin) (p : Place) (j : ℕ) (y d : Tree) (ts : List Tree) → v ≡ w → HasOperands row w p j → slice_get v.hand j ≡ Some y → ts ≡ slice_set v.hand j d
+    → IsOkAnd (source ts v.entries p) (λ x. Suits row v.store x y)
+operands_moved w v row p j y d ts same k at moved = subst (λ (z : State). IsOkAnd (source ts z.entries p) (λ x. Suits row z.store x y)) (sym same) (of_w (ap (λ (z : State). slice_get z.hand j) (sym same) ∙ at) (moved ∙ ap (λ (z : State). slice_set z.hand j d) same))
+  where
+    of_w : slice_get w.hand j ≡ Some y → ts ≡ slice_set w.hand j d → IsOkAnd (source ts w.entries p) (λ x. Suits row w.store x y)
+    of_w at moved =
+        let there : source ts w.entries p ≡ Ok k.0 = ap (λ us. source us w.entries p) moved ∙ source_apart w.hand w.entries p j d k.2 ∙ k.3 in
+        let it : k.1 ≡ y = same_Some k.1 y (sym k.4 ∙ at) in
+        subst (λ o. IsOkAnd o (λ x. Suits row w.store x y)) (sym there) (subst (Suits row w.store k.0) it k.5)
+
+pub assign_moved : (w v x z : State) (p : Place) (j : ℕ) (row : FnBuiltin) (u d y : Tree) (ts us : List Tree) (r : Result Tree EvalAltResult) → v ≡ w → HasOperands row w p j
+    → slice_get v.hand j ≡ Some u → ts ≡ slice_set v.hand j d
+    → IfOk (source ts v.entries p) (λ t. IsOutcome (MayWant row t u) r (answered (way row) (outcome row v.limits v.store t u)))
+    → OnOk r (IfOk (source ts v.entries p) (λ t. assigned_at (with_hand v ts) p (way row) t (outcome row v.limits v.store t u) ≡ x))
+    → OnOk r (IfOk (source ts v.entries p) (λ t. y ≡ second_left (way row) (outcome row v.limits v.store t u) u))
+    → OnErr r ((x ≡ with_hand v ts) × (y ≡ u)) → z ≡ x → us ≡ slice_set z.hand j y
+    → Calls r w (with_hand z us) (called_at w p j row)
+assign_moved w v x z p j row u d y ts us r same k at moved result written second kept is put =
+    let there : source v.hand v.entries p ≡ Ok k.0 = ap (λ (q : State). source q.hand q.entries p) same ∙ k.3 in
+    let done : Calls r v (with_hand x (slice_set x.hand j y)) (called_at v p j row) = assign_called v x p j row k.0 u d y ts r k.2 there at moved result written second kept in
+    subst (λ q. Calls r q (with_hand z us) (called_at q p j row)) same
+    (subst (λ q. Calls r v q (called_at v p j row)) (sym (ap (with_hand z) put ∙ ap (λ (q : State). with_hand q (slice_set q.hand j y)) is)) done)
+
+-- the hand keeps its length
+pub hand_stays : (v : State) (j : ℕ) (u d : Tree) (ts us : List Tree) → slice_get v.hand j ≡ Some u → ts ≡ slice_set v.hand j d → length us ≡ length ts → j < length us
+hand_stays v j u d ts us at moved long =
+    let n : j < length v.hand = slice_get_within v.hand j u at in
+    let m : length ts ≡ length v.hand = ap length moved ∙ length-set v.hand j d in
+    omega (arith, n, m, long)

@@ -1,0 +1,60 @@
+-- Write-backs, on two states that are the same up to a renaming.
+use Rattle.std.proofs.Common.{◌≡◌, ℕ, ℤ, Bool, List, [], Option, Some, None, refl, ap}
+use Rattle.std.proofs.lemmas.Option.{same_Some}
+use Rattle.rhai_value.specs.Parts.{leaf_int, leaf_blob, leaf_text}
+use Rattle.rhai_value.specs.Relation.{Renaming, Related, RelatedEnds, Respect, Alike}
+use Rattle.rhai_value.specs.End.{End, end, end_name}
+use Rattle.rhai_value.specs.Tree.{Tree}
+use Rattle.rhai_value.specs.Types.{type_name}
+use Rattle.rhai_value.proofs.ForCallers.{same_end, same_end_type, same_held_leaf}
+use Rattle.rhai_target.specs.Change.{Change}
+use Rattle.rhai_target.proofs.ForCallers.{same_bit_change, same_field_change, same_byte_change, same_char_change, same_slice_change, same_value_changed, same_store_changed, length_changed, marked_changed}
+use Rattle.rhai_run.specs.declared.command.Place.{Place}
+use Rattle.rhai_run.specs.declared.pieces.Piece.{Piece}
+use Rattle.rhai_run.specs.declared.pieces.Piece.TheVariants as piece
+use Rattle.rhai_run.specs.Change.{nowhere}
+use Rattle.rhai_run.specs.Correspondence.{RelatedStates}
+use Rattle.rhai_run.specs.Outcome.{Outcome}
+use Rattle.rhai_run.specs.Reply.{Reason, refused, fault, wrong_type}
+use Rattle.rhai_run.specs.State.{State}
+use Rattle.rhai_run.specs.WriteBack.{no_bit, no_byte, no_text, lack, change, wanted, changed_or_refused, lacking, step_write_back}
+use Rattle.rhai_run.proofs.Outcome.{Matches, m_stays}
+use Rattle.rhai_run.proofs.PlaceSteps.{m_place_and, m_put}
+
+module _ (r : Renaming) (w v : State) (h : RelatedStates r w v) where
+  same_lack : (p : Piece) (e o : End) → RelatedEnds r e o → lack p e ≡ lack p o
+  same_lack (piece.Bit place) e o k = ap (λ n. no_bit n place) (same_held_leaf r leaf_int e o k)
+  same_lack (piece.Field mask shift) e o k = ap (λ n. no_bit n shift) (same_held_leaf r leaf_int e o k)
+  same_lack (piece.Byte index) e o k = ap (λ n. no_byte n index) (same_held_leaf r leaf_blob e o k)
+  same_lack (piece.Character index) e o k = ap no_text (same_held_leaf r leaf_text e o k)
+  same_lack (piece.Characters slice) e o k = ap no_text (same_held_leaf r leaf_text e o k)
+
+  same_change : (p : Piece) (t u x y : Tree) → Related r t u → Related r x y → Alike (Respect r) (change p w.store t x) (change p v.store u y)
+  same_change (piece.Bit place) t u x y e d = same_bit_change r w.store v.store x y place h.one h.cells d
+  same_change (piece.Field mask shift) t u x y e d = same_field_change r w.store v.store x y mask shift h.one h.cells d
+  same_change (piece.Byte index) t u x y e d = same_byte_change r w.store v.store x y index h.one h.cells d
+  same_change (piece.Character index) t u x y e d = same_char_change r w.store v.store x y index h.one h.cells d
+  same_change (piece.Characters slice) t u x y e d = same_slice_change r w.store v.store t u x y slice h.one h.cells e d
+
+  m_lacking : (a b : Option Reason) (o p : Outcome) → a ≡ b → Matches r w v o p → Matches r w v (lacking a w o) (lacking b v p)
+  m_lacking None None o p e m = m
+  m_lacking (Some why) (Some other) o p e m = m_stays r w v h (refused why) (refused other) (ap refused (same_Some why other e))
+  m_lacking None (Some other) o p e m = cc
+  m_lacking (Some why) None o p e m = cc
+
+  m_changed : (p : Place) (c d : Change) (t u : Tree) (wants held held' : List ℕ) → Alike (Respect r) c d → Related r t u → held ≡ held'
+      → Matches r w v (changed_or_refused w p c t wants held) (changed_or_refused v p d u wants held')
+  m_changed p None None t u wants held held' a e k = m_stays r w v h _ _ (ap (λ x. refused (fault (wrong_type wants x nowhere))) k)
+  m_changed p (Some f) (Some g) t u wants held held' a e k =
+      let ends = same_end r w.store v.store t u h.one h.cells e in
+      m_put r w v h p _ _ _ _ (length_changed (Some f) (end w.store [] t) w.store) (length_changed (Some g) (end v.store [] u) v.store) (marked_changed (Some f) (end w.store [] t) w.store)
+      (same_store_changed r (Some f) (Some g) w.store v.store (end w.store [] t) (end v.store [] u) a h.one h.cells ends)
+      (same_value_changed r (Some f) (Some g) t u (end w.store [] t) (end v.store [] u) a e ends)
+  m_changed p None (Some g) t u wants held held' a e k = absurd a
+  m_changed p (Some f) None t u wants held held' a e k = absurd a
+
+  pub same_write_back : (p : Place) (k : Piece) (j : ℕ) → Matches r w v (step_write_back w p k j) (step_write_back v p k j)
+  same_write_back p k j =
+      m_place_and r w v h p j _ _ (λ t u x y e d.
+      m_lacking _ _ _ _ (same_lack k (end w.store [] t) (end v.store [] u) (same_end r w.store v.store t u h.one h.cells e))
+      (m_changed p _ _ t u (wanted k) _ _ (same_change k t u x y e d) e (ap type_name (same_end_type r (end w.store [] x) (end v.store [] y) (same_end r w.store v.store x y h.one h.cells d)))))

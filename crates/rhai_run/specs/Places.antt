@@ -1,0 +1,51 @@
+-- Places that commands write to: a hand position, or the last entry of a name.
+use Rattle.std.specs.Prelude.{ℕ, Bool, false, nat_eq, nat_le, if◌then◌else◌, List, length, slice_get, slice_set, Option, Some, None, Result, Ok, Err}
+use Rattle.rhai_value.specs.declared.store.Cell.{Cell}
+use Rattle.rhai_value.specs.Tree.{Tree}
+use Rattle.rhai_scope.specs.Entry.{Entry, is_constant_entry, with_value as holding}
+use Rattle.rhai_scope.specs.Lookup.{last_entry, changed_named}
+use Rattle.rhai_run.specs.declared.command.Place.{Place}
+use Rattle.rhai_run.specs.declared.command.Place.TheVariants as place
+use Rattle.rhai_run.specs.State.{State, with_cells}
+use Rattle.rhai_run.specs.Reply.{Reason, no_value, no_entry, constant_entry}
+use Rattle.rhai_run.specs.Outcome.{Outcome, refuse, unless, with_value}
+
+-- the value at a place, or why there is none to write to
+abbrev pub value_found : Option Tree → Result Tree Reason
+value_found None = Err no_value
+value_found (Some t) = Ok t
+
+abbrev pub entry_found : Option Entry → Result Tree Reason
+entry_found None = Err no_entry
+entry_found (Some e) = if is_constant_entry e then Err constant_entry else Ok e.value
+
+abbrev pub source : List Tree → List Entry → Place → Result Tree Reason
+source hand entries (place.Hand i) = value_found (slice_get hand i)
+source hand entries (place.Entry name) = entry_found (last_entry name entries)
+
+-- what is done with it
+abbrev pub found : Result Tree Reason → State → (Tree → Outcome) → Outcome
+found (Ok t) w go = go t
+found (Err why) w go = refuse why w
+
+abbrev pub with_place : State → Place → (Tree → Outcome) → Outcome
+with_place w place go = found (source w.hand w.entries place) w go
+
+-- whether the place is a hand position without a value
+abbrev pub is_beyond : List Tree → Place → Bool
+is_beyond hand (place.Hand i) = nat_le (length hand) i
+is_beyond hand (place.Entry name) = false
+
+-- the value at a place and the one at a hand position; whether hand positions have values is tested first
+abbrev pub with_place_and : State → Place → ℕ → (Tree → Tree → Outcome) → Outcome
+with_place_and w place j go = unless (is_beyond w.hand place) no_value w (with_value w j (λ u. with_place w place (λ t. go t u)))
+
+-- whether the place is this hand position
+abbrev pub is_at : Place → ℕ → Bool
+is_at (place.Hand i) j = nat_eq i j
+is_at (place.Entry name) j = false
+
+-- the state with these cells, and another value at a place
+abbrev pub put_at : State → List Cell → Place → Tree → State
+put_at w s (place.Hand i) t = with_cells w s (slice_set w.hand i t)
+put_at w s (place.Entry name) t = record w { store = s; entries = changed_named (holding t) name w.entries }

@@ -1,0 +1,46 @@
+//! The same commands on two worlds.
+ghost use Rattle.std.specs.Prelude.{◌≡◌, map, IfOk, IfErr, OnOk};
+ghost use Rattle.rhai_value.specs.Relation.{Renaming};
+ghost use Rattle.rhai_run.specs.Reply.{reply_of};
+ghost use Rattle.rhai_run.specs.Machine.{replies, state_after};
+ghost use Rattle.rhai_run.specs.Both.{StopsBoth, AlikeEnds};
+ghost use Rattle.rhai_run.specs.Correspondence.{Corresponds};
+
+use crate::answer::Answer;
+use crate::command::Command;
+use crate::laws;
+use crate::world::{Stopped, World, run};
+
+/// In which of two runs memory was refused.
+#[derive(Drop)]
+pub enum StoppedBoth {
+    /// In the first; the second world was not run.
+    First(Stopped),
+    /// In the second, the first having given these answers.
+    Second(Vec<Answer>, Stopped),
+}
+
+/// Does commands in order on one world, and then on another. Where the worlds corresponded, the answers are equal, and the worlds
+/// correspond at the end. Costs two runs.
+#[tactic(auto, using(crate::proofs::Runs::ends_alike))]
+pub fn run_both(
+    first: &mut World,
+    second: &mut World,
+    commands: &[Command],
+) -> Result<(Vec<Answer>, Vec<Answer>), StoppedBoth>
+    ensures answers { IfOk result (λ p. (map reply_of p.0.items ≡ replies first.old commands.now) × (map reply_of p.1.items ≡ replies second.old commands.now)) }
+    ensures states { OnOk result ((first.new ≡ state_after first.old commands.now) × (second.new ≡ state_after second.old commands.now)) }
+    ensures alike { IfOk result (λ p. (r : Renaming) → Corresponds r first.old second.old
+        → AlikeEnds r first.old second.old (map reply_of p.0.items) (map reply_of p.1.items) first.new second.new) }
+    ensures stopped { IfErr result (λ s. StopsBoth s first.old second.old commands.now first.new second.new) }
+{
+    laws::runs_are_alike();
+    let answers = match run(first, commands) {
+        Ok(answers) => answers,
+        Err(stopped) => return Err(StoppedBoth::First(stopped)),
+    };
+    match run(second, commands) {
+        Ok(others) => Ok((answers, others)),
+        Err(stopped) => Err(StoppedBoth::Second(answers, stopped)),
+    }
+}

@@ -1,0 +1,86 @@
+//! Commands that add entries for names in a list, and those that list the entries.
+ghost use Rattle.std.specs.Prelude.{◌≡◌, IfOk};
+ghost use Rattle.rhai_run.specs.Cost.{keeps_all};
+ghost use Rattle.rhai_run.specs.Scope.{step_entries, step_names, step_extend, step_extend_flagged};
+ghost use Rattle.rhai_run.specs.Does.{Does};
+
+use crate::brief::Brief;
+use crate::desk::Desk;
+use crate::lists::{FlaggedNames, Names};
+use crate::not_done::NotDone;
+use crate::places::{append_in_room, split_last};
+use rhai_text::ImmutableString;
+use std::alloc::{AllocError, Global};
+
+/// Copies of names.
+fn copies_of(alloc: Global, names: &[ImmutableString]) -> Result<Vec<ImmutableString>, AllocError>
+    ensures { IfOk result (λ v. v.items ≡ names.now) }
+{
+    let mut copies = Vec::with_capacity(alloc, names.len())?;
+    for name in names {
+        copies.push(name.copy(alloc)?)?;
+    }
+    Ok(copies)
+}
+
+/// Copies of names with their flags.
+fn flagged_copies_of(
+    alloc: Global,
+    names: &[(ImmutableString, bool)],
+) -> Result<Vec<(ImmutableString, bool)>, AllocError>
+    ensures { IfOk result (λ v. v.items ≡ names.now) }
+{
+    let mut copies = Vec::with_capacity(alloc, names.len())?;
+    for named in names {
+        let (name, is_constant) = named;
+        copies.push((name.copy(alloc)?, *is_constant))?;
+    }
+    Ok(copies)
+}
+
+impl Desk {
+    pub(crate) fn entries(&mut self) -> Result<Brief, NotDone>
+        ensures { Does keeps_all result self.old self.new (step_entries self.old) }
+    {
+        let mut values = self.scope.flat_values(&self.store)?;
+        self.hand.append(&mut values)?;
+        Ok(Brief::Done)
+    }
+
+    pub(crate) fn names(&self) -> Result<Brief, NotDone>
+        ensures { Does keeps_all result self.now self.now (step_names self.now) }
+    {
+        let text = self.scope.names_shown(&self.store)?.into_text();
+        Ok(Brief::Text(text))
+    }
+
+    pub(crate) fn extend(&mut self, names: &Names) -> Result<Brief, NotDone>
+        ensures { Does keeps_all result self.old self.new (step_extend self.old names.now) }
+    {
+        let names = names.as_slice();
+        let count = names.len();
+        self.has_values(count)?;
+        let names = copies_of(self.alloc, names)?;
+        let values = split_last(&mut self.hand, count)?;
+        if let Err((_, values)) = self.scope.extend_moved(names, values) {
+            append_in_room(&mut self.hand, values);
+            return Err(NotDone::Memory);
+        }
+        Ok(Brief::Done)
+    }
+
+    pub(crate) fn extend_flagged(&mut self, names: &FlaggedNames) -> Result<Brief, NotDone>
+        ensures { Does keeps_all result self.old self.new (step_extend_flagged self.old names.now) }
+    {
+        let names = names.as_slice();
+        let count = names.len();
+        self.has_values(count)?;
+        let names = flagged_copies_of(self.alloc, names)?;
+        let values = split_last(&mut self.hand, count)?;
+        if let Err((_, values)) = self.scope.extend_flagged_moved(names, values) {
+            append_in_room(&mut self.hand, values);
+            return Err(NotDone::Memory);
+        }
+        Ok(Brief::Done)
+    }
+}

@@ -1,0 +1,120 @@
+//! Commands on the list of marks.
+ghost use Rattle.std.specs.Prelude.{◌≡◌, ◌<◌, ◌+◌, true, false, slice_get, vec_len, Some, None, IfOk, IfErr, IfSome};
+ghost use Rattle.std.specs.List.{remove};
+ghost use Rattle.rhai_value.specs.Store.{is_marked_at, put, set_mark};
+ghost use Rattle.rhai_run.specs.declared.answer.Refusal.TheVariants.{NoMark};
+ghost use Rattle.rhai_run.specs.declared.not_done.NotDone.TheVariants.{Refused};
+ghost use Rattle.rhai_run.specs.Cost.{free, keeps_all};
+ghost use Rattle.rhai_run.specs.Fits.{Fits, MarksAre};
+ghost use Rattle.rhai_run.specs.Marks.{step_mark, step_unmark, step_write_marked, step_read_marked};
+ghost use Rattle.rhai_run.specs.Does.{Does};
+
+use crate::answer::Refusal;
+use crate::brief::Brief;
+use crate::command::Place;
+use crate::desk::Desk;
+use crate::not_done::NotDone;
+use crate::places::{replace_at, source};
+use rhai_text::{EvalAltResult, Position};
+use rhai_value::laws::mark_is_cleared;
+use rhai_value::{Dynamic, Store, WriteToken};
+use std::alloc::AllocFailed;
+
+/// Takes a token out of a list of marks, and frees its cell.
+#[tactic(auto, using(crate::proofs::MarkLists::mark_is_set, crate::proofs::MarkLists::mark_taken))]
+fn release_at(store: &mut Store, marks: &mut Vec<WriteToken>, k: usize)
+    requires within { k < vec_len marks.old }
+    requires marks { MarksAre store.old marks.old.items }
+    ensures store { IfSome (slice_get marks.old.items k) (λ c. store.new ≡ set_mark store.old c false) }
+    ensures list { marks.new.items ≡ remove marks.old.items k }
+    ensures len { vec_len marks.new + 1 ≡ vec_len marks.old }
+    ensures marks { MarksAre store.new marks.new.items }
+{
+    let token = marks.remove(k);
+    store.release(token);
+}
+
+/// Frees the cells of all tokens of a list of marks.
+pub(crate) fn release_all(store: &mut Store, mut marks: Vec<WriteToken>)
+    requires { MarksAre store.old marks.items }
+{
+    while !marks.is_empty() {
+        let last = marks.len() - 1;
+        release_at(store, &mut marks, last);
+    }
+    marks.destroy_empty();
+}
+
+/// Writes over what is in the cell of a token.
+fn write_through(store: &mut Store, token: &WriteToken, value: Dynamic)
+    requires { is_marked_at store.old token.now ≡ true }
+    ensures { store.new ≡ put store.old token.now value }
+{
+    *store.through_mut(token) = value;
+}
+
+/// The token of a mark.
+fn token(marks: &[WriteToken], k: usize) -> Result<&WriteToken, NotDone>
+    ensures ok { IfOk result (λ t. slice_get marks.now k ≡ Some t.now) }
+    ensures err { IfErr result (λ e. (e ≡ Refused NoMark) × (slice_get marks.now k ≡ None)) }
+{
+    match marks.get(k) {
+        None => Err(NotDone::Refused(Refusal::NoMark)),
+        Some(token) => Ok(token),
+    }
+}
+
+impl Desk {
+    #[tactic(auto, using(crate::proofs::MarkLists::first_is_free))]
+    pub(crate) fn mark(&mut self, place: &Place) -> Result<Brief, NotDone>
+        ensures { Does keeps_all result self.old self.new (step_mark self.old place.now) }
+    {
+        let holder = source(&self.hand, &self.scope, place)?;
+        if !holder.is_shared() {
+            return Err(NotDone::Refused(Refusal::WrongSource));
+        }
+        mark_is_cleared();
+        let token = self.store.mark(holder).ok_or(Refusal::Fault(EvalAltResult::ErrorDataRace(
+            Position::NONE,
+        )))?;
+        match self.marks.push(token) {
+            Ok(()) => Ok(Brief::Done),
+            Err(AllocFailed { value: token }) => {
+                self.store.release(token);
+                Err(NotDone::Memory)
+            }
+        }
+    }
+
+    pub(crate) fn unmark(&mut self, k: usize) -> Result<Brief, NotDone>
+        requires { Fits self.old }
+        ensures { Does free result self.old self.new (step_unmark self.old k) }
+    {
+        token(&self.marks, k)?;
+        release_at(&mut self.store, &mut self.marks, k);
+        Ok(Brief::Done)
+    }
+
+    #[tactic(auto, using(crate::proofs::MarkLists::mark_is_set))]
+    pub(crate) fn write_marked(&mut self, k: usize, i: usize) -> Result<Brief, NotDone>
+        requires { Fits self.old }
+        ensures { Does free result self.old self.new (step_write_marked self.old k i) }
+    {
+        self.value(i)?;
+        let token = token(&self.marks, k)?;
+        let value = replace_at(&mut self.hand, i, Dynamic::UNIT);
+        write_through(&mut self.store, token, value);
+        Ok(Brief::Done)
+    }
+
+    #[tactic(auto, using(crate::proofs::MarkLists::mark_is_set))]
+    pub(crate) fn read_marked(&mut self, k: usize) -> Result<Brief, NotDone>
+        requires { Fits self.old }
+        ensures { Does keeps_all result self.old self.new (step_read_marked self.old k) }
+    {
+        let token = token(&self.marks, k)?;
+        let value = self.store.through(token).copy(self.alloc)?;
+        self.hand.push(value)?;
+        Ok(Brief::Done)
+    }
+}

@@ -1,0 +1,156 @@
+//! Parts of values that are written back.
+ghost use Rattle.std.specs.Prelude.{◌≡◌, [], true, is_some, None, OnOk, OnErr};
+ghost use Rattle.rhai_text.specs.declared.error.EvalAltResult.TheVariants.{ErrorMismatchDataType};
+ghost use Rattle.rhai_text.specs.contracts.position.Position;
+ghost use Rattle.rhai_value.specs.End.{end, held_part};
+ghost use Rattle.rhai_value.specs.Parts.{int_of, blob_of, text_of};
+ghost use Rattle.rhai_target.specs.Change.{value_changed, store_changed};
+ghost use Rattle.rhai_run.specs.declared.answer.Refusal.TheVariants.{Fault};
+ghost use Rattle.rhai_run.specs.declared.not_done.NotDone.TheVariants.{Refused};
+ghost use Rattle.rhai_run.specs.WriteBack.{no_bit, no_byte, no_text, lack, change, makes_text, IsWorking};
+ghost use Rattle.rhai_run.specs.Does.{Tests};
+
+use crate::answer::Refusal;
+use crate::not_done::NotDone;
+use rhai_show::laws::copies_print_alike;
+use rhai_target::{Slice, write_bit, write_byte, write_char, write_field, write_slice};
+use rhai_text::{EvalAltResult, Position};
+use rhai_value::{Blob, Dynamic, INT, Store};
+use std::alloc::{AllocError, Global};
+
+/// A part of a value that is written back.
+#[derive(Copy, Clone)]
+pub(crate) enum Piece {
+    /// A bit of an int.
+    Bit(u8),
+    /// The bits of a mask in an int, for a value that is shifted left.
+    Field(INT, u8),
+    /// A byte of a blob.
+    Byte(usize),
+    /// A character of a text.
+    Character(usize),
+    /// Characters of a text that stand together.
+    Characters(Slice),
+}
+
+fn wrong_type(wanted: &'static str, found: &'static str) -> NotDone
+    ensures { result ≡ Refused (Fault (ErrorMismatchDataType wanted.entry found.entry Position.NONE)) }
+{
+    NotDone::Refused(Refusal::Fault(EvalAltResult::ErrorMismatchDataType(
+        wanted,
+        found,
+        Position::NONE,
+    )))
+}
+
+/// Whether a source holds an int, and an int has the bit.
+fn has_bit(source: &Dynamic, m: &Store, place: u8) -> Result<(), NotDone>
+    ensures { Tests result (no_bit (held_part int_of (end m.now [] source.now)) place) }
+{
+    if !source.is_int(m) {
+        return Err(NotDone::Refused(Refusal::WrongSource));
+    }
+    if place >= 64 {
+        return Err(NotDone::Refused(Refusal::BitPlace));
+    }
+    Ok(())
+}
+
+/// Whether a source holds a blob that has the byte.
+fn has_byte(source: &Dynamic, m: &Store, index: usize) -> Result<(), NotDone>
+    ensures { Tests result (no_byte (held_part blob_of (end m.now [] source.now)) index) }
+{
+    match source.held_part::<Blob>(m) {
+        None => Err(NotDone::Refused(Refusal::WrongSource)),
+        Some(bytes) if index >= bytes.len() => Err(NotDone::Refused(Refusal::BytePlace)),
+        Some(_) => Ok(()),
+    }
+}
+
+/// Whether a source holds a text.
+fn has_text(source: &Dynamic, m: &Store) -> Result<(), NotDone>
+    ensures { Tests result (no_text (held_part text_of (end m.now [] source.now))) }
+{
+    if !source.is_string(m) {
+        return Err(NotDone::Refused(Refusal::WrongSource));
+    }
+    Ok(())
+}
+
+impl Piece {
+    /// Whether a source has the piece.
+    pub(crate) fn is_in(self, source: &Dynamic, m: &Store) -> Result<(), NotDone>
+        ensures { Tests result (lack self (end m.now [] source.now)) }
+    {
+        match self {
+            Piece::Bit(place) => has_bit(source, m, place),
+            Piece::Field(_, shift) => has_bit(source, m, shift),
+            Piece::Byte(index) => has_byte(source, m, index),
+            Piece::Character(_) => has_text(source, m),
+            Piece::Characters(_) => has_text(source, m),
+        }
+    }
+
+    /// A value that makes the same of a source as this one: it isn't the source, which may be this one itself.
+    #[tactic(auto, using(crate::proofs::WorkingValues::working_bit, crate::proofs::WorkingValues::working_field, crate::proofs::WorkingValues::working_byte, crate::proofs::WorkingValues::working_character))]
+    pub(crate) fn working(
+        self,
+        value: &Dynamic,
+        alloc: Global,
+        m: &Store,
+    ) -> Result<Dynamic, NotDone>
+        ensures { IsWorking self result m.now value.now }
+    {
+        match self {
+            Piece::Bit(_) => match value.as_bool(m) {
+                Ok(is_set) => Ok(Dynamic::from_bool(is_set)),
+                Err(found) => Err(wrong_type("bool", found)),
+            },
+            Piece::Field(..) => match value.as_int(m) {
+                Ok(bits) => Ok(Dynamic::from_int(bits)),
+                Err(found) => Err(wrong_type("integer", found)),
+            },
+            Piece::Byte(_) => match value.as_int(m) {
+                Ok(number) => Ok(Dynamic::from_int(number)),
+                Err(found) => Err(wrong_type("INT", found)),
+            },
+            Piece::Character(_) => match value.as_char(m) {
+                Ok(character) => Ok(Dynamic::from_char(character)),
+                Err(found) => Err(wrong_type("char", found)),
+            },
+            Piece::Characters(_) => {
+                copies_print_alike();
+                Ok(value.copy(alloc)?)
+            }
+        }
+    }
+
+    /// Writes a working value to the piece of a source.
+    pub(crate) fn write(
+        self,
+        source: &mut Dynamic,
+        alloc: Global,
+        m: &mut Store,
+        value: &Dynamic,
+    ) -> Result<(), AllocError>
+        requires there { lack self (end m.old [] source.old) ≡ None }
+        requires working { is_some (change self m.old source.old value.now) ≡ true }
+        ensures own { OnOk result (source.new ≡ value_changed (change self m.old source.old value.now) (end m.old [] source.old) source.old) }
+        ensures store { OnOk result (m.new ≡ store_changed (change self m.old source.old value.now) (end m.old [] source.old) m.old) }
+        ensures err { OnErr result ((source.new ≡ source.old) × (m.new ≡ m.old) × (makes_text self ≡ true)) }
+    {
+        let done = match self {
+            Piece::Bit(place) => write_bit(source, m, value, place, Position::NONE),
+            Piece::Field(mask, shift) => {
+                write_field(source, m, value, mask, shift, Position::NONE)
+            }
+            Piece::Byte(index) => write_byte(source, m, value, index, Position::NONE),
+            Piece::Character(index) => write_char(source, alloc, m, value, index, Position::NONE),
+            Piece::Characters(slice) => return write_slice(source, alloc, m, value, slice),
+        };
+        match done {
+            Ok(()) => Ok(()),
+            Err(_) => Err(AllocError),
+        }
+    }
+}

@@ -1,0 +1,29 @@
+//! The flat values of a scope.
+ghost use Rattle.std.specs.Prelude.{◌≡◌, map, IfOk};
+ghost use Rattle.rhai_scope.specs.Items.{flat_left, flat_values};
+
+use crate::iter::Iter;
+use crate::scope::Scope;
+use rhai_value::{Dynamic, Store};
+use std::alloc::{AllocError, Global};
+
+fn values_of(alloc: Global, items: Iter<'_>) -> Result<Vec<Dynamic>, AllocError>
+    ensures { IfOk result (λ v. v.items ≡ map (λ x. x.2) (flat_left items.entry)) }
+{
+    let mut values = Vec::with_capacity(alloc, items.len())?;
+    for item in items {
+        let (_, _, value) = item?;
+        values.push(value)?;
+    }
+    Ok(values)
+}
+
+impl Scope {
+    /// The values that `iter` gives, from the first entry to the last: each as `Dynamic::flatten_clone` copies it, and at the cost of
+    /// that. An `Err` comes where memory is refused for one of them, or for the vector.
+    pub fn flat_values(&self, s: &Store) -> Result<Vec<Dynamic>, AllocError>
+        ensures { IfOk result (λ v. v.items ≡ flat_values s.now self.now) }
+    {
+        values_of(self.alloc, self.iter(s))
+    }
+}

@@ -1,0 +1,58 @@
+//! Texts of names, a line each.
+ghost use Rattle.std.specs.Prelude.{◌≡◌, ◌++◌, IfOk, OnOk, string_bytes};
+ghost use Rattle.std.specs.List.{flat_map};
+ghost use Rattle.std.specs.Str.{chars};
+ghost use Rattle.rhai_scope.specs.Items.{raw_left};
+ghost use Rattle.rhai_scope.specs.NamesText.{name_line, named_line, names_text, aliases_text};
+
+use crate::alias::Alias;
+use crate::iter::IterRaw;
+use crate::scope::Scope;
+use crate::shown::{add_mark, add_text};
+use rhai_show::Shown;
+use rhai_value::Store;
+use std::alloc::{AllocError, Global};
+
+/// Adds the line of a name.
+fn add_name_line(out: &mut String, is_constant: bool, name: &str) -> Result<(), AllocError>
+    ensures { OnOk result (chars (string_bytes out.new) ≡ chars (string_bytes out.old) ++ name_line is_constant (chars name.now)) }
+{
+    add_mark(out, is_constant)?;
+    add_text(out, name)?;
+    add_text(out, "\n")
+}
+
+#[tactic(auto, using(crate::proofs::Names::no_characters))]
+fn lines_of(alloc: Global, items: IterRaw<'_>) -> Result<String, AllocError>
+    ensures { IfOk result (λ t. chars (string_bytes t) ≡ flat_map named_line (raw_left items.entry)) }
+{
+    let mut out = String::new(alloc);
+    for (name, is_constant, _) in items {
+        add_name_line(&mut out, is_constant, name)?;
+    }
+    Ok(out)
+}
+
+/// Aliases as `Scope::aliases` gives them, a line each: an alias and a line feed. The time is in the characters of the text, as is
+/// the memory.
+#[tactic(auto, using(crate::proofs::Names::no_characters))]
+pub fn aliases_shown(alloc: Global, aliases: &[Alias]) -> Result<Shown, AllocError>
+    ensures { IfOk result (λ x. x ≡ aliases_text aliases.now) }
+{
+    let mut out = String::new(alloc);
+    for alias in aliases {
+        add_name_line(&mut out, false, alias.as_str())?;
+    }
+    Ok(Shown::from_text(out))
+}
+
+impl Scope {
+    /// The names of the entries, a line each, from the last to the first: `x`, and `const y` for a constant by
+    /// `Dynamic::is_read_only`. It is what `iter_raw` gives as a text; the time is in the characters of the text, as is the memory.
+    pub fn names_shown(&self, s: &Store) -> Result<Shown, AllocError>
+        ensures { IfOk result (λ x. x ≡ names_text s.now self.now) }
+    {
+        let text = lines_of(self.alloc, self.iter_raw(s))?;
+        Ok(Shown::from_text(text))
+    }
+}

@@ -1,0 +1,74 @@
+-- Words that are left, one after another.
+use Rattle.std.proofs.Common.{◌≡◌, ℕ, suc, ◌+◌, ◌<◌, ◌≤◌, Bool, true, false, ◌&&◌, nat_lt, if◌then◌else◌, List, [], ◌∷◌, ◌++◌, length, Option, Some, None, is_some, option_map, option_and_then, refl, sym, ap, ap₂, ◌∙◌, arith, append_assoc, length-drop}
+use Rattle.std.specs.List.{slice_split, position_or_len, after_first}
+use Rattle.std.proofs.lemmas.Bool.Decides.{nat_tests}
+use Rattle.std.proofs.lemmas.List.{take_all}
+use Rattle.std.proofs.lemmas.List.Elements.{All-from_get_or}
+use Rattle.std.proofs.lemmas.List.Splits.{slice_split_first, slice_split_none}
+use Rattle.std.proofs.lemmas.List.Sums.{fails_before_first}
+use Rattle.rhai_world.specs.Words.{Left, is_space, word_of, left_of, words_of, is_name, name_of, each_of}
+
+-- how much is left
+abbrev pub left_len : Left → ℕ
+left_len None = 0
+left_len (Some text) = suc (length text)
+
+pub left-shorter : (text : List ℕ) → left_len (left_of text) < left_len (Some text)
+left-shorter text =
+    let p = position_or_len is_space text in
+    let d = length-drop (p + 1) text in
+    elim (nat_lt p (length text)) as (λ t. nat_lt p (length text) ≡ t → left_len (if t then Some (after_first is_space text) else None) < suc (length text)) [
+      | true ↦ λ e. grind (arith, nat_tests)
+      | false ↦ λ e. omega arith
+    ] refl
+
+one_word : (text : List ℕ) → nat_lt (position_or_len is_space text) (length text) ≡ false → slice_split is_space text ≡ word_of text ∷ []
+one_word text e =
+    let l : length text ≤ position_or_len is_space text = grind (arith, nat_tests) in
+    slice_split_none is_space text (All-from_get_or (λ b. is_space b ≡ false) text 0 (λ i h. fails_before_first is_space text i 0 (omega arith)))
+    ∙ ap (λ word. word ∷ []) (sym (take_all (position_or_len is_space text) text l))
+
+pub words_of-cons : (text : List ℕ) → words_of (Some text) ≡ word_of text ∷ words_of (left_of text)
+words_of-cons text =
+    let p = position_or_len is_space text in
+    elim (nat_lt p (length text)) as (λ t. nat_lt p (length text) ≡ t → slice_split is_space text ≡ word_of text ∷ words_of (if t then Some (after_first is_space text) else None)) [
+      | true ↦ λ e. slice_split_first is_space text 0 (grind (arith, nat_tests))
+      | false ↦ one_word text
+    ] refl
+
+-- a word more, where it says something and where it doesn't
+is_some-cons : {A : Type 0} (says : List ℕ → Option A) (word : List ℕ) (words : List (List ℕ)) → is_some (each_of says (word ∷ words)) ≡ (is_some (says word) && is_some (each_of says words))
+is_some-cons {A} says word words =
+    elim (says word) as (λ o. is_some (option_and_then (λ a. option_map (λ more. a ∷ more) (each_of says words)) o) ≡ (is_some o && is_some (each_of says words))) [
+      | None ↦ refl
+      | Some a ↦ elim (each_of says words) as (λ o. is_some (option_map (λ more. a ∷ more) o) ≡ is_some o) [ None ↦ refl | Some more ↦ refl ]
+    ]
+
+-- all words that are left say something where the next one does, and all behind it
+pub all_say : {A : Type 0} (says : List ℕ → Option A) (left next : Left) (text word : List ℕ) → left ≡ Some text → word ≡ word_of text → next ≡ left_of text → is_some (each_of says (words_of left)) ≡ (is_some (says word) && is_some (each_of says (words_of next)))
+all_say says left next text word l w n =
+    ap (λ x. is_some (each_of says (words_of x))) l ∙ ap (λ words. is_some (each_of says words)) (words_of-cons text) ∙ is_some-cons says (word_of text) (words_of (left_of text))
+    ∙ sym (ap₂ (λ x y. is_some (says x) && is_some (each_of says (words_of y))) w n)
+
+pub both : (s t : Bool) → (s && t) ≡ true → (s ≡ true) × (t ≡ true)
+both true t e = (refl, e)
+both false t e = cc
+
+-- what the next word says comes before what the words behind it say
+said-cons : {A : Type 0} (says : List ℕ → Option A) (left next : Left) (text word : List ℕ) (a : A) → left ≡ Some text → word ≡ word_of text → next ≡ left_of text → says word ≡ Some a → each_of says (words_of left) ≡ option_map (λ more. a ∷ more) (each_of says (words_of next))
+said-cons says left next text word a l w n e =
+    ap (λ x. each_of says (words_of x)) l ∙ ap (each_of says) (words_of-cons text) ∙ sym (ap₂ (λ x y. option_and_then (λ a. option_map (λ more. a ∷ more) (each_of says (words_of y))) (says x)) w n)
+    ∙ ap (option_and_then (λ a. option_map (λ more. a ∷ more) (each_of says (words_of next)))) e
+
+found-more : {A : Type 0} (found : List A) (a : A) (o : Option (List A)) → option_map (λ more. found ++ more) (option_map (λ more. a ∷ more) o) ≡ option_map (λ more. (found ++ a ∷ []) ++ more) o
+found-more found a None = refl
+found-more found a (Some more) = ap Some (sym (append_assoc found (a ∷ []) more))
+
+-- A turn of a loop over the words: what is found so far, and then what the words that are left say, is what all say.
+pub found-next : {A : Type 0} (says : List ℕ → Option A) (all : Option (List A)) (left next : Left) (text word : List ℕ) (a : A) (found now : List A) → all ≡ option_map (λ more. found ++ more) (each_of says (words_of left)) → left ≡ Some text → word ≡ word_of text → next ≡ left_of text → says word ≡ Some a → now ≡ found ++ a ∷ [] → all ≡ option_map (λ more. now ++ more) (each_of says (words_of next))
+found-next says all left next text word a found now k l w n e m =
+    k ∙ ap (option_map (λ more. found ++ more)) (said-cons says left next text word a l w n e) ∙ found-more found a (each_of says (words_of next))
+    ∙ ap (λ x. option_map (λ more. x ++ more) (each_of says (words_of next))) (sym m)
+
+pub is_name-says : (word : List ℕ) → is_some (name_of word) ≡ is_name word
+is_name-says word = elim (is_name word) as (λ t. is_some (if t then Some word else None) ≡ t) [ true ↦ refl | false ↦ refl ]

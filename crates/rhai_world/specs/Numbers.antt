@@ -1,0 +1,52 @@
+-- The number that a word says.
+use Rattle.std.specs.Prelude.{ℕ, ◌^◌, ℤ, pos, negsuc, neg_ℤ, ◌&&◌, ◌==◌, nat_lt, if◌then◌else◌, List, [], ◌∷◌, length, Option, Some, None, option_map, option_and_then}
+use Rattle.std.specs.List.{list_all}
+use Rattle.std.specs.Char.{is_ascii_digit}
+use Rattle.std.specs.Str.Parse.{digits_value}
+use Rattle.rhai_world.specs.Words.{Reading, a_word}
+
+-- one or more decimal digits, as a whole number
+abbrev pub whole_number_of : List ℕ → Option ℕ
+whole_number_of ds = if nat_lt 0 (length ds) && list_all is_ascii_digit ds then Some (digits_value 10 ds) else None
+
+-- the same with a minus (45) before it or not
+abbrev pub number_of : List ℕ → Option ℤ
+number_of [] = None
+number_of (b ∷ bs) =
+    if b == 45
+    then option_map (λ n. neg_ℤ (pos n)) (whole_number_of bs)
+    else option_map pos (whole_number_of (b ∷ bs))
+
+-- the number, where it is below 2^bits
+abbrev pub below : ℕ → ℕ → Option ℕ
+below bits n = if nat_lt n (2 ^ bits) then Some n else None
+
+-- the number, where so many bits can be it: from 0 up to 2^bits - 1
+abbrev pub as_unsigned : ℕ → ℤ → Option ℕ
+as_unsigned bits (pos n) = below bits n
+as_unsigned bits (negsuc n) = None
+
+-- the number, where so many bits beside one for the sign can be it: from -2^bits up to 2^bits - 1 (negsuc n is -(n + 1))
+abbrev pub as_signed : ℕ → ℤ → Option ℤ
+as_signed bits (pos n) = option_map pos (below bits n)
+as_signed bits (negsuc n) = option_map negsuc (below bits n)
+
+-- a word as such a number
+abbrev pub unsigned_of : ℕ → List ℕ → Option ℕ
+unsigned_of bits word = option_and_then (as_unsigned bits) (number_of word)
+
+abbrev pub signed_of : ℕ → List ℕ → Option ℤ
+signed_of bits word = option_and_then (as_signed bits) (number_of word)
+
+-- a position or a count, a bit, an int, and a tag
+abbrev pub a_position : Reading ℕ
+a_position left = a_word (unsigned_of 64) left
+
+abbrev pub a_bit : Reading ℕ
+a_bit left = a_word (unsigned_of 8) left
+
+abbrev pub an_int : Reading ℤ
+an_int left = a_word (signed_of 63) left
+
+abbrev pub a_tag : Reading ℤ
+a_tag left = a_word (signed_of 31) left

@@ -8,6 +8,7 @@ use std::io;
 use std::io::{ErrorKind, Read, Write};
 use std::test::Fail;
 
+mod both;
 mod lines;
 mod operators;
 mod page;

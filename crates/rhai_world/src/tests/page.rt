@@ -258,98 +258,31 @@ const CLOSED: &[(&str, &str)] = &[
     ("ask 0 int", "refused Mismatch <shared>"),
 ];
 
-#[test]
-fn new_values(rt: HostRuntime) -> Result<(), Fail> {
-    assert_eq!(rt; asked(rt.alloc(), NEW)?, wanted(rt.alloc(), NEW)?);
-    Ok(())
-}
+/// The sections, each with its name.
+pub const SECTIONS: &[(&str, &[(&str, &str)])] = &[
+    ("new values", NEW),
+    ("values made of others", MADE),
+    ("values changed in their places", CHANGED),
+    ("questions", ASKED),
+    ("scans", SCANNED),
+    ("values into entries", PUSHED),
+    ("all entries", SCOPE),
+    ("entries by name", NAMED),
+    ("entries for names in a list", EXTENDED),
+    ("marks", MARKED),
+    ("assignments", ASSIGNED),
+    ("parts of values", PARTS),
+    ("places in lists", PLACES),
+    ("entries by type", TYPED),
+    ("refusals", REFUSED),
+    ("a value inside itself", CLOSED),
+];
 
 #[test]
-fn values_made_of_others(rt: HostRuntime) -> Result<(), Fail> {
-    assert_eq!(rt; asked(rt.alloc(), MADE)?, wanted(rt.alloc(), MADE)?);
-    Ok(())
-}
-
-#[test]
-fn values_changed_in_their_places(rt: HostRuntime) -> Result<(), Fail> {
-    assert_eq!(rt; asked(rt.alloc(), CHANGED)?, wanted(rt.alloc(), CHANGED)?);
-    Ok(())
-}
-
-#[test]
-fn questions(rt: HostRuntime) -> Result<(), Fail> {
-    assert_eq!(rt; asked(rt.alloc(), ASKED)?, wanted(rt.alloc(), ASKED)?);
-    Ok(())
-}
-
-#[test]
-fn scans(rt: HostRuntime) -> Result<(), Fail> {
-    assert_eq!(rt; asked(rt.alloc(), SCANNED)?, wanted(rt.alloc(), SCANNED)?);
-    Ok(())
-}
-
-#[test]
-fn values_into_entries(rt: HostRuntime) -> Result<(), Fail> {
-    assert_eq!(rt; asked(rt.alloc(), PUSHED)?, wanted(rt.alloc(), PUSHED)?);
-    Ok(())
-}
-
-#[test]
-fn all_entries(rt: HostRuntime) -> Result<(), Fail> {
-    assert_eq!(rt; asked(rt.alloc(), SCOPE)?, wanted(rt.alloc(), SCOPE)?);
-    Ok(())
-}
-
-#[test]
-fn entries_by_name(rt: HostRuntime) -> Result<(), Fail> {
-    assert_eq!(rt; asked(rt.alloc(), NAMED)?, wanted(rt.alloc(), NAMED)?);
-    Ok(())
-}
-
-#[test]
-fn entries_by_type(rt: HostRuntime) -> Result<(), Fail> {
-    assert_eq!(rt; asked(rt.alloc(), TYPED)?, wanted(rt.alloc(), TYPED)?);
-    Ok(())
-}
-
-#[test]
-fn refusals(rt: HostRuntime) -> Result<(), Fail> {
-    assert_eq!(rt; asked(rt.alloc(), REFUSED)?, wanted(rt.alloc(), REFUSED)?);
-    Ok(())
-}
-
-#[test]
-fn a_value_inside_itself(rt: HostRuntime) -> Result<(), Fail> {
-    assert_eq!(rt; asked(rt.alloc(), CLOSED)?, wanted(rt.alloc(), CLOSED)?);
-    Ok(())
-}
-
-#[test]
-fn entries_for_names_in_a_list(rt: HostRuntime) -> Result<(), Fail> {
-    assert_eq!(rt; asked(rt.alloc(), EXTENDED)?, wanted(rt.alloc(), EXTENDED)?);
-    Ok(())
-}
-
-#[test]
-fn marks(rt: HostRuntime) -> Result<(), Fail> {
-    assert_eq!(rt; asked(rt.alloc(), MARKED)?, wanted(rt.alloc(), MARKED)?);
-    Ok(())
-}
-
-#[test]
-fn assignments(rt: HostRuntime) -> Result<(), Fail> {
-    assert_eq!(rt; asked(rt.alloc(), ASSIGNED)?, wanted(rt.alloc(), ASSIGNED)?);
-    Ok(())
-}
-
-#[test]
-fn parts_of_values(rt: HostRuntime) -> Result<(), Fail> {
-    assert_eq!(rt; asked(rt.alloc(), PARTS)?, wanted(rt.alloc(), PARTS)?);
-    Ok(())
-}
-
-#[test]
-fn places_in_lists(rt: HostRuntime) -> Result<(), Fail> {
-    assert_eq!(rt; asked(rt.alloc(), PLACES)?, wanted(rt.alloc(), PLACES)?);
+fn the_examples_of_the_page(rt: HostRuntime) -> Result<(), Fail> {
+    for (section, rows) in SECTIONS {
+        let answers = asked(rt.alloc(), rows)?;
+        assert_eq!(rt; answers, wanted(rt.alloc(), rows)?, "in {section}");
+    }
     Ok(())
 }

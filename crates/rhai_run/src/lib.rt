@@ -31,6 +31,3 @@ pub use both::{StoppedBoth, run_both};
 pub use command::{Command, Literal, Place, Question, Scanner};
 pub use lists::{Bytes, FlaggedNames, Names};
 pub use world::{Stopped, World, apply, run};
-
-#[cfg(test)]
-mod tests;

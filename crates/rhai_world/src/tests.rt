@@ -1,19 +1,29 @@
 ghost use Rattle.std.specs.Prelude.{◌≡◌, IfOk};
 ghost use Rattle.rhai_world.specs.Output.{output};
 
+use crate::line::command;
 use crate::lines::{LinesFault, run_lines, status};
+use crate::print::write_answer;
+use rhai_run::{Answer, Command};
 use std::alloc::{AllocError, Global};
 use std::cell::Cell;
 use std::io;
 use std::io::{ErrorKind, Read, Write};
+use std::process::Abort;
 use std::test::Fail;
 
 mod both;
+mod entries;
+mod limits;
 mod lines;
+mod machine;
 mod operators;
 mod page;
+mod places;
 mod printed;
+mod questions;
 mod session;
+mod values;
 
 /// Gives a byte a call, and fails once, at the call before which `calls` others stand.
 #[derive(Drop)]
@@ -86,6 +96,9 @@ fn answers(alloc: Global, input: &[u8]) -> Result<Vec<u8>, LinesFault>
     Ok(out)
 }
 
+/// A name, and lines with their answers.
+type Section = (&'static str, &'static [(&'static str, &'static str)]);
+
 /// What is written for the lines of the rows, as a text.
 fn asked(alloc: Global, rows: &[(&str, &str)]) -> Result<String, Fail> {
     let mut input = Vec::new(alloc);
@@ -98,13 +111,56 @@ fn asked(alloc: Global, rows: &[(&str, &str)]) -> Result<String, Fail> {
 }
 
 /// The answers of the rows, each on a line of its own.
-fn wanted(alloc: Global, rows: &[(&str, &str)]) -> Result<String, Fail> {
+fn wanted(alloc: Global, rows: &[(&str, &str)]) -> Result<String, AllocError> {
     let mut text = String::new(alloc);
     for (_, answer) in rows {
         text.push_str(answer)?;
         text.push_str("\n")?;
     }
     Ok(text)
+}
+
+/// Asserts that the lines of each section are answered as it says, each section on a new world.
+fn are_answered(rt: &impl Abort, alloc: Global, sections: &[Section]) -> Result<(), Fail> {
+    for (section, rows) in sections {
+        let answers = asked(alloc, rows)?;
+        assert_eq!(rt; answers, wanted(alloc, rows)?, "in {section}");
+    }
+    Ok(())
+}
+
+/// The commands that the lines say, where each says one.
+fn commands_of(alloc: Global, lines: &[&str]) -> Result<Vec<Command>, AllocError> {
+    let mut commands = Vec::new(alloc);
+    for line in lines {
+        match command(alloc, line.as_bytes())? {
+            Some(command) => commands.push(command)?,
+            None => return Err(AllocError),
+        }
+    }
+    Ok(commands)
+}
+
+/// Answers as they are printed.
+fn printed_lines(alloc: Global, answers: &[Answer]) -> Result<String, AllocError> {
+    let mut out = Vec::new(alloc);
+    for answer in answers {
+        if write_answer(answer, &mut out).is_err() {
+            return Err(AllocError);
+        }
+    }
+    String::from_utf8_lossy(alloc, &out)
+}
+
+/// The lines of rows that say a command.
+fn lines_of<'a>(alloc: Global, rows: &[(&'a str, &str)]) -> Result<Vec<&'a str>, AllocError> {
+    let mut lines = Vec::new(alloc);
+    for (line, answer) in rows {
+        if *answer != "refused BadLine" {
+            lines.push(*line)?;
+        }
+    }
+    Ok(lines)
 }
 
 #[test]

@@ -1,16 +1,23 @@
 //! Lines on two worlds whose cells have other numbers: the answers must be the same.
 
-use crate::line::command;
-use crate::print::write_answer;
 use crate::tests::page::SECTIONS;
-use rhai_run::{Answer, Command, World, run, run_both};
+use crate::tests::{commands_of, lines_of, printed_lines};
+use rhai_run::{World, run, run_both};
 use rhai_text::Limits;
 use std::alloc::{AllocError, Global};
 use std::test::Fail;
 
 /// Three cells that nothing reaches.
 const UNREACHED: &[&str] = &[
-    "unit", "share 0", "drop", "bool true", "share 0", "drop", "array 0", "share 0", "drop",
+    "unit",
+    "share 0",
+    "drop",
+    "bool true",
+    "share 0",
+    "drop",
+    "array 0",
+    "share 0",
+    "drop",
 ];
 
 /// Holders of two cells in the hand, and of two others in the scope.
@@ -27,70 +34,155 @@ const OTHER: &[&str] = &[
 
 /// Values made of others.
 const MADE: &[&str] = &[
-    "copy 0", "copy 1", "copy 1", "array 2", "show 3", "copy 3", "copy 0", "map key other",
-    "debug 4", "copy 4", "copy 1", "fn f 2", "show 5", "flatclone 3", "debug 6", "cast 5 Fn",
-    "cast 3 array", "cast 0 i64", "cast 4 string", "take 3", "show 3", "hash 4", "hash 1",
-    "scan 4 tags 1", "scan 5 cut 1", "scan 6 zero", "scan 7 noshare", "debug 4", "debug 5",
-    "debug 6", "debug 7", "show 0", "show 1", "store 4 0", "show 0", "show 4", "ask 4 type",
-    "ask 0 held map", "ask 5 locked", "op 0 == 4", "op 1 == 1", "op 1 + 7", "write 1 99",
+    "copy 0",
+    "copy 1",
+    "copy 1",
+    "array 2",
+    "show 3",
+    "copy 3",
+    "copy 0",
+    "map key other",
+    "debug 4",
+    "copy 4",
+    "copy 1",
+    "fn f 2",
+    "show 5",
+    "flatclone 3",
+    "debug 6",
+    "cast 5 Fn",
+    "cast 3 array",
+    "cast 0 i64",
+    "cast 4 string",
+    "take 3",
+    "show 3",
+    "hash 4",
+    "hash 1",
+    "scan 4 tags 1",
+    "scan 5 cut 1",
+    "scan 6 zero",
+    "scan 7 noshare",
+    "debug 4",
+    "debug 5",
+    "debug 6",
+    "debug 7",
+    "show 0",
+    "show 1",
+    "store 4 0",
+    "show 0",
+    "show 4",
+    "ask 4 type",
+    "ask 0 held map",
+    "ask 5 locked",
+    "op 0 == 4",
+    "op 1 == 1",
+    "op 1 + 7",
+    "write 1 99",
 ];
 
 /// Entries of the scope.
 const ENTRIES: &[&str] = &[
-    "showscope", "len", "names", "search p", "search q", "contains p", "constant q", "get p",
-    "show 2", "write 2 7", "show 2", "ref p String", "refint p 7", "value p i64", "value q char",
-    "copy 0", "push x 5", "copy 0", "pushdyn y 5", "copy 1", "pushconst z 6", "set z 0",
-    "set x 1", "setorpush z 0", "setvalue w 0", "alias p first", "alias p second", "aliases p",
-    "alias none first", "showscope", "hashscope", "copyscope", "len", "visible", "iter",
-    "names", "remove q char", "remove p Dynamic", "remove p String", "show 7", "showscope",
-    "copy 0", "copy 0", "extend u v", "copy 0", "extendflagged !k", "set k 0", "names",
-    "rewind 2", "showscope", "pop", "empty", "clear", "empty",
+    "showscope",
+    "len",
+    "names",
+    "search p",
+    "search q",
+    "contains p",
+    "constant q",
+    "get p",
+    "show 2",
+    "write 2 7",
+    "show 2",
+    "ref p String",
+    "refint p 7",
+    "value p i64",
+    "value q char",
+    "copy 0",
+    "push x 5",
+    "copy 0",
+    "pushdyn y 5",
+    "copy 1",
+    "pushconst z 6",
+    "set z 0",
+    "set x 1",
+    "setorpush z 0",
+    "setvalue w 0",
+    "alias p first",
+    "alias p second",
+    "aliases p",
+    "alias none first",
+    "showscope",
+    "hashscope",
+    "copyscope",
+    "len",
+    "visible",
+    "iter",
+    "names",
+    "remove q char",
+    "remove p Dynamic",
+    "remove p String",
+    "show 7",
+    "showscope",
+    "copy 0",
+    "copy 0",
+    "extend u v",
+    "copy 0",
+    "extendflagged !k",
+    "set k 0",
+    "names",
+    "rewind 2",
+    "showscope",
+    "pop",
+    "empty",
+    "clear",
+    "empty",
 ];
 
 /// Marks, assignments and parts of values, in places of the hand and of the scope.
 const PLACES: &[&str] = &[
-    "int 5", "assign 0 += 2", "show 0", "assign @p += 2", "text c", "assign @p += 3",
-    "get p", "show 4", "assign 0 += 0", "mark @p", "mark 1", "mark @q", "get p", "show 1",
-    "assign @p += 3", "readmarked 0", "readmarked 1", "writemarked 2 2", "unmark 0",
-    "unmark 0", "readmarked 0", "unmark 0", "get p", "get q", "show 7", "bool true",
-    "bit 0 3 9", "field 0 240 4 2", "show 0", "char d", "charat @p 0 10", "text efg",
-    "slice @p 0 1 11", "sliceeq @p 1 1 11", "get p", "show 12", "blob 0102", "share 13",
-    "byte 13 1 2", "show 13", "offset 5 -2 10", "index 5 -1 true", "assign @none += 0",
+    "int 5",
+    "assign 0 += 2",
+    "show 0",
+    "assign @p += 2",
+    "text c",
+    "assign @p += 3",
+    "get p",
+    "show 4",
+    "assign 0 += 0",
+    "mark @p",
+    "mark 1",
+    "mark @q",
+    "get p",
+    "show 1",
+    "assign @p += 3",
+    "readmarked 0",
+    "readmarked 1",
+    "writemarked 2 2",
+    "unmark 0",
+    "unmark 0",
+    "readmarked 0",
+    "unmark 0",
+    "get p",
+    "get q",
+    "show 7",
+    "bool true",
+    "bit 0 3 9",
+    "field 0 240 4 2",
+    "show 0",
+    "char d",
+    "charat @p 0 10",
+    "text efg",
+    "slice @p 0 1 11",
+    "sliceeq @p 1 1 11",
+    "get p",
+    "show 12",
+    "blob 0102",
+    "share 13",
+    "byte 13 1 2",
+    "show 13",
+    "offset 5 -2 10",
+    "index 5 -1 true",
+    "assign @none += 0",
 ];
-
-/// The commands that the lines say, where each says one.
-fn commands_of(alloc: Global, lines: &[&str]) -> Result<Vec<Command>, AllocError> {
-    let mut commands = Vec::new(alloc);
-    for line in lines {
-        match command(alloc, line.as_bytes())? {
-            Some(command) => commands.push(command)?,
-            None => return Err(AllocError),
-        }
-    }
-    Ok(commands)
-}
-
-/// The lines of rows that say a command.
-fn lines_of<'a>(alloc: Global, rows: &[(&'a str, &str)]) -> Result<Vec<&'a str>, AllocError> {
-    let mut lines = Vec::new(alloc);
-    for (line, answer) in rows {
-        if *answer != "refused BadLine" {
-            lines.push(*line)?;
-        }
-    }
-    Ok(lines)
-}
-
-/// Answers as they are printed.
-fn printed(alloc: Global, answers: &[Answer]) -> Result<String, AllocError> {
-    let mut out = Vec::new(alloc);
-    for answer in answers {
-        if write_answer(answer, &mut out).is_err() {
-            return Err(AllocError);
-        }
-    }
-    String::from_utf8_lossy(alloc, &out)
-}
 
 fn prepare(alloc: Global, world: &mut World, lines: &[&str]) -> Result<(), AllocError> {
     let commands = commands_of(alloc, lines)?;
@@ -108,7 +200,7 @@ fn answer_in(
 ) -> Result<(String, String), AllocError> {
     let commands = commands_of(alloc, lines)?;
     match run_both(first, second, &commands) {
-        Ok((one, other)) => Ok((printed(alloc, &one)?, printed(alloc, &other)?)),
+        Ok((one, other)) => Ok((printed_lines(alloc, &one)?, printed_lines(alloc, &other)?)),
         Err(_) => Err(AllocError),
     }
 }
@@ -146,5 +238,15 @@ fn the_order_of_cells_is_not_seen(rt: HostRuntime) -> Result<(), Fail> {
         let (one, other) = both_answer(rt.alloc(), (ONE, OTHER), lines)?;
         assert_eq!(rt; one, other);
     }
+    Ok(())
+}
+
+/// Each world answers for itself.
+#[test]
+fn each_world_gives_its_own_answers(rt: HostRuntime) -> Result<(), Fail> {
+    let before: (&[&str], &[&str]) = (&["int 1"], &["int 2"]);
+    let (one, other) = both_answer(rt.alloc(), before, &["show 0", "drop", "show 0"])?;
+    assert_eq!(rt; one.as_str(), "1\nok\nrefused NoValue\n");
+    assert_eq!(rt; other.as_str(), "2\nok\nrefused NoValue\n");
     Ok(())
 }

@@ -1,6 +1,6 @@
 //! The forms of lines, and lines that are none.
 
-use crate::tests::{asked, wanted};
+use crate::tests::{Section, are_answered};
 use std::test::Fail;
 
 /// Numbers of the host's types, at the ends of their ranges and one behind them.
@@ -241,83 +241,22 @@ const BAD_LINES: &[(&str, &str)] = &[
     ("len ", "refused BadLine"),
 ];
 
-#[test]
-fn unsigned_numbers_of_the_host(rt: HostRuntime) -> Result<(), Fail> {
-    assert_eq!(rt; asked(rt.alloc(), HOST)?, wanted(rt.alloc(), HOST)?);
-    Ok(())
-}
+/// The forms of a line, each group on a new world.
+pub const FORMS: &[Section] = &[
+    ("unsigned numbers of the host", HOST),
+    ("signed numbers of the host", SIGNED_HOST),
+    ("texts and characters", TEXTS),
+    ("blobs", BLOBS),
+    ("maps", MAPS),
+    ("aliases", ALIASES),
+    ("every type", KINDS),
+    ("every kind of value", OWN_KINDS),
+    ("every type of the host", HOST_KINDS),
+    ("words that are none", BAD_WORDS),
+    ("lines that are none", BAD_LINES),
+];
 
 #[test]
-fn signed_numbers_of_the_host(rt: HostRuntime) -> Result<(), Fail> {
-    assert_eq!(rt;
-        asked(rt.alloc(), SIGNED_HOST)?,
-        wanted(rt.alloc(), SIGNED_HOST)?
-    );
-    Ok(())
-}
-
-#[test]
-fn texts_and_characters(rt: HostRuntime) -> Result<(), Fail> {
-    assert_eq!(rt; asked(rt.alloc(), TEXTS)?, wanted(rt.alloc(), TEXTS)?);
-    Ok(())
-}
-
-#[test]
-fn blobs(rt: HostRuntime) -> Result<(), Fail> {
-    assert_eq!(rt; asked(rt.alloc(), BLOBS)?, wanted(rt.alloc(), BLOBS)?);
-    Ok(())
-}
-
-#[test]
-fn maps(rt: HostRuntime) -> Result<(), Fail> {
-    assert_eq!(rt; asked(rt.alloc(), MAPS)?, wanted(rt.alloc(), MAPS)?);
-    Ok(())
-}
-
-#[test]
-fn aliases(rt: HostRuntime) -> Result<(), Fail> {
-    assert_eq!(rt; asked(rt.alloc(), ALIASES)?, wanted(rt.alloc(), ALIASES)?);
-    Ok(())
-}
-
-#[test]
-fn every_type(rt: HostRuntime) -> Result<(), Fail> {
-    assert_eq!(rt; asked(rt.alloc(), KINDS)?, wanted(rt.alloc(), KINDS)?);
-    Ok(())
-}
-
-#[test]
-fn every_kind_of_value(rt: HostRuntime) -> Result<(), Fail> {
-    assert_eq!(rt;
-        asked(rt.alloc(), OWN_KINDS)?,
-        wanted(rt.alloc(), OWN_KINDS)?
-    );
-    Ok(())
-}
-
-#[test]
-fn every_type_of_the_host(rt: HostRuntime) -> Result<(), Fail> {
-    assert_eq!(rt;
-        asked(rt.alloc(), HOST_KINDS)?,
-        wanted(rt.alloc(), HOST_KINDS)?
-    );
-    Ok(())
-}
-
-#[test]
-fn words_that_are_none(rt: HostRuntime) -> Result<(), Fail> {
-    assert_eq!(rt;
-        asked(rt.alloc(), BAD_WORDS)?,
-        wanted(rt.alloc(), BAD_WORDS)?
-    );
-    Ok(())
-}
-
-#[test]
-fn lines_that_are_none(rt: HostRuntime) -> Result<(), Fail> {
-    assert_eq!(rt;
-        asked(rt.alloc(), BAD_LINES)?,
-        wanted(rt.alloc(), BAD_LINES)?
-    );
-    Ok(())
+fn forms_of_a_line(rt: HostRuntime) -> Result<(), Fail> {
+    are_answered(&rt, rt.alloc(), FORMS)
 }

@@ -1,6 +1,6 @@
 //! Every operator by its sign.
 
-use crate::tests::{asked, wanted};
+use crate::tests::{Section, are_answered};
 use std::test::Fail;
 
 /// The operators between two operands, of 7 and 2; `show` of the last value follows each that appends one.
@@ -82,29 +82,59 @@ const FAULTS: &[(&str, &str)] = &[
     ("op 0 ** 3", "refused ErrorArithmetic PowerTooLarge"),
 ];
 
+/// The signs, each group on a new world.
+pub const SIGNS: &[Section] = &[
+    ("between two operands", BINARY),
+    ("comparisons and ranges", COMPARED),
+    ("signs that assign", ASSIGNING),
+    ("faults", FAULTS),
+];
+
+/// Operands, their positions and their answers.
+pub const OPERATED: &[Section] = &[
+    (
+        "whole numbers",
+        &[
+            ("int -7", "ok"),
+            ("int 2", "ok"),
+            ("op 0 / 1", "ok"),
+            ("ask 2 int", "-3"),
+            ("op 0 % 1", "ok"),
+            ("ask 3 int", "-1"),
+            ("int 0", "ok"),
+            ("op 0 / 4", "refused ErrorArithmetic DivisionByZero"),
+            ("op 0 + 0", "refused SameValue"),
+            ("op 0 + 9", "refused NoValue"),
+            ("op 9 + 9", "refused NoValue"),
+            ("show 0", "-7"),
+        ],
+    ),
+    (
+        "ranges and operands without a row",
+        &[
+            ("int 3", "ok"),
+            ("unit", "ok"),
+            ("op 0 .. 1", "ok"),
+            ("show 2", "3.."),
+            ("op 1 ..= 0", "ok"),
+            ("show 3", "0..=3"),
+            ("share 1", "ok"),
+            ("copy 1", "ok"),
+            ("store 1 4", "ok"),
+            ("op 0 + 1", "refused NoBuiltin"),
+            ("op 1 + 0", "refused NoBuiltin"),
+            ("show 0", "3"),
+            ("show 1", "<shared> (shared)"),
+        ],
+    ),
+];
+
 #[test]
-fn between_two_operands(rt: HostRuntime) -> Result<(), Fail> {
-    assert_eq!(rt; asked(rt.alloc(), BINARY)?, wanted(rt.alloc(), BINARY)?);
-    Ok(())
+fn signs(rt: HostRuntime) -> Result<(), Fail> {
+    are_answered(&rt, rt.alloc(), SIGNS)
 }
 
 #[test]
-fn comparisons_and_ranges(rt: HostRuntime) -> Result<(), Fail> {
-    assert_eq!(rt; asked(rt.alloc(), COMPARED)?, wanted(rt.alloc(), COMPARED)?);
-    Ok(())
-}
-
-#[test]
-fn signs_that_assign(rt: HostRuntime) -> Result<(), Fail> {
-    assert_eq!(rt;
-        asked(rt.alloc(), ASSIGNING)?,
-        wanted(rt.alloc(), ASSIGNING)?
-    );
-    Ok(())
-}
-
-#[test]
-fn faults(rt: HostRuntime) -> Result<(), Fail> {
-    assert_eq!(rt; asked(rt.alloc(), FAULTS)?, wanted(rt.alloc(), FAULTS)?);
-    Ok(())
+fn operands(rt: HostRuntime) -> Result<(), Fail> {
+    are_answered(&rt, rt.alloc(), OPERATED)
 }

@@ -1,6 +1,6 @@
 //! The examples of docs/LINES.md, section by section, each on a new world. The rows are a copy of the page's, kept by hand.
 
-use crate::tests::{asked, wanted};
+use crate::tests::{Section, are_answered};
 use std::test::Fail;
 
 /// The values that lines make anew.
@@ -259,7 +259,7 @@ const CLOSED: &[(&str, &str)] = &[
 ];
 
 /// The sections, each with its name.
-pub const SECTIONS: &[(&str, &[(&str, &str)])] = &[
+pub const SECTIONS: &[Section] = &[
     ("new values", NEW),
     ("values made of others", MADE),
     ("values changed in their places", CHANGED),
@@ -280,9 +280,5 @@ pub const SECTIONS: &[(&str, &[(&str, &str)])] = &[
 
 #[test]
 fn the_examples_of_the_page(rt: HostRuntime) -> Result<(), Fail> {
-    for (section, rows) in SECTIONS {
-        let answers = asked(rt.alloc(), rows)?;
-        assert_eq!(rt; answers, wanted(rt.alloc(), rows)?, "in {section}");
-    }
-    Ok(())
+    are_answered(&rt, rt.alloc(), SECTIONS)
 }

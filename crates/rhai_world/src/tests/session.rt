@@ -1,6 +1,6 @@
 //! One long run over one world, with lines of every subject.
 
-use crate::tests::{asked, wanted};
+use crate::tests::{are_answered, asked, wanted};
 use std::test::Fail;
 
 /// Values of the hand, shared and written over.
@@ -122,8 +122,7 @@ const PLACES: &[(&str, &str)] = &[
 
 #[test]
 fn places_are_written(rt: HostRuntime) -> Result<(), Fail> {
-    assert_eq!(rt; asked(rt.alloc(), PLACES)?, wanted(rt.alloc(), PLACES)?);
-    Ok(())
+    are_answered(&rt, rt.alloc(), &[("captures, loops and marks", PLACES)])
 }
 
 #[test]

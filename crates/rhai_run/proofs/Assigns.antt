@@ -54,30 +54,6 @@ answered_value w (assignment k q) after d (call.fault f) e = cc
 answered_value w (assignment k q) after d (call.too_large k2) e = cc
 answered_value w (assignment k q) after d call.unsuited e = cc
 
--- and one that isn't
-answered_fault : (how : Way) (o p : call.Outcome) → answered how o ≡ p → is_answer p ≡ false → o ≡ p
-answered_fault operator o p e h = e
-answered_fault (assignment k q) (call.answers t) p e h = let n = rw (sym e) at h in cc
-answered_fault (assignment k q) (call.fault f) p e h = e
-answered_fault (assignment k q) (call.too_large x) p e h = e
-answered_fault (assignment k q) call.unsuited p e h = e
-
-answered_granted : (w : State) (how : Way) (after : Tree → State) (o : call.Outcome) → is_answer (answered how o) ≡ true → is_granted (called w after o).0 ≡ true
-answered_granted w how after (call.answers t) h = refl
-answered_granted w operator after (call.fault f) h = cc
-answered_granted w operator after (call.too_large k) h = cc
-answered_granted w operator after call.unsuited h = cc
-answered_granted w (assignment k q) after (call.fault f) h = cc
-answered_granted w (assignment k q) after (call.too_large x) h = cc
-answered_granted w (assignment k q) after call.unsuited h = cc
-
-refusal_of : (M : Type 0) (w : State) (how : Way) (after : Tree → State) (e : EvalAltResult) (o : call.Outcome) → IsOutcome M (Err e) (answered how o) → IsError (not_done_of e) w (called w after o)
-refusal_of M w how after (error.ErrorArithmetic f p) o h = rw (answered_fault how o (call.fault f) h.0 refl, h.1) refl
-refusal_of M w how after (error.ErrorDataTooLarge f p) o h = rw (answered_fault how o (call.too_large f) h.0 refl, h.1) refl
-refusal_of M w how after (error.ErrorMemory a) o h = answered_granted w how after o h.1
-refusal_of M w how after (error.ErrorMismatchDataType a b p) o h = absurd h
-refusal_of M w how after (error.ErrorDataRace p) o h = absurd h
-
 -- the step of a row that was looked up
 pub assign_is : (w : State) (op : Token) (p : Place) (j : ℕ) (t u x : Tree) (row : FnBuiltin) → is_beyond w.hand p ≡ false → slice_get w.hand j ≡ Some u → is_at p j ≡ false → source w.hand w.entries p ≡ Ok t
     → first w.store t ≡ Some x → assign_row op x u ≡ Some row → step_assign w op p j ≡ called_at w p j row

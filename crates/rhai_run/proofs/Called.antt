@@ -13,13 +13,13 @@ use Rattle.rhai_ops.specs.Outcome as call
 use Rattle.rhai_ops.specs.Outcome.{IsOutcome, is_answer}
 use Rattle.rhai_ops.specs.Results.{MayWant, outcome}
 use Rattle.rhai_ops.specs.Table.{row_of}
-use Rattle.rhai_ops.specs.Ways.{operator, way, answered, first_left, second_left, store_left}
+use Rattle.rhai_ops.specs.Ways.{Way, operator, assignment, way, answered, first_left, second_left, store_left}
 use Rattle.rhai_ops.specs.declared.builtin.FnBuiltin.{FnBuiltin}
 use Rattle.rhai_run.specs.declared.not_done.NotDone.{NotDone}
 use Rattle.rhai_run.specs.State.{State, appended}
 use Rattle.rhai_run.specs.Reply.{done}
 use Rattle.rhai_run.specs.Cost.{is_granted}
-use Rattle.rhai_run.specs.Does.{Gives, not_done_of}
+use Rattle.rhai_run.specs.Does.{Gives, IsError, not_done_of}
 use Rattle.rhai_run.specs.Operators.{value_at, called, step_binary}
 use Rattle.rhai_run.proofs.Moves.{set_own}
 
@@ -60,19 +60,29 @@ binary_is w op i j x y row ex ey e f = rw (ex, ey, e, f) refl
 pub gives_value : (MayWant : Type 0) (w : State) (d : Tree) (o : call.Outcome) → IsOutcome MayWant (Ok d) o → called w (appended w) o ≡ (done, appended w d)
 gives_value M w d o h = ap (called w (appended w)) h
 
--- a value is no refusal
-answer_stays : (w : State) (o : call.Outcome) → is_answer o ≡ true → is_granted (called w (appended w) o).0 ≡ true
-answer_stays w (call.answers t) h = refl
-answer_stays w (call.fault f) h = cc
-answer_stays w (call.too_large k) h = cc
-answer_stays w call.unsuited h = cc
+-- what a call that is not done comes to
+answered_fault : (how : Way) (o p : call.Outcome) → answered how o ≡ p → is_answer p ≡ false → o ≡ p
+answered_fault operator o p e h = e
+answered_fault (assignment k q) (call.answers t) p e h = let n = rw (sym e) at h in cc
+answered_fault (assignment k q) (call.fault f) p e h = e
+answered_fault (assignment k q) (call.too_large x) p e h = e
+answered_fault (assignment k q) call.unsuited p e h = e
 
-pub gives_refusal : (MayWant : Type 0) (w : State) (e : EvalAltResult) (o : call.Outcome) (why : NotDone) → IsOutcome MayWant (Err e) o → why ≡ not_done_of e → Gives (Err why) w (called w (appended w) o)
-gives_refusal M w (error.ErrorArithmetic f p) o why h k = rw (k, h.0, h.1) refl
-gives_refusal M w (error.ErrorDataTooLarge f p) o why h k = rw (k, h.0, h.1) refl
-gives_refusal M w (error.ErrorMemory a) o why h k = rw k (answer_stays w o h.1)
-gives_refusal M w (error.ErrorMismatchDataType a b p) o why h k = absurd h
-gives_refusal M w (error.ErrorDataRace p) o why h k = absurd h
+answered_granted : (w : State) (how : Way) (after : Tree → State) (o : call.Outcome) → is_answer (answered how o) ≡ true → is_granted (called w after o).0 ≡ true
+answered_granted w how after (call.answers t) h = refl
+answered_granted w operator after (call.fault f) h = cc
+answered_granted w operator after (call.too_large k) h = cc
+answered_granted w operator after call.unsuited h = cc
+answered_granted w (assignment k q) after (call.fault f) h = cc
+answered_granted w (assignment k q) after (call.too_large x) h = cc
+answered_granted w (assignment k q) after call.unsuited h = cc
+
+pub refusal_of : (M : Type 0) (w : State) (how : Way) (after : Tree → State) (e : EvalAltResult) (o : call.Outcome) → IsOutcome M (Err e) (answered how o) → IsError (not_done_of e) w (called w after o)
+refusal_of M w how after (error.ErrorArithmetic f p) o h = rw (answered_fault how o (call.fault f) h.0 refl, h.1) refl
+refusal_of M w how after (error.ErrorDataTooLarge f p) o h = rw (answered_fault how o (call.too_large f) h.0 refl, h.1) refl
+refusal_of M w how after (error.ErrorMemory a) o h = answered_granted w how after o h.1
+refusal_of M w how after (error.ErrorMismatchDataType a b p) o h = absurd h
+refusal_of M w how after (error.ErrorDataRace p) o h = absurd h
 
 -- the operands and the row of the call, in the state and in the memory that it stands for
 module _ (w v : State) (op : Token) (i j : ℕ) (x y : Tree) (row : FnBuiltin) (view : v ≡ w) (ex : slice_get w.hand i ≡ Some x) (ey : slice_get w.hand j ≡ Some y) (differ : nat_eq i j ≡ false) (found : row_of op w.store x y ≡ Some row) where
@@ -91,4 +101,5 @@ module _ (w v : State) (op : Token) (i j : ℕ) (x y : Tree) (row : FnBuiltin) (
   pub called_refusal : (e : EvalAltResult) (why : NotDone) (r : Result Tree NotDone) → of_operands (Err e) v (value_at v.hand i) (value_at v.hand j) → r ≡ Err why → why ≡ not_done_of e → Gives r w (step_binary w op i j)
   called_refusal e why r h k m =
       subst (λ q. Gives q w (step_binary w op i j)) (sym k)
-      (subst (λ o. Gives (Err why) w o) (sym (binary_is w op i j x y row ex ey differ found)) (gives_refusal (MayWant row x y) w e (outcome row w.limits w.store x y) why (seen (Err e) h) m))
+      (subst (λ o. IsError why w o) (sym (binary_is w op i j x y row ex ey differ found))
+      (subst (λ n. IsError n w (called w (appended w) (outcome row w.limits w.store x y))) (sym m) (refusal_of (MayWant row x y) w operator (appended w) e (outcome row w.limits w.store x y) (seen (Err e) h))))

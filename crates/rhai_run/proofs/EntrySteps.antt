@@ -1,6 +1,5 @@
 -- Steps on the last entry of a name, on two states that are the same up to a renaming.
 use Rattle.std.proofs.Common.{◌≡◌, ℕ, ℤ, Bool, true, false, cond, List, [], ◌∷◌, Option, Some, None, option_map, is_some, refl, ap, subst}
-use Rattle.std.proofs.lemmas.Option.{same_Some}
 use Rattle.std.specs.List.{AllZip}
 use Rattle.rhai_value.specs.declared.type_id.TypeId.{TypeId}
 use Rattle.rhai_value.specs.declared.type_id.TypeId.TheVariants as id
@@ -25,7 +24,7 @@ use Rattle.rhai_run.specs.Outcome.{Outcome, given}
 use Rattle.rhai_scope.specs.Relation.{RelatedEntry}
 use Rattle.rhai_run.specs.Correspondence.{RelatedStates}
 use Rattle.rhai_run.proofs.HandSteps.{unless_shared, same_flat_read}
-use Rattle.rhai_run.proofs.Outcome.{Matches, no_cell, m_stays, m_unless, m_given, m_value, m_entries, m_scope, m_appended, moved_hand}
+use Rattle.rhai_run.proofs.Outcome.{Matches, alike_same, no_cell, m_stays, m_unless, m_given, m_value, m_entries, m_scope, m_appended, moved_hand}
 
 module _ (r : Renaming) (w v : State) (h : RelatedStates r w v) where
   pub same_set_entry : (name : List ℕ) (i : ℕ) → Matches r w v (step_set_entry w name i) (step_set_entry v name i)
@@ -74,14 +73,9 @@ module _ (r : Renaming) (w v : State) (h : RelatedStates r w v) where
   pub same_set_alias : (name alias : List ℕ) → Matches r w v (step_set_alias w name alias) (step_set_alias v name alias)
   same_set_alias name alias = m_entries r w v h _ _ (same_changed_named r _ _ name w.entries v.entries (same_aliased r (meant_alias name alias)) h.entries)
 
-  told_alike : (o p : Option (List (List ℕ))) → o ≡ p → Matches r w v (given o no_entry w (λ bs. (told (aliases_text bs), w))) (given p no_entry v (λ bs. (told (aliases_text bs), v)))
-  told_alike None None e = m_stays r w v h _ _ refl
-  told_alike (Some a) (Some b) e = m_stays r w v h _ _ (ap (λ bs. told (aliases_text bs)) (same_Some a b e))
-  told_alike None (Some b) e = cc
-  told_alike (Some a) None e = cc
-
   pub same_aliases : (name : List ℕ) → Matches r w v (step_aliases w name) (step_aliases v name)
-  same_aliases name = told_alike _ _ (same_aliases_named r name w.entries v.entries h.entries)
+  same_aliases name =
+      m_given r w v h (λ a b. a ≡ b) no_entry _ _ _ _ (alike_same _ _ (same_aliases_named r name w.entries v.entries h.entries)) (λ a b e. m_stays r w v h _ _ (ap (λ bs. told (aliases_text bs)) e))
 
   same_viewed_as : (kind : TypeId) (t u : Tree) → Related r t u → Alike (Related r) (viewed_as kind t) (viewed_as kind u)
   same_viewed_as kind t u e = unless_shared r w v h (is_type kind id.Shared) _ _ (same_viewed r kind t u e)

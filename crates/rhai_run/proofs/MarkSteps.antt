@@ -16,7 +16,7 @@ use Rattle.rhai_run.specs.Outcome.{Outcome, given}
 use Rattle.rhai_run.specs.Reply.{Reason, done, refused, no_mark, wrong_source, fault, data_race}
 use Rattle.rhai_run.specs.State.{State, with_marks}
 use Rattle.rhai_run.proofs.MarkLists.{first_is_free, mark_added, mark_taken}
-use Rattle.rhai_run.proofs.Outcome.{Keeps, Matches, m_appended, m_cells, m_given, m_stays, m_unless, m_value, moved_hand, no_cell}
+use Rattle.rhai_run.proofs.Outcome.{Keeps, Matches, m_appended, m_cells, m_given, m_stays, m_there, m_unless, m_value, moved_hand, no_cell}
 use Rattle.rhai_run.proofs.PlaceSteps.{m_place}
 
 -- a value is written over in a cell: marks stay
@@ -28,14 +28,6 @@ put_marks (x ∷ s) (suc c) zero t = refl
 put_marks (x ∷ s) (suc c) (suc d) t = put_marks s c d t
 
 module _ (r : Renaming) (w v : State) (h : RelatedStates r w v) where
-  -- something that is there in the first state
-  m_there : {X : Type 0} (R : X → X → Type 0) (why : Reason) (o p : Option X) (f g : X → Outcome) → Alike R o p → ((a b : X) → o ≡ Some a → R a b → Matches r w v (f a) (g b))
-      → Matches r w v (given o why w f) (given p why v g)
-  m_there R why None None f g e k = m_stays r w v h (refused why) (refused why) refl
-  m_there R why (Some a) (Some b) f g e k = k a b refl e
-  m_there R why None (Some b) f g e k = absurd e
-  m_there R why (Some a) None f g e k = absurd e
-
   -- other marks
   m_marks : (s z : List Cell) (ms ns : List ℕ) → length s ≡ length w.store → length z ≡ length v.store → RelatedCells r s z → AllZip (Paired r) ms ns → Keeps w (with_marks w s ms)
       → Matches r w v (done, with_marks w s ms) (done, with_marks v z ns)
@@ -45,7 +37,7 @@ module _ (r : Renaming) (w v : State) (h : RelatedStates r w v) where
   pub same_mark : (p : Place) → Matches r w v (step_mark w p) (step_mark v p)
   same_mark p =
       m_place r w v h p _ _ (λ t u e. m_unless r w v h wrong_source _ _ _ _ (ap not (same_shared r t u e))
-      (m_there (Paired r) (fault (data_race nowhere)) (first_cell w.store t) (first_cell v.store u) _ _ (same_first_cell r w.store v.store t u h.cells e) (λ c d at same.
+      (m_there r w v h (Paired r) (fault (data_race nowhere)) (first_cell w.store t) (first_cell v.store u) _ _ (same_first_cell r w.store v.store t u h.cells e) (λ c d at same.
       m_marks _ _ _ _ (length_changed _ w.store c) (length_changed _ v.store d) (same_set_mark r w.store v.store c d true h.one h.cells same)
       (zip_append (Paired r) w.marks (c ∷ []) v.marks (d ∷ []) h.marks (same, tt))
       (λ marks. mark_added w.store w.marks c marks (first_is_free w.store t c at)))))
@@ -55,7 +47,7 @@ module _ (r : Renaming) (w v : State) (h : RelatedStates r w v) where
 
   pub same_unmark : (k : ℕ) → Matches r w v (step_unmark w k) (step_unmark v k)
   same_unmark k =
-      m_there (Paired r) no_mark (slice_get w.marks k) (slice_get v.marks k) _ _ (same_mark_at k) (λ c d at same.
+      m_there r w v h (Paired r) no_mark (slice_get w.marks k) (slice_get v.marks k) _ _ (same_mark_at k) (λ c d at same.
       m_marks _ _ _ _ (length_changed _ w.store c) (length_changed _ v.store d) (same_set_mark r w.store v.store c d false h.one h.cells same)
       (zip_append (Paired r) _ _ _ _ (zip_take (Paired r) k w.marks v.marks h.marks) (zip_drop (Paired r) (suc k) w.marks v.marks h.marks))
       (λ marks. mark_taken w.store w.marks k c marks at))

@@ -1,6 +1,5 @@
 -- Operators and assignments, on two states that are the same up to a renaming.
 use Rattle.std.proofs.Common.{◌≡◌, ℕ, Option, Some, None, refl, ap, subst}
-use Rattle.std.proofs.lemmas.Option.{same_Some}
 use Rattle.rhai_text.specs.declared.token.Token.{Token}
 use Rattle.rhai_value.specs.Tree.{Tree}
 use Rattle.rhai_value.specs.Relation.{Renaming, Related, Alike}
@@ -18,14 +17,8 @@ use Rattle.rhai_run.specs.State.{State}
 use Rattle.rhai_run.specs.Reply.{done, refused, no_builtin, same_value, fault, arithmetic, data_race, too_large}
 use Rattle.rhai_run.specs.Operators.{assigned, called, step_assign, step_binary}
 use Rattle.rhai_run.specs.Correspondence.{RelatedStates}
-use Rattle.rhai_run.proofs.Outcome.{Matches, m_stays, m_unless, m_given, m_two, m_appended}
+use Rattle.rhai_run.proofs.Outcome.{Matches, alike_same, m_stays, m_unless, m_given, m_two, m_appended}
 use Rattle.rhai_run.proofs.PlaceSteps.{hand_states, m_place_and, m_put, m_with_hand}
-
-alike_same : {X : Type 0} (o p : Option X) → o ≡ p → Alike (λ a b. a ≡ b) o p
-alike_same None None e = tt
-alike_same (Some a) (Some b) e = same_Some a b e
-alike_same None (Some b) e = cc
-alike_same (Some a) None e = cc
 
 module _ (r : Renaming) (w v : State) (h : RelatedStates r w v) where
   same_called : (f g : Tree → State) (o p : call.Outcome) → RelatedOutcomes r o p → ((t u : Tree) → o ≡ call.answers t → p ≡ call.answers u → Related r t u → Matches r w v (done, f t) (done, g u))

@@ -1,5 +1,6 @@
 -- What a command owes on two states that are the same up to a renaming, and one lemma for each thing that steps are made of.
 use Rattle.std.proofs.Common.{◌≡◌, ℕ, ◌+◌, ◌-◌, Bool, true, false, cond, nat_eq, nat_le, List, [], ◌∷◌, length, take, drop, slice_get, slice_set, Option, Some, None, refl, sym, ap, ◌∙◌, subst, arith, append-nil, count_by}
+use Rattle.std.proofs.lemmas.Option.{same_Some}
 use Rattle.std.specs.List.{AllZip}
 use Rattle.rhai_value.specs.declared.store.Cell.{Cell}
 use Rattle.rhai_value.specs.Tree.{Tree, unit, fresh}
@@ -35,6 +36,13 @@ pub record Matches (r : Renaming) (w v : State) (o p : Outcome) : Type 0 where
 pub same_without_last : {X : Type 0} (R : X → X → Type 0) (xs ys : List X) → AllZip R xs ys → AllZip R (take (length xs - 1) xs) (take (length ys - 1) ys)
 same_without_last R xs ys h = subst (λ n. AllZip R (take (length xs - 1) xs) (take (n - 1) ys)) (zip_length R xs ys h) (zip_take R (length xs - 1) xs ys h)
 
+-- what is equal is there in both or in neither
+pub alike_same : {X : Type 0} (o p : Option X) → o ≡ p → Alike (λ a b. a ≡ b) o p
+alike_same None None e = tt
+alike_same (Some a) (Some b) e = same_Some a b e
+alike_same None (Some b) e = cc
+alike_same (Some a) None e = cc
+
 module _ (r : Renaming) (w v : State) (h : RelatedStates r w v) where
   -- no cell is made
   pub no_cell : (x y : State) (a b : Reply) → a ≡ b → length x.store ≡ length w.store → length y.store ≡ length v.store → RelatedStates r x y → Keeps w x → Matches r w v (a, x) (b, y)
@@ -50,11 +58,15 @@ module _ (r : Renaming) (w v : State) (h : RelatedStates r w v) where
   m_unless why true false o p e k = cc
   m_unless why false true o p e k = cc
 
+  -- something that is there in both states
+  pub m_there : {X : Type 0} (R : X → X → Type 0) (why : Reason) (o p : Option X) (f g : X → Outcome) → Alike R o p → ((t u : X) → o ≡ Some t → R t u → Matches r w v (f t) (g u)) → Matches r w v (given o why w f) (given p why v g)
+  m_there R why None None f g a k = m_stays (refused why) (refused why) refl
+  m_there R why (Some t) (Some u) f g a k = k t u refl a
+  m_there R why None (Some u) f g a k = absurd a
+  m_there R why (Some t) None f g a k = absurd a
+
   pub m_given : {X : Type 0} (R : X → X → Type 0) (why : Reason) (o p : Option X) (f g : X → Outcome) → Alike R o p → ((t u : X) → R t u → Matches r w v (f t) (g u)) → Matches r w v (given o why w f) (given p why v g)
-  m_given R why None None f g a k = m_stays (refused why) (refused why) refl
-  m_given R why (Some t) (Some u) f g a k = k t u a
-  m_given R why None (Some u) f g a k = absurd a
-  m_given R why (Some t) None f g a k = absurd a
+  m_given R why o p f g a k = m_there R why o p f g a (λ t u _ e. k t u e)
 
   pub m_value : (i : ℕ) (f g : Tree → Outcome) → ((t u : Tree) → Related r t u → Matches r w v (f t) (g u)) → Matches r w v (with_value w i f) (with_value v i g)
   m_value i f g k = m_given (Related r) no_value (slice_get w.hand i) (slice_get v.hand i) f g (zip_get (Related r) w.hand v.hand i h.hand) k

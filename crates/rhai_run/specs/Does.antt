@@ -32,18 +32,20 @@ Tells k (Ok b) reply = brief_reply b ≡ reply
 Tells k (Err (Refused why)) reply = refused (reason_of why) ≡ reply
 Tells k (Err Memory) reply = may_want k reply ≡ true
 
--- A value is made, and the outcome is that it stands at the end of the hand; or that is the refusal; or memory was refused, and the
--- outcome is no refusal.
+-- Not done: that is the refusal, and nothing has changed; or memory was refused, and the outcome is no refusal.
+abbrev pub IsError : NotDone → State → Outcome → Type 0
+IsError (Refused why) w o = o ≡ (refused (reason_of why), w)
+IsError Memory w o = is_granted o.0 ≡ true
+
+-- A value is made, and the outcome is that it stands at the end of the hand; or it isn't.
 abbrev pub Gives : Result Tree NotDone → State → Outcome → Type 0
 Gives (Ok t) w o = o ≡ (done, appended w t)
-Gives (Err (Refused why)) w o = o ≡ (refused (reason_of why), w)
-Gives (Err Memory) w o = is_granted o.0 ≡ true
+Gives (Err e) w o = IsError e w o
 
 -- The same where a value may be found: the outcome is that it stands at the end of the hand, if there is one.
 abbrev pub Finds : Result (Option Tree) NotDone → State → Outcome → Type 0
 Finds (Ok o) w x = x ≡ appended_or_nothing w o
-Finds (Err (Refused why)) w x = x ≡ (refused (reason_of why), w)
-Finds (Err Memory) w x = is_granted x.0 ≡ true
+Finds (Err e) w x = IsError e w x
 
 -- a test that refuses for this reason, if there is one, and takes no memory
 abbrev pub Tests : {X : Type 0} → Result X NotDone → Option Reason → Type 0
@@ -65,10 +67,6 @@ not_done_of (error.ErrorDataTooLarge what at) = Refused (Fault (error.ErrorDataT
 not_done_of (error.ErrorMemory e) = Memory
 
 -- A call is done, and this is the outcome; or its error is that of the outcome, and nothing has changed.
-abbrev pub IsError : NotDone → State → Outcome → Type 0
-IsError (Refused why) w o = o ≡ (refused (reason_of why), w)
-IsError Memory w o = is_granted o.0 ≡ true
-
 abbrev pub Calls : Result Tree EvalAltResult → State → State → Outcome → Type 0
 Calls (Ok t) w v o = o ≡ (done, v)
 Calls (Err e) w v o = IsError (not_done_of e) w o × (v ≡ w)

@@ -89,19 +89,3 @@ written_back w place p t u =
 
 abbrev pub step_write_back : State → Place → Piece → ℕ → Outcome
 step_write_back w place p j = with_place_and w place j (λ t u. written_back w place p t u)
-
--- the five pieces
-abbrev pub step_write_bit : State → Place → ℕ → ℕ → Outcome
-step_write_bit w place bit j = step_write_back w place (piece.Bit bit) j
-
-abbrev pub step_write_field : State → Place → ℤ → ℕ → ℕ → Outcome
-step_write_field w place mask shift j = step_write_back w place (piece.Field mask shift) j
-
-abbrev pub step_write_byte : State → Place → ℕ → ℕ → Outcome
-step_write_byte w place index j = step_write_back w place (piece.Byte index) j
-
-abbrev pub step_write_char : State → Place → ℕ → ℕ → Outcome
-step_write_char w place index j = step_write_back w place (piece.Character index) j
-
-abbrev pub step_write_slice : State → Place → ℕ → ℕ → Bool → ℕ → Outcome
-step_write_slice w place start end exclusive j = step_write_back w place (piece.Characters (record { start = start; end = end; exclusive = exclusive })) j

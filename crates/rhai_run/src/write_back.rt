@@ -1,9 +1,9 @@
 //! Commands that write back one part of a value.
 ghost use Rattle.std.specs.Prelude.{◌≡◌, [], true, is_some, None, IfOk, IsOkAnd, OnOk, OnErr};
 ghost use Rattle.rhai_value.specs.End.{end};
-ghost use Rattle.rhai_run.specs.Cost.{free, keeps_all, piece_cost};
+ghost use Rattle.rhai_run.specs.Cost.{piece_cost};
 ghost use Rattle.rhai_run.specs.Places.{source};
-ghost use Rattle.rhai_run.specs.WriteBack.{lack, change, makes_text, changed_by, step_write_back, step_write_bit, step_write_field, step_write_byte, step_write_char, step_write_slice};
+ghost use Rattle.rhai_run.specs.WriteBack.{lack, change, makes_text, changed_by, step_write_back};
 ghost use Rattle.rhai_run.specs.Does.{Does};
 
 use crate::brief::Brief;
@@ -12,8 +12,7 @@ use crate::desk::Desk;
 use crate::not_done::NotDone;
 use crate::pieces::Piece;
 use crate::places::{Places, is_within, source};
-use rhai_target::Slice;
-use rhai_value::{Dynamic, INT};
+use rhai_value::Dynamic;
 use std::alloc::AllocError;
 
 impl Desk {
@@ -37,7 +36,7 @@ impl Desk {
     }
 
     /// Writes the value at a hand position to a piece of the one at a place.
-    fn write_back(&mut self, place: &Place, piece: Piece, j: usize) -> Result<Brief, NotDone>
+    pub(crate) fn write_back(&mut self, place: &Place, piece: Piece, j: usize) -> Result<Brief, NotDone>
         ensures { Does (piece_cost piece) result self.old self.new (step_write_back self.old place.now piece j) }
     {
         is_within(&self.hand, place)?;
@@ -47,63 +46,5 @@ impl Desk {
         let value = piece.working(value, self.alloc, &self.store)?;
         self.put_piece(place, piece, &value)?;
         Ok(Brief::Done)
-    }
-
-    pub(crate) fn write_bit(&mut self, place: &Place, bit: u8, j: usize) -> Result<Brief, NotDone>
-        ensures { Does free result self.old self.new (step_write_bit self.old place.now bit j) }
-    {
-        self.write_back(place, Piece::Bit(bit), j)
-    }
-
-    pub(crate) fn write_field(
-        &mut self,
-        place: &Place,
-        mask: INT,
-        shift: u8,
-        j: usize,
-    ) -> Result<Brief, NotDone>
-        ensures { Does free result self.old self.new (step_write_field self.old place.now mask shift j) }
-    {
-        self.write_back(place, Piece::Field(mask, shift), j)
-    }
-
-    pub(crate) fn write_byte(
-        &mut self,
-        place: &Place,
-        index: usize,
-        j: usize,
-    ) -> Result<Brief, NotDone>
-        ensures { Does free result self.old self.new (step_write_byte self.old place.now index j) }
-    {
-        self.write_back(place, Piece::Byte(index), j)
-    }
-
-    pub(crate) fn write_char(
-        &mut self,
-        place: &Place,
-        index: usize,
-        j: usize,
-    ) -> Result<Brief, NotDone>
-        ensures { Does keeps_all result self.old self.new (step_write_char self.old place.now index j) }
-    {
-        self.write_back(place, Piece::Character(index), j)
-    }
-
-    pub(crate) fn write_slice(
-        &mut self,
-        place: &Place,
-        start: usize,
-        end: usize,
-        exclusive: bool,
-        j: usize,
-    ) -> Result<Brief, NotDone>
-        ensures { Does keeps_all result self.old self.new (step_write_slice self.old place.now start end exclusive j) }
-    {
-        let slice = Slice {
-            start,
-            end,
-            exclusive,
-        };
-        self.write_back(place, Piece::Characters(slice), j)
     }
 }

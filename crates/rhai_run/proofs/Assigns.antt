@@ -1,10 +1,9 @@
 -- The call of an assignment's row.
-use Rattle.std.proofs.Common.{◌<◌, length, length-set, IsOkAnd, ◌≡◌, ℕ, zero, suc, true, false, nat_eq, List, [], ◌∷◌, slice_get, slice_set, Option, Some, None, Result, Ok, Err, IfOk, OnOk, OnErr, refl, sym, ap, ◌∙◌, subst, arith}
+use Rattle.std.proofs.Common.{◌<◌, length, length-set, IsOkAnd, ◌≡◌, ℕ, zero, suc, false, List, [], ◌∷◌, slice_get, slice_set, Some, Result, Ok, Err, IfOk, OnOk, OnErr, refl, sym, ap, ◌∙◌, subst, arith}
 use Rattle.std.proofs.lemmas.Bool.Decides.{nat_tests}
 use Rattle.std.proofs.lemmas.List.{set-set}
 use Rattle.std.proofs.lemmas.Option.{same_Some, slice_get_within}
 use Rattle.rhai_text.specs.declared.error.EvalAltResult.{EvalAltResult}
-use Rattle.rhai_text.specs.declared.error.EvalAltResult.TheVariants as error
 use Rattle.rhai_text.specs.declared.token.Token.{Token}
 use Rattle.rhai_value.specs.End.{first}
 use Rattle.rhai_value.specs.Tree.{Tree}
@@ -19,12 +18,11 @@ use Rattle.rhai_ops.specs.declared.builtin.FnBuiltin.{FnBuiltin}
 use Rattle.rhai_run.specs.declared.command.Place.{Place}
 use Rattle.rhai_run.specs.declared.command.Place.TheVariants as place
 use Rattle.rhai_run.specs.State.{State, with_hand}
-use Rattle.rhai_run.specs.Reply.{Reason, done}
-use Rattle.rhai_run.specs.Cost.{is_granted}
+use Rattle.rhai_run.specs.Reply.{done}
 use Rattle.rhai_run.specs.Does.{Calls, IsError, not_done_of}
 use Rattle.rhai_run.specs.Operators.{assigned, assigned_at, called, called_at, step_assign, HasOperands}
-use Rattle.rhai_run.specs.Outcome.{Outcome, with_value}
-use Rattle.rhai_run.specs.Places.{source, found, with_place, is_at, is_beyond, put_at}
+use Rattle.rhai_run.specs.Places.{source, is_at, is_beyond}
+use Rattle.rhai_run.proofs.Called.{refusal_of}
 use Rattle.rhai_run.proofs.Moves.{set_own}
 
 -- writes to two places of a list

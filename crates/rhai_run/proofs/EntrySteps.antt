@@ -3,24 +3,22 @@ use Rattle.std.proofs.Common.{◌≡◌, ℕ, ℤ, Bool, true, false, cond, List
 use Rattle.std.specs.List.{AllZip}
 use Rattle.rhai_value.specs.declared.type_id.TypeId.{TypeId}
 use Rattle.rhai_value.specs.declared.type_id.TypeId.TheVariants as id
-use Rattle.rhai_value.specs.End.{flat}
-use Rattle.rhai_value.specs.Tree.{Tree, cell_of, copy, fresh, int}
+use Rattle.rhai_value.specs.Tree.{Tree, copy, fresh, int}
 use Rattle.rhai_value.specs.Types.{is_type}
 use Rattle.rhai_value.specs.Relation.{Renaming, Related, Alike}
 use Rattle.rhai_value.proofs.ForCallers.{same_copy, same_shared, zip_append}
 use Rattle.rhai_variant.proofs.ForCallers.{same_viewed}
 use Rattle.rhai_cast.proofs.ForCallers.{same_moved}
 use Rattle.rhai_scope.proofs.ForCallers.{same_aliases_named, same_position, same_last_entry, same_named, same_constant, same_changed_named, same_with_value, same_aliased, same_set_or_pushed, same_writable, same_written_entry, same_removed_at}
-use Rattle.rhai_scope.specs.Alias.{meant_alias, aliased}
+use Rattle.rhai_scope.specs.Alias.{meant_alias}
 use Rattle.rhai_scope.specs.Entry.{Entry, with_value as holding}
-use Rattle.rhai_scope.specs.Lookup.{last_position, writable_position}
-use Rattle.rhai_scope.specs.Typed.{set_or_pushed, removed_at, written_entry}
-use Rattle.rhai_run.specs.Hand.{read_as}
+use Rattle.rhai_scope.specs.Lookup.{last_position}
+use Rattle.rhai_scope.specs.Typed.{set_or_pushed, removed_at}
 use Rattle.rhai_run.specs.State.{State, with_entries}
 use Rattle.rhai_run.specs.Reply.{told, nothing, no_entry, constant_entry, shared_entry}
 use Rattle.rhai_run.specs.Entries.{step_set_entry, step_set_or_push, is_there_constant, step_set_value, step_get, appended_or_nothing, step_get_value, viewed_as, step_get_ref, step_set_ref, step_remove, step_set_alias, step_aliases}
 use Rattle.rhai_scope.specs.NamesText.{aliases_text}
-use Rattle.rhai_run.specs.Outcome.{Outcome, given}
+use Rattle.rhai_run.specs.Outcome.{Outcome}
 use Rattle.rhai_scope.specs.Relation.{RelatedEntry}
 use Rattle.rhai_run.specs.Correspondence.{RelatedStates}
 use Rattle.rhai_run.proofs.HandSteps.{unless_shared, same_flat_read}

@@ -1,22 +1,20 @@
 -- Steps on the list of marks, on two states that are the same up to a renaming.
-use Rattle.std.proofs.Common.{◌≡◌, ℕ, zero, suc, true, false, List, [], ◌∷◌, ◌++◌, length, slice_get, Option, Some, None, not, is_some, refl, ap}
-use Rattle.std.specs.List.{AllZip, remove}
+use Rattle.std.proofs.Common.{◌≡◌, ℕ, zero, suc, true, false, List, [], ◌∷◌, length, slice_get, not, refl, ap}
+use Rattle.std.specs.List.{AllZip}
 use Rattle.rhai_value.specs.declared.store.Cell.{Cell}
-use Rattle.rhai_value.specs.Tree.{Tree, cell_of, copy}
+use Rattle.rhai_value.specs.Tree.{Tree, copy}
 use Rattle.rhai_value.specs.End.{first_cell}
-use Rattle.rhai_value.specs.Store.{at, content_at, is_marked_at, put, set_mark}
+use Rattle.rhai_value.specs.Store.{content_at, is_marked_at, put}
 use Rattle.rhai_value.specs.Relation.{Renaming, Related, RelatedCells, Alike}
 use Rattle.rhai_value.proofs.ForCallers.{Paired, length_changed, same_copy, same_first_cell, same_put, same_set_mark, same_shared, zip_append, zip_drop, zip_get, zip_take}
 use Rattle.rhai_run.specs.declared.command.Place.{Place}
 use Rattle.rhai_run.specs.Change.{nowhere}
 use Rattle.rhai_run.specs.Correspondence.{RelatedStates}
-use Rattle.rhai_run.specs.Fits.{MarksAre}
 use Rattle.rhai_run.specs.Marks.{step_mark, step_unmark, step_write_marked, step_read_marked}
-use Rattle.rhai_run.specs.Outcome.{Outcome, given}
-use Rattle.rhai_run.specs.Reply.{Reason, done, refused, no_mark, wrong_source, fault, data_race}
+use Rattle.rhai_run.specs.Reply.{done, no_mark, wrong_source, fault, data_race}
 use Rattle.rhai_run.specs.State.{State, with_marks}
 use Rattle.rhai_run.proofs.MarkLists.{first_is_free, mark_added, mark_taken}
-use Rattle.rhai_run.proofs.Outcome.{Keeps, Matches, m_appended, m_cells, m_given, m_stays, m_there, m_unless, m_value, moved_hand, no_cell}
+use Rattle.rhai_run.proofs.Outcome.{Keeps, Matches, m_appended, m_cells, m_given, m_there, m_unless, m_value, moved_hand, no_cell}
 use Rattle.rhai_run.proofs.PlaceSteps.{m_place}
 
 -- a value is written over in a cell: marks stay

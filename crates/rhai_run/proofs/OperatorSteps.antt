@@ -1,12 +1,11 @@
 -- Operators and assignments, on two states that are the same up to a renaming.
-use Rattle.std.proofs.Common.{◌≡◌, ℕ, Option, Some, None, refl, ap, subst}
+use Rattle.std.proofs.Common.{◌≡◌, ℕ, refl, ap, subst}
 use Rattle.rhai_text.specs.declared.token.Token.{Token}
 use Rattle.rhai_value.specs.Tree.{Tree}
-use Rattle.rhai_value.specs.Relation.{Renaming, Related, Alike}
+use Rattle.rhai_value.specs.Relation.{Renaming, Related}
 use Rattle.rhai_ops.specs.Outcome as call
 use Rattle.rhai_ops.specs.Outcome.{no_place, RelatedOutcomes}
 use Rattle.rhai_ops.specs.Results.{outcome}
-use Rattle.rhai_ops.specs.Table.{row_of}
 use Rattle.rhai_ops.specs.Ways.{way}
 use Rattle.rhai_ops.specs.declared.builtin.FnBuiltin.{FnBuiltin}
 use Rattle.rhai_ops.proofs.ForCallers.{same_row, same_assign_row, same_outcome, same_first_left, same_second_left, same_store_left, length_store_left, marked_store_left}

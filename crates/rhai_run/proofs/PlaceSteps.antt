@@ -1,5 +1,5 @@
 -- What is done at a place, on two states that are the same up to a renaming.
-use Rattle.std.proofs.Common.{◌≡◌, ℕ, Bool, true, false, cond, nat_le, List, [], ◌∷◌, length, slice_set, Option, Some, None, Result, Ok, Err, refl, ap}
+use Rattle.std.proofs.Common.{◌≡◌, ℕ, Bool, true, false, cond, nat_le, List, length, Option, Some, None, Result, Ok, Err, refl, ap}
 use Rattle.std.specs.List.{AllZip}
 use Rattle.rhai_value.specs.declared.store.Cell.{Cell}
 use Rattle.rhai_value.specs.Tree.{Tree}
@@ -7,15 +7,14 @@ use Rattle.rhai_value.specs.Store.{is_marked_at}
 use Rattle.rhai_value.specs.Relation.{Renaming, Related, RelatedCells, Alike}
 use Rattle.rhai_value.proofs.ForCallers.{zip_get, zip_length}
 use Rattle.rhai_scope.specs.Entry.{Entry, is_constant_entry, with_value as holding}
-use Rattle.rhai_scope.specs.Lookup.{last_entry, changed_named}
 use Rattle.rhai_scope.specs.Relation.{RelatedEntry}
 use Rattle.rhai_scope.proofs.ForCallers.{same_last_entry, same_constant, same_changed_named, same_with_value}
 use Rattle.rhai_run.specs.declared.command.Place.{Place}
 use Rattle.rhai_run.specs.declared.command.Place.TheVariants as place
 use Rattle.rhai_run.specs.Correspondence.{RelatedStates}
-use Rattle.rhai_run.specs.Outcome.{Outcome, given, unless}
+use Rattle.rhai_run.specs.Outcome.{Outcome}
 use Rattle.rhai_run.specs.Places.{value_found, entry_found, source, found, with_place, is_beyond, with_place_and, put_at}
-use Rattle.rhai_run.specs.Reply.{Reason, done, refused, no_value, no_entry, constant_entry}
+use Rattle.rhai_run.specs.Reply.{Reason, done, refused, no_value, constant_entry}
 use Rattle.rhai_run.specs.State.{State, with_hand}
 use Rattle.rhai_run.proofs.Outcome.{Matches, no_cell, same_marked, m_stays, m_unless, m_value, m_cells, set_hand}
 

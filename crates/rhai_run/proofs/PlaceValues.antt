@@ -1,15 +1,14 @@
 -- The value at a place: as it is found, lent and written over itself.
-use Rattle.std.proofs.Common.{length, length-set, ◌≡◌, ℕ, zero, suc, Bool, true, false, if◌then◌else◌, List, [], ◌∷◌, slice_get, slice_set, Option, Some, None, option_map, option_and_then, Result, Ok, Err, IfOk, refl, sym, ap, ◌∙◌, subst}
+use Rattle.std.proofs.Common.{length, length-set, ◌≡◌, ℕ, zero, suc, Bool, true, false, List, [], ◌∷◌, slice_get, Option, Some, None, option_map, option_and_then, Ok, refl, sym, ap}
 use Rattle.std.proofs.lemmas.Option.{same_Some}
 use Rattle.rhai_value.specs.Tree.{Tree}
 use Rattle.rhai_scope.specs.Entry.{Entry, is_constant_entry, with_value as holding}
-use Rattle.rhai_scope.specs.Lookup.{changed_if, last_position, last_entry, unless_constant, value_at, with_value_at, writable_position}
+use Rattle.rhai_scope.specs.Lookup.{changed_if, last_position, unless_constant, value_at, with_value_at, writable_position}
 use Rattle.rhai_run.specs.declared.command.Place.{Place}
 use Rattle.rhai_run.specs.declared.command.Place.TheVariants as place
 use Rattle.rhai_run.specs.declared.places.Places.{Places}
 use Rattle.rhai_run.specs.Lent.{lent, placed}
 use Rattle.rhai_run.specs.Places.{value_found, entry_found, source}
-use Rattle.rhai_run.specs.Reply.{Reason}
 use Rattle.rhai_run.proofs.Moves.{set_own}
 
 -- what is lent is what is found

@@ -1,9 +1,9 @@
 -- Write-backs, on two states that are the same up to a renaming.
-use Rattle.std.proofs.Common.{◌≡◌, ℕ, ℤ, Bool, List, [], Option, Some, None, refl, ap}
+use Rattle.std.proofs.Common.{◌≡◌, ℕ, List, [], Option, Some, None, ap}
 use Rattle.std.proofs.lemmas.Option.{same_Some}
 use Rattle.rhai_value.specs.Parts.{leaf_int, leaf_blob, leaf_text}
 use Rattle.rhai_value.specs.Relation.{Renaming, Related, RelatedEnds, Respect, Alike}
-use Rattle.rhai_value.specs.End.{End, end, end_name}
+use Rattle.rhai_value.specs.End.{End, end}
 use Rattle.rhai_value.specs.Tree.{Tree}
 use Rattle.rhai_value.specs.Types.{type_name}
 use Rattle.rhai_value.proofs.ForCallers.{same_end, same_end_type, same_held_leaf}

@@ -1,5 +1,5 @@
 -- Steps on the list of marks.
-use Rattle.std.specs.Prelude.{ℕ, true, false, not, List, [], ◌∷◌, ◌++◌, slice_get, is_some}
+use Rattle.std.specs.Prelude.{ℕ, true, false, not, [], ◌∷◌, ◌++◌, slice_get, is_some}
 use Rattle.std.specs.List.{remove}
 use Rattle.rhai_value.specs.Tree.{copy, cell_of}
 use Rattle.rhai_value.specs.End.{first_cell}

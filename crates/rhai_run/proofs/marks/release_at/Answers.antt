@@ -1,6 +1,5 @@
 use Rattle.std.proofs.Common.{◌≡◌, Some, sym, subst, List}
 use Rattle.std.specs.Prelude.{slice_get}
-use Rattle.std.specs.List.{remove}
 use Rattle.std.proofs.lemmas.Option.{slice_get_read}
 use Rattle.rhai_value.specs.declared.store.Cell.{Cell}
 use Rattle.rhai_run.specs.Fits.{MarksAre}

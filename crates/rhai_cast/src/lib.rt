@@ -9,6 +9,3 @@ mod makers;
 
 pub use cast::DynamicCast;
 pub use lock::write_lock;
-
-#[cfg(test)]
-mod tests;

@@ -19,6 +19,3 @@ pub use hashable::is_hashable;
 pub use hashed_value::Hashed;
 pub use shown::Shown;
 pub use text::{debug_text, display_text};
-
-#[cfg(test)]
-mod tests;

@@ -9,8 +9,6 @@ pub mod laws;
 mod limits;
 mod position;
 mod quote;
-#[cfg(test)]
-mod tests;
 mod token;
 
 pub use error::{ArithmeticFault, EvalAltResult, SizeKind};

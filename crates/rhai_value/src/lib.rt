@@ -51,6 +51,3 @@ pub use scan::Visitor;
 pub use store::{Cell, Store};
 pub use type_id::TypeId;
 pub use union::{Array, Blob, INT, Tag, Union};
-
-#[cfg(test)]
-mod tests;

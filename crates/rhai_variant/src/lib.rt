@@ -9,6 +9,3 @@ mod variant;
 pub use cast_error::CastError;
 pub use content::Content;
 pub use variant::Variant;
-
-#[cfg(test)]
-mod tests;

@@ -2,6 +2,7 @@
 
 use super::*;
 use std::collections::{BTreeMap, BTreeSet, HashMap, HashSet};
+use std::process::Abort;
 
 /// The numbers 1, 2, 3.
 fn numbers(alloc: Global) -> Result<Vec<INT>, Fail> {

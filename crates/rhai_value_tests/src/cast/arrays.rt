@@ -1,6 +1,7 @@
 //! Arrays of values of one type.
 
 use super::*;
+use rhai_value::IntoError;
 
 /// The array of these values.
 fn array(alloc: Global, first: Dynamic, second: Dynamic) -> Result<Dynamic, Fail> {

@@ -1,5 +1,5 @@
 //! References for writing: what they leave where there is nothing to lend.
-use crate::*;
+use rhai_value::{Dynamic, Store};
 use std::process::Abort;
 
 /// A holder of a new cell with this value in it.

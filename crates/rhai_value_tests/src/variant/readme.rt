@@ -3,7 +3,7 @@ ghost use Rattle.std.specs.Prelude.{◌≡◌, true, IfSome, IsNone};
 ghost use Rattle.rhai_value.specs.declared.type_id.TypeId.TheVariants as type_id;
 ghost use Rattle.rhai_value.specs.Types.{is_type};
 
-use crate::Variant;
+use rhai_variant::Variant;
 use std::alloc::Global;
 
 /// Makes a script value and reads it again; only a `String` may find no memory.

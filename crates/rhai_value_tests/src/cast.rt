@@ -1,19 +1,16 @@
-//! What no clause says: that the definitions mean what is wanted, and that calls succeed with ample memory.
+//! Casts: that the definitions mean what is wanted, and that calls succeed with ample memory.
 mod arrays;
 mod chains;
 mod makers;
 mod readme;
 mod refusals;
 
-use super::*;
 use readme::cast_or;
+use rhai_cast::DynamicCast;
 use rhai_text::ImmutableString;
-use rhai_value::{
-    Array, Blob, Dynamic, ExclusiveRange, FnPtr, INT, InclusiveRange, IntoError, Map, Store,
-};
+use rhai_value::{Array, Blob, Dynamic, ExclusiveRange, FnPtr, INT, InclusiveRange, Map, Store};
 use rhai_variant::{CastError, Variant};
 use std::alloc::Global;
-use std::process::Abort;
 use std::test::Fail;
 
 /// A text as a `String`.

@@ -8,8 +8,8 @@ ghost use Rattle.rhai_value.specs.Store.{shared_value, put};
 ghost use Rattle.rhai_value.specs.Tree.{leaf, branch, fields, bool as boolean, text, blob, array};
 ghost use Rattle.rhai_value.specs.Writes.{written};
 
-use crate::*;
 use rhai_text::ImmutableString;
+use rhai_value::{Array, Blob, Dynamic, InStore, Map, Store, laws};
 
 fn write_held(place: &mut InStore<'_>, value: Dynamic) -> bool
     ensures found { result ≡ is_some (held_in (end place.old.store.now [] place.old.value.now)) }

@@ -1,7 +1,9 @@
 //! Casts of holders, and of chains that are stuck or close.
 
 use super::*;
+use rhai_cast::write_lock;
 use rhai_value::InStore;
+use std::process::Abort;
 
 /// Writes over the content of a holder.
 fn put(holder: &mut Dynamic, value: Dynamic, store: &mut Store) -> Result<(), Fail> {

@@ -4,7 +4,7 @@ ghost use Rattle.std.specs.Str.{chars};
 ghost use Rattle.rhai_text.specs.Quote.{quoted_text};
 ghost use Rattle.rhai_text.specs.Text.{minus};
 
-use crate::{EvalAltResult, ImmutableString};
+use rhai_text::{EvalAltResult, ImmutableString};
 use std::alloc::Global;
 use std::test::Fail;
 

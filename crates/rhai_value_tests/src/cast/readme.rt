@@ -3,7 +3,7 @@ ghost use Rattle.std.specs.Prelude.{◌≡◌, IfOk, unwrap_or};
 ghost use Rattle.rhai_value.specs.End.{flattened};
 ghost use Rattle.rhai_variant.specs.Reads.{read};
 
-use crate::DynamicCast;
+use rhai_cast::DynamicCast;
 use rhai_value::{Dynamic, Store};
 use rhai_variant::Variant;
 use std::alloc::{AllocError, Global};

@@ -1,4 +1,4 @@
-//! What no clause says: that the definitions mean what is wanted, and that calls succeed with ample memory.
+//! Values: that the definitions mean what is wanted, and that calls succeed with ample memory.
 ghost use Rattle.std.specs.Prelude.{◌≡◌, None, is_some};
 ghost use Rattle.std.specs.Bool.{OnTrue};
 ghost use Rattle.rhai_value.specs.End.{first};
@@ -12,8 +12,8 @@ mod readme;
 mod references;
 mod scan;
 
-use super::*;
 use rhai_text::ImmutableString;
+use rhai_value::{AccessMode, Dynamic, INT, InStore, Path, Store, Union, laws};
 use std::alloc::AllocError;
 use std::mem::size_of;
 use std::test::Fail;
@@ -188,8 +188,8 @@ fn a_marked_cell_is_read_by_its_token_alone(rt: HostRuntime) -> Result<(), Fail>
 }
 
 #[test]
-#[tactic(auto, using(crate::proofs::RelatedCells::marked_put))]
 fn what_is_written_through_a_token_is_held(rt: HostRuntime) -> Result<(), Fail> {
+    laws::marks_stay();
     let alloc = rt.alloc();
     let mut store = Store::new(alloc);
     let inner = cell_with(Dynamic::from_int(7), &mut store)?;

@@ -1,6 +1,9 @@
 //! Arrays, maps, blobs, function pointers, host numbers and ranges.
-use crate::*;
 use rhai_text::ImmutableString;
+use rhai_value::{
+    AccessMode, Dynamic, ExclusiveRange, FnPtr, Host, InStore, InclusiveRange, IntoError, Map,
+    Store, TypeId, Union,
+};
 use std::alloc::Global;
 use std::process::Abort;
 

@@ -1,7 +1,7 @@
 //! Which values are hashable, and by which bytes.
 
 use super::{add, function, put, shared};
-use crate::{Hashed, hashed, is_hashable};
+use rhai_show::{Hashed, hashed, is_hashable};
 use rhai_value::{Dynamic, ExclusiveRange, Host, InclusiveRange, Map, Store};
 use std::alloc::Global;
 use std::hash::{DefaultHasher, Hash, Hasher};
@@ -51,56 +51,30 @@ fn is_refused(rt: &impl Abort, alloc: Global, value: &Dynamic, store: &Store) ->
 }
 
 #[test]
-fn bytes_of_unit_and_booleans(rt: HostRuntime) -> Result<(), Fail> {
+fn bytes_of_what_has_no_values_inside(rt: HostRuntime) -> Result<(), Fail> {
     let alloc = rt.alloc();
     let store = Store::new(alloc);
-    hashes(&rt, alloc, &Dynamic::UNIT, &store, &[0])?;
-    hashes(&rt, alloc, &Dynamic::TRUE, &store, &[1, 1])?;
-    hashes(&rt, alloc, &Dynamic::FALSE, &store, &[1, 0])
-}
-
-#[test]
-fn bytes_of_a_text(rt: HostRuntime) -> Result<(), Fail> {
-    let alloc = rt.alloc();
-    let store = Store::new(alloc);
+    let values = [
+        (Dynamic::UNIT, &[0][..]),
+        (Dynamic::TRUE, &[1, 1][..]),
+        (Dynamic::FALSE, &[1, 0][..]),
+        (Dynamic::from_char('€'), &[3, 0xac, 0x20, 0, 0][..]),
+        (Dynamic::ONE, &[4, 1, 0, 0, 0, 0, 0, 0, 0][..]),
+        (
+            Dynamic::from_int(-1),
+            &[4, 255, 255, 255, 255, 255, 255, 255, 255][..],
+        ),
+    ];
+    for (value, bytes) in &values {
+        hashes(&rt, alloc, value, &store, bytes)?;
+    }
     let text = Dynamic::from_text(alloc, "a")?;
-    hashes(
-        &rt,
-        alloc,
-        &text,
-        &store,
-        &[2, 1, 0, 0, 0, 0, 0, 0, 0, 0x61],
-    )?;
-    let euro = Dynamic::from_char('€');
-    hashes(&rt, alloc, &euro, &store, &[3, 0xac, 0x20, 0, 0])?;
-    hashes(
-        &rt,
-        alloc,
-        &Dynamic::ONE,
-        &store,
-        &[4, 1, 0, 0, 0, 0, 0, 0, 0],
-    )?;
-    let minus = Dynamic::from_int(-1);
-    let ones = [4, 255, 255, 255, 255, 255, 255, 255, 255];
-    hashes(&rt, alloc, &minus, &store, &ones)
+    let bytes = [2, 1, 0, 0, 0, 0, 0, 0, 0, 0x61];
+    hashes(&rt, alloc, &text, &store, &bytes)
 }
 
 #[test]
-fn bytes_of_a_blob(rt: HostRuntime) -> Result<(), Fail> {
-    let alloc = rt.alloc();
-    let store = Store::new(alloc);
-    let blob = Dynamic::from_blob(vec![in alloc; 0x0a, 0x0b]?);
-    hashes(
-        &rt,
-        alloc,
-        &blob,
-        &store,
-        &[6, 2, 0, 0, 0, 0, 0, 0, 0, 0x0a, 0x0b],
-    )
-}
-
-#[test]
-fn bytes_of_numbers_of_the_host(rt: HostRuntime) -> Result<(), Fail> {
+fn bytes_of_values_of_the_host(rt: HostRuntime) -> Result<(), Fail> {
     let alloc = rt.alloc();
     let store = Store::new(alloc);
     for (host, bytes) in [
@@ -119,6 +93,15 @@ fn bytes_of_numbers_of_the_host(rt: HostRuntime) -> Result<(), Fail> {
             Host::I128(1),
             &[9, 8, 1, 0, 0, 0, 0, 0, 0, 0, 0, 0, 0, 0, 0, 0, 0, 0][..],
         ),
+        // A range without its end, and one with it.
+        (
+            Host::ExclusiveRange(ExclusiveRange { start: 0, end: 3 }),
+            &[9, 9, 0, 0, 0, 0, 0, 0, 0, 0, 3, 0, 0, 0, 0, 0, 0, 0][..],
+        ),
+        (
+            Host::InclusiveRange(InclusiveRange { start: 1, end: 2 }),
+            &[9, 10, 1, 0, 0, 0, 0, 0, 0, 0, 2, 0, 0, 0, 0, 0, 0, 0][..],
+        ),
     ] {
         hashes(&rt, alloc, &Dynamic::from(host), &store, bytes)?;
     }
@@ -126,51 +109,25 @@ fn bytes_of_numbers_of_the_host(rt: HostRuntime) -> Result<(), Fail> {
 }
 
 #[test]
-fn bytes_of_a_range_without_its_end(rt: HostRuntime) -> Result<(), Fail> {
+fn bytes_of_blobs_and_arrays(rt: HostRuntime) -> Result<(), Fail> {
     let alloc = rt.alloc();
     let store = Store::new(alloc);
-    let range = Dynamic::from(Host::ExclusiveRange(ExclusiveRange { start: 0, end: 3 }));
-    let bytes = [9, 9, 0, 0, 0, 0, 0, 0, 0, 0, 3, 0, 0, 0, 0, 0, 0, 0];
-    hashes(&rt, alloc, &range, &store, &bytes)
-}
-
-#[test]
-fn bytes_of_a_range_with_its_end(rt: HostRuntime) -> Result<(), Fail> {
-    let alloc = rt.alloc();
-    let store = Store::new(alloc);
-    let range = Dynamic::from(Host::InclusiveRange(InclusiveRange { start: 1, end: 2 }));
-    let bytes = [9, 10, 1, 0, 0, 0, 0, 0, 0, 0, 2, 0, 0, 0, 0, 0, 0, 0];
-    hashes(&rt, alloc, &range, &store, &bytes)
-}
-
-#[test]
-fn bytes_of_an_array(rt: HostRuntime) -> Result<(), Fail> {
-    let alloc = rt.alloc();
-    let store = Store::new(alloc);
+    let blob = Dynamic::from_blob(vec![in alloc; 0x0a, 0x0b]?);
+    let bytes = [6, 2, 0, 0, 0, 0, 0, 0, 0, 0x0a, 0x0b];
+    hashes(&rt, alloc, &blob, &store, &bytes)?;
     let array = Dynamic::from_array(vec![in alloc; Dynamic::TRUE]?);
-    hashes(
-        &rt,
-        alloc,
-        &array,
-        &store,
-        &[5, 1, 0, 0, 0, 0, 0, 0, 0, 1, 1],
-    )
+    let bytes = [5, 1, 0, 0, 0, 0, 0, 0, 0, 1, 1];
+    hashes(&rt, alloc, &array, &store, &bytes)
 }
 
 #[test]
-fn bytes_of_a_map(rt: HostRuntime) -> Result<(), Fail> {
+fn bytes_of_maps_and_function_pointers(rt: HostRuntime) -> Result<(), Fail> {
     let alloc = rt.alloc();
     let store = Store::new(alloc);
     let mut map = Map::new(alloc);
     add(&mut map, alloc, "a", Dynamic::UNIT)?;
     let bytes = [7, 1, 0, 0, 0, 0, 0, 0, 0, 1, 0, 0, 0, 0, 0, 0, 0, 0x61, 0];
-    hashes(&rt, alloc, &Dynamic::from_map(map), &store, &bytes)
-}
-
-#[test]
-fn bytes_of_a_function_pointer(rt: HostRuntime) -> Result<(), Fail> {
-    let alloc = rt.alloc();
-    let store = Store::new(alloc);
+    hashes(&rt, alloc, &Dynamic::from_map(map), &store, &bytes)?;
     let curried = function(alloc, "f", vec![in alloc; Dynamic::UNIT, Dynamic::FALSE]?)?;
     let bytes = [
         8, 1, 0, 0, 0, 0, 0, 0, 0, 0x66, 2, 0, 0, 0, 0, 0, 0, 0, 0, 1, 0,

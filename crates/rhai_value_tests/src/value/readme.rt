@@ -3,7 +3,7 @@ ghost use Rattle.std.specs.Prelude.{◌≡◌, [], pos, is_some};
 ghost use Rattle.rhai_value.specs.End.{end, held_part, store_after};
 ghost use Rattle.rhai_value.specs.Parts.{int_of, with_int};
 
-use crate::{Dynamic, Store};
+use rhai_value::{Dynamic, Store};
 
 fn reset(counter: &mut Dynamic, store: &mut Store) -> bool
     ensures is_int { result ≡ is_some (held_part int_of (end store.old [] counter.old)) }

@@ -1,33 +1,26 @@
-//! Maps: that the definitions mean what is wanted, shown on small maps, that calls succeed, and that slots are used again.
-use crate::map::Map;
-use crate::union::{INT, Union};
-use crate::{AccessMode, Dynamic};
+//! Maps: that the definitions mean what is wanted, shown on small maps, and that calls succeed, also on keys that were taken out.
+use rhai_value::{Dynamic, INT, Map, Union};
 use std::alloc::{AllocError, Global};
 use std::process::Abort;
 use std::test::Fail;
 
-fn int(value: INT) -> Dynamic {
-    Dynamic {
-        union: Union::Int(0, AccessMode::ReadWrite, value),
-    }
-}
-
 fn int_of(value: &Dynamic) -> Option<INT> {
-    match &value.union {
+    match value.parts() {
         Union::Int(_, _, value) => Some(*value),
         _ => None,
     }
 }
 
-fn put(map: &mut Map, key: &str, value: INT) -> Result<Option<Dynamic>, AllocError> {
-    let key = String::from_str(map.alloc, key)?;
-    map.insert(key, int(value)).map_err(|_| AllocError)
+fn put(map: &mut Map, alloc: Global, key: &str, value: INT) -> Result<Option<Dynamic>, AllocError> {
+    let key = String::from_str(alloc, key)?;
+    map.insert(key, Dynamic::from_int(value))
+        .map_err(|_| AllocError)
 }
 
 fn sample(alloc: Global) -> Result<Map, AllocError> {
     let mut map = Map::new(alloc);
     for (key, value) in [("b", 2), ("", 0), ("é", 4), ("a", 1), ("ba", 3)] {
-        put(&mut map, key, value)?;
+        put(&mut map, alloc, key, value)?;
     }
     Ok(map)
 }
@@ -43,13 +36,6 @@ fn has_entries(map: &Map, wanted: &[(&str, INT)]) -> bool {
         }
     }
     entries.next().is_none() && map.len() == wanted.len()
-}
-
-fn slots(map: &Map) -> usize {
-    match &map.parts {
-        Some(parts) => parts.slots.len(),
-        None => 0,
-    }
 }
 
 #[test]
@@ -75,34 +61,31 @@ fn keys_rise(rt: HostRuntime) -> Result<(), Fail> {
 #[test]
 fn a_key_is_written_over(rt: HostRuntime) -> Result<(), Fail> {
     let mut map = sample(rt.alloc())?;
-    let old = put(&mut map, "b", 20)?;
+    let old = put(&mut map, rt.alloc(), "b", 20)?;
     assert!(rt; old.as_ref().and_then(int_of) == Some(2));
     if let Some(value) = map.get_mut("a") {
-        *value = int(10);
+        *value = Dynamic::from_int(10);
     }
     assert!(rt; has_entries(&map, &[("", 0), ("a", 10), ("b", 20), ("ba", 3), ("é", 4)]));
-    assert_eq!(rt; slots(&map), 6);
-    put(&mut map, "b", 21)?;
-    put(&mut map, "é", 40)?;
+    put(&mut map, rt.alloc(), "b", 21)?;
+    put(&mut map, rt.alloc(), "é", 40)?;
     assert!(rt; has_entries(&map, &[("", 0), ("a", 10), ("b", 21), ("ba", 3), ("é", 40)]));
-    assert_eq!(rt; slots(&map), 6);
     Ok(())
 }
 
 #[test]
-fn slots_are_used_again(rt: HostRuntime) -> Result<(), Fail> {
+fn keys_that_left_are_put_again(rt: HostRuntime) -> Result<(), Fail> {
     let mut map = sample(rt.alloc())?;
     for key in ["b", "é", ""] {
         assert!(rt; map.remove(key).is_some() && map.remove(key).is_none());
     }
     assert!(rt; has_entries(&map, &[("a", 1), ("ba", 3)]));
     for (key, value) in [("z", 9), ("c", 5), ("b", 7)] {
-        assert!(rt; put(&mut map, key, value)?.is_none());
+        assert!(rt; put(&mut map, rt.alloc(), key, value)?.is_none());
     }
     assert!(rt; has_entries(&map, &[("a", 1), ("b", 7), ("ba", 3), ("c", 5), ("z", 9)]));
-    assert_eq!(rt; slots(&map), 5);
-    put(&mut map, "y", 8)?;
-    assert_eq!(rt; slots(&map), 6);
+    put(&mut map, rt.alloc(), "y", 8)?;
+    assert!(rt; map.get("y").and_then(int_of) == Some(8) && map.len() == 6);
     Ok(())
 }
 
@@ -119,11 +102,10 @@ fn entries_leave_in_order(rt: HostRuntime) -> Result<(), Fail> {
         }
     }
     assert!(rt; map.pop_first().is_none() && has_entries(&map, &[]));
-    assert!(rt; put(&mut map, "x", 1)?.is_none());
-    assert_eq!(rt; slots(&map), 5);
+    assert!(rt; put(&mut map, rt.alloc(), "x", 1)?.is_none());
     map.clear();
-    assert!(rt; has_entries(&map, &[]) && slots(&map) == 0);
-    assert!(rt; put(&mut map, "x", 2)?.is_none() && has_entries(&map, &[("x", 2)]));
+    assert!(rt; has_entries(&map, &[]));
+    assert!(rt; put(&mut map, rt.alloc(), "x", 2)?.is_none() && has_entries(&map, &[("x", 2)]));
     Ok(())
 }
 
@@ -139,12 +121,15 @@ fn begins_with(map: &mut Map, key: &str) -> bool {
 }
 
 #[test]
-fn many_changes_take_no_more_slots(rt: HostRuntime) -> Result<(), Fail> {
+fn many_changes_leave_the_entries_of_the_last(rt: HostRuntime) -> Result<(), Fail> {
     let mut map = Map::new(rt.alloc());
     for round in 0..200 {
         for key in ["c", "a", "g", "e", "b", "f", "d"] {
-            assert!(rt; put(&mut map, key, 1)?.is_none(), "{round} {key}");
-            let old = put(&mut map, key, 2)?;
+            assert!(rt;
+                put(&mut map, rt.alloc(), key, 1)?.is_none(),
+                "{round} {key}"
+            );
+            let old = put(&mut map, rt.alloc(), key, 2)?;
             assert!(rt; old.as_ref().and_then(int_of) == Some(1), "{round} {key}");
         }
         for key in ["d", "a", "g", "f"] {
@@ -157,14 +142,14 @@ fn many_changes_take_no_more_slots(rt: HostRuntime) -> Result<(), Fail> {
         for key in ["b", "c", "e"] {
             assert!(rt; begins_with(&mut map, key), "{round} {key}");
         }
-        assert!(rt; map.is_empty() && slots(&map) <= 8, "{round}");
+        assert!(rt; map.is_empty(), "{round}");
     }
     Ok(())
 }
 
 /// The map inside a value, to write.
 fn map_in(value: &mut Dynamic) -> Option<&mut Map> {
-    match &mut value.union {
+    match value.parts_mut() {
         Union::Map(_, _, map) => Some(map),
         _ => None,
     }
@@ -173,7 +158,7 @@ fn map_in(value: &mut Dynamic) -> Option<&mut Map> {
 #[test]
 fn copies_have_the_same_entries(rt: HostRuntime) -> Result<(), Fail> {
     let mut value = Dynamic::from_map(sample(rt.alloc())?);
-    for (gone, left, copied_slots) in [("b", 4, 5), ("", 3, 5), ("é", 2, 5), ("a", 1, 1)] {
+    for (gone, left) in [("b", 4), ("", 3), ("é", 2), ("a", 1)] {
         let mut copy = value.copy(rt.alloc())?;
         let (Some(map), Some(other)) = (map_in(&mut value), map_in(&mut copy)) else {
             assert!(rt; false, "no map");
@@ -194,17 +179,18 @@ fn copies_have_the_same_entries(rt: HostRuntime) -> Result<(), Fail> {
             );
         }
         assert!(rt;
-            other.len() == left && put(other, gone, 7)?.is_none(),
+            other.len() == left && put(other, rt.alloc(), gone, 7)?.is_none(),
             "{gone}"
         );
         assert!(rt;
-            other.get(gone).and_then(int_of) == Some(7) && slots(other) == 5,
+            other.get(gone).and_then(int_of) == Some(7) && !map.contains_key(gone),
             "{gone}"
         );
         let mut last = value.copy(rt.alloc())?;
-        if let Some(map) = map_in(&mut last) {
-            assert!(rt; map.len() == left && slots(map) == copied_slots, "{gone}");
-        }
+        assert!(rt;
+            map_in(&mut last).is_some_and(|map| map.len() == left),
+            "{gone}"
+        );
     }
     assert!(rt; map_in(&mut value).is_some_and(|map| has_entries(map, &[("ba", 3)])));
     Ok(())

@@ -1,7 +1,7 @@
-// What no clause says: that the definitions mean what is wanted, shown on values worked out by hand, and that calls succeed.
+//! Texts: that the definitions mean what is wanted, shown on values worked out by hand, and that calls succeed.
 mod readme;
 
-use super::*;
+use rhai_text::{EvalAltResult, ImmutableString, Position, quoted_char_into, quoted_text_into};
 use std::alloc::{AllocError, Global};
 use std::cmp::Ordering;
 use std::hash::{BuildHasher, BuildHasherDefault, FoldHasher};

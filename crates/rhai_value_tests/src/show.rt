@@ -1,7 +1,8 @@
+//! Printed values.
 mod hash;
 mod readme;
 
-use super::*;
+use rhai_show::{Shown, debug_text, display_text};
 use rhai_text::ImmutableString;
 use rhai_value::{Dynamic, ExclusiveRange, FnPtr, Host, InclusiveRange, Map, Store};
 use std::alloc::Global;
@@ -56,25 +57,18 @@ fn function(alloc: Global, name: &str, curry: Vec<Dynamic>) -> Result<Dynamic, F
 fn plain_values_in_both_forms(rt: HostRuntime) -> Result<(), Fail> {
     let alloc = rt.alloc();
     let store = Store::new(alloc);
-    prints(&rt, alloc, &Dynamic::UNIT, &store, "", "()")?;
-    prints(&rt, alloc, &Dynamic::TRUE, &store, "true", "true")?;
-    prints(&rt, alloc, &Dynamic::FALSE, &store, "false", "false")?;
-    let least = Dynamic::from_int(i64::MIN);
-    let text = "-9223372036854775808";
-    prints(&rt, alloc, &least, &store, text, text)
-}
-
-#[test]
-fn characters_in_both_forms(rt: HostRuntime) -> Result<(), Fail> {
-    let alloc = rt.alloc();
-    let store = Store::new(alloc);
-    for (character, display, debug) in [
-        ('x', "x", "'x'"),
-        ('\'', "'", "'\\''"),
-        ('"', "\"", "'\"'"),
-    ] {
-        let value = Dynamic::from_char(character);
-        prints(&rt, alloc, &value, &store, display, debug)?;
+    let least = "-9223372036854775808";
+    let values = [
+        (Dynamic::UNIT, "", "()"),
+        (Dynamic::TRUE, "true", "true"),
+        (Dynamic::FALSE, "false", "false"),
+        (Dynamic::from_int(i64::MIN), least, least),
+        (Dynamic::from_char('x'), "x", "'x'"),
+        (Dynamic::from_char('\''), "'", "'\\''"),
+        (Dynamic::from_char('"'), "\"", "'\"'"),
+    ];
+    for (value, display, debug) in &values {
+        prints(&rt, alloc, value, &store, display, debug)?;
     }
     Ok(())
 }

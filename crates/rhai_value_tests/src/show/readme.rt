@@ -3,7 +3,7 @@ ghost use Rattle.std.specs.Prelude.{◌≡◌, [], IfOk};
 ghost use Rattle.rhai_show.specs.declared.form.Form.TheVariants.{Debug};
 ghost use Rattle.rhai_show.specs.Text.{printed};
 
-use crate::Shown;
+use rhai_show::Shown;
 use rhai_value::{Dynamic, Store};
 use std::alloc::{AllocError, Global};
 

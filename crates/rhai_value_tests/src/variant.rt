@@ -1,12 +1,12 @@
-//! What no clause says: each of the types, through its bound, with ample memory.
+//! Types of Rust: each of them, through its bound, with ample memory.
 mod readme;
 
-use super::*;
 use readme::there_and_back;
 use rhai_text::ImmutableString;
 use rhai_value::{
     Array, Blob, Dynamic, ExclusiveRange, FnPtr, INT, InclusiveRange, Map, TypeId, Union,
 };
+use rhai_variant::{CastError, Variant};
 use std::alloc::{AllocError, Global};
 use std::process::Abort;
 use std::test::Fail;

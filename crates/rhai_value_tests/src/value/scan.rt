@@ -5,8 +5,10 @@ ghost use Rattle.rhai_value.specs.Scan.{scan, nodes_kept, nodes_unit};
 ghost use Rattle.rhai_value.specs.Tree.{branch, array, no_trees, fresh, unit, cell_of};
 ghost use Rattle.std.proofs.Common.{refl};
 
-use super::*;
+use rhai_text::ImmutableString;
+use rhai_value::{Array, Dynamic, FnPtr, INT, Map, Part, Store, Union, Visitor};
 use std::alloc::Global;
+use std::test::Fail;
 
 /// Makes each int 0.
 #[derive(Drop)]

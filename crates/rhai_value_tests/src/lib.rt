@@ -1,0 +1,13 @@
+//! The tests of the crates of values, from outside.
+#![tactic(auto)]
+
+#[cfg(test)]
+mod cast;
+#[cfg(test)]
+mod show;
+#[cfg(test)]
+mod text;
+#[cfg(test)]
+mod value;
+#[cfg(test)]
+mod variant;

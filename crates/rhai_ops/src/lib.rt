@@ -23,6 +23,3 @@ mod write;
 pub use assign_lookup::get_builtin_op_assignment_fn;
 pub use builtin::FnBuiltin;
 pub use lookup::get_builtin_binary_op_fn;
-
-#[cfg(test)]
-mod tests;

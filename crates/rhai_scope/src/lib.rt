@@ -25,6 +25,3 @@ pub use into_iter::IntoIter;
 pub use iter::{Entries, Iter, IterRaw};
 pub use names_text::aliases_shown;
 pub use scope::{MIN_SCOPE_ENTRIES, Scope};
-
-#[cfg(test)]
-mod tests;

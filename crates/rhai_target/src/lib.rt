@@ -14,6 +14,3 @@ pub use offset::{calc_index, calc_offset_len};
 pub use slice::{Slice, write_slice};
 pub use target::Target;
 pub use write_back::{write_bit, write_byte, write_char, write_field};
-
-#[cfg(test)]
-mod tests;

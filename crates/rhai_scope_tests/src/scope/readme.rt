@@ -1,3 +1,4 @@
+//! The callers that the README of `rhai_scope` shows.
 ghost use Rattle.std.specs.Prelude.{◌≡◌, false, None, option_map, IfSome, IfOk, IfErr, OnOk, pos};
 ghost use Rattle.std.specs.List.{zip};
 ghost use Rattle.std.specs.Str.{chars};
@@ -7,7 +8,7 @@ ghost use Rattle.rhai_scope.specs.Extended.{extended};
 ghost use Rattle.rhai_scope.specs.Lookup.{aliases_named, value_named};
 ghost use Rattle.rhai_scope.specs.NamesText.{aliases_text};
 
-use crate::{Scope, aliases_shown};
+use rhai_scope::{Scope, aliases_shown};
 use rhai_show::Shown;
 use rhai_text::ImmutableString;
 use rhai_value::Dynamic;

@@ -1,10 +1,10 @@
-//! The caller that the README shows.
+//! The caller that the README of `rhai_target` shows.
 ghost use Rattle.std.specs.Prelude.{◌≡◌, ◌<◌, [], IfOk, OnErr};
 ghost use Rattle.std.specs.Bool.{OnFalse, OnTrue};
 ghost use Rattle.rhai_value.specs.End.{end};
 ghost use Rattle.rhai_target.specs.Change.{bit_change, value_changed, store_changed};
 
-use crate::write_bit;
+use rhai_target::write_bit;
 use rhai_text::{EvalAltResult, Position};
 use rhai_value::{Dynamic, Store};
 

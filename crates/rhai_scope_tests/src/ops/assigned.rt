@@ -220,30 +220,30 @@ fn what_is_kept(rt: HostRuntime) {
 }
 
 #[test]
-fn texts_of_characters_and_texts(rt: HostRuntime) {
+fn texts_are_added_and_cut(rt: HostRuntime) {
     let alloc = rt.alloc();
-    let c = Dynamic::from_char;
-    let t = |characters: &str| text(alloc, characters);
-    let none = &UNLIMITED;
-    let (add, cut) = (Token::PlusAssign, Token::MinusAssign);
-    assert!(rt; is_text_after(alloc, none, add, tagged(c('a'), 7), c('b'), ("ab", 0)));
-    assert!(rt; is_text_after(alloc, none, add, tagged(c('a'), 7), t("bc"), ("abc", 0)));
-    assert!(rt; is_text_after(alloc, none, add, tagged(t("hel"), 2), t("lo"), ("hello", 2)));
-    assert!(rt; is_text_after(alloc, none, add, tagged(t("hel"), 2), c('l'), ("hell", 2)));
-    assert!(rt; is_text_after(alloc, none, cut, tagged(t("hello"), 2), c('l'), ("heo", 2)));
-    assert!(rt; is_text_after(alloc, none, cut, tagged(t("aaa"), 2), t("aa"), ("a", 2)));
-}
-
-#[test]
-fn limits_of_texts(rt: HostRuntime) {
-    let alloc = rt.alloc();
+    let none = UNLIMITED;
     let three = Limits { text: 3, items: 1 };
+    let (add, cut) = (Token::PlusAssign, Token::MinusAssign);
     let c = Dynamic::from_char;
     let t = |characters: &str| text(alloc, characters);
-    let add = Token::PlusAssign;
-    assert!(rt; is_text_after(alloc, &three, add, t("ab"), c('c'), ("abc", 0)));
-    assert!(rt; is_text_after(alloc, &three, add, t("abcd"), t(""), ("abcd", 0)));
-    assert!(rt; is_text_after(alloc, &three, add, c('é'), c('é'), ("éé", 0)));
+    for (limits, op, x, y, wanted) in [
+        (none, add, tagged(c('a'), 7), c('b'), ("ab", 0)),
+        (none, add, tagged(c('a'), 7), t("bc"), ("abc", 0)),
+        (none, add, tagged(t("hel"), 2), t("lo"), ("hello", 2)),
+        (none, add, tagged(t("hel"), 2), c('l'), ("hell", 2)),
+        (none, cut, tagged(t("hello"), 2), c('l'), ("heo", 2)),
+        (none, cut, tagged(t("aaa"), 2), t("aa"), ("a", 2)),
+        (three, add, t("ab"), c('c'), ("abc", 0)),
+        (three, add, t("abcd"), t(""), ("abcd", 0)),
+        (three, add, c('é'), c('é'), ("éé", 0)),
+    ] {
+        assert!(rt;
+            is_text_after(alloc, &limits, op, x, y, wanted),
+            "{}",
+            wanted.0
+        );
+    }
     let mut long = Place::new(alloc, t("ab"), c('é'));
     let is_refused = long.is_too_large(alloc, &three, SizeKind::Text);
     assert!(rt; is_refused && long.has_text("ab") && long.y.as_char(&long.store) == Ok('é'));
@@ -252,37 +252,27 @@ fn limits_of_texts(rt: HostRuntime) {
 #[test]
 fn bytes_are_added(rt: HostRuntime) {
     let alloc = rt.alloc();
-    let one = || tagged(blob(alloc, &[1]), 3);
-    let none = &UNLIMITED;
-    let (e, low, below) = (
-        Dynamic::from_char('é'),
-        Dynamic::from_int(511),
-        Dynamic::NEGATIVE_TWO,
-    );
-    assert!(rt; are_bytes_after(alloc, none, one(), e, &[1, 0xc3, 0xa9], false));
-    assert!(rt; are_bytes_after(alloc, none, one(), low, &[1, 0xff], false));
-    assert!(rt; are_bytes_after(alloc, none, one(), below, &[1, 0xfe], false));
-    assert!(rt;
-        are_bytes_after(
-            alloc,
-            none,
-            one(),
-            text(alloc, "hé"),
-            &[1, 0x68, 0xc3, 0xa9],
-            false
-        )
-    );
-    assert!(rt; are_bytes_after(alloc, none, one(), blob(alloc, &[2, 3]), &[1, 2, 3], true));
-}
-
-#[test]
-fn limits_of_blobs(rt: HostRuntime) {
-    let alloc = rt.alloc();
+    let none = UNLIMITED;
     let two = Limits { text: 1, items: 2 };
-    let full = || tagged(blob(alloc, &[1, 2]), 3);
-    assert!(rt; are_bytes_after(alloc, &two, full(), text(alloc, ""), &[1, 2], false));
-    assert!(rt; are_bytes_after(alloc, &two, full(), blob(alloc, &[]), &[1, 2], true));
-    let mut long = Place::new(alloc, blob(alloc, &[1, 2, 3]), blob(alloc, &[]));
+    let c = Dynamic::from_char;
+    let t = |characters: &str| text(alloc, characters);
+    let b = |bytes: &[u8]| blob(alloc, bytes);
+    for (limits, x, y, wanted, taken) in [
+        (none, b(&[1]), c('é'), &[1, 0xc3, 0xa9][..], false),
+        (none, b(&[1]), Dynamic::from_int(511), &[1, 0xff][..], false),
+        (none, b(&[1]), Dynamic::NEGATIVE_TWO, &[1, 0xfe][..], false),
+        (none, b(&[1]), t("hé"), &[1, 0x68, 0xc3, 0xa9][..], false),
+        (none, b(&[1]), b(&[2, 3]), &[1, 2, 3][..], true),
+        (two, b(&[1, 2]), t(""), &[1, 2][..], false),
+        (two, b(&[1, 2]), b(&[]), &[1, 2][..], true),
+    ] {
+        let x = tagged(x, 3);
+        assert!(rt;
+            are_bytes_after(alloc, &limits, x, y, wanted, taken),
+            "{wanted:?}"
+        );
+    }
+    let mut long = Place::new(alloc, b(&[1, 2, 3]), b(&[]));
     let is_refused = long.is_too_large(alloc, &two, SizeKind::Items);
     assert!(rt; is_refused && long.has_bytes(&[1, 2, 3]) && !long.is_taken());
 }
@@ -324,34 +314,6 @@ fn add_held(alloc: Global, place: &mut Place) -> bool {
     row.call(alloc, m, &UNLIMITED, x, y).is_ok()
 }
 
-#[test]
-fn both_may_be_holders_of_one_cell(rt: HostRuntime) -> Result<(), Fail> {
-    let alloc = rt.alloc();
-    let mut five = both(alloc, tagged(Dynamic::from_int(5), 6))?;
-    assert!(rt; add_held(alloc, &mut five));
-    assert!(rt; five.x.as_int(&five.store) == Ok(10) && five.y.as_int(&five.store) == Ok(10));
-    assert!(rt; five.x.held(&five.store).map(|value| value.tag()) == Some(6));
-    Ok(())
-}
-
-#[test]
-fn an_array_may_take_its_own_items(rt: HostRuntime) -> Result<(), Fail> {
-    let alloc = rt.alloc();
-    let mut twice = both(alloc, ints(alloc, &[1, 2]))?;
-    assert!(rt; add_held(alloc, &mut twice));
-    assert!(rt; twice.has_ints(&[1, 2, 1, 2]) && twice.is_taken());
-    Ok(())
-}
-
-#[test]
-fn a_blob_may_take_its_own_bytes(rt: HostRuntime) -> Result<(), Fail> {
-    let alloc = rt.alloc();
-    let mut twice = both(alloc, blob(alloc, &[1, 2]))?;
-    assert!(rt; add_held(alloc, &mut twice));
-    assert!(rt; twice.has_bytes(&[1, 2, 1, 2]) && twice.is_taken());
-    Ok(())
-}
-
 /// Whether an array that takes a holder of its own cell has that alone.
 fn holds_itself(alloc: Global, own: &mut Place) -> bool {
     let (m, x, y) = (&mut own.store, &mut own.x, &mut own.y);
@@ -369,8 +331,18 @@ fn holds_itself(alloc: Global, own: &mut Place) -> bool {
 }
 
 #[test]
-fn an_array_may_hold_its_own_holder(rt: HostRuntime) -> Result<(), Fail> {
+fn both_may_be_holders_of_one_cell(rt: HostRuntime) -> Result<(), Fail> {
     let alloc = rt.alloc();
+    let mut five = both(alloc, tagged(Dynamic::from_int(5), 6))?;
+    assert!(rt; add_held(alloc, &mut five));
+    assert!(rt; five.x.as_int(&five.store) == Ok(10) && five.y.as_int(&five.store) == Ok(10));
+    assert!(rt; five.x.held(&five.store).map(|value| value.tag()) == Some(6));
+    let mut items = both(alloc, ints(alloc, &[1, 2]))?;
+    assert!(rt; add_held(alloc, &mut items));
+    assert!(rt; items.has_ints(&[1, 2, 1, 2]) && items.is_taken());
+    let mut bytes = both(alloc, blob(alloc, &[1, 2]))?;
+    assert!(rt; add_held(alloc, &mut bytes));
+    assert!(rt; bytes.has_bytes(&[1, 2, 1, 2]) && bytes.is_taken());
     let mut own = both(alloc, ints(alloc, &[]))?;
     assert!(rt; holds_itself(alloc, &mut own));
     assert!(rt; own.is_taken());

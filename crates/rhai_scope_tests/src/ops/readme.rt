@@ -1,4 +1,4 @@
-//! The callers that the README shows.
+//! The callers that the README of `rhai_ops` shows.
 ghost use Rattle.std.specs.Prelude.{◌≡◌, None, IfNone, IfOk, IfSome};
 ghost use Rattle.rhai_ops.specs.AssignTable.{assign_row};
 ghost use Rattle.rhai_ops.specs.Outcome.{answers};
@@ -6,8 +6,8 @@ ghost use Rattle.rhai_ops.specs.Results.{outcome};
 ghost use Rattle.rhai_ops.specs.Table.{row_of};
 ghost use Rattle.rhai_ops.specs.Ways.{first_left, way};
 
-use crate::laws::{operators_write_nothing, rows_suit};
-use crate::{get_builtin_binary_op_fn, get_builtin_op_assignment_fn};
+use rhai_ops::laws::{operators_write_nothing, rows_suit};
+use rhai_ops::{get_builtin_binary_op_fn, get_builtin_op_assignment_fn};
 use rhai_text::{EvalAltResult, Limits, Token};
 use rhai_value::{Dynamic, Store};
 use std::alloc::Global;

@@ -7,8 +7,8 @@ mod limits;
 mod pairs;
 mod readme;
 
-use crate::tests::readme::{assign, operate};
-use crate::*;
+use crate::ops::readme::{assign, operate};
+use rhai_ops::{FnBuiltin, get_builtin_binary_op_fn, get_builtin_op_assignment_fn};
 use rhai_text::{ArithmeticFault, EvalAltResult, Limits, Position, SizeKind, Token};
 use rhai_value::{Dynamic, ExclusiveRange, FnPtr, Host, INT, InclusiveRange, Map, Store};
 use std::alloc::Global;

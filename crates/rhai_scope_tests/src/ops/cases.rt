@@ -1,91 +1,6 @@
 //! Worked cases of other values.
 use super::*;
 
-fn says(rt: &impl Abort, alloc: Global, x: Dynamic, op: Token, y: Dynamic, wanted: bool) {
-    let store = Store::new(alloc);
-    assert!(rt; bool_in(answer(alloc, x, op, y), &store) == Some(wanted));
-}
-
-#[test]
-fn characters_beside_texts(rt: HostRuntime) {
-    let alloc = rt.alloc();
-    let b = Dynamic::from_char;
-    says(&rt, alloc, b('b'), Token::LessThan, text(alloc, "ba"), true);
-    says(
-        &rt,
-        alloc,
-        b('b'),
-        Token::GreaterThan,
-        text(alloc, ""),
-        true,
-    );
-    says(&rt, alloc, b('b'), Token::EqualsTo, text(alloc, "b"), true);
-    says(&rt, alloc, text(alloc, "b"), Token::EqualsTo, b('b'), true);
-    says(
-        &rt,
-        alloc,
-        text(alloc, "ab"),
-        Token::GreaterThan,
-        b('b'),
-        false,
-    );
-}
-
-#[test]
-fn comparisons(rt: HostRuntime) {
-    let alloc = rt.alloc();
-    let unit = || Dynamic::UNIT;
-    says(
-        &rt,
-        alloc,
-        unit(),
-        Token::GreaterThanEqualsTo,
-        unit(),
-        false,
-    );
-    says(&rt, alloc, unit(), Token::EqualsTo, unit(), true);
-    says(
-        &rt,
-        alloc,
-        Dynamic::ONE,
-        Token::NotEqualsTo,
-        text(alloc, "a"),
-        true,
-    );
-    says(
-        &rt,
-        alloc,
-        Dynamic::FALSE,
-        Token::LessThan,
-        Dynamic::TRUE,
-        true,
-    );
-    says(
-        &rt,
-        alloc,
-        Dynamic::TWO,
-        Token::LessThanEqualsTo,
-        Dynamic::TWO,
-        true,
-    );
-    says(
-        &rt,
-        alloc,
-        blob(alloc, &[1, 2]),
-        Token::EqualsTo,
-        blob(alloc, &[1, 2]),
-        true,
-    );
-    says(
-        &rt,
-        alloc,
-        blob(alloc, &[1, 2]),
-        Token::NotEqualsTo,
-        blob(alloc, &[1, 3]),
-        true,
-    );
-}
-
 fn exclusive(start: INT, end: INT) -> Dynamic {
     Dynamic::from(ExclusiveRange { start, end })
 }
@@ -95,48 +10,39 @@ fn inclusive(start: INT, end: INT) -> Dynamic {
 }
 
 #[test]
-fn ranges_compared(rt: HostRuntime) {
+fn comparisons(rt: HostRuntime) {
     let alloc = rt.alloc();
-    says(
-        &rt,
-        alloc,
-        exclusive(0, 3),
-        Token::EqualsTo,
-        inclusive(0, 3),
-        false,
-    );
-    says(
-        &rt,
-        alloc,
-        exclusive(0, 3),
-        Token::NotEqualsTo,
-        inclusive(0, 3),
-        true,
-    );
-    says(
-        &rt,
-        alloc,
-        exclusive(0, 3),
-        Token::EqualsTo,
-        exclusive(0, 3),
-        true,
-    );
-    says(
-        &rt,
-        alloc,
-        exclusive(0, 3),
-        Token::EqualsTo,
-        exclusive(0, 4),
-        false,
-    );
-    says(
-        &rt,
-        alloc,
-        inclusive(0, 3),
-        Token::NotEqualsTo,
-        inclusive(1, 3),
-        true,
-    );
+    let store = Store::new(alloc);
+    let c = Dynamic::from_char;
+    let t = |characters: &str| text(alloc, characters);
+    let b = |bytes: &[u8]| blob(alloc, bytes);
+    for (x, op, y, wanted) in [
+        (
+            Dynamic::UNIT,
+            Token::GreaterThanEqualsTo,
+            Dynamic::UNIT,
+            false,
+        ),
+        (Dynamic::UNIT, Token::EqualsTo, Dynamic::UNIT, true),
+        (Dynamic::ONE, Token::NotEqualsTo, t("a"), true),
+        (Dynamic::FALSE, Token::LessThan, Dynamic::TRUE, true),
+        (Dynamic::TWO, Token::LessThanEqualsTo, Dynamic::TWO, true),
+        (c('b'), Token::LessThan, t("ba"), true),
+        (c('b'), Token::GreaterThan, t(""), true),
+        (c('b'), Token::EqualsTo, t("b"), true),
+        (t("b"), Token::EqualsTo, c('b'), true),
+        (t("ab"), Token::GreaterThan, c('b'), false),
+        (b(&[1, 2]), Token::EqualsTo, b(&[1, 2]), true),
+        (b(&[1, 2]), Token::NotEqualsTo, b(&[1, 3]), true),
+        (exclusive(0, 3), Token::EqualsTo, inclusive(0, 3), false),
+        (exclusive(0, 3), Token::NotEqualsTo, inclusive(0, 3), true),
+        (exclusive(0, 3), Token::EqualsTo, exclusive(0, 3), true),
+        (exclusive(0, 3), Token::EqualsTo, exclusive(0, 4), false),
+        (inclusive(0, 3), Token::NotEqualsTo, inclusive(1, 3), true),
+    ] {
+        let answer = answer(alloc, x, op, y);
+        assert_eq!(rt; bool_in(answer, &store), Some(wanted), "at {op:?}");
+    }
 }
 
 /// Asserts that the range between two values is this one, without its end or with it.
@@ -259,6 +165,16 @@ fn blobs(rt: HostRuntime) {
     joins(&rt, alloc, tagged(alloc), e, &[1, 195, 169], 0);
 }
 
+/// The row of two unshared ints, called on two values that hold ints.
+fn added(alloc: Global, m: &mut Store, x: &mut Dynamic, y: &mut Dynamic) -> Answer {
+    if x.is_int(m) && y.is_int(m) {
+        let row = FnBuiltin::Int(Token::Plus);
+        Ok(Some(row.call(alloc, m, &UNLIMITED, x, y)?))
+    } else {
+        Ok(None)
+    }
+}
+
 #[test]
 fn shared_operands(rt: HostRuntime) -> Result<(), Fail> {
     let alloc = rt.alloc();
@@ -274,23 +190,6 @@ fn shared_operands(rt: HostRuntime) -> Result<(), Fail> {
         &mut y,
     );
     assert!(rt; bool_in(answer, &store) == Some(false));
-    Ok(())
-}
-
-/// The row of two unshared ints, called on two values that hold ints.
-fn added(alloc: Global, m: &mut Store, x: &mut Dynamic, y: &mut Dynamic) -> Answer {
-    if x.is_int(m) && y.is_int(m) {
-        let row = FnBuiltin::Int(Token::Plus);
-        Ok(Some(row.call(alloc, m, &UNLIMITED, x, y)?))
-    } else {
-        Ok(None)
-    }
-}
-
-#[test]
-fn a_row_goes_by_what_is_held(rt: HostRuntime) -> Result<(), Fail> {
-    let alloc = rt.alloc();
-    let mut store = Store::new(alloc);
     let mut x = shared(Dynamic::from_int(5), &mut store)?;
     let mut y = Dynamic::from_int(6);
     let sum = added(alloc, &mut store, &mut x, &mut y);

@@ -1,11 +1,4 @@
-use super::*;
-use readme::{aliases_of, declare_all, own_value, set, write_int};
-use rhai_text::ImmutableString;
-use rhai_value::{AccessMode, Dynamic, Store};
-use std::alloc::{AllocError, Global};
-use std::process::Abort;
-use std::test::Fail;
-
+//! Tests of the scope: that its calls succeed with ample memory, and that the definitions mean what is wanted.
 mod aliases;
 mod holders;
 mod iterators;
@@ -13,6 +6,14 @@ mod readme;
 mod typed;
 mod vectors;
 mod whole;
+
+use readme::{aliases_of, declare_all, own_value, set, write_int};
+use rhai_scope::Scope;
+use rhai_text::ImmutableString;
+use rhai_value::{AccessMode, Dynamic, Store};
+use std::alloc::{AllocError, Global};
+use std::process::Abort;
+use std::test::Fail;
 
 fn push(scope: &mut Scope, name: &str, value: i64) -> Result<(), AllocError> {
     scope.push_dynamic(name, Dynamic::from_int(value))

@@ -6,7 +6,10 @@ mod refusals;
 mod slices;
 mod targets;
 
-use super::*;
+use rhai_target::{
+    Slice, Target, calc_index, calc_offset_len, write_bit, write_byte, write_char, write_field,
+    write_slice,
+};
 use rhai_text::{EvalAltResult, Position};
 use rhai_value::{Dynamic, Store};
 use std::alloc::Global;
@@ -14,22 +17,32 @@ use std::process::Abort;
 use std::test::Fail;
 
 #[test]
-fn slices_start_and_stop_inside(rt: HostRuntime) -> Result<(), Fail> {
-    assert_eq!(rt; calc_offset_len(5, -2, 10), (3, 2));
-    assert_eq!(rt; calc_offset_len(0, -1, 4), (0, 0));
-    assert_eq!(rt; calc_offset_len(5, i64::MIN, i64::MAX), (0, 5));
-    assert_eq!(rt; calc_offset_len(5, 5, 1), (5, 0));
-    Ok(())
-}
-
-#[test]
-fn an_index_may_count_from_the_end(rt: HostRuntime) -> Result<(), Fail> {
-    assert_eq!(rt; calc_index(5, -5, true), Some(0));
-    assert_eq!(rt; calc_index(5, -6, true), None);
-    assert_eq!(rt; calc_index(5, 5, true), None);
-    assert_eq!(rt; calc_index(0, 0, true), None);
-    assert_eq!(rt; calc_index(5, -1, false), None);
-    Ok(())
+fn places_in_lists(rt: HostRuntime) {
+    for (length, start, count, wanted) in [
+        (5, -2, 10, (3, 2)),
+        (0, -1, 4, (0, 0)),
+        (5, i64::MIN, i64::MAX, (0, 5)),
+        (5, 5, 1, (5, 0)),
+    ] {
+        assert_eq!(rt;
+            calc_offset_len(length, start, count),
+            wanted,
+            "{count} from {start}"
+        );
+    }
+    for (length, index, from_end, wanted) in [
+        (5, -5, true, Some(0)),
+        (5, -6, true, None),
+        (5, 5, true, None),
+        (0, 0, true, None),
+        (5, -1, false, None),
+    ] {
+        assert_eq!(rt;
+            calc_index(length, index, from_end),
+            wanted,
+            "{index} of {length}"
+        );
+    }
 }
 
 /// A holder of a new cell with this value in it, also where the value is a holder.

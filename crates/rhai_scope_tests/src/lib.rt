@@ -1,0 +1,9 @@
+//! Tests of the operators, the targets and the scope, by their public calls and contracts alone.
+#![tactic(auto)]
+
+#[cfg(test)]
+mod ops;
+#[cfg(test)]
+mod scope;
+#[cfg(test)]
+mod target;

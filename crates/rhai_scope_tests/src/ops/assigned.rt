@@ -314,6 +314,34 @@ fn add_held(alloc: Global, place: &mut Place) -> bool {
     row.call(alloc, m, &UNLIMITED, x, y).is_ok()
 }
 
+#[test]
+fn both_may_be_holders_of_one_cell(rt: HostRuntime) -> Result<(), Fail> {
+    let alloc = rt.alloc();
+    let mut five = both(alloc, tagged(Dynamic::from_int(5), 6))?;
+    assert!(rt; add_held(alloc, &mut five));
+    assert!(rt; five.x.as_int(&five.store) == Ok(10) && five.y.as_int(&five.store) == Ok(10));
+    assert!(rt; five.x.held(&five.store).map(|value| value.tag()) == Some(6));
+    Ok(())
+}
+
+#[test]
+fn an_array_may_take_its_own_items(rt: HostRuntime) -> Result<(), Fail> {
+    let alloc = rt.alloc();
+    let mut twice = both(alloc, ints(alloc, &[1, 2]))?;
+    assert!(rt; add_held(alloc, &mut twice));
+    assert!(rt; twice.has_ints(&[1, 2, 1, 2]) && twice.is_taken());
+    Ok(())
+}
+
+#[test]
+fn a_blob_may_take_its_own_bytes(rt: HostRuntime) -> Result<(), Fail> {
+    let alloc = rt.alloc();
+    let mut twice = both(alloc, blob(alloc, &[1, 2]))?;
+    assert!(rt; add_held(alloc, &mut twice));
+    assert!(rt; twice.has_bytes(&[1, 2, 1, 2]) && twice.is_taken());
+    Ok(())
+}
+
 /// Whether an array that takes a holder of its own cell has that alone.
 fn holds_itself(alloc: Global, own: &mut Place) -> bool {
     let (m, x, y) = (&mut own.store, &mut own.x, &mut own.y);
@@ -331,18 +359,8 @@ fn holds_itself(alloc: Global, own: &mut Place) -> bool {
 }
 
 #[test]
-fn both_may_be_holders_of_one_cell(rt: HostRuntime) -> Result<(), Fail> {
+fn an_array_may_hold_its_own_holder(rt: HostRuntime) -> Result<(), Fail> {
     let alloc = rt.alloc();
-    let mut five = both(alloc, tagged(Dynamic::from_int(5), 6))?;
-    assert!(rt; add_held(alloc, &mut five));
-    assert!(rt; five.x.as_int(&five.store) == Ok(10) && five.y.as_int(&five.store) == Ok(10));
-    assert!(rt; five.x.held(&five.store).map(|value| value.tag()) == Some(6));
-    let mut items = both(alloc, ints(alloc, &[1, 2]))?;
-    assert!(rt; add_held(alloc, &mut items));
-    assert!(rt; items.has_ints(&[1, 2, 1, 2]) && items.is_taken());
-    let mut bytes = both(alloc, blob(alloc, &[1, 2]))?;
-    assert!(rt; add_held(alloc, &mut bytes));
-    assert!(rt; bytes.has_bytes(&[1, 2, 1, 2]) && bytes.is_taken());
     let mut own = both(alloc, ints(alloc, &[]))?;
     assert!(rt; holds_itself(alloc, &mut own));
     assert!(rt; own.is_taken());

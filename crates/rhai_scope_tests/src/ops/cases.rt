@@ -68,28 +68,17 @@ fn spans(rt: &impl Abort, alloc: Global, x: Dynamic, op: Token, y: Dynamic, want
 #[test]
 fn ranges(rt: HostRuntime) {
     let alloc = rt.alloc();
-    let exclusive = Token::ExclusiveRange;
-    let inclusive = Token::InclusiveRange;
-    spans(
-        &rt,
-        alloc,
-        Dynamic::THREE,
-        exclusive,
-        Dynamic::UNIT,
-        (3, INT::MAX),
-    );
-    spans(
-        &rt,
-        alloc,
-        Dynamic::THREE,
-        inclusive,
-        Dynamic::UNIT,
-        (3, INT::MAX),
-    );
-    spans(&rt, alloc, Dynamic::UNIT, exclusive, Dynamic::THREE, (0, 3));
-    spans(&rt, alloc, Dynamic::UNIT, inclusive, Dynamic::THREE, (0, 3));
-    spans(&rt, alloc, Dynamic::TWO, exclusive, Dynamic::ONE, (2, 1));
-    spans(&rt, alloc, Dynamic::TWO, inclusive, Dynamic::ONE, (2, 1));
+    let (exclusive, inclusive) = (Token::ExclusiveRange, Token::InclusiveRange);
+    for (x, op, y, wanted) in [
+        (Dynamic::THREE, exclusive, Dynamic::UNIT, (3, INT::MAX)),
+        (Dynamic::THREE, inclusive, Dynamic::UNIT, (3, INT::MAX)),
+        (Dynamic::UNIT, exclusive, Dynamic::THREE, (0, 3)),
+        (Dynamic::UNIT, inclusive, Dynamic::THREE, (0, 3)),
+        (Dynamic::TWO, exclusive, Dynamic::ONE, (2, 1)),
+        (Dynamic::TWO, inclusive, Dynamic::ONE, (2, 1)),
+    ] {
+        spans(&rt, alloc, x, op, y, wanted);
+    }
 }
 
 /// Asserts that a text is answered.
@@ -109,29 +98,20 @@ fn spells(rt: &impl Abort, alloc: Global, x: Dynamic, op: Token, y: Dynamic, wan
 fn texts(rt: HostRuntime) {
     let alloc = rt.alloc();
     let c = Dynamic::from_char;
-    let plus = Token::Plus;
-    spells(&rt, alloc, text(alloc, "ab"), plus, text(alloc, "é"), "abé");
-    spells(&rt, alloc, text(alloc, "ab"), plus, c('é'), "abé");
-    spells(&rt, alloc, c('é'), plus, text(alloc, "ab"), "éab");
-    spells(&rt, alloc, c('a'), plus, c('b'), "ab");
-    spells(&rt, alloc, Dynamic::UNIT, plus, text(alloc, "ab"), "ab");
-    spells(&rt, alloc, text(alloc, "ab"), plus, Dynamic::UNIT, "ab");
-    spells(
-        &rt,
-        alloc,
-        text(alloc, "aaa"),
-        Token::Minus,
-        text(alloc, "aa"),
-        "a",
-    );
-    spells(
-        &rt,
-        alloc,
-        text(alloc, "hello"),
-        Token::Minus,
-        c('l'),
-        "heo",
-    );
+    let t = |characters: &str| text(alloc, characters);
+    let (plus, minus) = (Token::Plus, Token::Minus);
+    for (x, op, y, wanted) in [
+        (t("ab"), plus, t("é"), "abé"),
+        (t("ab"), plus, c('é'), "abé"),
+        (c('é'), plus, t("ab"), "éab"),
+        (c('a'), plus, c('b'), "ab"),
+        (Dynamic::UNIT, plus, t("ab"), "ab"),
+        (t("ab"), plus, Dynamic::UNIT, "ab"),
+        (t("aaa"), minus, t("aa"), "a"),
+        (t("hello"), minus, c('l'), "heo"),
+    ] {
+        spells(&rt, alloc, x, op, y, wanted);
+    }
 }
 
 /// Asserts that the sum of two values is a blob of these bytes with this tag.
@@ -165,16 +145,6 @@ fn blobs(rt: HostRuntime) {
     joins(&rt, alloc, tagged(alloc), e, &[1, 195, 169], 0);
 }
 
-/// The row of two unshared ints, called on two values that hold ints.
-fn added(alloc: Global, m: &mut Store, x: &mut Dynamic, y: &mut Dynamic) -> Answer {
-    if x.is_int(m) && y.is_int(m) {
-        let row = FnBuiltin::Int(Token::Plus);
-        Ok(Some(row.call(alloc, m, &UNLIMITED, x, y)?))
-    } else {
-        Ok(None)
-    }
-}
-
 #[test]
 fn shared_operands(rt: HostRuntime) -> Result<(), Fail> {
     let alloc = rt.alloc();
@@ -190,6 +160,23 @@ fn shared_operands(rt: HostRuntime) -> Result<(), Fail> {
         &mut y,
     );
     assert!(rt; bool_in(answer, &store) == Some(false));
+    Ok(())
+}
+
+/// The row of two unshared ints, called on two values that hold ints.
+fn added(alloc: Global, m: &mut Store, x: &mut Dynamic, y: &mut Dynamic) -> Answer {
+    if x.is_int(m) && y.is_int(m) {
+        let row = FnBuiltin::Int(Token::Plus);
+        Ok(Some(row.call(alloc, m, &UNLIMITED, x, y)?))
+    } else {
+        Ok(None)
+    }
+}
+
+#[test]
+fn a_row_goes_by_what_is_held(rt: HostRuntime) -> Result<(), Fail> {
+    let alloc = rt.alloc();
+    let mut store = Store::new(alloc);
     let mut x = shared(Dynamic::from_int(5), &mut store)?;
     let mut y = Dynamic::from_int(6);
     let sum = added(alloc, &mut store, &mut x, &mut y);

@@ -42,7 +42,7 @@ fn share_meanwhile(holder: &Dynamic, m: &mut Store, value: Dynamic) -> Result<Dy
 }
 
 #[test]
-fn a_marked_cell_is_written_and_another_one_made(rt: HostRuntime) -> Result<(), Fail> {
+fn a_cell_is_made_while_another_is_marked(rt: HostRuntime) -> Result<(), Fail> {
     let mut store = Store::new(rt.alloc());
     let holder = cell_of(&rt, Dynamic::ONE, &mut store);
     assert!(rt; holder.is_shared());
@@ -50,8 +50,32 @@ fn a_marked_cell_is_written_and_another_one_made(rt: HostRuntime) -> Result<(), 
         Ok(shared) => assert!(rt; shared.is_bool(&store) && holder.is_int(&store)),
         Err(_) => return Err("room for a cell".into()),
     }
+    Ok(())
+}
+
+#[test]
+fn a_holder_is_assigned_through_its_mark(rt: HostRuntime) -> Result<(), Fail> {
+    let mut store = Store::new(rt.alloc());
+    let holder = cell_of(&rt, Dynamic::ONE, &mut store);
+    assert!(rt; holder.is_shared());
     assert!(rt; assign(&holder, &mut store, Dynamic::TRUE).is_ok());
     assert!(rt; holder.is_bool(&store) && !holder.is_locked(&store));
+    Ok(())
+}
+
+#[test]
+fn a_value_is_changed_by_a_function(rt: HostRuntime) -> Result<(), Fail> {
+    let alloc = rt.alloc();
+    let mut store = Store::new(alloc);
+    let mut target = Target::from(Dynamic::ONE);
+    let tag = target.with_mut(&mut store, |value| {
+        value.set_tag(5);
+        value.tag()
+    });
+    match target.take_or_clone(alloc, &mut store) {
+        Ok(value) => assert!(rt; tag == 5 && value.tag() == 5),
+        Err(target) => target.release(&mut store),
+    }
     Ok(())
 }
 

@@ -38,37 +38,53 @@ fn taken_at_last(target: Target, alloc: Global, store: &mut Store) -> Result<Dyn
     }
 }
 
+/// Writes a character into the text "ab", again where memory was refused once.
+fn write_char_at_last(rt: &impl Abort, holder: &mut Dynamic, alloc: Global, store: &mut Store) {
+    let value = Dynamic::from_char('x');
+    assert!(rt; holder.is_string(store));
+    if write_char(holder, alloc, store, &value, 0, Position::NONE).is_err() {
+        assert!(rt; is_text(holder, store, "ab") && !holder.is_locked(store));
+        assert!(rt; holder.is_string(store));
+        assert!(rt; write_char(holder, alloc, store, &value, 0, Position::NONE).is_ok());
+    }
+    assert!(rt; is_text(holder, store, "xb"));
+}
+
+/// Writes a slice into the text "xb", again where memory was refused once.
+fn write_slice_at_last(rt: &impl Abort, holder: &mut Dynamic, alloc: Global, store: &mut Store) {
+    let value = Dynamic::from_char('x');
+    let slice = Slice {
+        start: 1,
+        end: 1,
+        exclusive: true,
+    };
+    assert!(rt; holder.is_string(store));
+    if write_slice(holder, alloc, store, &value, slice).is_err() {
+        assert!(rt; is_text(holder, store, "xb") && !holder.is_locked(store));
+        assert!(rt; holder.is_string(store));
+        assert!(rt; write_slice(holder, alloc, store, &value, slice).is_ok());
+    }
+    assert!(rt; is_text(holder, store, "xxb"));
+}
+
+/// A blob of one byte, asked for again where memory was refused once.
+fn blob_at_last(alloc: Global) -> Result<Dynamic, Fail> {
+    let mut bytes = Vec::new(alloc);
+    if bytes.push(7).is_err() {
+        bytes.push(7)?;
+    }
+    Ok(Dynamic::from_blob(bytes))
+}
+
 /// Passes too where any one growth is refused.
 #[test]
 fn a_refused_growth_changes_nothing(rt: HostRuntime) -> Result<(), Fail> {
     let alloc = rt.alloc();
     let mut store = Store::new(alloc);
     let mut holder = shared_at_last(text_at_last(alloc, "ab")?, &mut store)?;
-    let value = Dynamic::from_char('x');
-    assert!(rt; holder.is_string(&store));
-    if write_char(&mut holder, alloc, &mut store, &value, 0, Position::NONE).is_err() {
-        assert!(rt; is_text(&holder, &store, "ab") && !holder.is_locked(&store));
-        assert!(rt; holder.is_string(&store));
-        assert!(rt; write_char(&mut holder, alloc, &mut store, &value, 0, Position::NONE).is_ok());
-    }
-    assert!(rt; is_text(&holder, &store, "xb"));
-    let slice = Slice {
-        start: 1,
-        end: 1,
-        exclusive: true,
-    };
-    assert!(rt; holder.is_string(&store));
-    if write_slice(&mut holder, alloc, &mut store, &value, slice).is_err() {
-        assert!(rt; is_text(&holder, &store, "xb") && !holder.is_locked(&store));
-        assert!(rt; holder.is_string(&store));
-        write_slice(&mut holder, alloc, &mut store, &value, slice)?;
-    }
-    assert!(rt; is_text(&holder, &store, "xxb"));
-    let mut bytes = Vec::new(alloc);
-    if bytes.push(7).is_err() {
-        bytes.push(7)?;
-    }
-    let mut blob = Dynamic::from_blob(bytes);
+    write_char_at_last(&rt, &mut holder, alloc, &mut store);
+    write_slice_at_last(&rt, &mut holder, alloc, &mut store);
+    let mut blob = blob_at_last(alloc)?;
     let copy = taken_at_last(Target::RefMut(&mut blob), alloc, &mut store)?;
     assert!(rt; copy.is_blob(&store));
     Ok(())

@@ -88,18 +88,14 @@ fn a_reference_is_handed_back(rt: HostRuntime) -> Result<(), Fail> {
 }
 
 #[test]
-fn a_temporary_value_is_changed_and_taken(rt: HostRuntime) -> Result<(), Fail> {
+fn a_temporary_value_is_taken(rt: HostRuntime) -> Result<(), Fail> {
     let alloc = rt.alloc();
     let mut store = Store::new(alloc);
     let mut target = Target::from(Dynamic::ONE);
     target.put(&mut store, Dynamic::TRUE);
     assert!(rt; target.source(&store).is_bool(&store));
-    let tag = target.with_mut(&mut store, |value| {
-        value.set_tag(5);
-        value.tag()
-    });
     match target.take_or_clone(alloc, &mut store) {
-        Ok(value) => assert!(rt; value.is_bool(&store) && tag == 5 && value.tag() == 5),
+        Ok(value) => assert!(rt; value.is_bool(&store)),
         Err(target) => target.release(&mut store),
     }
     Ok(())

@@ -21,6 +21,7 @@ mod operators;
 mod page;
 mod places;
 mod printed;
+mod printed_values;
 mod questions;
 mod session;
 mod values;
@@ -96,35 +97,42 @@ fn answers(alloc: Global, input: &[u8]) -> Result<Vec<u8>, LinesFault>
     Ok(out)
 }
 
-/// A name, and lines with their answers.
-type Section = (&'static str, &'static [(&'static str, &'static str)]);
+/// The line and the answer of a row, `line -> answer`. Where an answer goes on, the line is empty.
+fn row_of(row: &str) -> Option<(&str, &str)> {
+    let (line, answer) = row.split_once(" ->")?;
+    Some((line, answer.strip_prefix(' ').unwrap_or(answer)))
+}
 
 /// What is written for the lines of the rows, as a text.
-fn asked(alloc: Global, rows: &[(&str, &str)]) -> Result<String, Fail> {
+fn asked(alloc: Global, rows: &str) -> Result<String, Fail> {
     let mut input = Vec::new(alloc);
-    for (line, _) in rows {
-        input.extend_from_slice(line.as_bytes())?;
-        input.extend_from_slice(b"\n")?;
+    for (line, _) in rows.lines().filter_map(row_of) {
+        if !line.is_empty() {
+            input.extend_from_slice(line.as_bytes())?;
+            input.extend_from_slice(b"\n")?;
+        }
     }
     let out = answers(alloc, &input)?;
     Ok(String::from_utf8_lossy(alloc, &out)?)
 }
 
 /// The answers of the rows, each on a line of its own.
-fn wanted(alloc: Global, rows: &[(&str, &str)]) -> Result<String, AllocError> {
+fn wanted(alloc: Global, rows: &str) -> Result<String, AllocError> {
     let mut text = String::new(alloc);
-    for (_, answer) in rows {
+    for (_, answer) in rows.lines().filter_map(row_of) {
         text.push_str(answer)?;
         text.push_str("\n")?;
     }
     Ok(text)
 }
 
-/// Asserts that the lines of each section are answered as it says, each section on a new world.
-fn are_answered(rt: &impl Abort, alloc: Global, sections: &[Section]) -> Result<(), Fail> {
-    for (section, rows) in sections {
-        let answers = asked(alloc, rows)?;
-        assert_eq!(rt; answers, wanted(alloc, rows)?, "in {section}");
+/// Asserts that the lines of each section are answered as it says, each section on a new world. A section has a name, `# name`.
+fn are_answered(rt: &impl Abort, alloc: Global, sections: &str) -> Result<(), Fail> {
+    for section in sections.split("\n# ") {
+        if let Some((name, rows)) = section.split_once('\n') {
+            let answers = asked(alloc, rows)?;
+            assert_eq!(rt; answers, wanted(alloc, rows)?, "in {name}");
+        }
     }
     Ok(())
 }
@@ -153,11 +161,11 @@ fn printed_lines(alloc: Global, answers: &[Answer]) -> Result<String, AllocError
 }
 
 /// The lines of rows that say a command.
-fn lines_of<'a>(alloc: Global, rows: &[(&'a str, &str)]) -> Result<Vec<&'a str>, AllocError> {
+fn lines_of(alloc: Global, rows: &str) -> Result<Vec<&str>, AllocError> {
     let mut lines = Vec::new(alloc);
-    for (line, answer) in rows {
-        if *answer != "refused BadLine" {
-            lines.push(*line)?;
+    for (line, answer) in rows.lines().filter_map(row_of) {
+        if !line.is_empty() && answer != "refused BadLine" {
+            lines.push(line)?;
         }
     }
     Ok(lines)

@@ -2,7 +2,7 @@
 
 use super::{add, function, put, shared};
 use rhai_show::{Hashed, hashed, is_hashable};
-use rhai_value::{Dynamic, ExclusiveRange, Host, InclusiveRange, Map, Store};
+use rhai_value::{Dynamic, Map, Store};
 use std::alloc::Global;
 use std::hash::{DefaultHasher, Hash, Hasher};
 use std::process::Abort;
@@ -51,105 +51,6 @@ fn is_refused(rt: &impl Abort, alloc: Global, value: &Dynamic, store: &Store) ->
 }
 
 #[test]
-fn bytes_of_what_has_no_values_inside(rt: HostRuntime) -> Result<(), Fail> {
-    let alloc = rt.alloc();
-    let store = Store::new(alloc);
-    let values = [
-        (Dynamic::UNIT, &[0][..]),
-        (Dynamic::TRUE, &[1, 1][..]),
-        (Dynamic::FALSE, &[1, 0][..]),
-        (Dynamic::from_char('€'), &[3, 0xac, 0x20, 0, 0][..]),
-        (Dynamic::ONE, &[4, 1, 0, 0, 0, 0, 0, 0, 0][..]),
-        (
-            Dynamic::from_int(-1),
-            &[4, 255, 255, 255, 255, 255, 255, 255, 255][..],
-        ),
-    ];
-    for (value, bytes) in &values {
-        hashes(&rt, alloc, value, &store, bytes)?;
-    }
-    let text = Dynamic::from_text(alloc, "a")?;
-    let bytes = [2, 1, 0, 0, 0, 0, 0, 0, 0, 0x61];
-    hashes(&rt, alloc, &text, &store, &bytes)
-}
-
-#[test]
-fn bytes_of_values_of_the_host(rt: HostRuntime) -> Result<(), Fail> {
-    let alloc = rt.alloc();
-    let store = Store::new(alloc);
-    for (host, bytes) in [
-        (Host::U8(255), &[9, 0, 255][..]),
-        (Host::U16(258), &[9, 1, 2, 1][..]),
-        (Host::U32(1), &[9, 2, 1, 0, 0, 0][..]),
-        (Host::U64(1), &[9, 3, 1, 0, 0, 0, 0, 0, 0, 0][..]),
-        (
-            Host::U128(1),
-            &[9, 4, 1, 0, 0, 0, 0, 0, 0, 0, 0, 0, 0, 0, 0, 0, 0, 0][..],
-        ),
-        (Host::I8(-1), &[9, 5, 255][..]),
-        (Host::I16(-2), &[9, 6, 254, 255][..]),
-        (Host::I32(1), &[9, 7, 1, 0, 0, 0][..]),
-        (
-            Host::I128(1),
-            &[9, 8, 1, 0, 0, 0, 0, 0, 0, 0, 0, 0, 0, 0, 0, 0, 0, 0][..],
-        ),
-        // A range without its end, and one with it.
-        (
-            Host::ExclusiveRange(ExclusiveRange { start: 0, end: 3 }),
-            &[9, 9, 0, 0, 0, 0, 0, 0, 0, 0, 3, 0, 0, 0, 0, 0, 0, 0][..],
-        ),
-        (
-            Host::InclusiveRange(InclusiveRange { start: 1, end: 2 }),
-            &[9, 10, 1, 0, 0, 0, 0, 0, 0, 0, 2, 0, 0, 0, 0, 0, 0, 0][..],
-        ),
-    ] {
-        hashes(&rt, alloc, &Dynamic::from(host), &store, bytes)?;
-    }
-    Ok(())
-}
-
-#[test]
-fn bytes_of_blobs_and_arrays(rt: HostRuntime) -> Result<(), Fail> {
-    let alloc = rt.alloc();
-    let store = Store::new(alloc);
-    let blob = Dynamic::from_blob(vec![in alloc; 0x0a, 0x0b]?);
-    let bytes = [6, 2, 0, 0, 0, 0, 0, 0, 0, 0x0a, 0x0b];
-    hashes(&rt, alloc, &blob, &store, &bytes)?;
-    let array = Dynamic::from_array(vec![in alloc; Dynamic::TRUE]?);
-    let bytes = [5, 1, 0, 0, 0, 0, 0, 0, 0, 1, 1];
-    hashes(&rt, alloc, &array, &store, &bytes)
-}
-
-#[test]
-fn bytes_of_maps_and_function_pointers(rt: HostRuntime) -> Result<(), Fail> {
-    let alloc = rt.alloc();
-    let store = Store::new(alloc);
-    let mut map = Map::new(alloc);
-    add(&mut map, alloc, "a", Dynamic::UNIT)?;
-    let bytes = [7, 1, 0, 0, 0, 0, 0, 0, 0, 1, 0, 0, 0, 0, 0, 0, 0, 0x61, 0];
-    hashes(&rt, alloc, &Dynamic::from_map(map), &store, &bytes)?;
-    let curried = function(alloc, "f", vec![in alloc; Dynamic::UNIT, Dynamic::FALSE]?)?;
-    let bytes = [
-        8, 1, 0, 0, 0, 0, 0, 0, 0, 0x66, 2, 0, 0, 0, 0, 0, 0, 0, 0, 1, 0,
-    ];
-    hashes(&rt, alloc, &curried, &store, &bytes)
-}
-
-#[test]
-fn tags_modes_and_sharing_are_not_seen(rt: HostRuntime) -> Result<(), Fail> {
-    let alloc = rt.alloc();
-    let mut store = Store::new(alloc);
-    let one = [4, 1, 0, 0, 0, 0, 0, 0, 0];
-    let mut tagged = Dynamic::ONE;
-    tagged.set_tag(7);
-    hashes(&rt, alloc, &tagged.into_read_only(), &store, &one)?;
-    let held = shared(Dynamic::ONE, &mut store)?;
-    hashes(&rt, alloc, &held, &store, &one)?;
-    let chain = shared(held, &mut store)?;
-    hashes(&rt, alloc, &chain, &store, &one)
-}
-
-#[test]
 fn equal_bytes_are_equal_with_equal_hashes(rt: HostRuntime) -> Result<(), Fail> {
     let alloc = rt.alloc();
     let first = Hashed::from_bytes(vec![in alloc; 1, 1]?);
@@ -163,31 +64,6 @@ fn equal_bytes_are_equal_with_equal_hashes(rt: HostRuntime) -> Result<(), Fail> 
     second.hash(&mut two);
     assert_eq!(rt; one.finish(), two.finish());
     Ok(())
-}
-
-#[test]
-fn a_cell_on_two_ways_is_hashable(rt: HostRuntime) -> Result<(), Fail> {
-    let alloc = rt.alloc();
-    let mut store = Store::new(alloc);
-    let held = shared(Dynamic::UNIT, &mut store)?;
-    let twice = pair(alloc, &held)?;
-    hashes(
-        &rt,
-        alloc,
-        &twice,
-        &store,
-        &[5, 2, 0, 0, 0, 0, 0, 0, 0, 0, 0],
-    )
-}
-
-#[test]
-fn a_loop_is_not_hashable(rt: HostRuntime) -> Result<(), Fail> {
-    let alloc = rt.alloc();
-    let mut store = Store::new(alloc);
-    let mut own = shared(Dynamic::UNIT, &mut store)?;
-    let again = own.copy(alloc)?;
-    put(&mut own, again, &mut store)?;
-    is_refused(&rt, alloc, &own, &store)
 }
 
 #[test]

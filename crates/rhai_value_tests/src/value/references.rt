@@ -74,14 +74,18 @@ fn constants_are_what_they_are_named_for(rt: HostRuntime) {
     assert!(rt; Dynamic::UNIT.is_unit(&store));
     assert_eq!(rt; Dynamic::TRUE.as_bool(&store).ok(), Some(true));
     assert_eq!(rt; Dynamic::FALSE.as_bool(&store).ok(), Some(false));
-    assert_eq!(rt; Dynamic::ZERO.as_int(&store).ok(), Some(0));
-    assert_eq!(rt; Dynamic::ONE.as_int(&store).ok(), Some(1));
-    assert_eq!(rt; Dynamic::TWO.as_int(&store).ok(), Some(2));
-    assert_eq!(rt; Dynamic::THREE.as_int(&store).ok(), Some(3));
-    assert_eq!(rt; Dynamic::TEN.as_int(&store).ok(), Some(10));
-    assert_eq!(rt; Dynamic::HUNDRED.as_int(&store).ok(), Some(100));
-    assert_eq!(rt; Dynamic::THOUSAND.as_int(&store).ok(), Some(1000));
-    assert_eq!(rt; Dynamic::MILLION.as_int(&store).ok(), Some(1000000));
-    assert_eq!(rt; Dynamic::NEGATIVE_ONE.as_int(&store).ok(), Some(-1));
-    assert_eq!(rt; Dynamic::NEGATIVE_TWO.as_int(&store).ok(), Some(-2));
+    for (constant, wanted) in [
+        (Dynamic::ZERO, 0),
+        (Dynamic::ONE, 1),
+        (Dynamic::TWO, 2),
+        (Dynamic::THREE, 3),
+        (Dynamic::TEN, 10),
+        (Dynamic::HUNDRED, 100),
+        (Dynamic::THOUSAND, 1000),
+        (Dynamic::MILLION, 1000000),
+        (Dynamic::NEGATIVE_ONE, -1),
+        (Dynamic::NEGATIVE_TWO, -2),
+    ] {
+        assert_eq!(rt; constant.as_int(&store).ok(), Some(wanted));
+    }
 }

@@ -45,54 +45,51 @@ fn one_command_is_applied(rt: HostRuntime) {
 }
 
 /// Lines that want memory in all ways.
-const GROWING: &[(&str, &str)] = &[
-    ("int 7", "ok"),
-    ("share 0", "ok"),
-    ("copy 0", "ok"),
-    ("write 1 9", "ok"),
-    ("show 0", "9 (shared)"),
-    ("char '", "ok"),
-    ("debug 2", "'\\''"),
-    ("pop", "refused EmptyScope"),
-    ("blob 0102", "ok"),
-    ("array 2", "ok"),
-    ("show 2", "['\\'', [0102]]"),
-    ("fn f 1", "ok"),
-    ("debug 2", "Fn(\"f\", ['\\'', [0102]])"),
-    ("take 0", "ok"),
-    ("flatclone 3", "ok"),
-    ("share 2", "ok"),
-    ("flatten 2", "ok"),
-    ("debug 2", "Fn(\"f\", ['\\'', [0102]])"),
-    ("readonly 2", "ok"),
-    ("tag 2 5", "ok"),
-    ("ask 2 type", "Fn"),
-    ("ask 2 readonly", "true"),
-    ("store 1 2", "ok"),
-    ("debug 3", "Fn(\"f\", ['\\'', [0102]]) (shared)"),
-    ("push x 3", "ok"),
-    ("get x", "ok"),
-    ("text t", "ok"),
-    ("unit", "ok"),
-    ("map k", "ok"),
-    ("debug 7", "#{\"k\": ()}"),
-];
+const GROWING: &str = "
+int 7 -> ok
+share 0 -> ok
+copy 0 -> ok
+write 1 9 -> ok
+show 0 -> 9 (shared)
+char ' -> ok
+debug 2 -> '\\''
+pop -> refused EmptyScope
+blob 0102 -> ok
+array 2 -> ok
+show 2 -> ['\\'', [0102]]
+fn f 1 -> ok
+debug 2 -> Fn(\"f\", ['\\'', [0102]])
+take 0 -> ok
+flatclone 3 -> ok
+share 2 -> ok
+flatten 2 -> ok
+debug 2 -> Fn(\"f\", ['\\'', [0102]])
+readonly 2 -> ok
+tag 2 5 -> ok
+ask 2 type -> Fn
+ask 2 readonly -> true
+store 1 2 -> ok
+debug 3 -> Fn(\"f\", ['\\'', [0102]]) (shared)
+push x 3 -> ok
+get x -> ok
+text t -> ok
+unit -> ok
+map k -> ok
+debug 7 -> #{\"k\": ()}
+";
 
 /// A map that is stopped keeps the values that it was to take.
-const GATHERING: &[(&str, &str)] = &[
-    ("int 0", "ok"),
-    ("int 1", "ok"),
-    ("int 2", "ok"),
-    ("map a b", "ok"),
-    ("debug 0", "0"),
-    ("debug 1", "#{\"a\": 1, \"b\": 2}"),
-];
+const GATHERING: &str = "
+int 0 -> ok
+int 1 -> ok
+int 2 -> ok
+map a b -> ok
+debug 0 -> 0
+debug 1 -> #{\"a\": 1, \"b\": 2}
+";
 
 /// The commands of the rows, at the second try where memory is refused once.
-fn commands_at_last(
-    alloc: Global,
-    rows: &[(&'static str, &'static str)],
-) -> Result<Vec<Command>, AllocError> {
+fn commands_at_last(alloc: Global, rows: &str) -> Result<Vec<Command>, AllocError> {
     if let Ok(lines) = lines_of(alloc, rows)
         && let Ok(commands) = commands_of(alloc, &lines)
     {
@@ -135,10 +132,7 @@ fn printed_at_last(
 }
 
 /// What a new world answers in the end, where a growth may be refused once.
-fn answered_at_last(
-    alloc: Global,
-    rows: &[(&'static str, &'static str)],
-) -> Result<(String, String), AllocError> {
+fn answered_at_last(alloc: Global, rows: &str) -> Result<(String, String), AllocError> {
     let commands = commands_at_last(alloc, rows)?;
     let mut world = World::new(alloc, UNLIMITED);
     let parts = run_at_last(alloc, &mut world, &commands);
@@ -149,7 +143,7 @@ fn answered_at_last(
     }
 }
 
-fn wanted_at_last(alloc: Global, rows: &[(&str, &str)]) -> Result<String, AllocError> {
+fn wanted_at_last(alloc: Global, rows: &str) -> Result<String, AllocError> {
     match wanted(alloc, rows) {
         Ok(text) => Ok(text),
         Err(_) => wanted(alloc, rows),
@@ -170,20 +164,20 @@ fn a_stopped_run_goes_on(rt: HostRuntime) -> Result<(), Fail> {
 }
 
 /// Commands that are refused in an empty world.
-const REFUSED: &[(&str, &str)] = &[
-    ("take 0", "refused NoValue"),
-    ("copy 0", "refused NoValue"),
-    ("flatten 0", "refused NoValue"),
-    ("array 1", "refused NoValue"),
-    ("map a", "refused NoValue"),
-    ("fn x 1", "refused NoValue"),
-    ("get y", "refused NoEntry"),
-    ("show 0", "refused NoValue"),
-    ("extend x", "refused NoValue"),
-    ("aliases x", "refused NoEntry"),
-    ("unmark 0", "refused NoMark"),
-    ("assign @x += 0", "refused NoValue"),
-];
+const REFUSED: &str = "
+take 0 -> refused NoValue
+copy 0 -> refused NoValue
+flatten 0 -> refused NoValue
+array 1 -> refused NoValue
+map a -> refused NoValue
+fn x 1 -> refused NoValue
+get y -> refused NoEntry
+show 0 -> refused NoValue
+extend x -> refused NoValue
+aliases x -> refused NoEntry
+unmark 0 -> refused NoMark
+assign @x += 0 -> refused NoValue
+";
 
 fn are_refused(world: &mut World, commands: &[Command]) -> bool {
     for command in commands {

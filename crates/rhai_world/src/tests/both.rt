@@ -122,6 +122,53 @@ fn the_order_of_cells_is_not_seen(rt: HostRuntime) -> Result<(), Fail> {
     Ok(())
 }
 
+/// A text of this, a hundred times.
+fn hundred_times(alloc: Global, list: &str) -> Result<String, AllocError> {
+    let mut text = String::new(alloc);
+    for _ in 0..100 {
+        text.push_str(list)?;
+    }
+    Ok(text)
+}
+
+/// Runs with the answers of both worlds.
+#[test]
+fn worked_runs(rt: HostRuntime) -> Result<(), Fail> {
+    let hundred = hundred_times(rt.alloc(), "unit; share 0; drop; len;")?;
+    let hundred = hundred.trim_end_matches(';');
+    for (before, list, wanted) in [
+        (
+            ("int 1; share 0; drop", "len"),
+            "int 7; share 0; copy 0; write 1 9; show 0",
+            "ok\nok\nok\nok\n9 (shared)\n",
+        ),
+        (
+            (hundred, "len"),
+            "array 0; share 0; copy 0; assign 0 += 1; show 0; debug 1",
+            "ok\nok\nok\nok\n[<shared>] (shared)\n()\n",
+        ),
+        (
+            (hundred, "len"),
+            "int 7; share 0; unit; share 1; store 1 0; show 1; ask 1 type; flatclone 1; show 2",
+            "ok\nok\nok\nok\nok\n7 (shared) (shared)\ni64\nok\n7\n",
+        ),
+        (
+            (
+                "unit; int 1; share 1; int 2; share 2",
+                "int 2; share 0; int 1; share 1; take 0",
+            ),
+            "show 1; store 1 2; show 1",
+            "1 (shared)\nok\n2 (shared) (shared)\n",
+        ),
+    ] {
+        let lines = listed(rt.alloc(), list)?;
+        let (one, other) = both_answer(rt.alloc(), before, &lines)?;
+        assert_eq!(rt; one.as_str(), wanted, "of {list}");
+        assert_eq!(rt; other.as_str(), wanted, "of {list}");
+    }
+    Ok(())
+}
+
 /// Each world answers for itself.
 #[test]
 fn each_world_gives_its_own_answers(rt: HostRuntime) -> Result<(), Fail> {

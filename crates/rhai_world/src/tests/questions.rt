@@ -5,7 +5,7 @@ use std::test::Fail;
 
 /// A value of each kind: at 13 a chain of holders that closes, and at 14 the unit that making it leaves.
 const ASKED: &str = "
-# of the value itself
+# of each kind of value
 int 5 -> ok
 host u8 7 -> ok
 text ab -> ok
@@ -37,25 +37,6 @@ readonly 4 -> ok
 ask 4 readonly -> true
 ask 12 locked -> false
 ask 6 locked -> false
-# of the held type
-int 5 -> ok
-host u8 7 -> ok
-text ab -> ok
-char é -> ok
-bool true -> ok
-unit -> ok
-array 0 -> ok
-map -> ok
-fn f 0 -> ok
-blob 01 -> ok
-range 1 3 -> ok
-rangeeq 1 3 -> ok
-int 9 -> ok
-share 12 -> ok
-unit -> ok
-share 13 -> ok
-copy 13 -> ok
-store 13 14 -> ok
 ask 0 type -> i64
 ask 1 type -> u8
 ask 2 type -> string
@@ -77,25 +58,6 @@ ask 2 held String -> false
 ask 2 held string -> true
 ask 13 held <shared> -> true
 ask 13 held () -> false
-# of what is held
-int 5 -> ok
-host u8 7 -> ok
-text ab -> ok
-char é -> ok
-bool true -> ok
-unit -> ok
-array 0 -> ok
-map -> ok
-fn f 0 -> ok
-blob 01 -> ok
-range 1 3 -> ok
-rangeeq 1 3 -> ok
-int 9 -> ok
-share 12 -> ok
-unit -> ok
-share 13 -> ok
-copy 13 -> ok
-store 13 14 -> ok
 ask 5 unit -> ok
 ask 0 unit -> refused Mismatch i64
 ask 12 int -> 9

@@ -36,7 +36,12 @@ impl Desk {
     }
 
     /// Writes the value at a hand position to a piece of the one at a place.
-    pub(crate) fn write_back(&mut self, place: &Place, piece: Piece, j: usize) -> Result<Brief, NotDone>
+    pub(crate) fn write_back(
+        &mut self,
+        place: &Place,
+        piece: Piece,
+        j: usize,
+    ) -> Result<Brief, NotDone>
         ensures { Does (piece_cost piece) result self.old self.new (step_write_back self.old place.now piece j) }
     {
         is_within(&self.hand, place)?;

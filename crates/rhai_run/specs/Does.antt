@@ -1,8 +1,6 @@
 -- What the code of a command owes.
-use Rattle.std.specs.Prelude.{◌≡◌, true, pos, string_bytes, Option, Some, None, Result, Ok, Err}
-use Rattle.std.specs.Str.{chars}
-use Rattle.rhai_run.specs.declared.brief.Brief.{Brief}
-use Rattle.rhai_run.specs.declared.brief.Brief.TheVariants as brief
+use Rattle.std.specs.Prelude.{◌≡◌, true, Option, Some, None, Result, Ok, Err}
+use Rattle.rhai_run.specs.declared.answer.Answer.{Answer}
 use Rattle.rhai_run.specs.declared.not_done.NotDone.{NotDone}
 use Rattle.rhai_run.specs.declared.not_done.NotDone.TheVariants.{Refused, Memory}
 use Rattle.rhai_text.specs.declared.error.EvalAltResult.{EvalAltResult}
@@ -10,25 +8,14 @@ use Rattle.rhai_text.specs.declared.error.EvalAltResult.TheVariants as error
 use Rattle.rhai_value.specs.Tree.{Tree}
 use Rattle.rhai_run.specs.declared.answer.Refusal.TheVariants.{Fault}
 use Rattle.rhai_run.specs.State.{State, appended}
-use Rattle.rhai_run.specs.Reply.{Reason, Reply, done, truth, number, told, bytes, pair, nothing, refused, reason_of}
+use Rattle.rhai_run.specs.Reply.{Reason, Reply, done, refused, reason_of, reply_of}
 use Rattle.rhai_run.specs.Outcome.{Outcome}
 use Rattle.rhai_run.specs.Entries.{appended_or_nothing}
 use Rattle.rhai_run.specs.Cost.{Cost, is_granted, may_want}
 
--- an answer in brief
-abbrev pub brief_reply : Brief → Reply
-brief_reply brief.Done = done
-brief_reply (brief.Bool b) = truth b
-brief_reply (brief.Int n) = number n
-brief_reply (brief.Count n) = number (pos n)
-brief_reply (brief.Text t) = told (chars (string_bytes t))
-brief_reply (brief.Bytes b) = bytes b.items
-brief_reply (brief.Pair m n) = pair m n
-brief_reply brief.Nothing = nothing
-
 -- The answer or the refusal is this reply; or memory was refused where it may be wanted.
-abbrev pub Tells : Cost → Result Brief NotDone → Reply → Type 0
-Tells k (Ok b) reply = brief_reply b ≡ reply
+abbrev pub Tells : Cost → Result Answer NotDone → Reply → Type 0
+Tells k (Ok a) reply = reply_of a ≡ reply
 Tells k (Err (Refused why)) reply = refused (reason_of why) ≡ reply
 Tells k (Err Memory) reply = may_want k reply ≡ true
 
@@ -72,11 +59,11 @@ Calls (Ok t) w v o = o ≡ (done, v)
 Calls (Err e) w v o = IsError (not_done_of e) w o × (v ≡ w)
 
 -- the state after it is this one; where memory was refused it is as before
-abbrev pub Leaves : Result Brief NotDone → State → State → State → Type 0
-Leaves (Ok b) old new after = new ≡ after
+abbrev pub Leaves : Result Answer NotDone → State → State → State → Type 0
+Leaves (Ok a) old new after = new ≡ after
 Leaves (Err (Refused why)) old new after = new ≡ after
 Leaves (Err Memory) old new after = new ≡ old
 
 -- a command of this cost has this outcome, or has wanted memory and changed nothing
-abbrev pub Does : Cost → Result Brief NotDone → State → State → Outcome → Type 0
+abbrev pub Does : Cost → Result Answer NotDone → State → State → Outcome → Type 0
 Does k result old new o = Tells k result o.0 × Leaves result old new o.1

@@ -16,6 +16,10 @@ use Rattle.rhai_run.specs.Outcome.{Outcome, refuse}
 use Rattle.rhai_run.specs.Change.{nowhere}
 use Rattle.rhai_run.specs.Places.{with_place_and, put_at}
 
+-- the characters of a text from a place on, up to another one
+abbrev pub slice_from : ℕ → ℕ → Bool → Piece
+slice_from start end exclusive = piece.Characters (record { start = start; end = end; exclusive = exclusive })
+
 -- why what is held has no such bit, byte, or text: another type is held, or the place is past its end
 abbrev pub no_bit : Option ℤ → ℕ → Option Reason
 no_bit None place = Some wrong_source

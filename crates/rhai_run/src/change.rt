@@ -4,8 +4,7 @@ ghost use Rattle.rhai_run.specs.Cost.{free, keeps_all, share_cost};
 ghost use Rattle.rhai_run.specs.Change.{step_share, step_flatten, step_make_read_only, step_set_tag, step_write_int, step_write, step_scan};
 ghost use Rattle.rhai_run.specs.Does.{Does};
 
-use crate::answer::Refusal;
-use crate::brief::Brief;
+use crate::answer::{Answer, Refusal};
 use crate::command::Scanner;
 use crate::desk::Desk;
 use crate::not_done::NotDone;
@@ -15,64 +14,64 @@ use rhai_text::{EvalAltResult, Position};
 use rhai_value::{AccessMode, Dynamic, INT, Tag};
 
 impl Desk {
-    pub(crate) fn share(&mut self, i: usize) -> Result<Brief, NotDone>
+    pub(crate) fn share(&mut self, i: usize) -> Result<Answer, NotDone>
         ensures { Does (share_cost (slice_get self.old.hand i)) result self.old self.new (step_share self.old i) }
     {
         if self.value(i)?.is_shared() {
-            return Ok(Brief::Done);
+            return Ok(Answer::Done);
         }
         let value = replace_at(&mut self.hand, i, Dynamic::UNIT);
         let holder = value.into_shared(&mut self.store);
         put_back(&mut self.hand, i, holder)?;
-        Ok(Brief::Done)
+        Ok(Answer::Done)
     }
 
-    pub(crate) fn flatten(&mut self, i: usize) -> Result<Brief, NotDone>
+    pub(crate) fn flatten(&mut self, i: usize) -> Result<Answer, NotDone>
         ensures { Does keeps_all result self.old self.new (step_flatten self.old i) }
     {
         self.value(i)?;
         let value = replace_at(&mut self.hand, i, Dynamic::UNIT);
         let flat = value.flatten(self.alloc, &self.store);
         put_back(&mut self.hand, i, flat)?;
-        Ok(Brief::Done)
+        Ok(Answer::Done)
     }
 
-    pub(crate) fn make_read_only(&mut self, i: usize) -> Result<Brief, NotDone>
+    pub(crate) fn make_read_only(&mut self, i: usize) -> Result<Answer, NotDone>
         ensures { Does free result self.old self.new (step_make_read_only self.old i) }
     {
         self.value(i)?;
         self.hand[i].set_access_mode(AccessMode::ReadOnly);
-        Ok(Brief::Done)
+        Ok(Answer::Done)
     }
 
-    pub(crate) fn set_tag(&mut self, i: usize, tag: Tag) -> Result<Brief, NotDone>
+    pub(crate) fn set_tag(&mut self, i: usize, tag: Tag) -> Result<Answer, NotDone>
         ensures { Does free result self.old self.new (step_set_tag self.old i tag) }
     {
         self.value(i)?;
         self.hand[i].set_tag(tag);
-        Ok(Brief::Done)
+        Ok(Answer::Done)
     }
 
-    pub(crate) fn scan(&mut self, i: usize, scanner: Scanner) -> Result<Brief, NotDone>
+    pub(crate) fn scan(&mut self, i: usize, scanner: Scanner) -> Result<Answer, NotDone>
         ensures { Does free result self.old self.new (step_scan self.old i scanner) }
     {
         self.value(i)?;
         let mut visits = Visits { scanner, visits: 0 };
         self.hand[i].deep_scan(&mut visits);
-        Ok(Brief::Count(visits.visits))
+        Ok(Answer::Int(i128::from(visits.visits)))
     }
 
-    pub(crate) fn write_int(&mut self, i: usize, value: INT) -> Result<Brief, NotDone>
+    pub(crate) fn write_int(&mut self, i: usize, value: INT) -> Result<Answer, NotDone>
         ensures { Does free result self.old self.new (step_write_int self.old i value) }
     {
         self.value(i)?
             .as_int(&self.store)
             .map_err(Refusal::Mismatch)?;
         self.hand[i].set_int(&mut self.store, value);
-        Ok(Brief::Done)
+        Ok(Answer::Done)
     }
 
-    pub(crate) fn write(&mut self, i: usize, j: usize) -> Result<Brief, NotDone>
+    pub(crate) fn write(&mut self, i: usize, j: usize) -> Result<Answer, NotDone>
         ensures { Does free result self.old self.new (step_write self.old i j) }
     {
         let target = self.value(i)?;
@@ -83,6 +82,6 @@ impl Desk {
         )))?;
         let content = replace_at(&mut self.hand, j, Dynamic::UNIT);
         write_over(&mut self.hand[i], &mut self.store, content);
-        Ok(Brief::Done)
+        Ok(Answer::Done)
     }
 }

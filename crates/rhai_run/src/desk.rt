@@ -8,14 +8,11 @@ ghost use Rattle.rhai_run.specs.Cost.{cost};
 ghost use Rattle.rhai_run.specs.Fits.{Fits};
 ghost use Rattle.rhai_run.specs.Does.{Does};
 
-use crate::answer::Refusal;
-use crate::brief::Brief;
+use crate::answer::{Answer, Refusal};
 use crate::command::Command;
 use crate::marks::release_all;
 use crate::not_done::NotDone;
-use crate::pieces::Piece;
 use rhai_scope::Scope;
-use rhai_target::Slice;
 use rhai_text::Limits;
 use rhai_value::{Dynamic, Store, WriteToken};
 use std::alloc::Global;
@@ -96,7 +93,7 @@ impl Desk {
     }
 
     /// Does one command.
-    pub(crate) fn apply(&mut self, command: &Command) -> Result<Brief, NotDone>
+    pub(crate) fn apply(&mut self, command: &Command) -> Result<Answer, NotDone>
         requires { Fits self.old }
         ensures { Does (cost self.old command.now) result self.old self.new (step self.old command.now) }
     {
@@ -153,21 +150,14 @@ impl Desk {
             Command::Unmark(k) => self.unmark(*k),
             Command::WriteMarked(k, i) => self.write_marked(*k, *i),
             Command::ReadMarked(k) => self.read_marked(*k),
-            Command::WriteBit(place, bit, j) => self.write_back(place, Piece::Bit(*bit), *j),
+            Command::WriteBit(place, bit, j) => self.write_bit(place, *bit, *j),
             Command::WriteField(place, mask, shift, j) => {
-                self.write_back(place, Piece::Field(*mask, *shift), *j)
+                self.write_field(place, *mask, *shift, *j)
             }
-            Command::WriteByte(place, index, j) => self.write_back(place, Piece::Byte(*index), *j),
-            Command::WriteChar(place, index, j) => {
-                self.write_back(place, Piece::Character(*index), *j)
-            }
+            Command::WriteByte(place, index, j) => self.write_byte(place, *index, *j),
+            Command::WriteChar(place, index, j) => self.write_char(place, *index, *j),
             Command::WriteSlice(place, start, end, exclusive, j) => {
-                let slice = Slice {
-                    start: *start,
-                    end: *end,
-                    exclusive: *exclusive,
-                };
-                self.write_back(place, Piece::Characters(slice), *j)
+                self.write_slice(place, *start, *end, *exclusive, *j)
             }
             Command::Offset(length, start, len) => self.offset(*length, *start, *len),
             Command::Index(length, index, from_end) => self.index(*length, *index, *from_end),

@@ -4,8 +4,7 @@ ghost use Rattle.rhai_run.specs.Cost.{free, keeps_all, place_cost};
 ghost use Rattle.rhai_run.specs.Entries.{step_set_entry, step_set_or_push, step_set_value, step_get, step_get_value, step_get_ref, step_set_ref, step_remove, step_set_alias, step_aliases};
 ghost use Rattle.rhai_run.specs.Does.{Does, Finds};
 
-use crate::answer::Refusal;
-use crate::brief::Brief;
+use crate::answer::{Answer, Refusal};
 use crate::cast::{can_cast, can_move, cast_to, read_as};
 use crate::desk::Desk;
 use crate::not_done::NotDone;
@@ -15,7 +14,7 @@ use rhai_text::ImmutableString;
 use rhai_value::{Dynamic, INT, TypeId};
 
 impl Desk {
-    pub(crate) fn set_entry(&mut self, name: &ImmutableString, i: usize) -> Result<Brief, NotDone>
+    pub(crate) fn set_entry(&mut self, name: &ImmutableString, i: usize) -> Result<Answer, NotDone>
         ensures { Does free result self.old self.new (step_set_entry self.old name.now i) }
     {
         self.value(i)?;
@@ -28,11 +27,15 @@ impl Desk {
         }
         let value = replace_at(&mut self.hand, i, Dynamic::UNIT);
         write_entry(&mut self.scope, name.as_str(), value);
-        Ok(Brief::Done)
+        Ok(Answer::Done)
     }
 
     #[tactic(auto, using(crate::proofs::LastEntry::set_over, crate::proofs::LastEntry::not_over_constant, crate::proofs::LastEntry::not_over_none))]
-    pub(crate) fn set_or_push(&mut self, name: &ImmutableString, i: usize) -> Result<Brief, NotDone>
+    pub(crate) fn set_or_push(
+        &mut self,
+        name: &ImmutableString,
+        i: usize,
+    ) -> Result<Answer, NotDone>
         ensures { Does (place_cost (writable_position name.now self.old.entries)) result self.old self.new (step_set_or_push self.old name.now i) }
     {
         self.value(i)?;
@@ -41,13 +44,13 @@ impl Desk {
             Some(false) => {
                 let value = replace_at(&mut self.hand, i, Dynamic::UNIT);
                 write_entry(&mut self.scope, name.as_str(), value);
-                Ok(Brief::Done)
+                Ok(Answer::Done)
             }
         }
     }
 
     #[tactic(auto, using(crate::proofs::LastEntry::set_there, crate::proofs::LastEntry::no_position))]
-    pub(crate) fn set_value(&mut self, name: &ImmutableString, i: usize) -> Result<Brief, NotDone>
+    pub(crate) fn set_value(&mut self, name: &ImmutableString, i: usize) -> Result<Answer, NotDone>
         ensures { Does (place_cost (last_position name.now self.old.entries)) result self.old self.new (step_set_value self.old name.now i) }
     {
         self.value(i)?;
@@ -57,12 +60,12 @@ impl Desk {
             Some(false) => {
                 let value = replace_at(&mut self.hand, i, Dynamic::UNIT);
                 write_entry(&mut self.scope, name.as_str(), value);
-                Ok(Brief::Done)
+                Ok(Answer::Done)
             }
         }
     }
 
-    pub(crate) fn get(&mut self, name: &ImmutableString) -> Result<Brief, NotDone>
+    pub(crate) fn get(&mut self, name: &ImmutableString) -> Result<Answer, NotDone>
         ensures { Does keeps_all result self.old self.new (step_get self.old name.now) }
     {
         let value = self
@@ -71,23 +74,23 @@ impl Desk {
             .ok_or(Refusal::NoEntry)?
             .copy(self.alloc)?;
         self.hand.push(value)?;
-        Ok(Brief::Done)
+        Ok(Answer::Done)
     }
 
     pub(crate) fn get_value(
         &mut self,
         name: &ImmutableString,
         kind: TypeId,
-    ) -> Result<Brief, NotDone>
+    ) -> Result<Answer, NotDone>
         ensures { Does keeps_all result self.old self.new (step_get_value self.old name.now kind) }
     {
         let value = self.scope.get(name.as_str()).ok_or(Refusal::NoEntry)?;
         if !can_cast(value, &self.store, kind) {
-            return Ok(Brief::Nothing);
+            return Ok(Answer::Nothing);
         }
         let value = cast_to(value, self.alloc, &self.store, kind)?;
         self.hand.push(value)?;
-        Ok(Brief::Done)
+        Ok(Answer::Done)
     }
 
     /// A copy of what the last entry of a name itself is as a type, by reference, if it is of the type.
@@ -106,19 +109,23 @@ impl Desk {
         Ok(Some(value))
     }
 
-    pub(crate) fn get_ref(&mut self, name: &ImmutableString, kind: TypeId) -> Result<Brief, NotDone>
+    pub(crate) fn get_ref(
+        &mut self,
+        name: &ImmutableString,
+        kind: TypeId,
+    ) -> Result<Answer, NotDone>
         ensures { Does keeps_all result self.old self.new (step_get_ref self.old name.now kind) }
     {
         match self.viewed(name, kind)? {
-            None => Ok(Brief::Nothing),
+            None => Ok(Answer::Nothing),
             Some(value) => {
                 self.hand.push(value)?;
-                Ok(Brief::Done)
+                Ok(Answer::Done)
             }
         }
     }
 
-    pub(crate) fn set_ref(&mut self, name: &ImmutableString, value: INT) -> Result<Brief, NotDone>
+    pub(crate) fn set_ref(&mut self, name: &ImmutableString, value: INT) -> Result<Answer, NotDone>
         ensures { Does free result self.old self.new (step_set_ref self.old name.now value) }
     {
         let entry = self.scope.get(name.as_str()).ok_or(Refusal::NoEntry)?;
@@ -128,13 +135,13 @@ impl Desk {
         match self.scope.get_value_mut::<INT>(name.as_str()) {
             Some(place) => {
                 *place = value;
-                Ok(Brief::Done)
+                Ok(Answer::Done)
             }
-            None => Ok(Brief::Nothing),
+            None => Ok(Answer::Nothing),
         }
     }
 
-    pub(crate) fn remove(&mut self, name: &ImmutableString, kind: TypeId) -> Result<Brief, NotDone>
+    pub(crate) fn remove(&mut self, name: &ImmutableString, kind: TypeId) -> Result<Answer, NotDone>
         ensures { Does keeps_all result self.old self.new (step_remove self.old name.now kind) }
     {
         let value = self.scope.get(name.as_str()).ok_or(Refusal::NoEntry)?;
@@ -144,10 +151,10 @@ impl Desk {
             unreachable!();
         };
         match read_as(value, kind, is_castable) {
-            None => Ok(Brief::Nothing),
+            None => Ok(Answer::Nothing),
             Some(value) => {
                 push_in_room(&mut self.hand, value);
-                Ok(Brief::Done)
+                Ok(Answer::Done)
             }
         }
     }
@@ -156,18 +163,18 @@ impl Desk {
         &mut self,
         name: &ImmutableString,
         alias: &ImmutableString,
-    ) -> Result<Brief, NotDone>
+    ) -> Result<Answer, NotDone>
         ensures { Does keeps_all result self.old self.new (step_set_alias self.old name.now alias.now) }
     {
         self.scope.set_alias(name.as_str(), alias.as_str())?;
-        Ok(Brief::Done)
+        Ok(Answer::Done)
     }
 
-    pub(crate) fn aliases(&self, name: &ImmutableString) -> Result<Brief, NotDone>
+    pub(crate) fn aliases(&self, name: &ImmutableString) -> Result<Answer, NotDone>
         ensures { Does keeps_all result self.now self.now (step_aliases self.now name.now) }
     {
         let aliases = self.scope.aliases(name.as_str()).ok_or(Refusal::NoEntry)?;
         let text = aliases_shown(self.alloc, aliases)?.into_text();
-        Ok(Brief::Text(text))
+        Ok(Answer::Text(text))
     }
 }

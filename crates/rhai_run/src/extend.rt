@@ -4,7 +4,7 @@ ghost use Rattle.rhai_run.specs.Cost.{keeps_all};
 ghost use Rattle.rhai_run.specs.Scope.{step_entries, step_names, step_extend, step_extend_flagged};
 ghost use Rattle.rhai_run.specs.Does.{Does};
 
-use crate::brief::Brief;
+use crate::answer::Answer;
 use crate::desk::Desk;
 use crate::lists::{FlaggedNames, Names};
 use crate::not_done::NotDone;
@@ -39,22 +39,22 @@ fn flagged_copies_of(
 }
 
 impl Desk {
-    pub(crate) fn entries(&mut self) -> Result<Brief, NotDone>
+    pub(crate) fn entries(&mut self) -> Result<Answer, NotDone>
         ensures { Does keeps_all result self.old self.new (step_entries self.old) }
     {
         let mut values = self.scope.flat_values(&self.store)?;
         self.hand.append(&mut values)?;
-        Ok(Brief::Done)
+        Ok(Answer::Done)
     }
 
-    pub(crate) fn names(&self) -> Result<Brief, NotDone>
+    pub(crate) fn names(&self) -> Result<Answer, NotDone>
         ensures { Does keeps_all result self.now self.now (step_names self.now) }
     {
         let text = self.scope.names_shown(&self.store)?.into_text();
-        Ok(Brief::Text(text))
+        Ok(Answer::Text(text))
     }
 
-    pub(crate) fn extend(&mut self, names: &Names) -> Result<Brief, NotDone>
+    pub(crate) fn extend(&mut self, names: &Names) -> Result<Answer, NotDone>
         ensures { Does keeps_all result self.old self.new (step_extend self.old names.now) }
     {
         let names = names.as_slice();
@@ -66,10 +66,10 @@ impl Desk {
             append_in_room(&mut self.hand, values);
             return Err(NotDone::Memory);
         }
-        Ok(Brief::Done)
+        Ok(Answer::Done)
     }
 
-    pub(crate) fn extend_flagged(&mut self, names: &FlaggedNames) -> Result<Brief, NotDone>
+    pub(crate) fn extend_flagged(&mut self, names: &FlaggedNames) -> Result<Answer, NotDone>
         ensures { Does keeps_all result self.old self.new (step_extend_flagged self.old names.now) }
     {
         let names = names.as_slice();
@@ -81,6 +81,6 @@ impl Desk {
             append_in_room(&mut self.hand, values);
             return Err(NotDone::Memory);
         }
-        Ok(Brief::Done)
+        Ok(Answer::Done)
     }
 }

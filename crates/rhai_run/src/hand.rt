@@ -3,8 +3,7 @@ ghost use Rattle.rhai_run.specs.Cost.{free, keeps_all};
 ghost use Rattle.rhai_run.specs.Hand.{step_put, step_make_array, step_make_map, step_make_fn, step_copy, step_flatten_clone, step_cast, step_take, step_drop};
 ghost use Rattle.rhai_run.specs.Does.{Does};
 
-use crate::answer::Refusal;
-use crate::brief::Brief;
+use crate::answer::{Answer, Refusal};
 use crate::cast::{can_cast, cast_to};
 use crate::command::Literal;
 use crate::desk::Desk;
@@ -16,7 +15,7 @@ use rhai_text::ImmutableString;
 use rhai_value::{Dynamic, FnPtr, TypeId};
 
 impl Desk {
-    pub(crate) fn put(&mut self, literal: &Literal) -> Result<Brief, NotDone>
+    pub(crate) fn put(&mut self, literal: &Literal) -> Result<Answer, NotDone>
         ensures { Does keeps_all result self.old self.new (step_put self.old literal.now) }
     {
         let value = match literal {
@@ -34,19 +33,19 @@ impl Desk {
             Literal::RangeEq(range) => Dynamic::from(*range),
         };
         self.hand.push(value)?;
-        Ok(Brief::Done)
+        Ok(Answer::Done)
     }
 
-    pub(crate) fn make_array(&mut self, n: usize) -> Result<Brief, NotDone>
+    pub(crate) fn make_array(&mut self, n: usize) -> Result<Answer, NotDone>
         ensures { Does keeps_all result self.old self.new (step_make_array self.old n) }
     {
         self.has_values(n)?;
         let items = take_last(&mut self.hand, n)?;
         push_in_room(&mut self.hand, Dynamic::from_array(items));
-        Ok(Brief::Done)
+        Ok(Answer::Done)
     }
 
-    pub(crate) fn make_map(&mut self, keys: &Names) -> Result<Brief, NotDone>
+    pub(crate) fn make_map(&mut self, keys: &Names) -> Result<Answer, NotDone>
         ensures { Does keeps_all result self.old self.new (step_make_map self.old keys.now) }
     {
         let keys = keys.as_slice();
@@ -55,36 +54,36 @@ impl Desk {
         let values = take_last(&mut self.hand, keys.len())?;
         move_to_keys(&mut map, keys, values);
         push_in_room(&mut self.hand, Dynamic::from_map(map));
-        Ok(Brief::Done)
+        Ok(Answer::Done)
     }
 
-    pub(crate) fn make_fn(&mut self, name: &ImmutableString, n: usize) -> Result<Brief, NotDone>
+    pub(crate) fn make_fn(&mut self, name: &ImmutableString, n: usize) -> Result<Answer, NotDone>
         ensures { Does keeps_all result self.old self.new (step_make_fn self.old name.now n) }
     {
         self.has_values(n)?;
         let name = name.copy(self.alloc)?;
         let curry = take_last(&mut self.hand, n)?;
         push_in_room(&mut self.hand, Dynamic::from(FnPtr::new(name, curry)));
-        Ok(Brief::Done)
+        Ok(Answer::Done)
     }
 
-    pub(crate) fn copy(&mut self, i: usize) -> Result<Brief, NotDone>
+    pub(crate) fn copy(&mut self, i: usize) -> Result<Answer, NotDone>
         ensures { Does keeps_all result self.old self.new (step_copy self.old i) }
     {
         let value = self.value(i)?.copy(self.alloc)?;
         self.hand.push(value)?;
-        Ok(Brief::Done)
+        Ok(Answer::Done)
     }
 
-    pub(crate) fn flatten_clone(&mut self, i: usize) -> Result<Brief, NotDone>
+    pub(crate) fn flatten_clone(&mut self, i: usize) -> Result<Answer, NotDone>
         ensures { Does keeps_all result self.old self.new (step_flatten_clone self.old i) }
     {
         let value = self.value(i)?.flatten_clone(self.alloc, &self.store)?;
         self.hand.push(value)?;
-        Ok(Brief::Done)
+        Ok(Answer::Done)
     }
 
-    pub(crate) fn cast(&mut self, i: usize, kind: TypeId) -> Result<Brief, NotDone>
+    pub(crate) fn cast(&mut self, i: usize, kind: TypeId) -> Result<Answer, NotDone>
         ensures { Does keeps_all result self.old self.new (step_cast self.old i kind) }
     {
         let value = self.value(i)?;
@@ -94,23 +93,23 @@ impl Desk {
         }
         let value = cast_to(value, self.alloc, &self.store, kind)?;
         self.hand.push(value)?;
-        Ok(Brief::Done)
+        Ok(Answer::Done)
     }
 
-    pub(crate) fn take(&mut self, i: usize) -> Result<Brief, NotDone>
+    pub(crate) fn take(&mut self, i: usize) -> Result<Answer, NotDone>
         ensures { Does keeps_all result self.old self.new (step_take self.old i) }
     {
         self.value(i)?;
         self.hand.reserve(1)?;
         let value = replace_at(&mut self.hand, i, Dynamic::UNIT);
         push_in_room(&mut self.hand, value);
-        Ok(Brief::Done)
+        Ok(Answer::Done)
     }
 
-    pub(crate) fn drop_last(&mut self) -> Result<Brief, NotDone>
+    pub(crate) fn drop_last(&mut self) -> Result<Answer, NotDone>
         ensures { Does free result self.old self.new (step_drop self.old) }
     {
         self.hand.pop().ok_or(Refusal::NoValue)?;
-        Ok(Brief::Done)
+        Ok(Answer::Done)
     }
 }

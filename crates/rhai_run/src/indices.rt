@@ -3,26 +3,26 @@ ghost use Rattle.rhai_run.specs.Cost.{free};
 ghost use Rattle.rhai_run.specs.Indices.{step_offset, step_index};
 ghost use Rattle.rhai_run.specs.Does.{Does};
 
-use crate::brief::Brief;
+use crate::answer::Answer;
 use crate::desk::Desk;
 use crate::not_done::NotDone;
 use rhai_target::{calc_index, calc_offset_len};
 use rhai_value::INT;
 
 impl Desk {
-    pub(crate) fn offset(&self, length: usize, start: INT, len: INT) -> Result<Brief, NotDone>
+    pub(crate) fn offset(&self, length: usize, start: INT, len: INT) -> Result<Answer, NotDone>
         ensures { Does free result self.now self.now (step_offset self.now length start len) }
     {
         let (start, len) = calc_offset_len(length, start, len);
-        Ok(Brief::Pair(start, len))
+        Ok(Answer::Pair(start, len))
     }
 
-    pub(crate) fn index(&self, length: usize, index: INT, from_end: bool) -> Result<Brief, NotDone>
+    pub(crate) fn index(&self, length: usize, index: INT, from_end: bool) -> Result<Answer, NotDone>
         ensures { Does free result self.now self.now (step_index self.now length index from_end) }
     {
         match calc_index(length, index, from_end) {
-            Some(place) => Ok(Brief::Count(place as u64)),
-            None => Ok(Brief::Nothing),
+            Some(place) => Ok(Answer::Int(place as i128)),
+            None => Ok(Answer::Nothing),
         }
     }
 }

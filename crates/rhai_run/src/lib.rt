@@ -4,7 +4,6 @@
 pub mod answer;
 mod ask;
 pub mod both;
-mod brief;
 mod cast;
 mod change;
 pub mod command;

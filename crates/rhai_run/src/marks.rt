@@ -9,8 +9,7 @@ ghost use Rattle.rhai_run.specs.Fits.{Fits, MarksAre};
 ghost use Rattle.rhai_run.specs.Marks.{step_mark, step_unmark, step_write_marked, step_read_marked};
 ghost use Rattle.rhai_run.specs.Does.{Does};
 
-use crate::answer::Refusal;
-use crate::brief::Brief;
+use crate::answer::{Answer, Refusal};
 use crate::command::Place;
 use crate::desk::Desk;
 use crate::not_done::NotDone;
@@ -66,7 +65,7 @@ fn token(marks: &[WriteToken], k: usize) -> Result<&WriteToken, NotDone>
 
 impl Desk {
     #[tactic(auto, using(crate::proofs::MarkLists::first_is_free))]
-    pub(crate) fn mark(&mut self, place: &Place) -> Result<Brief, NotDone>
+    pub(crate) fn mark(&mut self, place: &Place) -> Result<Answer, NotDone>
         ensures { Does keeps_all result self.old self.new (step_mark self.old place.now) }
     {
         let holder = source(&self.hand, &self.scope, place)?;
@@ -78,7 +77,7 @@ impl Desk {
             Position::NONE,
         )))?;
         match self.marks.push(token) {
-            Ok(()) => Ok(Brief::Done),
+            Ok(()) => Ok(Answer::Done),
             Err(AllocFailed { value: token }) => {
                 self.store.release(token);
                 Err(NotDone::Memory)
@@ -86,17 +85,17 @@ impl Desk {
         }
     }
 
-    pub(crate) fn unmark(&mut self, k: usize) -> Result<Brief, NotDone>
+    pub(crate) fn unmark(&mut self, k: usize) -> Result<Answer, NotDone>
         requires { Fits self.old }
         ensures { Does free result self.old self.new (step_unmark self.old k) }
     {
         token(&self.marks, k)?;
         release_at(&mut self.store, &mut self.marks, k);
-        Ok(Brief::Done)
+        Ok(Answer::Done)
     }
 
     #[tactic(auto, using(crate::proofs::MarkLists::mark_is_set))]
-    pub(crate) fn write_marked(&mut self, k: usize, i: usize) -> Result<Brief, NotDone>
+    pub(crate) fn write_marked(&mut self, k: usize, i: usize) -> Result<Answer, NotDone>
         requires { Fits self.old }
         ensures { Does free result self.old self.new (step_write_marked self.old k i) }
     {
@@ -104,17 +103,17 @@ impl Desk {
         let token = token(&self.marks, k)?;
         let value = replace_at(&mut self.hand, i, Dynamic::UNIT);
         write_through(&mut self.store, token, value);
-        Ok(Brief::Done)
+        Ok(Answer::Done)
     }
 
     #[tactic(auto, using(crate::proofs::MarkLists::mark_is_set))]
-    pub(crate) fn read_marked(&mut self, k: usize) -> Result<Brief, NotDone>
+    pub(crate) fn read_marked(&mut self, k: usize) -> Result<Answer, NotDone>
         requires { Fits self.old }
         ensures { Does keeps_all result self.old self.new (step_read_marked self.old k) }
     {
         let token = token(&self.marks, k)?;
         let value = self.store.through(token).copy(self.alloc)?;
         self.hand.push(value)?;
-        Ok(Brief::Done)
+        Ok(Answer::Done)
     }
 }

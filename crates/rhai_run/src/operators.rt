@@ -8,8 +8,7 @@ ghost use Rattle.rhai_run.specs.Operators.{assigned_at, called_at, value_at, ste
 ghost use Rattle.rhai_run.specs.Places.{source};
 ghost use Rattle.rhai_run.specs.Does.{Calls, Does, Gives};
 
-use crate::answer::Refusal;
-use crate::brief::Brief;
+use crate::answer::{Answer, Refusal};
 use crate::command::Place;
 use crate::desk::Desk;
 use crate::not_done::NotDone;
@@ -90,12 +89,12 @@ impl Desk {
         Ok(value)
     }
 
-    pub(crate) fn binary(&mut self, op: Token, i: usize, j: usize) -> Result<Brief, NotDone>
+    pub(crate) fn binary(&mut self, op: Token, i: usize, j: usize) -> Result<Answer, NotDone>
         ensures { Does keeps_all result self.old self.new (step_binary self.old op i j) }
     {
         let value = self.operate(op, i, j)?;
         self.hand.push(value)?;
-        Ok(Brief::Done)
+        Ok(Answer::Done)
     }
 
     /// Calls a row of an assignment on the value at a place and on another one, which is at no place.
@@ -158,11 +157,11 @@ impl Desk {
         Ok(row)
     }
 
-    pub(crate) fn assign(&mut self, op: Token, place: &Place, j: usize) -> Result<Brief, NotDone>
+    pub(crate) fn assign(&mut self, op: Token, place: &Place, j: usize) -> Result<Answer, NotDone>
         ensures { Does keeps_all result self.old self.new (step_assign self.old op place.now j) }
     {
         let row = self.assignment(op, place, j)?;
         self.assign_by(row, place, j)?;
-        Ok(Brief::Done)
+        Ok(Answer::Done)
     }
 }

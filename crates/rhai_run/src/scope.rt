@@ -5,8 +5,7 @@ ghost use Rattle.rhai_run.specs.Cost.{free, keeps_all, looks_first};
 ghost use Rattle.rhai_run.specs.Scope.{step_push, step_push_dynamic, step_push_constant, step_pop, step_rewind, step_clear, step_len, step_is_empty, step_contains, step_search, step_is_constant, step_keep_visible, step_copy_scope, step_show_scope, step_hash_scope, moved_into_entry};
 ghost use Rattle.rhai_run.specs.Does.{Does};
 
-use crate::answer::Refusal;
-use crate::brief::Brief;
+use crate::answer::{Answer, Refusal};
 use crate::desk::Desk;
 use crate::not_done::NotDone;
 use crate::places::replace_at;
@@ -20,7 +19,7 @@ impl Desk {
         name: &ImmutableString,
         access: AccessMode,
         i: usize,
-    ) -> Result<Brief, NotDone>
+    ) -> Result<Answer, NotDone>
         ensures { Does keeps_all result self.old self.new (moved_into_entry (λ t. access) self.old name.now i) }
     {
         self.value(i)?;
@@ -30,10 +29,10 @@ impl Desk {
             replace_at(&mut self.hand, i, value);
             return Err(NotDone::Memory);
         }
-        Ok(Brief::Done)
+        Ok(Answer::Done)
     }
 
-    pub(crate) fn push(&mut self, name: &ImmutableString, i: usize) -> Result<Brief, NotDone>
+    pub(crate) fn push(&mut self, name: &ImmutableString, i: usize) -> Result<Answer, NotDone>
         ensures { Does keeps_all result self.old self.new (step_push self.old name.now i) }
     {
         self.push_as(name, AccessMode::ReadWrite, i)
@@ -43,7 +42,7 @@ impl Desk {
         &mut self,
         name: &ImmutableString,
         i: usize,
-    ) -> Result<Brief, NotDone>
+    ) -> Result<Answer, NotDone>
         ensures { Does keeps_all result self.old self.new (step_push_dynamic self.old name.now i) }
     {
         let access = self.value(i)?.access_mode();
@@ -54,99 +53,99 @@ impl Desk {
         &mut self,
         name: &ImmutableString,
         i: usize,
-    ) -> Result<Brief, NotDone>
+    ) -> Result<Answer, NotDone>
         ensures { Does keeps_all result self.old self.new (step_push_constant self.old name.now i) }
     {
         self.push_as(name, AccessMode::ReadOnly, i)
     }
 
-    pub(crate) fn pop(&mut self) -> Result<Brief, NotDone>
+    pub(crate) fn pop(&mut self) -> Result<Answer, NotDone>
         ensures { Does free result self.old self.new (step_pop self.old) }
     {
         if self.scope.is_empty() {
             return Err(NotDone::Refused(Refusal::EmptyScope));
         }
         self.scope.pop();
-        Ok(Brief::Done)
+        Ok(Answer::Done)
     }
 
-    pub(crate) fn rewind(&mut self, n: usize) -> Result<Brief, NotDone>
+    pub(crate) fn rewind(&mut self, n: usize) -> Result<Answer, NotDone>
         ensures { Does free result self.old self.new (step_rewind self.old n) }
     {
         self.scope.rewind(n);
-        Ok(Brief::Done)
+        Ok(Answer::Done)
     }
 
-    pub(crate) fn clear(&mut self) -> Result<Brief, NotDone>
+    pub(crate) fn clear(&mut self) -> Result<Answer, NotDone>
         ensures { Does free result self.old self.new (step_clear self.old) }
     {
         self.scope.clear();
-        Ok(Brief::Done)
+        Ok(Answer::Done)
     }
 
-    pub(crate) fn len(&self) -> Result<Brief, NotDone>
+    pub(crate) fn len(&self) -> Result<Answer, NotDone>
         ensures { Does free result self.now self.now (step_len self.now) }
     {
-        Ok(Brief::Count(self.scope.len() as u64))
+        Ok(Answer::Int(self.scope.len() as i128))
     }
 
-    pub(crate) fn is_empty(&self) -> Result<Brief, NotDone>
+    pub(crate) fn is_empty(&self) -> Result<Answer, NotDone>
         ensures { Does free result self.now self.now (step_is_empty self.now) }
     {
-        Ok(Brief::Bool(self.scope.is_empty()))
+        Ok(Answer::Bool(self.scope.is_empty()))
     }
 
-    pub(crate) fn contains(&self, name: &ImmutableString) -> Result<Brief, NotDone>
+    pub(crate) fn contains(&self, name: &ImmutableString) -> Result<Answer, NotDone>
         ensures { Does free result self.now self.now (step_contains self.now name.now) }
     {
-        Ok(Brief::Bool(self.scope.contains(name.as_str())))
+        Ok(Answer::Bool(self.scope.contains(name.as_str())))
     }
 
-    pub(crate) fn search(&self, name: &ImmutableString) -> Result<Brief, NotDone>
+    pub(crate) fn search(&self, name: &ImmutableString) -> Result<Answer, NotDone>
         ensures { Does free result self.now self.now (step_search self.now name.now) }
     {
         match self.scope.search(name.as_str()) {
-            Some(position) => Ok(Brief::Count(position as u64)),
-            None => Ok(Brief::Nothing),
+            Some(position) => Ok(Answer::Int(position as i128)),
+            None => Ok(Answer::Nothing),
         }
     }
 
-    pub(crate) fn is_constant(&self, name: &ImmutableString) -> Result<Brief, NotDone>
+    pub(crate) fn is_constant(&self, name: &ImmutableString) -> Result<Answer, NotDone>
         ensures { Does free result self.now self.now (step_is_constant self.now name.now) }
     {
         match self.scope.is_constant(name.as_str()) {
-            Some(is_constant) => Ok(Brief::Bool(is_constant)),
-            None => Ok(Brief::Nothing),
+            Some(is_constant) => Ok(Answer::Bool(is_constant)),
+            None => Ok(Answer::Nothing),
         }
     }
 
-    pub(crate) fn keep_visible(&mut self) -> Result<Brief, NotDone>
+    pub(crate) fn keep_visible(&mut self) -> Result<Answer, NotDone>
         ensures { Does keeps_all result self.old self.new (step_keep_visible self.old) }
     {
         self.scope = self.scope.clone_visible()?;
-        Ok(Brief::Done)
+        Ok(Answer::Done)
     }
 
-    pub(crate) fn copy_scope(&mut self) -> Result<Brief, NotDone>
+    pub(crate) fn copy_scope(&mut self) -> Result<Answer, NotDone>
         ensures { Does keeps_all result self.old self.new (step_copy_scope self.old) }
     {
         self.scope = self.scope.copy()?;
-        Ok(Brief::Done)
+        Ok(Answer::Done)
     }
 
-    pub(crate) fn show_scope(&self) -> Result<Brief, NotDone>
+    pub(crate) fn show_scope(&self) -> Result<Answer, NotDone>
         ensures { Does keeps_all result self.now self.now (step_show_scope self.now) }
     {
         let text = self.scope.shown(&self.store)?.into_text();
-        Ok(Brief::Text(text))
+        Ok(Answer::Text(text))
     }
 
-    pub(crate) fn hash_scope(&self) -> Result<Brief, NotDone>
+    pub(crate) fn hash_scope(&self) -> Result<Answer, NotDone>
         ensures { Does looks_first result self.now self.now (step_hash_scope self.now) }
     {
         match self.scope.hashed(&self.store)? {
             None => Err(NotDone::Refused(Refusal::NotHashable)),
-            Some(hashed) => Ok(Brief::Bytes(hashed.into_bytes())),
+            Some(hashed) => Ok(Answer::Bytes(hashed.into_bytes())),
         }
     }
 }

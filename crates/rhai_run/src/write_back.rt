@@ -1,18 +1,20 @@
 //! Commands that write back one part of a value.
 ghost use Rattle.std.specs.Prelude.{◌≡◌, [], true, is_some, None, IfOk, IsOkAnd, OnOk, OnErr};
 ghost use Rattle.rhai_value.specs.End.{end};
+ghost use Rattle.rhai_run.specs.declared.pieces.Piece.TheVariants.{Bit, Field, Byte, Character};
 ghost use Rattle.rhai_run.specs.Cost.{piece_cost};
 ghost use Rattle.rhai_run.specs.Places.{source};
-ghost use Rattle.rhai_run.specs.WriteBack.{lack, change, makes_text, changed_by, step_write_back};
+ghost use Rattle.rhai_run.specs.WriteBack.{lack, change, makes_text, changed_by, slice_from, step_write_back};
 ghost use Rattle.rhai_run.specs.Does.{Does};
 
-use crate::brief::Brief;
+use crate::answer::Answer;
 use crate::command::Place;
 use crate::desk::Desk;
 use crate::not_done::NotDone;
 use crate::pieces::Piece;
 use crate::places::{Places, is_within, source};
-use rhai_value::Dynamic;
+use rhai_target::Slice;
+use rhai_value::{Dynamic, INT};
 use std::alloc::AllocError;
 
 impl Desk {
@@ -36,12 +38,7 @@ impl Desk {
     }
 
     /// Writes the value at a hand position to a piece of the one at a place.
-    pub(crate) fn write_back(
-        &mut self,
-        place: &Place,
-        piece: Piece,
-        j: usize,
-    ) -> Result<Brief, NotDone>
+    fn write_back(&mut self, place: &Place, piece: Piece, j: usize) -> Result<Answer, NotDone>
         ensures { Does (piece_cost piece) result self.old self.new (step_write_back self.old place.now piece j) }
     {
         is_within(&self.hand, place)?;
@@ -50,6 +47,64 @@ impl Desk {
         piece.is_in(source, &self.store)?;
         let value = piece.working(value, self.alloc, &self.store)?;
         self.put_piece(place, piece, &value)?;
-        Ok(Brief::Done)
+        Ok(Answer::Done)
+    }
+
+    pub(crate) fn write_bit(&mut self, place: &Place, bit: u8, j: usize) -> Result<Answer, NotDone>
+        ensures { Does (piece_cost (Bit bit)) result self.old self.new (step_write_back self.old place.now (Bit bit) j) }
+    {
+        self.write_back(place, Piece::Bit(bit), j)
+    }
+
+    pub(crate) fn write_field(
+        &mut self,
+        place: &Place,
+        mask: INT,
+        shift: u8,
+        j: usize,
+    ) -> Result<Answer, NotDone>
+        ensures { Does (piece_cost (Field mask shift)) result self.old self.new (step_write_back self.old place.now (Field mask shift) j) }
+    {
+        self.write_back(place, Piece::Field(mask, shift), j)
+    }
+
+    pub(crate) fn write_byte(
+        &mut self,
+        place: &Place,
+        index: usize,
+        j: usize,
+    ) -> Result<Answer, NotDone>
+        ensures { Does (piece_cost (Byte index)) result self.old self.new (step_write_back self.old place.now (Byte index) j) }
+    {
+        self.write_back(place, Piece::Byte(index), j)
+    }
+
+    pub(crate) fn write_char(
+        &mut self,
+        place: &Place,
+        index: usize,
+        j: usize,
+    ) -> Result<Answer, NotDone>
+        ensures { Does (piece_cost (Character index)) result self.old self.new (step_write_back self.old place.now (Character index) j) }
+    {
+        self.write_back(place, Piece::Character(index), j)
+    }
+
+    pub(crate) fn write_slice(
+        &mut self,
+        place: &Place,
+        start: usize,
+        end: usize,
+        exclusive: bool,
+        j: usize,
+    ) -> Result<Answer, NotDone>
+        ensures { Does (piece_cost (slice_from start end exclusive)) result self.old self.new (step_write_back self.old place.now (slice_from start end exclusive) j) }
+    {
+        let slice = Slice {
+            start,
+            end,
+            exclusive,
+        };
+        self.write_back(place, Piece::Characters(slice), j)
     }
 }

@@ -1,19 +1,20 @@
 -- A value is taken out of its place in the hand, changed by move and put back.
-use Rattle.std.proofs.Common.{◌≡◌, ◌<◌, ℕ, zero, suc, true, false, List, [], ◌∷◌, length, slice_get, slice_set, Some, Result, Ok, Err, IfOk, IfErr, IsOk, IsErr, is_some, refl, sym, ap, ap₂, ◌∙◌}
+use Rattle.std.proofs.Common.{◌≡◌, ◌<◌, ℕ, ℤ, zero, suc, true, false, List, [], ◌∷◌, length, slice_get, slice_set, Some, Result, Ok, Err, IfOk, IfErr, IsOk, IsErr, is_some, refl, sym, ap, ap₂, ◌∙◌}
 use Rattle.std.proofs.lemmas.List.{set-set}
 use Rattle.std.proofs.lemmas.Option.{same_Some, slice_get_within}
 use Rattle.rhai_value.specs.declared.store.Cell.{Cell}
 use Rattle.rhai_value.specs.Tree.{Tree, node, leaf, branch, fields, holder, cell_of}
-use Rattle.rhai_value.specs.End.{flattened}
+use Rattle.rhai_value.specs.End.{end, end_name, flattened, held_part, store_after, value_after}
+use Rattle.rhai_value.specs.Parts.{int_of, with_int}
 use Rattle.rhai_value.specs.Store.{shared_value, shared_store}
 use Rattle.rhai_value.specs.declared.access_mode.AccessMode.{AccessMode}
 use Rattle.rhai_scope.specs.Entry.{Entry}
 use Rattle.rhai_run.specs.State.{State, with_hand, with_scope, with_cells}
 use Rattle.rhai_run.specs.Scope.{moved_into_entry}
-use Rattle.rhai_run.specs.Reply.{Reply, done}
+use Rattle.rhai_run.specs.Reply.{Reply, done, mismatch, refused}
 use Rattle.rhai_run.specs.Cost.{is_granted, may_want, share_cost}
 use Rattle.rhai_run.specs.Outcome.{Outcome, with_value}
-use Rattle.rhai_run.specs.Change.{step_share, step_flatten}
+use Rattle.rhai_run.specs.Change.{int_written, step_share, step_flatten, step_write_int}
 
 -- what became of a value that was put back, by the answer of putting it back
 pub changed_ok : {X E : Type 0} (changed : Result Tree Tree) (back : Result X E) (x : X) {New Put : Tree → Type 0} → back ≡ Ok x → IfOk changed New → IfOk changed (λ d. IsOk back × Put d) → IfErr changed (λ d. IsErr back × Put d) → (d : Tree) × New d × Put d
@@ -78,6 +79,21 @@ pub share_stays : (w : State) (i : ℕ) (t : Tree) → slice_get w.hand i ≡ So
 share_stays w i t e f =
     at_value w i (λ x. (done, with_cells w (shared_store w.store x) (slice_set w.hand i (shared_value w.store x)))) t done w e
     (refl, sym (ap₂ (with_cells w) (holder_stays w.store t f).0 (ap (slice_set w.hand i) (holder_stays w.store t f).1 ∙ set_own w.hand i t e)))
+
+-- an int is written over the one that is held, or none is held
+pub int_done : (w : State) (i : ℕ) (n : ℤ) (t d : Tree) (s : List Cell) → slice_get w.hand i ≡ Some t → is_some (held_part int_of (end w.store [] t)) ≡ true
+    → (d ≡ value_after (with_int n) (end w.store [] t) t) × (s ≡ store_after (with_int n) (end w.store [] t) w.store)
+    → (done ≡ (step_write_int w i n).0) × (with_cells w s (slice_set w.hand i d) ≡ (step_write_int w i n).1)
+int_done w i n t d s e f h =
+    at_value w i (λ x. int_written w i n x (end w.store [] x)) t done (with_cells w s (slice_set w.hand i d)) e
+    (rw f (refl, ap₂ (λ c x. with_cells w c (slice_set w.hand i x)) h.1 h.0))
+
+pub int_refused : (w : State) (i : ℕ) (n : ℤ) (t d : Tree) (s : List Cell) (name : List ℕ) → slice_get w.hand i ≡ Some t → is_some (held_part int_of (end w.store [] t)) ≡ false
+    → (d ≡ t) × (s ≡ w.store) → name ≡ end_name (end w.store [] t)
+    → (refused (mismatch name) ≡ (step_write_int w i n).0) × (with_cells w s (slice_set w.hand i d) ≡ (step_write_int w i n).1)
+int_refused w i n t d s name e f h k =
+    at_value w i (λ x. int_written w i n x (end w.store [] x)) t (refused (mismatch name)) (with_cells w s (slice_set w.hand i d)) e
+    (rw f (ap (λ x. refused (mismatch x)) k, ap₂ (λ c x. with_cells w c (slice_set w.hand i x)) h.1 h.0 ∙ ap (with_cells w w.store) (set_own w.hand i t e)))
 
 -- a hand position with a value
 pub hand_within : (w v : State) (i : ℕ) (t : Tree) → w ≡ v → slice_get w.hand i ≡ Some t → i < length v.hand

@@ -64,10 +64,12 @@ impl Desk {
     pub(crate) fn write_int(&mut self, i: usize, value: INT) -> Result<Answer, NotDone>
         ensures { Does free result self.old self.new (step_write_int self.old i value) }
     {
-        self.value(i)?
-            .as_int(&self.store)
-            .map_err(Refusal::Mismatch)?;
-        self.hand[i].set_int(&mut self.store, value);
+        self.value(i)?;
+        let target = &mut self.hand[i];
+        if !target.set_int(&mut self.store, value) {
+            let name = target.type_name(&self.store);
+            return Err(NotDone::Refused(Refusal::Mismatch(name)));
+        }
         Ok(Answer::Done)
     }
 

@@ -1,5 +1,5 @@
 -- The lines that mark cells and write to places, and those that ask for places in lists.
-use Rattle.std.specs.Prelude.{ℕ, true, false, ◌==◌, if◌then◌else◌, List, [], ◌∷◌, Option, Some, None, option_map, codes}
+use Rattle.std.specs.Prelude.{ℕ, true, false, ◌==◌, if◌then◌else◌, List, [], ◌∷◌, Option, None, option_map, codes}
 use Rattle.rhai_run.specs.declared.command.Command.TheVariants.{Assign, Mark, Unmark, WriteMarked, ReadMarked, WriteBit, WriteField, WriteByte, WriteChar, WriteSlice, Offset, Index}
 use Rattle.rhai_run.specs.declared.command.Place.{Place}
 use Rattle.rhai_run.specs.declared.command.Place.TheVariants as place

@@ -188,7 +188,7 @@ fn are_refused(world: &mut World, commands: &[Command]) -> bool {
     true
 }
 
-/// A command that is refused is refused also where memory is: it passes with each growth of the run refused.
+/// A command that is refused is refused also where memory is: it is to pass whichever growth of the run is refused.
 #[test]
 fn refusals_need_no_memory(rt: HostRuntime) -> Result<(), Fail> {
     let commands = commands_at_last(rt.alloc(), REFUSED)?;

@@ -1,4 +1,4 @@
--- A value is taken out of its place in the hand, changed by move and put back.
+-- A value of the hand is changed: taken out of its place and put back, or written where it stands.
 use Rattle.std.proofs.Common.{◌≡◌, ◌<◌, ℕ, ℤ, zero, suc, true, false, List, [], ◌∷◌, length, slice_get, slice_set, Some, Result, Ok, Err, IfOk, IfErr, IsOk, IsErr, is_some, refl, sym, ap, ap₂, ◌∙◌}
 use Rattle.std.proofs.lemmas.List.{set-set}
 use Rattle.std.proofs.lemmas.Option.{same_Some, slice_get_within}

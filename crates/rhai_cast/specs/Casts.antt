@@ -31,7 +31,7 @@ cast_whole k s t = read k (flattened s t)
 -- the error has the value as it was. Memory is wanted for a `String`, and for what is copied out of a cell.
 abbrev pub IsNotCast : TypeId → CastError → List Cell → Tree → Type 0
 IsNotCast k (Mismatch d) s t = (d ≡ flattened s t) × (read k (flattened s t) ≡ None)
-IsNotCast k (Memory d) s t = (d ≡ t) × (cell_of t ≡ None → is_type k id.String ≡ true) × (TakesNoMemory (flattened s t) → is_type k id.String ≡ true)
+IsNotCast k (Memory d) s t = (d ≡ t) × (cell_of t ≡ None → is_type k id.String ≡ true) × (TakesNoMemory (flattened s t) → is_type k id.String ≡ true) × (cell_of t ≡ None → is_some (read k t) ≡ true)
 
 -- what is lent for reading: of a `Dynamic` the first content, else what the held value has
 abbrev pub locked : TypeId → List Cell → Tree → Option Tree

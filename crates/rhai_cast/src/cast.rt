@@ -60,6 +60,7 @@ pub trait DynamicCast: Sized {
     fn try_cast<T: Variant>(self, alloc: Global, s: &Store) -> Result<Option<T>, AllocError>
         ensures value { IfOk result (λ found. option_map T.tree found ≡ read T.KIND (flattened s.now (tree self))) }
         ensures own { cell_of (tree self) ≡ None → is_type T.KIND type_id.String ≡ false → IsOk result }
+        ensures unread { cell_of (tree self) ≡ None → read T.KIND (tree self) ≡ None → IsOk result }
         ensures free { TakesNoMemory (flattened s.now (tree self)) → is_type T.KIND type_id.String ≡ false → IsOk result };
 
     /// The same of a value that holds the type; to a `Dynamic` the value itself, its holders kept. (`Dynamic::cast`, which panics

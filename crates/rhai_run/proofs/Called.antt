@@ -18,7 +18,7 @@ use Rattle.rhai_ops.specs.declared.builtin.FnBuiltin.{FnBuiltin}
 use Rattle.rhai_run.specs.declared.not_done.NotDone.{NotDone}
 use Rattle.rhai_run.specs.State.{State, appended}
 use Rattle.rhai_run.specs.Reply.{done}
-use Rattle.rhai_run.specs.Cost.{is_granted}
+use Rattle.rhai_run.specs.Cost.{may_make}
 use Rattle.rhai_run.specs.Does.{Gives, IsError, not_done_of}
 use Rattle.rhai_run.specs.Operators.{value_at, called, step_binary}
 use Rattle.rhai_run.proofs.Moves.{set_own}
@@ -68,7 +68,7 @@ answered_fault (assignment k q) (call.fault f) p e h = e
 answered_fault (assignment k q) (call.too_large x) p e h = e
 answered_fault (assignment k q) call.unsuited p e h = e
 
-answered_granted : (w : State) (how : Way) (after : Tree → State) (o : call.Outcome) → is_answer (answered how o) ≡ true → is_granted (called w after o).0 ≡ true
+answered_granted : (w : State) (how : Way) (after : Tree → State) (o : call.Outcome) → is_answer (answered how o) ≡ true → may_make (called w after o).0 ≡ true
 answered_granted w how after (call.answers t) h = refl
 answered_granted w operator after (call.fault f) h = cc
 answered_granted w operator after (call.too_large k) h = cc

@@ -8,7 +8,13 @@ use Rattle.rhai_scope.specs.Entry.{Entry, is_constant_entry, with_value as holdi
 use Rattle.rhai_scope.specs.Typed.{set_or_pushed}
 use Rattle.rhai_scope.specs.Lookup.{later_or_here, last_position, last_entry, value_named, unless_constant, writable_position, value_at, changed_if, changed_named, with_value_at}
 use Rattle.rhai_run.specs.Entries.{viewed_as, appended_or_nothing, step_get_ref}
+use Rattle.rhai_run.specs.Cost.{may_make}
 use Rattle.rhai_run.specs.State.{State}
+
+-- something is made where a value is found
+pub appended_makes : (w : State) (o : Option Tree) → is_some o ≡ true → may_make (appended_or_nothing w o).0 ≡ true
+appended_makes w None h = cc
+appended_makes w (Some t) h = refl
 
 -- it may be written
 is_writable : (es : List Entry) (o : Option ℕ) → option_map is_constant_entry (option_and_then (slice_get es) o) ≡ Some false

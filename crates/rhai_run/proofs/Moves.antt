@@ -12,7 +12,7 @@ use Rattle.rhai_scope.specs.Entry.{Entry}
 use Rattle.rhai_run.specs.State.{State, with_hand, with_scope, with_cells}
 use Rattle.rhai_run.specs.Scope.{moved_into_entry}
 use Rattle.rhai_run.specs.Reply.{Reply, done, mismatch, refused}
-use Rattle.rhai_run.specs.Cost.{is_granted, may_want, share_cost}
+use Rattle.rhai_run.specs.Cost.{may_make, may_want, share_cost}
 use Rattle.rhai_run.specs.Outcome.{Outcome, with_value}
 use Rattle.rhai_run.specs.Change.{int_written, step_share, step_flatten, step_write_int}
 
@@ -59,13 +59,13 @@ pub entry_came_back : (w : State) (i : ℕ) (t u d : Tree) (es : List Entry) (ts
 entry_came_back w i t u d es ts e h k l = ap₂ (with_scope w) k (moved_in w.hand ts i u d t h l ∙ set_own w.hand i t e)
 
 -- a value that is there refuses none of these
-pub push_wants : (mode : Tree → AccessMode) (w : State) (name : List ℕ) (i : ℕ) (t : Tree) → slice_get w.hand i ≡ Some t → is_granted (moved_into_entry mode w name i).0 ≡ true
+pub push_wants : (mode : Tree → AccessMode) (w : State) (name : List ℕ) (i : ℕ) (t : Tree) → slice_get w.hand i ≡ Some t → may_make (moved_into_entry mode w name i).0 ≡ true
 push_wants mode w name i t e = rw e refl
 
 pub share_wants : (w : State) (i : ℕ) (t : Tree) → slice_get w.hand i ≡ Some t → is_some (cell_of t) ≡ false → may_want (share_cost (slice_get w.hand i)) (step_share w i).0 ≡ true
 share_wants w i t e f = rw e (rw f refl)
 
-pub flatten_wants : (w : State) (i : ℕ) (t : Tree) → slice_get w.hand i ≡ Some t → is_granted (step_flatten w i).0 ≡ true
+pub flatten_wants : (w : State) (i : ℕ) (t : Tree) → slice_get w.hand i ≡ Some t → may_make (step_flatten w i).0 ≡ true
 flatten_wants w i t e = rw e refl
 
 -- a holder stays

@@ -44,7 +44,7 @@ module _ (r : Renaming) where
       cut array ts us g m e = ((refl, same_first_trees n ts us e), refl, refl)
       cut (function f) ts us g m e = ((refl, e), refl, refl)
 
-  scanners_same : SameVisits r visited
+  pub scanners_same : SameVisits r visited
   scanners_same v t u h = (refl, same_scanned v.scanner t u h)
 
 module _ (r : Renaming) (w v : State) (h : RelatedStates r w v) where

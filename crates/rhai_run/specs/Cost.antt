@@ -11,8 +11,8 @@ use Rattle.rhai_scope.specs.Lookup.{last_position, writable_position}
 use Rattle.rhai_run.specs.State.{State}
 use Rattle.rhai_run.specs.Reply.{Reply, done, truth, number, told, bytes, pair, nothing, refused}
 
--- A command is free where it takes no memory. Else it may want memory, and keeps then all as it was: where it is not refused, or even
--- before it is known whether it is refused.
+-- A command is free where it takes no memory. Else it may want memory, and keeps then all as it was: where it is not refused and finds
+-- what it asks for, or even before that is known.
 pub data Cost : Type 0 where
   free : Cost
   keeps_all : Cost
@@ -43,6 +43,11 @@ share_cost (Some t) = if is_some (cell_of t) then free else keeps_all
 abbrev pub hash_cost : Option Tree → Cost
 hash_cost None = free
 hash_cost (Some t) = looks_first
+
+-- an alias is given to an entry that is there
+abbrev pub alias_cost : Option ℕ → Cost
+alias_cost None = free
+alias_cost (Some k) = keeps_all
 
 -- an entry that is there is written over
 abbrev pub place_cost : Option ℕ → Cost
@@ -93,7 +98,7 @@ cost w (command.GetValue name kind) = keeps_all
 cost w (command.GetRef name kind) = keeps_all
 cost w (command.SetRef name n) = free
 cost w (command.Remove name kind) = keeps_all
-cost w (command.SetAlias name alias) = keeps_all
+cost w (command.SetAlias name alias) = alias_cost (last_position name w.entries)
 cost w (command.Aliases name) = keeps_all
 cost w command.KeepVisible = keeps_all
 cost w command.CopyScope = keeps_all
@@ -118,19 +123,19 @@ cost w (command.Show i) = keeps_all
 cost w (command.Debug i) = keeps_all
 cost w (command.Hash i) = hash_cost (slice_get w.hand i)
 
--- a reply that is no refusal
-abbrev pub is_granted : Reply → Bool
-is_granted done = true
-is_granted (truth b) = true
-is_granted (number n) = true
-is_granted (told text) = true
-is_granted (bytes bs) = true
-is_granted (pair m n) = true
-is_granted nothing = true
-is_granted (refused why) = false
+-- whether something may have been made for a reply: for none that refuses, or says that there is nothing
+abbrev pub may_make : Reply → Bool
+may_make done = true
+may_make (truth b) = true
+may_make (number n) = true
+may_make (told text) = true
+may_make (bytes bs) = true
+may_make (pair m n) = true
+may_make nothing = false
+may_make (refused why) = false
 
 -- whether memory may be wanted where a command of this cost has this reply
 abbrev pub may_want : Cost → Reply → Bool
 may_want free reply = false
-may_want keeps_all reply = is_granted reply
+may_want keeps_all reply = may_make reply
 may_want looks_first reply = true

@@ -11,7 +11,7 @@ use Rattle.rhai_run.specs.State.{State, appended}
 use Rattle.rhai_run.specs.Reply.{Reason, Reply, done, refused, reason_of, reply_of}
 use Rattle.rhai_run.specs.Outcome.{Outcome}
 use Rattle.rhai_run.specs.Entries.{appended_or_nothing}
-use Rattle.rhai_run.specs.Cost.{Cost, is_granted, may_want}
+use Rattle.rhai_run.specs.Cost.{Cost, may_make, may_want}
 
 -- The answer or the refusal is this reply; or memory was refused where it may be wanted.
 abbrev pub Tells : Cost → Result Answer NotDone → Reply → Type 0
@@ -19,10 +19,10 @@ Tells k (Ok a) reply = reply_of a ≡ reply
 Tells k (Err (Refused why)) reply = refused (reason_of why) ≡ reply
 Tells k (Err Memory) reply = may_want k reply ≡ true
 
--- Not done: that is the refusal, and nothing has changed; or memory was refused, and the outcome is no refusal.
+-- Not done: that is the refusal, and nothing has changed; or memory was refused, and the outcome is that something is made.
 abbrev pub IsError : NotDone → State → Outcome → Type 0
 IsError (Refused why) w o = o ≡ (refused (reason_of why), w)
-IsError Memory w o = is_granted o.0 ≡ true
+IsError Memory w o = may_make o.0 ≡ true
 
 -- A value is made, and the outcome is that it stands at the end of the hand; or it isn't.
 abbrev pub Gives : Result Tree NotDone → State → Outcome → Type 0

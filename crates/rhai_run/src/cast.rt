@@ -139,17 +139,15 @@ fn made_anew(value: Dynamic) -> Dynamic
     })
 }
 
-/// What is read of a value as a type, if something is.
-#[tactic(auto, using(crate::proofs::Casts::read_content, crate::proofs::Casts::not_some))]
-pub(crate) fn read_as(value: Dynamic, kind: TypeId, is_readable: bool) -> Option<Dynamic>
-    requires { is_readable ≡ is_some (read_as kind value) }
-    ensures { result ≡ read_as kind value }
+/// What is read of a value as a type, where something is.
+#[tactic(auto, using(crate::proofs::Casts::read_content))]
+pub(crate) fn moved_as(value: Dynamic, kind: TypeId) -> Dynamic
+    requires { is_some (read_as kind value) ≡ true }
+    ensures { Some result ≡ read_as kind value }
 {
-    if !is_readable {
-        None
-    } else if kind == TypeId::Dynamic {
-        Some(value)
+    if kind == TypeId::Dynamic {
+        value
     } else {
-        Some(made_anew(value))
+        made_anew(value)
     }
 }

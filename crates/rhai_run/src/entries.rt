@@ -1,11 +1,11 @@
 //! Commands on the last entry of a name.
 ghost use Rattle.rhai_scope.specs.Lookup.{last_position, writable_position};
-ghost use Rattle.rhai_run.specs.Cost.{free, keeps_all, place_cost};
+ghost use Rattle.rhai_run.specs.Cost.{free, keeps_all, alias_cost, place_cost};
 ghost use Rattle.rhai_run.specs.Entries.{step_set_entry, step_set_or_push, step_set_value, step_get, step_get_value, step_get_ref, step_set_ref, step_remove, step_set_alias, step_aliases};
 ghost use Rattle.rhai_run.specs.Does.{Does, Finds};
 
 use crate::answer::{Answer, Refusal};
-use crate::cast::{can_cast, can_move, cast_to, read_as};
+use crate::cast::{can_cast, can_move, cast_to, moved_as};
 use crate::desk::Desk;
 use crate::not_done::NotDone;
 use crate::places::{push_in_room, replace_at, write_entry};
@@ -145,18 +145,16 @@ impl Desk {
         ensures { Does keeps_all result self.old self.new (step_remove self.old name.now kind) }
     {
         let value = self.scope.get(name.as_str()).ok_or(Refusal::NoEntry)?;
-        let is_castable = can_move(value, &self.store, kind);
+        if !can_move(value, &self.store, kind) {
+            self.scope.drop_entry(name.as_str());
+            return Ok(Answer::Nothing);
+        }
         self.hand.reserve(1)?;
         let Some(value) = self.scope.remove::<Dynamic>(name.as_str(), &self.store)? else {
             unreachable!();
         };
-        match read_as(value, kind, is_castable) {
-            None => Ok(Answer::Nothing),
-            Some(value) => {
-                push_in_room(&mut self.hand, value);
-                Ok(Answer::Done)
-            }
-        }
+        push_in_room(&mut self.hand, moved_as(value, kind));
+        Ok(Answer::Done)
     }
 
     pub(crate) fn set_alias(
@@ -164,7 +162,7 @@ impl Desk {
         name: &ImmutableString,
         alias: &ImmutableString,
     ) -> Result<Answer, NotDone>
-        ensures { Does keeps_all result self.old self.new (step_set_alias self.old name.now alias.now) }
+        ensures { Does (alias_cost (last_position name.now self.old.entries)) result self.old self.new (step_set_alias self.old name.now alias.now) }
     {
         self.scope.set_alias(name.as_str(), alias.as_str())?;
         Ok(Answer::Done)

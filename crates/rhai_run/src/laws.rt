@@ -1,13 +1,21 @@
 //! Laws of the machine: each is the contract of a function that does nothing.
-ghost use Rattle.std.specs.Prelude.{ℕ, ◌<◌, ◌↔◌, nat_eq, List, length};
+ghost use Rattle.std.specs.Prelude.{◌≡◌, ℕ, ℤ, ◌<◌, ◌↔◌, Bool, nat_eq, List, ◌++◌, length, drop};
 ghost use Rattle.std.specs.List.{Contains, IsDistinct};
 ghost use Rattle.rhai_text.specs.declared.limits.Limits.{Limits};
 ghost use Rattle.rhai_value.specs.Tree.{Tree};
 ghost use Rattle.rhai_value.specs.Store.{added};
 ghost use Rattle.rhai_value.specs.Relation.{Renaming, new_pairs};
+ghost use Rattle.rhai_value.specs.Scan.{SameVisits, scan};
 ghost use Rattle.rhai_run.specs.declared.command.Command.{Command};
+ghost use Rattle.rhai_run.specs.declared.command.Command.TheVariants as command;
+ghost use Rattle.rhai_run.specs.declared.command.Place.{Place};
+ghost use Rattle.rhai_run.specs.declared.command.Scanner.{Scanner};
 ghost use Rattle.rhai_run.specs.State.{State, empty_state, with_store};
+ghost use Rattle.rhai_run.specs.Reply.{Reply};
 ghost use Rattle.rhai_run.specs.Step.{step};
+ghost use Rattle.rhai_run.specs.Machine.{replies, state_after};
+ghost use Rattle.rhai_run.specs.Stop.{NeverWants, Stops};
+ghost use Rattle.rhai_run.specs.Scanners.{visited};
 ghost use Rattle.rhai_run.specs.Fits.{Fits};
 ghost use Rattle.rhai_run.specs.Correspondence.{Corresponds, RunAlike};
 ghost use Rattle.rhai_run.specs.KeptWorld.{KeepsAllReached, kept, kept_pairs};
@@ -46,4 +54,48 @@ pub fn reordered_worlds_correspond()
 /// Runs over states that correspond give the same answers and end in states that correspond.
 pub fn runs_are_alike()
     ensures { (r : Renaming) (w v : State) (commands : List Command) → Corresponds r w v → RunAlike r w v commands }
+{}
+
+/// What a scanner makes of a value, and of all that stands in it, doesn't depend on the numbers of cells; nor does the number of its
+/// visits.
+pub fn scanners_are_renamed()
+    ensures visit { (r : Renaming) → SameVisits r visited }
+    ensures scan { (r : Renaming) → SameVisits r (scan visited) }
+{}
+
+/// The commands that never want memory, whatever the state is. (There are others that want none in some states: `cost` tells.)
+pub fn free_commands_are_granted()
+    ensures drop_last { NeverWants command.Drop }
+    ensures set_tag { (i : ℕ) (tag : ℤ) → NeverWants (command.SetTag i tag) }
+    ensures make_read_only { (i : ℕ) → NeverWants (command.MakeReadOnly i) }
+    ensures write_int { (i : ℕ) (n : ℤ) → NeverWants (command.WriteInt i n) }
+    ensures write { (i j : ℕ) → NeverWants (command.Write i j) }
+    ensures scan { (i : ℕ) (scanner : Scanner) → NeverWants (command.Scan i scanner) }
+    ensures set_entry { (name : List ℕ) (i : ℕ) → NeverWants (command.SetEntry name i) }
+    ensures set_ref { (name : List ℕ) (n : ℤ) → NeverWants (command.SetRef name n) }
+    ensures pop { NeverWants command.Pop }
+    ensures rewind { (n : ℕ) → NeverWants (command.Rewind n) }
+    ensures clear { NeverWants command.Clear }
+    ensures len { NeverWants command.Len }
+    ensures is_empty { NeverWants command.IsEmpty }
+    ensures contains { (name : List ℕ) → NeverWants (command.Contains name) }
+    ensures search_for { (name : List ℕ) → NeverWants (command.Search name) }
+    ensures is_constant { (name : List ℕ) → NeverWants (command.IsConstant name) }
+    ensures unmark { (k : ℕ) → NeverWants (command.Unmark k) }
+    ensures write_marked { (k i : ℕ) → NeverWants (command.WriteMarked k i) }
+    ensures write_bit { (place : Place) (bit j : ℕ) → NeverWants (command.WriteBit place bit j) }
+    ensures write_field { (place : Place) (mask : ℤ) (shift j : ℕ) → NeverWants (command.WriteField place mask shift j) }
+    ensures write_byte { (place : Place) (index j : ℕ) → NeverWants (command.WriteByte place index j) }
+    ensures offset { (length : ℕ) (start len : ℤ) → NeverWants (command.Offset length start len) }
+    ensures index { (length : ℕ) (index : ℤ) (from_end : Bool) → NeverWants (command.Index length index from_end) }
+{}
+
+/// A run that stopped goes on with the rest of its list: the answers so far and those of the rest are the machine's on the whole list,
+/// and so is the state in the end.
+#[tactic(auto, using(crate::proofs::Stopped::answers_go_on, crate::proofs::Stopped::state_goes_on))]
+pub fn stopped_runs_go_on()
+    ensures answers { (w v : State) (commands : List Command) (told : List Reply) → Stops w commands told v
+        → told ++ replies v (drop (length told) commands) ≡ replies w commands }
+    ensures state { (w v : State) (commands : List Command) (told : List Reply) → Stops w commands told v
+        → state_after v (drop (length told) commands) ≡ state_after w commands }
 {}

@@ -5,6 +5,8 @@ ghost use Rattle.std.specs.Str.{chars};
 ghost use Rattle.rhai_value.specs.Tree.{mode_of};
 ghost use Rattle.rhai_value.specs.declared.access_mode.AccessMode.TheVariants.{ReadOnly};
 ghost use Rattle.rhai_scope.specs.Entry.{pushed, popped};
+ghost use Rattle.rhai_scope.specs.Lookup.{last_position};
+ghost use Rattle.rhai_scope.specs.Typed.{removed_at};
 
 use crate::columns::Columns;
 pub use crate::columns::MIN_SCOPE_ENTRIES;
@@ -149,6 +151,17 @@ impl Scope {
     {
         let len = self.len() - 1;
         self.columns.truncate(len);
+    }
+
+    /// Drops the last entry of a name with its aliases, if there is one, whatever its value is. It takes no memory; the time is that
+    /// of `search`, and the number of entries behind it.
+    #[tactic(auto, using(crate::proofs::Names::found_within))]
+    pub fn drop_entry(&mut self, name: &str)
+        ensures { self.new ≡ removed_at (last_position (chars name.now) self.old) self.old }
+    {
+        if let Some(i) = self.search(name) {
+            self.columns.remove(i);
+        }
     }
 
     /// Keeps the first `size` entries with their aliases, and all where there are no more. The time is in the number of the

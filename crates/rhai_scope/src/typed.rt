@@ -1,10 +1,12 @@
 //! Entries by types of Rust.
-ghost use Rattle.std.specs.Prelude.{◌≡◌, ◌<◌, false, None, Some, length, option_map, option_and_then, slice_get, remove, IfSome, IfOk, IfErr, OnOk, OnErr, IsOk};
+ghost use Rattle.std.specs.Prelude.{◌≡◌, ◌<◌, true, false, is_some, None, Some, length, option_map, option_and_then, slice_get, remove, IfSome, IfOk, IfErr, OnOk, OnErr, IsOk};
 ghost use Rattle.std.specs.Borrow.{LendsIf, sem};
 ghost use Rattle.std.specs.Str.{chars};
 ghost use Rattle.rhai_value.specs.declared.access_mode.AccessMode.TheVariants.{ReadWrite, ReadOnly};
 ghost use Rattle.rhai_value.specs.End.{flat, flattened};
 ghost use Rattle.rhai_value.specs.Tree.{cell_of};
+ghost use Rattle.rhai_value.specs.Types.{is_type};
+ghost use Rattle.rhai_value.specs.declared.type_id.TypeId.TheVariants as type_id;
 ghost use Rattle.rhai_variant.specs.Reads.{read, viewed};
 ghost use Rattle.rhai_scope.specs.Columns.{entries, AreParallel};
 ghost use Rattle.rhai_scope.specs.Entry.{is_constant_entry, pushed};
@@ -21,7 +23,8 @@ use std::alloc::{AllocError, Global};
 
 /// The value that is made of one of Rust's.
 fn made<T: Variant>(alloc: Global, value: T) -> Result<Dynamic, AllocError>
-    ensures { IfOk result (λ d. d ≡ T.tree value) }
+    ensures value { IfOk result (λ d. d ≡ T.tree value) }
+    ensures free { is_type T.KIND type_id.String ≡ false → IsOk result }
 {
     match value.into_dynamic(alloc) {
         Ok(made) => Ok(made),
@@ -93,6 +96,7 @@ impl Columns {
         ensures found { IfOk result (λ found. option_map T.tree found ≡ option_and_then (λ t. read T.KIND (flattened s.now t)) (value_named (chars name.now) (entries self.old))) }
         ensures ok { OnOk result (entries self.new ≡ removed_at (last_position (chars name.now) (entries self.old)) (entries self.old)) }
         ensures err { OnErr result (entries self.new ≡ entries self.old) }
+        ensures missing { last_position (chars name.now) (entries self.old) ≡ None → IsOk result }
         ensures parallel { AreParallel self.new }
     {
         match self.search(name) {
@@ -126,6 +130,7 @@ impl Scope {
     /// (`Scope::set_or_push`)
     #[tactic(auto, using(crate::proofs::Parallel::length_entries))]
     pub fn set_or_push<T: Variant>(&mut self, name: &str, value: T) -> Result<(), AllocError>
+        ensures free { is_type T.KIND type_id.String ≡ false → is_some (writable_position (chars name.now) self.old) ≡ true → IsOk result }
         ensures ok { OnOk result (self.new ≡ set_or_pushed (writable_position (chars name.now) self.old) (chars name.now) (T.tree value) self.old) }
         ensures err { OnErr result (self.new ≡ self.old) }
     {
@@ -139,6 +144,7 @@ impl Scope {
     #[tactic(auto, using(crate::proofs::Parallel::position_within))]
     pub fn set_value<T: Variant>(&mut self, name: &str, value: T) -> Result<(), AllocError>
         requires { IfSome (last_entry (chars name.now) self.old) (λ e. is_constant_entry e ≡ false) }
+        ensures free { is_type T.KIND type_id.String ≡ false → is_some (last_position (chars name.now) self.old) ≡ true → IsOk result }
         ensures ok { OnOk result (self.new ≡ set_or_pushed (last_position (chars name.now) self.old) (chars name.now) (T.tree value) self.old) }
         ensures err { OnErr result (self.new ≡ self.old) }
     {
@@ -150,6 +156,7 @@ impl Scope {
     #[tactic(auto, using(crate::proofs::Parallel::length_entries))]
     fn set_at(&mut self, place: Option<usize>, name: &str, value: Dynamic) -> Result<(), AllocError>
         requires { IfSome place (λ i. i < length self.old) }
+        ensures free { is_some place ≡ true → IsOk result }
         ensures ok { OnOk result (self.new ≡ set_or_pushed place (chars name.now) value self.old) }
         ensures err { OnErr result (self.new ≡ self.old) }
     {
@@ -169,7 +176,8 @@ impl Scope {
     ///
     /// Where memory is refused, for the copy or for a `String`.
     pub fn get_value<T: Variant>(&self, name: &str, s: &Store) -> Result<Option<T>, AllocError>
-        ensures { IfOk result (λ found. option_map T.tree found ≡ option_and_then (λ t. read T.KIND (flat s.now t)) (value_named (chars name.now) self.now)) }
+        ensures missing { value_named (chars name.now) self.now ≡ None → IsOk result }
+        ensures value { IfOk result (λ found. option_map T.tree found ≡ option_and_then (λ t. read T.KIND (flat s.now t)) (value_named (chars name.now) self.now)) }
     {
         match self.get(name) {
             Some(value) => read_flat(self.alloc, value, s),
@@ -209,6 +217,7 @@ impl Scope {
     ///
     /// Where memory is refused, for a copy out of a cell or for a `String`; the entry stays then.
     pub fn remove<T: Variant>(&mut self, name: &str, s: &Store) -> Result<Option<T>, AllocError>
+        ensures missing { last_position (chars name.now) self.old ≡ None → IsOk result }
         ensures found { IfOk result (λ found. option_map T.tree found ≡ option_and_then (λ t. read T.KIND (flattened s.now t)) (value_named (chars name.now) self.old)) }
         ensures ok { OnOk result (self.new ≡ removed_at (last_position (chars name.now) self.old) self.old) }
         ensures err { OnErr result (self.new ≡ self.old) }

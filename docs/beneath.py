@@ -1,0 +1,144 @@
+#!/usr/bin/env python3
+"""Counts the definitions that stand beneath the contracts of some functions, and lists the files that they are in.
+
+    docs/beneath.py [FILE FUNCTION..] ..
+
+With no arguments: beneath the run theorem (`run`, `run_both`, `apply`), and besides beneath `run_lines`.
+From the clauses of a function it follows each name to its definition in some crate's specs/, and on from there. It counts lines without
+comments, blank lines and imports; types of src/ and definitions of the standard library are not counted.
+"""
+import collections
+import functools
+import os
+import re
+import sys
+
+TOP = os.path.dirname(os.path.dirname(os.path.abspath(__file__)))
+WORD = re.compile(r"[^\W\d][\w'-]*")
+HEAD = re.compile(r"(?:(?:abbrev|unfoldable|opaque|pub)\s+)*(record\s+|data\s+)?([^\W\d][\w'-]*)")
+USE = re.compile(r"(?:ghost |pub )*use Rattle\.([\w.]+?)(?:\.\{([^}]*)\}| as (\w+))?;?$")
+
+
+def code_lines(text):
+    """The lines that say something: no comments, blank lines or imports."""
+    kept, in_use = [], False
+    for line in text.split("\n"):
+        bare = line.split("--")[0].rstrip()
+        if re.match(r"(pub )?use ", bare):
+            in_use = "{" in bare and "}" not in bare
+        elif in_use:
+            in_use = "}" not in bare
+        elif bare.strip():
+            kept.append(bare)
+    return kept
+
+
+def imports(text, is_source=False):
+    """The module (crate, path) that each imported name comes from, and under which name it stands there; a module's alias has none."""
+    names = {}
+    for line in re.sub(r"\{([^}]*)\}", lambda it: it[0].replace("\n", " "), text).split("\n"):
+        found = USE.match(line.strip())
+        if not found or is_source and not line.strip().startswith("ghost"):
+            continue
+        path, listed, alias = found.groups()
+        if listed is None:
+            names[alias or path.split(".")[-1]] = (path, None)
+            continue
+        for item in filter(None, (it.strip() for it in listed.split(","))):
+            name, _, other = item.partition(" as ")
+            names[(other or name).strip()] = (path, name.strip())
+    return names
+
+
+@functools.lru_cache(None)
+def module(path):
+    """A file of specs/ as its imports and its definitions, or None where the path names no such file."""
+    crate, _, rest = path.partition(".specs.")
+    file = f"{TOP}/crates/{crate}/specs/{rest.replace('.', '/')}.antt"
+    if not rest or not os.path.isfile(file):
+        return None
+    with open(file, encoding="utf-8") as it:
+        text = it.read()
+    items, name, depth = collections.OrderedDict(), None, 0
+    for line in code_lines(text):
+        indent = len(line) - len(line.lstrip())
+        # (what stands in a block is a definition of its own)
+        depth = min(depth, indent)
+        if re.match(r"\s*((abbrev |unfoldable |pub )*mutual|module _)", line):
+            depth = indent + 2
+            continue
+        if indent == depth and HEAD.match(line.strip()):
+            name = HEAD.match(line.strip())[2]
+        items.setdefault(name, []).append(line[depth:])
+    # (a constructor or a field leads to its type)
+    parts = {}
+    for item, lines in items.items():
+        if re.match(r"(?:pub\s+)?(record|data)\b", lines[0]):
+            for line in lines[1:]:
+                found = re.match(r"\s+(?:pub )?([\w'-]+) :", line)
+                if found:
+                    parts[found[1]] = item
+    return imports(text), items, parts
+
+
+def reach(seeds):
+    """All definitions that these (path, name) lead to."""
+    seen, left = set(), list(seeds)
+    while left:
+        path, name = left.pop()
+        read = module(path)
+        if read is None:
+            continue
+        uses, items, parts = read
+        name = parts.get(name, name)
+        if name not in items or (path, name) in seen:
+            continue
+        seen.add((path, name))
+        for word in WORD.findall("\n".join(items[name])):
+            if word in items or word in parts:
+                left.append((path, word))
+            elif word in uses and uses[word][1]:
+                left.append(uses[word])
+    return seen
+
+
+def clauses(file, functions):
+    """The names in the clauses of these functions, as (path, name)."""
+    with open(f"{TOP}/{file}", encoding="utf-8") as it:
+        text = it.read()
+    uses, seeds = imports(text, True), []
+    for function in functions:
+        start = re.search(rf"\bfn {function}\b", text).start()
+        body = text[start : text.index("\n{", start)]
+        seeds += [uses[it] for it in WORD.findall(body) if it in uses and uses[it][1]]
+    return seeds
+
+
+def tell(title, seen, without=frozenset()):
+    by_crate, files = collections.Counter(), collections.Counter()
+    for path, name in seen - without:
+        lines = len(module(path)[1][name])
+        by_crate[path.split(".")[0]] += lines
+        files[path] += lines
+    print(f"{title}: {sum(by_crate.values())} lines")
+    for crate, lines in by_crate.most_common():
+        print(f"  {crate} {lines}")
+        for path, count in sorted(files.items()):
+            if path.startswith(f"{crate}."):
+                print(f"    {path.partition('.specs.')[2]} {count}")
+
+
+def main(words):
+    run = [("crates/rhai_run/src/world.rt", ["run", "apply"]), ("crates/rhai_run/src/both.rt", ["run_both"])]
+    if words:
+        run = [(words[0], words[1:])]
+    seen = reach([it for file, functions in run for it in clauses(file, functions)])
+    tell("beneath " + ", ".join(it for _, functions in run for it in functions), seen)
+    if not words:
+        # the program's own: where run_lines stands
+        file = next(it for it in ("crates/rhai_lines/src/lines.rt", "crates/rhai_world/src/lines.rt") if os.path.isfile(f"{TOP}/{it}"))
+        tell("and beneath run_lines besides", reach(clauses(file, ["run_lines"])), seen)
+
+
+if __name__ == "__main__":
+    main(sys.argv[1:])

@@ -1,5 +1,6 @@
 #!/usr/bin/env python3
-"""Counts the definitions that stand beneath the contracts of some functions, and lists the files that they are in.
+"""Counts the definitions that stand beneath the contracts of some functions, and lists the files that they are in, in an order in which
+they can be read.
 
     docs/beneath.py [FILE FUNCTION..] ..
 
@@ -114,18 +115,43 @@ def clauses(file, functions):
     return seeds
 
 
+def leads_to(path, name, seen):
+    """The definitions of other files that this one names."""
+    uses, items, _ = module(path)
+    for word in WORD.findall("\n".join(items[name])):
+        if word in uses and uses[word][1] and module(uses[word][0]):
+            other, its = uses[word]
+            if other != path and (other, module(other)[2].get(its, its)) in seen:
+                yield other
+
+
+def reading_order(seen):
+    """The files, each after those that it names."""
+    below, order = collections.defaultdict(set), []
+    for path, name in seen:
+        below[path].update(leads_to(path, name, seen))
+
+    def visit(path):
+        if path not in order:
+            for other in sorted(below[path]):
+                visit(other)
+            order.append(path)
+
+    for path in sorted(below):
+        visit(path)
+    return order
+
+
 def tell(title, seen, without=frozenset()):
     by_crate, files = collections.Counter(), collections.Counter()
     for path, name in seen - without:
         lines = len(module(path)[1][name])
         by_crate[path.split(".")[0]] += lines
         files[path] += lines
-    print(f"{title}: {sum(by_crate.values())} lines")
-    for crate, lines in by_crate.most_common():
-        print(f"  {crate} {lines}")
-        for path, count in sorted(files.items()):
-            if path.startswith(f"{crate}."):
-                print(f"    {path.partition('.specs.')[2]} {count}")
+    print(f"{title}: {sum(by_crate.values())} lines (" + ", ".join(f"{crate} {lines}" for crate, lines in by_crate.most_common()) + ")")
+    for path in reading_order(seen):
+        if files[path]:
+            print(f"  {path.replace('.', '/')}.antt {files[path]}")
 
 
 def main(words):

@@ -155,13 +155,10 @@ impl Scope {
 
     /// Drops the last entry of a name with its aliases, if there is one, whatever its value is. It takes no memory; the time is that
     /// of `search`, and the number of entries behind it.
-    #[tactic(auto, using(crate::proofs::Names::found_within))]
     pub fn drop_entry(&mut self, name: &str)
         ensures { self.new ≡ removed_at (last_position (chars name.now) self.old) self.old }
     {
-        if let Some(i) = self.search(name) {
-            self.columns.remove(i);
-        }
+        self.columns.drop_named(name);
     }
 
     /// Keeps the first `size` entries with their aliases, and all where there are no more. The time is in the number of the

@@ -84,6 +84,18 @@ impl Columns {
         }
     }
 
+    /// Drops the last entry of a name.
+    #[tactic(auto, using(crate::proofs::Names::found_within))]
+    pub(crate) fn drop_named(&mut self, name: &str)
+        requires { AreParallel self.old }
+        ensures entries { entries self.new ≡ removed_at (last_position (chars name.now) (entries self.old)) (entries self.old) }
+        ensures parallel { AreParallel self.new }
+    {
+        if let Some(i) = self.search(name) {
+            self.remove(i);
+        }
+    }
+
     /// Takes the last entry of a name out.
     #[tactic(auto, using(crate::proofs::Names::found_within))]
     fn remove_named<T: Variant>(

@@ -21,7 +21,7 @@ pub mod Step
 pub mod Fitting
 pub mod KeptWorlds
 pub mod Runs
-pub mod Stopped
+pub mod GoingOn
 pub mod Moves
 pub mod MapRows
 pub mod LastEntry

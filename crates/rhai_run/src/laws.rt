@@ -92,7 +92,7 @@ pub fn free_commands_are_granted()
 
 /// A run that stopped goes on with the rest of its list: the answers so far and those of the rest are the machine's on the whole list,
 /// and so is the state in the end.
-#[tactic(auto, using(crate::proofs::Stopped::answers_go_on, crate::proofs::Stopped::state_goes_on))]
+#[tactic(auto, using(crate::proofs::GoingOn::answers_go_on, crate::proofs::GoingOn::state_goes_on))]
 pub fn stopped_runs_go_on()
     ensures answers { (w v : State) (commands : List Command) (told : List Reply) → Stops w commands told v
         → told ++ replies v (drop (length told) commands) ≡ replies w commands }

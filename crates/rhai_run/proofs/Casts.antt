@@ -92,6 +92,13 @@ viewed_none k s t h n f = by (is_type k id.Shared) f
     by true e = refl
     by false e = viewed_flat k s t h n ∙ not_some (read k (flat s t)) e
 
+pub viewed_is_there : (k : TypeId) (s : List Cell) (t : Tree) → is_some (cell_of t) ≡ false → is_type k id.String ≡ false → is_some (read_as k (flat s t)) ≡ true → is_some (option_map copy (viewed_as k t)) ≡ true
+viewed_is_there k s t h n f = by (is_type k id.Shared) f
+  where
+    by : (b : Bool) → is_some (cond b None (read k (flat s t))) ≡ true → is_some (option_map copy (cond b None (viewed k t))) ≡ true
+    by true e = cc
+    by false e = ap is_some (viewed_flat k s t h n) ∙ e
+
 -- no value is a `String`
 pub unviewed_string : (k : TypeId) (t : Tree) → is_type k id.String ≡ true → option_map copy (viewed_as k t) ≡ None
 unviewed_string id.String t h = refl

@@ -1,5 +1,5 @@
 -- The last entry of a name.
-use Rattle.std.proofs.Common.{◌≡◌, ℕ, suc, nat_eq, Bool, true, false, List, [], ◌∷◌, slice_get, Option, Some, None, option_map, option_and_then, is_some, refl, ap, subst}
+use Rattle.std.proofs.Common.{◌≡◌, ℕ, suc, nat_eq, Bool, true, false, List, [], ◌∷◌, slice_get, Option, Some, None, option_map, option_and_then, is_some, refl, ap, ◌∙◌, subst}
 use Rattle.std.specs.Cmp.Lexicographic.{pointwise}
 use Rattle.std.proofs.lemmas.Option.{same_Some}
 use Rattle.rhai_value.specs.Tree.{Tree, cell_of, copy}
@@ -99,3 +99,8 @@ no_position name es h = at (last_position name es) (there name es) h
 pub get_ref_is : (w : State) (name : List ℕ) (kind : TypeId) (t : Tree) (o : Option Tree) → value_named name w.entries ≡ Some t → is_some (cell_of t) ≡ false → option_map copy (viewed_as kind t) ≡ o
     → step_get_ref w name kind ≡ appended_or_nothing w o
 get_ref_is w name kind t o e f g = rw (e, f, g) refl
+
+pub get_ref_makes : (w : State) (name : List ℕ) (kind : TypeId) (t : Tree) → value_named name w.entries ≡ Some t → is_some (cell_of t) ≡ false → is_some (option_map copy (viewed_as kind t)) ≡ true
+    → may_make (step_get_ref w name kind).0 ≡ true
+get_ref_makes w name kind t e h f =
+    ap (λ o. may_make o.0) (get_ref_is w name kind t (option_map copy (viewed_as kind t)) e h refl) ∙ appended_makes w (option_map copy (viewed_as kind t)) f

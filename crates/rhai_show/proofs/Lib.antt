@@ -2,6 +2,7 @@ pub mod Cleans
 pub mod Commas
 pub mod Copies
 pub mod Distinct
+pub mod ForCallers
 pub mod Hashes
 pub mod Heads
 pub mod Measures

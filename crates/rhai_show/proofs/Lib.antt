@@ -6,6 +6,7 @@ pub mod ForCallers
 pub mod Hashes
 pub mod Heads
 pub mod Measures
+pub mod NoHolders
 pub mod Plains
 pub mod Printed
 pub mod Pushed

@@ -311,9 +311,13 @@ fn held_type(kind: TypeId) -> TypeId
     }
 }
 
-/// Whether something is read of the value without its holders.
-fn is_castable<T: Variant>(value: &Dynamic, s: &Store) -> bool
-    ensures { result ≡ is_castable T.KIND (end s.now [] value.now) }
+/// Whether a value can be cast to the type, which `cast` and `clone_cast` ask for: whether something is read of it without its
+/// holders. Takes no memory.
+#[tactic(auto, using(crate::proofs::Castable::moved_castable, crate::proofs::Castable::copied_castable))]
+pub fn is_castable<T: Variant>(value: &Dynamic, s: &Store) -> bool
+    ensures castable { result ≡ is_castable T.KIND (end s.now [] value.now) }
+    ensures moved { result ≡ is_some (read T.KIND (flattened s.now value.now)) }
+    ensures copied { result ≡ is_some (read T.KIND (flat s.now value.now)) }
 {
     T::KIND == TypeId::Dynamic || held_type(T::KIND) == value.type_id(s)
 }

@@ -1,12 +1,12 @@
 //! The aliases of entries, and giving them some.
-ghost use Rattle.std.specs.Prelude.{ℕ, List, Some, ◌≡◌, ◌<◌, ◌≤◌, nat_eq, length, max, option_copied, option_map, slice_get, IfOk, OnOk, OnErr};
+ghost use Rattle.std.specs.Prelude.{ℕ, List, Some, None, IsOk, ◌≡◌, ◌<◌, ◌≤◌, nat_eq, length, max, option_copied, option_map, slice_get, IfOk, OnOk, OnErr};
 ghost use Rattle.std.specs.Cmp.Lexicographic.{pointwise};
 ghost use Rattle.std.specs.List.{list_any};
 ghost use Rattle.std.specs.Str.{chars};
 ghost use Rattle.rhai_value.specs.Tree.{Tree};
 ghost use Rattle.rhai_scope.specs.Alias.{meant_alias, with_alias, aliased};
 ghost use Rattle.rhai_scope.specs.Columns.{entries, entries_of, AreParallel};
-ghost use Rattle.rhai_scope.specs.Lookup.{aliases_named, changed_at, changed_named};
+ghost use Rattle.rhai_scope.specs.Lookup.{aliases_named, changed_at, changed_named, last_position};
 
 use crate::alias::{Alias, AliasList};
 use crate::columns::Columns;
@@ -123,6 +123,7 @@ impl Columns {
         requires { AreParallel self.old }
         ensures ok { OnOk result (entries self.new ≡ changed_named (aliased (meant_alias (chars name.now) (chars alias.now))) (chars name.now) (entries self.old)) }
         ensures err { OnErr result (entries self.new ≡ entries self.old) }
+        ensures missing { last_position (chars name.now) (entries self.old) ≡ None → IsOk result }
         ensures parallel { AreParallel self.new }
     {
         match self.search(name) {
@@ -149,6 +150,7 @@ impl Scope {
     /// the entries before it at the first alias. (`Scope::set_alias`)
     pub fn set_alias(&mut self, name: &str, alias: &str) -> Result<(), AllocError>
         ensures ok { OnOk result (self.new ≡ changed_named (aliased (meant_alias (chars name.now) (chars alias.now))) (chars name.now) self.old) }
+        ensures missing { last_position (chars name.now) self.old ≡ None → IsOk result }
         ensures err { OnErr result (self.new ≡ self.old) }
     {
         self.columns.set_alias(self.alloc, name, alias)

@@ -1,10 +1,12 @@
 //! Entries by types of Rust.
-ghost use Rattle.std.specs.Prelude.{◌≡◌, ◌<◌, false, None, Some, length, option_map, option_and_then, slice_get, remove, IfSome, IfOk, IfErr, OnOk, OnErr, IsOk};
+ghost use Rattle.std.specs.Prelude.{◌≡◌, ◌<◌, true, false, is_some, None, Some, length, option_map, option_and_then, slice_get, remove, IfSome, IfOk, IfErr, OnOk, OnErr, IsOk};
 ghost use Rattle.std.specs.Borrow.{LendsIf, sem};
 ghost use Rattle.std.specs.Str.{chars};
 ghost use Rattle.rhai_value.specs.declared.access_mode.AccessMode.TheVariants.{ReadWrite, ReadOnly};
 ghost use Rattle.rhai_value.specs.End.{flat, flattened};
-ghost use Rattle.rhai_value.specs.Tree.{cell_of};
+ghost use Rattle.rhai_value.specs.Tree.{TakesNoMemory, cell_of};
+ghost use Rattle.rhai_value.specs.Types.{is_type};
+ghost use Rattle.rhai_value.specs.declared.type_id.TypeId.TheVariants as type_id;
 ghost use Rattle.rhai_variant.specs.Reads.{read, viewed};
 ghost use Rattle.rhai_scope.specs.Columns.{entries, AreParallel};
 ghost use Rattle.rhai_scope.specs.Entry.{is_constant_entry, pushed};
@@ -14,14 +16,15 @@ ghost use Rattle.rhai_scope.specs.contracts.scope.Scope as scope_type;
 
 use crate::columns::Columns;
 use crate::scope::Scope;
-use rhai_cast::DynamicCast;
+use rhai_cast::{DynamicCast, is_castable};
 use rhai_value::{AccessMode, Dynamic, Store};
 use rhai_variant::{CastError, Variant};
 use std::alloc::{AllocError, Global};
 
 /// The value that is made of one of Rust's.
 fn made<T: Variant>(alloc: Global, value: T) -> Result<Dynamic, AllocError>
-    ensures { IfOk result (λ d. d ≡ T.tree value) }
+    ensures value { IfOk result (λ d. d ≡ T.tree value) }
+    ensures free { is_type T.KIND type_id.String ≡ false → IsOk result }
 {
     match value.into_dynamic(alloc) {
         Ok(made) => Ok(made),
@@ -31,12 +34,14 @@ fn made<T: Variant>(alloc: Global, value: T) -> Result<Dynamic, AllocError>
 
 /// What is read of the flat copy of a value, if it is of the type.
 fn read_flat<T: Variant>(alloc: Global, value: &Dynamic, s: &Store) -> Result<Option<T>, AllocError>
-    ensures { IfOk result (λ found. option_map T.tree found ≡ read T.KIND (flat s.now value.now)) }
+    ensures found { IfOk result (λ found. option_map T.tree found ≡ read T.KIND (flat s.now value.now)) }
+    ensures unread { read T.KIND (flat s.now value.now) ≡ None → IsOk result }
+    ensures free { TakesNoMemory (flat s.now value.now) → is_type T.KIND type_id.String ≡ false → IsOk result }
 {
-    match T::from_dynamic(alloc, value.flatten_clone(alloc, s)?) {
-        Ok(found) => Ok(Some(found)),
-        Err(CastError::Mismatch(_)) => Ok(None),
-        Err(CastError::Memory(_)) => Err(AllocError),
+    if is_castable::<T>(value, s) {
+        Ok(Some(value.clone_cast::<T>(alloc, s)?))
+    } else {
+        Ok(None)
     }
 }
 
@@ -44,10 +49,16 @@ fn read_flat<T: Variant>(alloc: Global, value: &Dynamic, s: &Store) -> Result<Op
 fn cast_out<T: Variant>(alloc: Global, value: Dynamic, s: &Store) -> Result<Option<T>, Dynamic>
     ensures ok { IfOk result (λ found. option_map T.tree found ≡ read T.KIND (flattened s.now value)) }
     ensures err { IfErr result (λ back. back ≡ value) }
+    ensures unread { read T.KIND (flattened s.now value) ≡ None → IsOk result }
+    ensures own { cell_of value ≡ None → is_type T.KIND type_id.String ≡ false → IsOk result }
+    ensures free { TakesNoMemory (flattened s.now value) → is_type T.KIND type_id.String ≡ false → IsOk result }
 {
+    if !is_castable::<T>(&value, s) {
+        return Ok(None);
+    }
     match value.try_cast_result::<T>(alloc, s) {
         Ok(found) => Ok(Some(found)),
-        Err(CastError::Mismatch(_)) => Ok(None),
+        Err(CastError::Mismatch(_)) => unreachable!(),
         Err(CastError::Memory(back)) => Err(back),
     }
 }
@@ -66,6 +77,9 @@ impl Columns {
         ensures found { IfOk result (λ found. IfSome (slice_get self.old.values.items i) (λ t. option_map T.tree found ≡ read T.KIND (flattened s.now t))) }
         ensures ok { OnOk result (entries self.new ≡ remove (entries self.old) i) }
         ensures err { OnErr result (entries self.new ≡ entries self.old) }
+        ensures unread { IfSome (slice_get self.old.values.items i) (λ t. read T.KIND (flattened s.now t) ≡ None) → IsOk result }
+        ensures own { IfSome (slice_get self.old.values.items i) (λ t. cell_of t ≡ None) → is_type T.KIND type_id.String ≡ false → IsOk result }
+        ensures free { IfSome (slice_get self.old.values.items i) (λ t. TakesNoMemory (flattened s.now t)) → is_type T.KIND type_id.String ≡ false → IsOk result }
         ensures parallel { AreParallel self.new }
     {
         let value = self.lift(i);
@@ -93,6 +107,9 @@ impl Columns {
         ensures found { IfOk result (λ found. option_map T.tree found ≡ option_and_then (λ t. read T.KIND (flattened s.now t)) (value_named (chars name.now) (entries self.old))) }
         ensures ok { OnOk result (entries self.new ≡ removed_at (last_position (chars name.now) (entries self.old)) (entries self.old)) }
         ensures err { OnErr result (entries self.new ≡ entries self.old) }
+        ensures unread { option_and_then (λ t. read T.KIND (flattened s.now t)) (value_named (chars name.now) (entries self.old)) ≡ None → IsOk result }
+        ensures own { IfSome (value_named (chars name.now) (entries self.old)) (λ t. cell_of t ≡ None) → is_type T.KIND type_id.String ≡ false → IsOk result }
+        ensures free { IfSome (value_named (chars name.now) (entries self.old)) (λ t. TakesNoMemory (flattened s.now t)) → is_type T.KIND type_id.String ≡ false → IsOk result }
         ensures parallel { AreParallel self.new }
     {
         match self.search(name) {
@@ -126,6 +143,7 @@ impl Scope {
     /// (`Scope::set_or_push`)
     #[tactic(auto, using(crate::proofs::Parallel::length_entries))]
     pub fn set_or_push<T: Variant>(&mut self, name: &str, value: T) -> Result<(), AllocError>
+        ensures free { is_type T.KIND type_id.String ≡ false → is_some (writable_position (chars name.now) self.old) ≡ true → IsOk result }
         ensures ok { OnOk result (self.new ≡ set_or_pushed (writable_position (chars name.now) self.old) (chars name.now) (T.tree value) self.old) }
         ensures err { OnErr result (self.new ≡ self.old) }
     {
@@ -139,6 +157,7 @@ impl Scope {
     #[tactic(auto, using(crate::proofs::Parallel::position_within))]
     pub fn set_value<T: Variant>(&mut self, name: &str, value: T) -> Result<(), AllocError>
         requires { IfSome (last_entry (chars name.now) self.old) (λ e. is_constant_entry e ≡ false) }
+        ensures free { is_type T.KIND type_id.String ≡ false → is_some (last_position (chars name.now) self.old) ≡ true → IsOk result }
         ensures ok { OnOk result (self.new ≡ set_or_pushed (last_position (chars name.now) self.old) (chars name.now) (T.tree value) self.old) }
         ensures err { OnErr result (self.new ≡ self.old) }
     {
@@ -150,6 +169,7 @@ impl Scope {
     #[tactic(auto, using(crate::proofs::Parallel::length_entries))]
     fn set_at(&mut self, place: Option<usize>, name: &str, value: Dynamic) -> Result<(), AllocError>
         requires { IfSome place (λ i. i < length self.old) }
+        ensures free { is_some place ≡ true → IsOk result }
         ensures ok { OnOk result (self.new ≡ set_or_pushed place (chars name.now) value self.old) }
         ensures err { OnErr result (self.new ≡ self.old) }
     {
@@ -169,7 +189,9 @@ impl Scope {
     ///
     /// Where memory is refused, for the copy or for a `String`.
     pub fn get_value<T: Variant>(&self, name: &str, s: &Store) -> Result<Option<T>, AllocError>
-        ensures { IfOk result (λ found. option_map T.tree found ≡ option_and_then (λ t. read T.KIND (flat s.now t)) (value_named (chars name.now) self.now)) }
+        ensures unread { option_and_then (λ t. read T.KIND (flat s.now t)) (value_named (chars name.now) self.now) ≡ None → IsOk result }
+        ensures free { IfSome (value_named (chars name.now) self.now) (λ t. TakesNoMemory (flat s.now t)) → is_type T.KIND type_id.String ≡ false → IsOk result }
+        ensures value { IfOk result (λ found. option_map T.tree found ≡ option_and_then (λ t. read T.KIND (flat s.now t)) (value_named (chars name.now) self.now)) }
     {
         match self.get(name) {
             Some(value) => read_flat(self.alloc, value, s),
@@ -212,6 +234,9 @@ impl Scope {
         ensures found { IfOk result (λ found. option_map T.tree found ≡ option_and_then (λ t. read T.KIND (flattened s.now t)) (value_named (chars name.now) self.old)) }
         ensures ok { OnOk result (self.new ≡ removed_at (last_position (chars name.now) self.old) self.old) }
         ensures err { OnErr result (self.new ≡ self.old) }
+        ensures unread { option_and_then (λ t. read T.KIND (flattened s.now t)) (value_named (chars name.now) self.old) ≡ None → IsOk result }
+        ensures own { IfSome (value_named (chars name.now) self.old) (λ t. cell_of t ≡ None) → is_type T.KIND type_id.String ≡ false → IsOk result }
+        ensures free { IfSome (value_named (chars name.now) self.old) (λ t. TakesNoMemory (flattened s.now t)) → is_type T.KIND type_id.String ≡ false → IsOk result }
     {
         self.columns.remove_named(self.alloc, name, s)
     }

@@ -1,3 +1,4 @@
+pub mod Bares
 pub mod Cleans
 pub mod Commas
 pub mod Copies
@@ -13,3 +14,4 @@ pub mod Pushed
 pub mod SamePlain
 pub mod SamePrinted
 pub mod Searches
+pub mod Unfolded

@@ -1,10 +1,10 @@
-use Rattle.std.proofs.Common.{◌≡◌, ◌+◌, ◌*◌, true, false, ◌∷◌, drop, Some, None, IfSome, is_some, option_copied, refl, sym, ap, ap₂, ◌∙◌, arith, add-one}
+use Rattle.std.proofs.Common.{◌≡◌, ◌+◌, ◌*◌, true, false, ◌∷◌, drop, Some, None, IfSome, is_some, option_copied, sym, ap, ap₂, ◌∙◌, arith, add-one}
 use Rattle.std.proofs.Math.Seq.{drop-cons}
 use Rattle.std.specs.Map.Iter.{deref_pair}
 use Rattle.std.proofs.lemmas.Map.Iter.{rest_more}
 use Rattle.std.proofs.lemmas.Option.{MatchOption-at_some}
 use Rattle.rhai_value.specs.Rows.{trees_of, fields_of}
-use Rattle.rhai_value.specs.Tree.{nodes, nodes_trees, nodes_fields, array, function, unit, bool, int, char, text, blob, host, cell_of}
+use Rattle.rhai_value.specs.Tree.{nodes, nodes_fields, array, function, unit, bool, int, char, text, blob, host, cell_of}
 use Rattle.rhai_value.specs.View.{tree_of}
 use Rattle.rhai_value.specs.Walk.{entry}
 use Rattle.rhai_show.specs.Plain.{plain}
@@ -12,7 +12,7 @@ use Rattle.rhai_show.specs.Clean.{are_plain, values_in}
 use Rattle.rhai_show.proofs.Measures.{left_in, left-entry, nodes_item}
 use Rattle.rhai_show.proofs.NoHolders.{item_free, fields_free, first_free}
 use Rattle.rhai_show.proofs.Plains.{plain-leaf, plain-branch, plain-map, plain-closed}
-use Rattle.rhai_show.proofs.Searches.{so_far_turns, answered, again_answers, inside_requires, inside_answers, inside_leaves, leaf_leaves, map_leaves, searched_by}
+use Rattle.rhai_show.proofs.Searches.{so_far_turns, answered, again_answers, inside_requires, inside_answers, inside_leaves, map_leaves, searched_by}
 use Rattle.rhai_show.proofs.hashable.+search.Goals as goal
 
 pub is_clean-returns-in-None-clause-answer : goal.is_clean-returns-in-None-clause-answer

@@ -7,7 +7,8 @@ use Rattle.rhai_value.specs.declared.type_id.TypeId.{TypeId}
 use Rattle.rhai_value.specs.declared.type_id.TypeId.TheVariants as id
 use Rattle.rhai_value.specs.End.{End, held, stuck, closed, end, held_part, end_type, flattened, array_moved}
 use Rattle.rhai_value.specs.Parts.{array_of, blob_of}
-use Rattle.rhai_value.specs.Tree.{Tree, node, leaf, branch, fields, holder, array, function, Trees, tree_then, cell_of, copy_trees}
+use Rattle.rhai_value.specs.Tree.{Tree, node, leaf, branch, fields, holder, array, function, Trees, no_trees, tree_then, cell_of, copy_trees}
+use Rattle.rhai_value.specs.Rows.{trees_of}
 use Rattle.rhai_value.specs.Types.{is_type, tree_type}
 use Rattle.rhai_variant.specs.Reads.{read}
 use Rattle.rhai_cast.specs.Arrays.{with_front, read_all, unread_or, first_unread, byte_tree, bytes_at, typed_items, typed_array}
@@ -94,3 +95,19 @@ typed_bytes k s t xs h = ap (λ o. typed_items k s o (end s [] t)) (no_array s t
 pub or_true : (a b : Bool) → b ≡ true → a || b ≡ true
 or_true true b h = refl
 or_true false b h = h
+
+-- ---- what there is nothing to put into an array of
+
+pub no_items : (xs : List Tree) → trees_of xs ≡ no_trees → length xs ≡ 0
+no_items [] h = refl
+no_items (x ∷ xs) h = cc
+
+pub own_moved : (s : List Cell) (t : Tree) (ts : Trees) → array_of t ≡ Some ts → array_moved s t ≡ Some ts
+own_moved s t ts h = ap (λ o. option_or o (option_map copy_trees (held_part array_of (end s [] t)))) h
+
+pub no_bytes : (bs : List ℕ) → map byte_tree bs ≡ [] → bs ≡ []
+no_bytes [] h = refl
+no_bytes (b ∷ bs) h = cc
+
+pub bytes_apart : (k : TypeId) (s : List Cell) (t : Tree) (xs : List Tree) (ts : Trees) → Some xs ≡ bytes_at k (end s [] t) → array_of t ≡ Some ts → ⊥
+bytes_apart k s t xs ts h is = let no : Some ts ≡ None = sym (own_moved s t ts is) ∙ no_array s t (bytes_held k (end s [] t) xs h) in absurd (cc)

@@ -7,7 +7,7 @@ use Rattle.rhai_value.specs.declared.store.Cell.{Cell}
 use Rattle.rhai_value.specs.declared.type_id.TypeId.{TypeId}
 use Rattle.rhai_value.specs.declared.type_id.TypeId.TheVariants as id
 use Rattle.rhai_value.specs.End.{End, end, held_part, flattened, end_name, array_moved}
-use Rattle.rhai_value.specs.Parts.{blob_of}
+use Rattle.rhai_value.specs.Parts.{array_of, blob_of}
 use Rattle.rhai_value.specs.Tree.{Tree, Trees, no_trees, tree_then, fresh, host}
 use Rattle.rhai_value.specs.Types.{tree_type, type_name}
 use Rattle.rhai_variant.specs.Reads.{read}
@@ -31,10 +31,11 @@ abbrev pub first_unread : TypeId → List Cell → Trees → TypeId
 first_unread k s no_trees = id.Shared
 first_unread k s (tree_then t ts) = unread_or (read k (flattened s t)) t (first_unread k s ts)
 
--- Why not each item is read: nothing is read of one, and the name is that of the first such; or memory was refused.
+-- Why not each item is read: nothing is read of one, and the name is that of the first such; or memory was refused, and there are
+-- items.
 abbrev pub IsUnread : TypeId → IntoError → List Cell → Trees → Type 0
 IsUnread k (Mismatch name) s ts = (read_all k s ts ≡ None) × (name.now ≡ type_name (first_unread k s ts))
-IsUnread k (Memory refused) s ts = Unit {0}
+IsUnread k (Memory refused) s ts = ¬ ts ≡ no_trees
 
 -- a byte as a value
 abbrev pub byte_tree : ℕ → Tree
@@ -59,7 +60,8 @@ unfit_name k s (Some ts) e = type_name (first_unread k s ts)
 unfit_name k s None e = end_name e
 
 -- Why there is no array of values of this type: the items, or what is held, don't fit, and the name is that of what doesn't; or
--- memory was refused, and there is something to put into the array.
+-- memory was refused, and there is an array or are bytes, but no array of the value's own without items, nor no bytes.
 abbrev pub IsNoArray : TypeId → IntoError → List Cell → Tree → Type 0
 IsNoArray k (Mismatch name) s t = (typed_array k s t ≡ None) × (name.now ≡ unfit_name k s (array_moved s t) (end s [] t))
-IsNoArray k (Memory refused) s t = is_some (array_moved s t) || is_some (bytes_at k (end s [] t)) ≡ true
+IsNoArray k (Memory refused) s t =
+    (is_some (array_moved s t) || is_some (bytes_at k (end s [] t)) ≡ true) × ¬ array_of t ≡ Some no_trees × ¬ bytes_at k (end s [] t) ≡ Some []

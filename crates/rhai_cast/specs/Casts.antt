@@ -28,7 +28,7 @@ cast_whole id.Dynamic s t = Some t
 cast_whole k s t = read k (flattened s t)
 
 -- Why a value isn't cast by move: nothing is read of the value without its holders, which is the error's; or memory was refused, and
--- the error has the value as it was. Memory is wanted for a `String`, and for what is copied out of a cell.
+-- the error has the value as it was. Memory is wanted for a `String` of which a text is read, and for what is copied out of a cell.
 abbrev pub IsNotCast : TypeId → CastError → List Cell → Tree → Type 0
 IsNotCast k (Mismatch d) s t = (d ≡ flattened s t) × (read k (flattened s t) ≡ None)
 IsNotCast k (Memory d) s t = (d ≡ t) × (cell_of t ≡ None → is_type k id.String ≡ true) × (TakesNoMemory (flattened s t) → is_type k id.String ≡ true) × (cell_of t ≡ None → is_some (read k t) ≡ true)

@@ -1,5 +1,5 @@
 //! Items of arrays and bytes of blobs as values of one type.
-ghost use Rattle.std.specs.Prelude.{◌≡◌, true, [], ◌∷◌, ◌++◌, Some, None, map, option_map, IfOk, IfErr, OnOk};
+ghost use Rattle.std.specs.Prelude.{◌≡◌, true, [], ◌∷◌, ◌++◌, Some, None, map, option_map, IfOk, IfErr, IsOk, OnOk};
 ghost use Rattle.rhai_value.specs.End.{end};
 ghost use Rattle.rhai_value.specs.Rows.{trees_of};
 ghost use Rattle.rhai_value.specs.Types.{is_type, tree_type};
@@ -12,7 +12,7 @@ use rhai_variant::Variant;
 use std::alloc::{AllocError, Global};
 
 /// The items without their holders, read as one type. Room is taken once, and each item is moved.
-#[tactic(auto, using(crate::proofs::Items::none_read, crate::proofs::Items::unread_here))]
+#[tactic(auto, using(crate::proofs::Items::none_read, crate::proofs::Items::unread_here, crate::proofs::Items::no_items))]
 pub(crate) fn read_items<T: Variant>(
     items: Array,
     alloc: Global,
@@ -64,7 +64,8 @@ pub(crate) fn held_bytes<'s, T: Variant>(value: &'s Dynamic, s: &'s Store) -> Op
 /// Bytes as values of the type of a byte. Room is taken once.
 pub(crate) fn read_bytes<T: Variant>(bytes: &Blob, alloc: Global) -> Result<Vec<T>, AllocError>
     requires { is_type T.KIND type_id.U8 ≡ true }
-    ensures { IfOk result (λ xs. map T.tree xs.items ≡ map byte_tree bytes.now.items) }
+    ensures bytes { IfOk result (λ xs. map T.tree xs.items ≡ map byte_tree bytes.now.items) }
+    ensures none { bytes.now.items ≡ [] → IsOk result }
 {
     let mut xs = Vec::with_capacity(alloc, bytes.len())?;
     for byte in bytes {

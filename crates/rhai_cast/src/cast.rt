@@ -52,7 +52,8 @@ pub trait DynamicCast: Sized {
         ensures ok { IfOk result (λ x. read T.KIND (flattened s.now (tree self)) ≡ Some (T.tree x)) }
         ensures err { IfErr result (λ e. IsNotCast T.KIND e s.now (tree self)) };
 
-    /// The same, `None` where another type is held; the value is gone then. (`Dynamic::try_cast`)
+    /// The same, `None` where another type is held, which is asked before anything is copied; the value is gone then.
+    /// (`Dynamic::try_cast`)
     ///
     /// # Errors
     ///
@@ -60,7 +61,7 @@ pub trait DynamicCast: Sized {
     fn try_cast<T: Variant>(self, alloc: Global, s: &Store) -> Result<Option<T>, AllocError>
         ensures value { IfOk result (λ found. option_map T.tree found ≡ read T.KIND (flattened s.now (tree self))) }
         ensures own { cell_of (tree self) ≡ None → is_type T.KIND type_id.String ≡ false → IsOk result }
-        ensures unread { cell_of (tree self) ≡ None → read T.KIND (tree self) ≡ None → IsOk result }
+        ensures unread { read T.KIND (flattened s.now (tree self)) ≡ None → IsOk result }
         ensures free { TakesNoMemory (flattened s.now (tree self)) → is_type T.KIND type_id.String ≡ false → IsOk result };
 
     /// The same of a value that holds the type; to a `Dynamic` the value itself, its holders kept. (`Dynamic::cast`, which panics
@@ -123,12 +124,14 @@ pub trait DynamicCast: Sized {
     ///
     /// Where memory is refused, as of each maker below. The items are gone then.
     fn from_vec<T: Variant>(alloc: Global, items: Vec<T>) -> Result<Self, AllocError>
-        ensures { IfOk result (λ value. tree value ≡ array_made (map T.tree items.items)) };
+        ensures value { IfOk result (λ value. tree value ≡ array_made (map T.tree items.items)) }
+        ensures none { items.items ≡ [] → IsOk result };
 
     /// An array of copies of these items, at the cost of `duplicate` and `of` of each. Room is taken once. (`Dynamic::from` of a
     /// slice)
     fn from_slice<T: Variant>(alloc: Global, items: &[T]) -> Result<Self, AllocError>
-        ensures { IfOk result (λ value. tree value ≡ array_made (map (λ x. copy (T.tree x)) items.now)) };
+        ensures value { IfOk result (λ value. tree value ≡ array_made (map (λ x. copy (T.tree x)) items.now)) }
+        ensures none { items.now ≡ [] → IsOk result };
 
     /// An array of what the iterator yields, which must end. (`FromIterator` of rhai's `Dynamic`)
     fn from_iter<T: Variant, U: IntoIterator<Item = T>>(
@@ -144,22 +147,26 @@ pub trait DynamicCast: Sized {
         alloc: Global,
         entries: HashMap<String, T>,
     ) -> Result<Self, AllocError>
-        ensures { IfOk result (λ value. IsMapOf (pairs T.tree entries.entries) (tree value)) };
+        ensures value { IfOk result (λ value. IsMapOf (pairs T.tree entries.entries) (tree value)) }
+        ensures none { entries.entries ≡ [] → IsOk result };
 
     /// The same of an ordered map. (`Dynamic::from` of a `BTreeMap`)
     fn from_btree_map<T: Variant>(
         alloc: Global,
         entries: BTreeMap<String, T>,
     ) -> Result<Self, AllocError>
-        ensures { IfOk result (λ value. IsMapOf (pairs T.tree entries.entries) (tree value)) };
+        ensures value { IfOk result (λ value. IsMapOf (pairs T.tree entries.entries) (tree value)) }
+        ensures none { entries.entries ≡ [] → IsOk result };
 
     /// A map with unit at each of the keys. (`Dynamic::from` of a `HashSet`)
     fn from_hash_set(alloc: Global, keys: HashSet<String>) -> Result<Self, AllocError>
-        ensures { IfOk result (λ value. IsMapOf (keys_alone keys.keys) (tree value)) };
+        ensures value { IfOk result (λ value. IsMapOf (keys_alone keys.keys) (tree value)) }
+        ensures none { keys.keys ≡ [] → IsOk result };
 
     /// The same of an ordered set. (`Dynamic::from` of a `BTreeSet`)
     fn from_btree_set(alloc: Global, keys: BTreeSet<String>) -> Result<Self, AllocError>
-        ensures { IfOk result (λ value. IsMapOf (keys_alone keys.keys) (tree value)) };
+        ensures value { IfOk result (λ value. IsMapOf (keys_alone keys.keys) (tree value)) }
+        ensures none { keys.keys ≡ [] → IsOk result };
 }
 
 impl DynamicCast for Dynamic {
@@ -192,10 +199,14 @@ impl DynamicCast for Dynamic {
         }
     }
 
+    #[tactic(auto, using(crate::proofs::Castable::nothing_read, crate::proofs::Castable::something_read))]
     fn try_cast<T: Variant>(self, alloc: Global, s: &Store) -> Result<Option<T>, AllocError> {
+        if !is_castable::<T>(&self, s) {
+            return Ok(None);
+        }
         match self.try_cast_result::<T>(alloc, s) {
             Ok(x) => Ok(Some(x)),
-            Err(CastError::Mismatch(_)) => Ok(None),
+            Err(CastError::Mismatch(_)) => unreachable!(),
             Err(CastError::Memory(_)) => Err(AllocError),
         }
     }
@@ -243,7 +254,7 @@ impl DynamicCast for Dynamic {
         T::view_mut(self)
     }
 
-    #[tactic(auto, using(crate::proofs::Items::typed_bytes, crate::proofs::Items::bytes_type, crate::proofs::Items::no_array, crate::proofs::Items::array_source, crate::proofs::Items::or_true))]
+    #[tactic(auto, using(crate::proofs::Items::typed_bytes, crate::proofs::Items::bytes_type, crate::proofs::Items::no_array, crate::proofs::Items::array_source, crate::proofs::Items::or_true, crate::proofs::Items::own_moved, crate::proofs::Items::no_bytes, crate::proofs::Items::bytes_apart))]
     fn into_typed_array<T: Variant>(self, alloc: Global, s: &Store) -> Result<Vec<T>, IntoError> {
         if let Some(bytes) = held_bytes::<T>(&self, s) {
             return Ok(read_bytes(bytes, alloc)?);
@@ -298,6 +309,17 @@ fn held_type(kind: TypeId) -> TypeId
     } else {
         kind
     }
+}
+
+/// Whether a value can be cast to the type, which `cast` and `clone_cast` ask for: whether something is read of it without its
+/// holders. Takes no memory.
+#[tactic(auto, using(crate::proofs::Castable::moved_castable, crate::proofs::Castable::copied_castable))]
+pub fn is_castable<T: Variant>(value: &Dynamic, s: &Store) -> bool
+    ensures castable { result ≡ is_castable T.KIND (end s.now [] value.now) }
+    ensures moved { result ≡ is_some (read T.KIND (flattened s.now value.now)) }
+    ensures copied { result ≡ is_some (read T.KIND (flat s.now value.now)) }
+{
+    T::KIND == TypeId::Dynamic || held_type(T::KIND) == value.type_id(s)
 }
 
 /// A holder once more, its mode kept; nothing of a value that is none.

@@ -7,5 +7,5 @@ pub mod laws;
 mod lock;
 mod makers;
 
-pub use cast::DynamicCast;
+pub use cast::{DynamicCast, is_castable};
 pub use lock::write_lock;

@@ -1,5 +1,5 @@
 //! Arrays and maps that are made of Rust's collections, item by item.
-ghost use Rattle.std.specs.Prelude.{◌≡◌, List, map, string_bytes, IfOk, OnOk};
+ghost use Rattle.std.specs.Prelude.{◌≡◌, [], List, map, string_bytes, IfOk, IsOk, OnOk};
 ghost use Rattle.std.specs.BTreeMap.{insert_entry};
 ghost use Rattle.std.specs.Iterator.{IsFinite, Drains};
 ghost use Rattle.rhai_value.specs.Rows.{bytes_cmp, AreRising};
@@ -26,7 +26,8 @@ pub(crate) fn made_items<T: Variant>(
     alloc: Global,
     items: Vec<T>,
 ) -> Result<Vec<Dynamic>, AllocError>
-    ensures { IfOk result (λ values. values.items ≡ map T.tree items.items) }
+    ensures items { IfOk result (λ values. values.items ≡ map T.tree items.items) }
+    ensures none { items.items ≡ [] → IsOk result }
 {
     let mut values = Vec::with_capacity(alloc, items.len())?;
     for item in items {
@@ -40,7 +41,8 @@ pub(crate) fn copied_items<T: Variant>(
     alloc: Global,
     items: &[T],
 ) -> Result<Vec<Dynamic>, AllocError>
-    ensures { IfOk result (λ values. values.items ≡ map (λ x. copy (T.tree x)) items.now) }
+    ensures items { IfOk result (λ values. values.items ≡ map (λ x. copy (T.tree x)) items.now) }
+    ensures none { items.now ≡ [] → IsOk result }
 {
     let mut values = Vec::with_capacity(alloc, items.len())?;
     for item in items {
@@ -80,7 +82,8 @@ pub(crate) fn map_of_btree_map<T: Variant>(
     alloc: Global,
     entries: BTreeMap<String, T>,
 ) -> Result<Map, AllocError>
-    ensures { IfOk result (HasLast (pairs T.tree entries.entries)) }
+    ensures entries { IfOk result (HasLast (pairs T.tree entries.entries)) }
+    ensures none { entries.entries ≡ [] → IsOk result }
 {
     let mut map = Map::new(alloc);
     for (key, x) in entries {
@@ -94,7 +97,8 @@ pub(crate) fn map_of_hash_map<T: Variant>(
     alloc: Global,
     entries: HashMap<String, T>,
 ) -> Result<Map, AllocError>
-    ensures { IfOk result (HasLast (pairs T.tree entries.entries)) }
+    ensures entries { IfOk result (HasLast (pairs T.tree entries.entries)) }
+    ensures none { entries.entries ≡ [] → IsOk result }
 {
     let mut map = Map::new(alloc);
     for (key, x) in entries {
@@ -105,7 +109,8 @@ pub(crate) fn map_of_hash_map<T: Variant>(
 
 /// The keys of an ordered set, each with unit.
 pub(crate) fn map_of_btree_set(alloc: Global, keys: BTreeSet<String>) -> Result<Map, AllocError>
-    ensures { IfOk result (HasLast (keys_alone keys.keys)) }
+    ensures keys { IfOk result (HasLast (keys_alone keys.keys)) }
+    ensures none { keys.keys ≡ [] → IsOk result }
 {
     let mut map = Map::new(alloc);
     for key in keys {
@@ -116,7 +121,8 @@ pub(crate) fn map_of_btree_set(alloc: Global, keys: BTreeSet<String>) -> Result<
 
 /// The keys of a hashed set, each with unit.
 pub(crate) fn map_of_hash_set(alloc: Global, keys: HashSet<String>) -> Result<Map, AllocError>
-    ensures { IfOk result (HasLast (keys_alone keys.keys)) }
+    ensures keys { IfOk result (HasLast (keys_alone keys.keys)) }
+    ensures none { keys.keys ≡ [] → IsOk result }
 {
     let mut map = Map::new(alloc);
     for key in keys {

@@ -11,8 +11,7 @@ use Rattle.rhai_value.proofs.ForCallers.{same_tag, same_mode, same_host, same_sh
 use Rattle.rhai_value.specs.declared.type_id.TypeId.TheVariants as id
 use Rattle.rhai_cast.proofs.ForCallers.{same_is}
 use Rattle.rhai_show.specs.declared.form.Form.{Form}
-use Rattle.rhai_show.proofs.SamePlain.{same_plain}
-use Rattle.rhai_show.proofs.SamePrinted.{same_printed}
+use Rattle.rhai_show.proofs.ForCallers.{same_plain, same_printed}
 use Rattle.rhai_run.specs.declared.command.Question.{Question}
 use Rattle.rhai_run.specs.declared.command.Question.TheVariants as question
 use Rattle.rhai_run.specs.State.{State}

@@ -1,9 +1,11 @@
 -- What the copy of an entry keeps.
-use Rattle.std.proofs.Common.{◌≡◌, refl, ap}
+use Rattle.std.proofs.Common.{◌≡◌, ℕ, List, map, Option, Some, None, option_map, refl, ap, ◌∙◌}
 use Rattle.rhai_value.specs.declared.access_mode.AccessMode.{AccessMode}
 use Rattle.rhai_value.specs.Copied.{SameButModes, SameContentButModes, AllSameButModes, SameFieldsButModes}
 use Rattle.rhai_value.specs.Tree.{Tree, node, Content, leaf, branch, fields, holder, array, function, Trees, no_trees, tree_then, Fields, no_fields, field_then, copy, copy_content, copy_trees, copy_fields, paint, paint_content, paint_trees, paint_fields, mode_of, is_constant}
 use Rattle.rhai_scope.specs.Entry.{Entry, copied_value, copied_entry, is_constant_entry}
+use Rattle.rhai_scope.specs.Lookup.{last_entry, visible}
+use Rattle.rhai_scope.proofs.Found.{visible_means}
 
 mutual
   kept_copy : (t : Tree) → SameButModes (copy t) t
@@ -51,3 +53,11 @@ mode_kept (node c g m) = refl
 
 pub kept_constant : (e : Entry) → is_constant_entry (copied_entry e) ≡ is_constant_entry e
 kept_constant e = ap is_constant (mode_kept e.value)
+
+constant_through : (o : Option Entry) → option_map is_constant_entry (option_map copied_entry o) ≡ option_map is_constant_entry o
+constant_through None = refl
+constant_through (Some e) = ap Some (kept_constant e)
+
+-- whether a name is a constant stays in the copy of what is visible
+pub constants_kept : (name : List ℕ) (es : List Entry) → option_map is_constant_entry (last_entry name (map copied_entry (visible es))) ≡ option_map is_constant_entry (last_entry name es)
+constants_kept name es = ap (option_map is_constant_entry) (visible_means name es) ∙ constant_through (last_entry name es)

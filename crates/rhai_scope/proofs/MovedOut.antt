@@ -1,5 +1,5 @@
 -- A value that is moved out of its entry for a while.
-use Rattle.std.proofs.Common.{◌∙◌, ◌<◌, length, true, is_some, IfSome, option_and_then, arith, ◌≡◌, ℕ, zero, suc, List, [], ◌∷◌, slice_get, Option, Some, None, option_map, refl, sym, ap}
+use Rattle.std.proofs.Common.{◌∙◌, ◌<◌, length, true, is_some, IfSome, option_and_then, arith, ◌≡◌, ℕ, zero, suc, List, [], ◌∷◌, slice_get, Option, Some, None, option_map, refl, sym, ap, subst}
 use Rattle.std.specs.Prelude.{remove}
 use Rattle.rhai_value.specs.Tree.{Tree}
 use Rattle.rhai_scope.specs.Entry.{Entry, with_value}
@@ -55,3 +55,18 @@ there (v ∷ vs) (suc i) h = there vs i (omega (arith, h))
 pub read_named : {A : Type 0} (f : Tree → Option A) (x : Option A) (name : List ℕ) (ns : List (List ℕ)) (vs : List Tree) (bs : Aliases) (i : ℕ) → length vs ≡ length ns → i < length ns → Some i ≡ last_position name (entries_of ns vs bs)
     → IfSome (slice_get vs i) (λ t. x ≡ f t) → x ≡ option_and_then f (value_named name (entries_of ns vs bs))
 read_named f x name ns vs bs i h l e k = read_step f x (slice_get vs i) (there vs i (omega (arith, h, l))) k ∙ ap (option_and_then f) (value_named_at name ns vs bs (Some i) h e)
+
+-- a value that was found by its name is that at its place
+module _ (name : List ℕ) (ns : List (List ℕ)) (vs : List Tree) (bs : Aliases) (i : ℕ) (h : length vs ≡ length ns) (e : Some i ≡ last_position name (entries_of ns vs bs)) where
+  at_place : slice_get vs i ≡ value_named name (entries_of ns vs bs)
+  at_place = value_named_at name ns vs bs (Some i) h e
+
+  pub named_is : (P : Tree → Type 0) → IfSome (value_named name (entries_of ns vs bs)) P → IfSome (slice_get vs i) P
+  named_is P k = subst (λ o. IfSome o P) (sym at_place) k
+
+  pub named_none : {A : Type 0} (f : Tree → Option A) → option_and_then f (value_named name (entries_of ns vs bs)) ≡ None → IfSome (slice_get vs i) (λ t. f t ≡ None)
+  named_none f k = none_there (slice_get vs i) (ap (option_and_then f) at_place ∙ k)
+    where
+      none_there : (o : Option Tree) → option_and_then f o ≡ None → IfSome o (λ t. f t ≡ None)
+      none_there None n = tt
+      none_there (Some t) n = n

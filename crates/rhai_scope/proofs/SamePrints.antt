@@ -7,8 +7,7 @@ use Rattle.rhai_value.specs.End.{first, flat, constant_in}
 use Rattle.rhai_value.specs.Relation.{Renaming, Related, Alike, IsOneToOne, RelatedCells}
 use Rattle.rhai_value.specs.Tree.{Tree, is_constant}
 use Rattle.rhai_value.proofs.ForCallers.{same_first, same_flat, same_mode, zip_length}
-use Rattle.rhai_show.proofs.SamePlain.{same_plain}
-use Rattle.rhai_show.proofs.SamePrinted.{same_printed}
+use Rattle.rhai_show.proofs.ForCallers.{same_plain, same_printed}
 use Rattle.rhai_show.specs.declared.form.Form.TheVariants.{Debug}
 use Rattle.rhai_show.specs.HashBytes.{count_bytes}
 use Rattle.rhai_show.specs.Plain.{plain}

@@ -1,12 +1,12 @@
 -- What the iterators of a scope give.
-use Rattle.std.specs.Prelude.{◌≡◌, ℕ, Bool, List, [], ◌∷◌, map, reverse, Option, MatchOption, IfOk}
+use Rattle.std.specs.Prelude.{◌≡◌, ℕ, Bool, List, [], ◌∷◌, map, reverse, Option, MatchOption, IfOk, IsOk}
 use Rattle.std.specs.Borrow.{Bor}
 use Rattle.std.specs.Str.{chars}
 use Rattle.std.specs.declared.alloc.AllocError.{AllocError}
 use Rattle.std.specs.declared.result.Result.{Result}
 use Rattle.smallvec.specs.SmallVec.{SmallVec}
 use Rattle.rhai_value.specs.declared.store.Cell.{Cell}
-use Rattle.rhai_value.specs.Tree.{Tree}
+use Rattle.rhai_value.specs.Tree.{Tree, TakesNoMemory}
 use Rattle.rhai_value.specs.End.{first, flat, constant_in}
 use Rattle.rhai_scope.specs.Entry.{Entry}
 use Rattle.rhai_scope.specs.declared.iter.Iter.{Iter}
@@ -49,6 +49,7 @@ flat_left it = map (shown_flat it.store.now) it.rest
 abbrev pub raw_left : IterRaw → List Named
 raw_left it = map (shown_raw it.store.now) (reverse it.rest)
 
--- A call gave the first of what was left, unless memory was refused, and left the others; or nothing was left.
+-- A call gave the first of what was left, unless memory was refused, which a value whose copy takes none never wants, and left the
+-- others; or nothing was left.
 abbrev pub GivesFlat : Iter → Option (Result (Bor (List ℕ) × Bool × Tree) AllocError) → Iter → Type 0
-GivesFlat s r t = MatchOption r ((flat_left s ≡ []) × (flat_left t ≡ [])) (λ x. (y : Named) × (flat_left s ≡ y ∷ flat_left t) × IfOk x (λ p. given_flat p ≡ y))
+GivesFlat s r t = MatchOption r ((flat_left s ≡ []) × (flat_left t ≡ [])) (λ x. (y : Named) × (flat_left s ≡ y ∷ flat_left t) × IfOk x (λ p. given_flat p ≡ y) × (TakesNoMemory y.2 → IsOk x))

@@ -54,12 +54,13 @@ impl Columns {
         Ok(())
     }
 
-    /// Makes room for one more entry.
+    /// Makes room for one more entry; where there is none yet, for the least number of a scope's entries.
     pub(crate) fn make_room(&mut self) -> Result<(), AllocError>
         ensures names { self.new.names.items ≡ self.old.names.items }
         ensures values { self.new.values.items ≡ self.old.values.items }
         ensures aliases { self.new.aliases ≡ self.old.aliases }
         ensures room { OnOk result (HasRoom 1 self.new) }
+        ensures first { OnOk result (self.old.names.items ≡ [] → HasRoom MIN_SCOPE_ENTRIES self.new) }
     {
         let more = if self.names.is_empty() {
             MIN_SCOPE_ENTRIES

@@ -1,8 +1,9 @@
 //! Going over the entries of a scope that stays.
-ghost use Rattle.std.specs.Prelude.{◌≡◌, length, Some, IfOk, IfSome};
+ghost use Rattle.std.specs.Prelude.{◌≡◌, length, Some, IfOk, IfSome, IsOk};
 ghost use Rattle.std.specs.Iterator.{UpTo};
 ghost use Rattle.std.specs.Iterator.SizeHint.{IsWithinCount};
 ghost use Rattle.rhai_value.specs.End.{first, flat, constant_in};
+ghost use Rattle.rhai_value.specs.Tree.{TakesNoMemory};
 ghost use Rattle.rhai_scope.specs.Items.{given_flat};
 
 use crate::alias::Alias;
@@ -91,7 +92,8 @@ fn flat_item<'a>(
     name: &'a ImmutableString,
     value: &Dynamic,
 ) -> Result<(&'a str, bool, Dynamic), AllocError>
-    ensures { IfOk result (λ p. given_flat p ≡ (name.now, constant_in (first store.now value.now), flat store.now value.now)) }
+    ensures item { IfOk result (λ p. given_flat p ≡ (name.now, constant_in (first store.now value.now), flat store.now value.now)) }
+    ensures free { TakesNoMemory (flat store.now value.now) → IsOk result }
 {
     let is_constant = value.is_read_only(store);
     Ok((

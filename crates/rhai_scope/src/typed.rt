@@ -4,7 +4,7 @@ ghost use Rattle.std.specs.Borrow.{LendsIf, sem};
 ghost use Rattle.std.specs.Str.{chars};
 ghost use Rattle.rhai_value.specs.declared.access_mode.AccessMode.TheVariants.{ReadWrite, ReadOnly};
 ghost use Rattle.rhai_value.specs.End.{flat, flattened};
-ghost use Rattle.rhai_value.specs.Tree.{cell_of};
+ghost use Rattle.rhai_value.specs.Tree.{TakesNoMemory, cell_of};
 ghost use Rattle.rhai_value.specs.Types.{is_type};
 ghost use Rattle.rhai_value.specs.declared.type_id.TypeId.TheVariants as type_id;
 ghost use Rattle.rhai_variant.specs.Reads.{read, viewed};
@@ -16,7 +16,7 @@ ghost use Rattle.rhai_scope.specs.contracts.scope.Scope as scope_type;
 
 use crate::columns::Columns;
 use crate::scope::Scope;
-use rhai_cast::DynamicCast;
+use rhai_cast::{DynamicCast, is_castable};
 use rhai_value::{AccessMode, Dynamic, Store};
 use rhai_variant::{CastError, Variant};
 use std::alloc::{AllocError, Global};
@@ -34,12 +34,14 @@ fn made<T: Variant>(alloc: Global, value: T) -> Result<Dynamic, AllocError>
 
 /// What is read of the flat copy of a value, if it is of the type.
 fn read_flat<T: Variant>(alloc: Global, value: &Dynamic, s: &Store) -> Result<Option<T>, AllocError>
-    ensures { IfOk result (λ found. option_map T.tree found ≡ read T.KIND (flat s.now value.now)) }
+    ensures found { IfOk result (λ found. option_map T.tree found ≡ read T.KIND (flat s.now value.now)) }
+    ensures unread { read T.KIND (flat s.now value.now) ≡ None → IsOk result }
+    ensures free { TakesNoMemory (flat s.now value.now) → is_type T.KIND type_id.String ≡ false → IsOk result }
 {
-    match T::from_dynamic(alloc, value.flatten_clone(alloc, s)?) {
-        Ok(found) => Ok(Some(found)),
-        Err(CastError::Mismatch(_)) => Ok(None),
-        Err(CastError::Memory(_)) => Err(AllocError),
+    if is_castable::<T>(value, s) {
+        Ok(Some(value.clone_cast::<T>(alloc, s)?))
+    } else {
+        Ok(None)
     }
 }
 
@@ -47,10 +49,16 @@ fn read_flat<T: Variant>(alloc: Global, value: &Dynamic, s: &Store) -> Result<Op
 fn cast_out<T: Variant>(alloc: Global, value: Dynamic, s: &Store) -> Result<Option<T>, Dynamic>
     ensures ok { IfOk result (λ found. option_map T.tree found ≡ read T.KIND (flattened s.now value)) }
     ensures err { IfErr result (λ back. back ≡ value) }
+    ensures unread { read T.KIND (flattened s.now value) ≡ None → IsOk result }
+    ensures own { cell_of value ≡ None → is_type T.KIND type_id.String ≡ false → IsOk result }
+    ensures free { TakesNoMemory (flattened s.now value) → is_type T.KIND type_id.String ≡ false → IsOk result }
 {
+    if !is_castable::<T>(&value, s) {
+        return Ok(None);
+    }
     match value.try_cast_result::<T>(alloc, s) {
         Ok(found) => Ok(Some(found)),
-        Err(CastError::Mismatch(_)) => Ok(None),
+        Err(CastError::Mismatch(_)) => unreachable!(),
         Err(CastError::Memory(back)) => Err(back),
     }
 }
@@ -69,6 +77,9 @@ impl Columns {
         ensures found { IfOk result (λ found. IfSome (slice_get self.old.values.items i) (λ t. option_map T.tree found ≡ read T.KIND (flattened s.now t))) }
         ensures ok { OnOk result (entries self.new ≡ remove (entries self.old) i) }
         ensures err { OnErr result (entries self.new ≡ entries self.old) }
+        ensures unread { IfSome (slice_get self.old.values.items i) (λ t. read T.KIND (flattened s.now t) ≡ None) → IsOk result }
+        ensures own { IfSome (slice_get self.old.values.items i) (λ t. cell_of t ≡ None) → is_type T.KIND type_id.String ≡ false → IsOk result }
+        ensures free { IfSome (slice_get self.old.values.items i) (λ t. TakesNoMemory (flattened s.now t)) → is_type T.KIND type_id.String ≡ false → IsOk result }
         ensures parallel { AreParallel self.new }
     {
         let value = self.lift(i);
@@ -108,7 +119,9 @@ impl Columns {
         ensures found { IfOk result (λ found. option_map T.tree found ≡ option_and_then (λ t. read T.KIND (flattened s.now t)) (value_named (chars name.now) (entries self.old))) }
         ensures ok { OnOk result (entries self.new ≡ removed_at (last_position (chars name.now) (entries self.old)) (entries self.old)) }
         ensures err { OnErr result (entries self.new ≡ entries self.old) }
-        ensures missing { last_position (chars name.now) (entries self.old) ≡ None → IsOk result }
+        ensures unread { option_and_then (λ t. read T.KIND (flattened s.now t)) (value_named (chars name.now) (entries self.old)) ≡ None → IsOk result }
+        ensures own { IfSome (value_named (chars name.now) (entries self.old)) (λ t. cell_of t ≡ None) → is_type T.KIND type_id.String ≡ false → IsOk result }
+        ensures free { IfSome (value_named (chars name.now) (entries self.old)) (λ t. TakesNoMemory (flattened s.now t)) → is_type T.KIND type_id.String ≡ false → IsOk result }
         ensures parallel { AreParallel self.new }
     {
         match self.search(name) {
@@ -188,7 +201,8 @@ impl Scope {
     ///
     /// Where memory is refused, for the copy or for a `String`.
     pub fn get_value<T: Variant>(&self, name: &str, s: &Store) -> Result<Option<T>, AllocError>
-        ensures missing { value_named (chars name.now) self.now ≡ None → IsOk result }
+        ensures unread { option_and_then (λ t. read T.KIND (flat s.now t)) (value_named (chars name.now) self.now) ≡ None → IsOk result }
+        ensures free { IfSome (value_named (chars name.now) self.now) (λ t. TakesNoMemory (flat s.now t)) → is_type T.KIND type_id.String ≡ false → IsOk result }
         ensures value { IfOk result (λ found. option_map T.tree found ≡ option_and_then (λ t. read T.KIND (flat s.now t)) (value_named (chars name.now) self.now)) }
     {
         match self.get(name) {
@@ -233,6 +247,9 @@ impl Scope {
         ensures found { IfOk result (λ found. option_map T.tree found ≡ option_and_then (λ t. read T.KIND (flattened s.now t)) (value_named (chars name.now) self.old)) }
         ensures ok { OnOk result (self.new ≡ removed_at (last_position (chars name.now) self.old) self.old) }
         ensures err { OnErr result (self.new ≡ self.old) }
+        ensures unread { option_and_then (λ t. read T.KIND (flattened s.now t)) (value_named (chars name.now) self.old) ≡ None → IsOk result }
+        ensures own { IfSome (value_named (chars name.now) self.old) (λ t. cell_of t ≡ None) → is_type T.KIND type_id.String ≡ false → IsOk result }
+        ensures free { IfSome (value_named (chars name.now) self.old) (λ t. TakesNoMemory (flattened s.now t)) → is_type T.KIND type_id.String ≡ false → IsOk result }
     {
         self.columns.remove_named(self.alloc, name, s)
     }

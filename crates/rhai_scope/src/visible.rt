@@ -1,11 +1,11 @@
 //! The copy of what the names of a scope mean.
-ghost use Rattle.std.specs.Prelude.{◌≡◌, ◌∷◌, ◌++◌, ◌||◌, [], List, ℕ, nat_eq, not, map, IfOk, OnOk};
+ghost use Rattle.std.specs.Prelude.{◌≡◌, ◌∷◌, ◌++◌, ◌||◌, [], List, ℕ, nat_eq, not, map, option_map, IfOk, OnOk};
 ghost use Rattle.std.specs.BTreeSet.{contains};
 ghost use Rattle.std.specs.Cmp.Lexicographic.{pointwise, slice_cmp};
 ghost use Rattle.std.specs.Ordering.{nat_cmp};
 ghost use Rattle.rhai_scope.specs.Columns.{entries, AreParallel};
-ghost use Rattle.rhai_scope.specs.Entry.{copied_entry};
-ghost use Rattle.rhai_scope.specs.Lookup.{visible};
+ghost use Rattle.rhai_scope.specs.Entry.{copied_entry, is_constant_entry};
+ghost use Rattle.rhai_scope.specs.Lookup.{last_entry, visible};
 
 use crate::alias::{Alias, AliasList};
 use crate::aliases::fill;
@@ -89,10 +89,12 @@ impl Columns {
 }
 
 impl Scope {
-    /// The last entry of each name, copied as `copy` does, the newest first. It compares each name with the logarithm of the number
+    /// The last entry of each name, copied as `copy` does, the newest first; `is_constant` of each name stays. It compares each name with the logarithm of the number
     /// of different names, and takes memory for a set of these beside the copy. (`Scope::clone_visible`)
+    #[tactic(auto, using(crate::proofs::Kept::constants_kept))]
     pub fn clone_visible(&self) -> Result<Scope, AllocError>
-        ensures { IfOk result (λ s. s ≡ map copied_entry (visible self.now)) }
+        ensures entries { IfOk result (λ s. s ≡ map copied_entry (visible self.now)) }
+        ensures constants { IfOk result (λ s. (name : List ℕ) → option_map is_constant_entry (last_entry name s) ≡ option_map is_constant_entry (last_entry name self.now)) }
     {
         Ok(Scope {
             alloc: self.alloc,

@@ -1,5 +1,5 @@
 -- Hash bytes tell plain values apart, whatever comes behind them.
-use Rattle.std.proofs.Common.{◌≡◌, ◌↔◌, ℕ, suc, List, [], ◌∷◌, ◌++◌, refl, sym, ap, ap₂, ◌∙◌, append_assoc}
+use Rattle.std.proofs.Common.{◌≡◌, ◌↔◌, ℕ, List, [], ◌∷◌, ◌++◌, refl, sym, ap, ap₂, ◌∙◌, append_assoc}
 use Rattle.std.proofs.lemmas.List.{append-nil}
 use Rattle.rhai_show.specs.Plain.{Plain, plain_leaf, plain_branch, plain_map, Plains, no_plains, plain_then, PlainFields, no_plain_fields, plain_field_then}
 use Rattle.rhai_show.specs.HashBytes.{count_bytes, name_bytes, kind_bytes, how_many, how_many_fields, plain_bytes, all_bytes, fields_bytes}

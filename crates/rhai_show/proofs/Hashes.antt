@@ -7,7 +7,7 @@ use Rattle.rhai_value.specs.declared.store.Cell.{Cell}
 use Rattle.rhai_value.specs.Rows.{Rows, trees_of, fields_of}
 use Rattle.rhai_value.specs.Tree.{Tree, node, Leaf, leaf, Kind, branch, fields, holder, cell_of}
 use Rattle.rhai_value.specs.Walk.{entry}
-use Rattle.rhai_show.specs.Plain.{Plain, Plains, PlainFields, no_plains, plain_then, plain_branch, plain_map, no_plain_fields, plain_field_then, plain_more, plain_field_more, all_plain, fields_plain, plain}
+use Rattle.rhai_show.specs.Plain.{Plains, PlainFields, no_plains, plain_then, plain_branch, plain_map, no_plain_fields, plain_field_then, plain_more, plain_field_more, all_plain, fields_plain, plain}
 use Rattle.rhai_show.specs.Clean.{are_plain, values_in}
 use Rattle.rhai_show.specs.HashBytes.{count_bytes, name_bytes, leaf_bytes, kind_bytes, how_many, how_many_fields, all_bytes, fields_bytes, some_bytes, hash_bytes}
 use Rattle.rhai_show.specs.HashRows.{row_bytes}

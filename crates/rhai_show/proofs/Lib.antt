@@ -1,13 +1,17 @@
+pub mod Bares
 pub mod Cleans
 pub mod Commas
 pub mod Copies
 pub mod Distinct
+pub mod ForCallers
 pub mod Hashes
 pub mod Heads
 pub mod Measures
+pub mod NoHolders
 pub mod Plains
 pub mod Printed
 pub mod Pushed
 pub mod SamePlain
 pub mod SamePrinted
 pub mod Searches
+pub mod Unfolded

@@ -42,6 +42,17 @@ abbrev mutual
   FieldsName d no_fields = Unit {0}
   FieldsName d (field_then k t fs) = Names d t × FieldsName d fs
 
+-- no holder stands in the value, at any depth
+abbrev pub HasNoHolder : Tree → Type 0
+HasNoHolder t = Names (λ c. false) t
+
+-- the same of all of these, and of the values of a map
+abbrev pub HaveNoHolders : Trees → Type 0
+HaveNoHolders ts = AllName (λ c. false) ts
+
+abbrev pub FieldsHaveNoHolders : Fields → Type 0
+FieldsHaveNoHolders fs = FieldsName (λ c. false) fs
+
 -- A holder of a cell of d is plain, whatever cells are open, if none of them is one of d.
 pub record Clean (s : List Cell) (d : ℕ → Bool) : Type 0 where
   pub held : (c : ℕ) → d c ≡ true → (path : List ℕ) → Apart path d → is_some (plain s path (made (holder c))) ≡ true

@@ -5,6 +5,7 @@ pub mod Leaves
 pub mod Text
 pub mod Listed
 pub mod Plain
+pub mod Bare
 pub mod Clean
 pub mod HashBytes
 pub mod HashRows

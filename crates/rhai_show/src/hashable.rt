@@ -1,9 +1,9 @@
 //! Whether a value can be hashed.
-ghost use Rattle.std.specs.Prelude.{◌≡◌, [], true, IfOk, OnOk, is_some};
+ghost use Rattle.std.specs.Prelude.{◌≡◌, [], true, IfOk, IsOk, OnOk, is_some};
 ghost use Rattle.rhai_value.specs.Rows.{trees_of, fields_of};
 ghost use Rattle.rhai_value.specs.Tree.{tree_then, no_trees};
 ghost use Rattle.rhai_show.specs.Plain.{plain};
-ghost use Rattle.rhai_show.specs.Clean.{are_plain, values_in, has_left, Clean, Searched};
+ghost use Rattle.rhai_show.specs.Clean.{are_plain, values_in, has_left, Clean, HasNoHolder, HaveNoHolders, FieldsHaveNoHolders, Searched};
 
 use rhai_value::{Dynamic, Map, Path, Store, Union};
 use std::alloc::{AllocError, Global};
@@ -21,6 +21,7 @@ fn is_clean(
     ensures answer { IfOk result (λ b. b ≡ is_some (plain store.now path.old value.now)) }
     ensures path { OnOk result (path.new ≡ path.old) }
     ensures searched { IfOk result (λ b. b ≡ true → Searched store.now path.old seen.old seen.new (tree_then value.now no_trees)) }
+    ensures free { HasNoHolder value.now → IsOk result }
 {
     match value.parts() {
         Union::Unit(_, _, _) => Ok(true),
@@ -61,6 +62,7 @@ fn are_clean(
     ensures answer { IfOk result (λ b. b ≡ are_plain store.now path.old (trees_of items.now)) }
     ensures path { OnOk result (path.new ≡ path.old) }
     ensures searched { IfOk result (λ b. b ≡ true → Searched store.now path.old seen.old seen.new (trees_of items.now)) }
+    ensures free { HaveNoHolders (trees_of items.now) → IsOk result }
 {
     for item in items {
         if !is_clean(store, path, seen, item)? {
@@ -81,6 +83,7 @@ fn is_map_clean(
     ensures answer { IfOk result (λ b. b ≡ are_plain store.now path.old (values_in (fields_of map.now))) }
     ensures path { OnOk result (path.new ≡ path.old) }
     ensures searched { IfOk result (λ b. b ≡ true → Searched store.now path.old seen.old seen.new (values_in (fields_of map.now))) }
+    ensures free { FieldsHaveNoHolders (fields_of map.now) → IsOk result }
 {
     for (_, value) in map.iter() {
         if !is_clean(store, path, seen, value)? {
@@ -92,10 +95,11 @@ fn is_map_clean(
 
 /// Whether the value can be hashed: not where it has to go through a cell that is marked, no cell of the store, or in a loop
 /// (`Dynamic::is_hashable`). The content of each cell is looked into once, however many holders lead to it; each holder costs
-/// the logarithm of the number of cells that were reached, and memory grows with these. It goes down a value, and from cell to
-/// cell, by calls.
+/// the logarithm of the number of cells that were reached, and memory grows with these: none is wanted where no holder stands in
+/// the value. It goes down a value, and from cell to cell, by calls.
 pub fn is_hashable(alloc: Global, value: &Dynamic, s: &Store) -> Result<bool, AllocError>
-    ensures { IfOk result (λ b. b ≡ is_some (plain s.now [] value.now)) }
+    ensures answer { IfOk result (λ b. b ≡ is_some (plain s.now [] value.now)) }
+    ensures free { HasNoHolder value.now → IsOk result }
 {
     let mut path = Path::new(alloc);
     let mut seen = Path::new(alloc);

@@ -1,3 +1,4 @@
+pub mod ForCallers
 mod Minus
 mod Order
 mod Quotes

@@ -73,7 +73,7 @@ impl ImmutableString {
     }
 
     /// The same text again, as rhai's `clone`. It shares the bytes: it takes no memory, and a time that does not depend
-    /// on the length.
+    /// on the length. Only where the count of the copies is at its limit is the text copied, and may memory be refused.
     pub fn copy(&self, alloc: Global) -> Result<ImmutableString, AllocError>
         ensures { IfOk result (λ t. t ≡ self.now) }
     {

@@ -6,7 +6,7 @@ pub use Rattle.rhai_value.proofs.RelatedCells.{length_changed, length_store_afte
 -- the end of a chain without holders
 pub use Rattle.rhai_value.proofs.Ends.{end_own}
 -- first contents, flat values and locks
-pub use Rattle.rhai_value.proofs.SameFlat.{length_with_first, same_first, same_first_cell, same_flat, same_flattened, same_locked, same_store_with_first, same_value_with_first}
+pub use Rattle.rhai_value.proofs.SameFlat.{length_with_first, same_first, same_first_cell, same_flat, same_flattened, same_held_cell, same_locked, same_store_with_first, same_value_with_first}
 -- a held value that is written over itself
 pub use Rattle.rhai_value.proofs.InStores.{kept_written}
 -- renamings that grow

@@ -6,7 +6,7 @@ use Rattle.std.specs.Result.{result_ok}
 use Rattle.std.specs.Str.{chars, IsUtf8}
 use Rattle.std.specs.Str.Parse.{ParsesChar}
 use Rattle.std.proofs.lemmas.Str.{scalars-chars, encodes-chars}
-use Rattle.rhai_text.proofs.Texts.{chars-one}
+use Rattle.rhai_text.proofs.ForCallers.{chars-one}
 use Rattle.rhai_world.specs.Literals.{only}
 
 first : (s t : Bool) → (s && t) ≡ true → s ≡ true

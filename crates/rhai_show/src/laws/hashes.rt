@@ -1,10 +1,12 @@
 //! Laws of plain values and of hash bytes, each the contract of a function that does nothing.
-ghost use Rattle.std.specs.Prelude.{◌≡◌, ◌↔◌, ◌∷◌, [], ℕ, ℤ, List, Some};
+ghost use Rattle.std.specs.Prelude.{◌≡◌, ◌↔◌, ◌∷◌, [], ℕ, ℤ, List, Some, map};
 ghost use Rattle.rhai_value.specs.declared.access_mode.AccessMode.{AccessMode};
 ghost use Rattle.rhai_value.specs.declared.store.Cell.{Cell};
+ghost use Rattle.rhai_value.specs.Store.{at};
 ghost use Rattle.rhai_value.specs.Tree.{Tree, Content, node, holder};
 ghost use Rattle.rhai_value.specs.Walk.{visit, visit_map, entered};
 ghost use Rattle.rhai_value.specs.Relation.{Renaming, Related, IsOneToOne, RelatedCells};
+ghost use Rattle.rhai_show.specs.Bare.{bare, bare_cell};
 ghost use Rattle.rhai_show.specs.Plain.{Plain, plain_of, plain};
 ghost use Rattle.rhai_show.specs.HashBytes.{plain_bytes};
 ghost use Rattle.rhai_show.specs.InRange.{IsInRange};
@@ -23,9 +25,19 @@ pub fn plain_is_renamed()
         → IsOneToOne r → RelatedCells r s z → Related r t u → plain s [] t ≡ plain z [] u }
 {}
 
-/// Tags, modes and sharing aren't seen: a holder whose cell opens is what its content is.
-#[tactic(auto, using(crate::proofs::Plains::plain_bare, crate::proofs::Plains::plain_shared))]
+/// What a value is without tags, modes and holders is made of what its parts are, those of a holder being the content of its cell:
+/// no cell is open there, so that a part is the same wherever it stands.
+#[tactic(auto, using(crate::proofs::Unfolded::plain_parts))]
+pub fn plain_is_made_of_parts()
+    ensures { (s : List Cell) (t : Tree) → plain s [] t ≡ plain_of [] (λ c. visit_map (plain s []) (visit s [] c)) t }
+{}
+
+/// Tags, modes and sharing aren't seen. With tag 0 and mode ReadWrite at every depth, in all cells too, a value is what it was; and a
+/// holder, where something is read of its cell, is what that is.
+#[tactic(auto, using(crate::proofs::Bares::plain_bare_all, crate::proofs::Unfolded::plain_unshared, crate::proofs::Plains::plain_bare, crate::proofs::Plains::plain_shared))]
 pub fn plain_values_are_bare()
+    ensures deep { (s : List Cell) (path : List ℕ) (t : Tree) → plain (map bare_cell s) path (bare t) ≡ plain s path t }
+    ensures unshared { (s : List Cell) (c : ℕ) (g : ℤ) (m : AccessMode) (t : Tree) → at s c ≡ Some t → plain s [] (node (holder c) g m) ≡ plain s [] t }
     ensures bare { (s : List Cell) (path : List ℕ) (c : Content) (g h : ℤ) (m n : AccessMode)
         → plain s path (node c g m) ≡ plain s path (node c h n) }
     ensures shared { (s : List Cell) (path : List ℕ) (c : ℕ) (g : ℤ) (m : AccessMode) (t : Tree)

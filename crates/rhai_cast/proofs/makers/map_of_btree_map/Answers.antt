@@ -22,8 +22,8 @@ loop-key-preserved g c =
       last = last_put i.done c.loop-key.map c.put.new.map (string_bytes k) c.in_ok-made.field-0 (tree x) i.last c.in_ok-put.ensures.put c.in_ok-made.ensures c.in_ok-put.ensures.rising;
     }
 
-pub returns : goal.returns
-returns g c =
+pub returns-clause-entries : goal.returns-clause-entries
+returns-clause-entries g c =
     let tree = g.T.Variant.tree in
     let i = c.loop-key.invariant in
     last_all i.done (pairs tree c.args.entries.entries) c.loop-key.map (ap (λ es. i.done ++ pairs tree es) (sym c.in-None.ensures.steps.0) ∙ i.all) i.last

@@ -21,7 +21,7 @@ loop-key-preserved c =
       last = last_put i.done c.loop-key.map c.put.new.map (string_bytes k) (fresh unit) (fresh unit) i.last c.in_ok-put.ensures.put refl c.in_ok-put.ensures.rising;
     }
 
-pub returns : goal.returns
-returns c =
+pub returns-clause-keys : goal.returns-clause-keys
+returns-clause-keys c =
     let i = c.loop-key.invariant in
     last_all i.done (keys_alone c.args.keys.keys) c.loop-key.map (ap (λ ks. i.done ++ keys_alone ks) (sym c.in-None.ensures.steps.0) ∙ i.all) i.last

@@ -1,6 +1,6 @@
 use Rattle.std.proofs.Common.{◌≡◌, [], ◌∷◌, Result, Ok, Err, IfOk, MatchResult, sym, ap, ◌∙◌, subst}
 use Rattle.std.specs.Str.{chars}
-use Rattle.rhai_text.proofs.Texts.{chars-one}
+use Rattle.rhai_text.proofs.ForCallers.{chars-one}
 use Rattle.rhai_value.specs.End.{end, end_type}
 use Rattle.rhai_run.specs.Ask.{asked, held_or_named}
 use Rattle.rhai_run.specs.Reply.{told}

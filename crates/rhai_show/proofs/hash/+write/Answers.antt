@@ -1,16 +1,14 @@
 use Rattle.std.proofs.Common.{◌≡◌, ◌+◌, ◌*◌, ◌++◌, true, false, [], ◌∷◌, drop, length, Some, None, IfSome, is_some, option_copied, refl, sym, ap, ap₂, ◌∙◌, arith, add-one}
 use Rattle.std.specs.List.{flat_map}
 use Rattle.std.proofs.Math.Seq.{drop-cons}
-use Rattle.std.specs.Map.Iter.{deref_pair}
-use Rattle.std.proofs.lemmas.Map.Iter.{rest_more}
 use Rattle.std.proofs.lemmas.Option.{MatchOption-at_some}
 use Rattle.rhai_value.specs.Rows.{trees_of, fields_of}
-use Rattle.rhai_value.specs.Tree.{Tree, nodes, nodes_trees, nodes_fields, array, function, unit, bool, int, char, text, blob, host, cell_of}
+use Rattle.rhai_value.specs.Tree.{nodes, nodes_trees, array, function, unit, bool, int, char, text, blob, host, cell_of}
 use Rattle.rhai_value.specs.View.{tree_of}
 use Rattle.rhai_value.specs.Walk.{entry}
 use Rattle.rhai_show.specs.Plain.{plain}
-use Rattle.rhai_show.specs.Clean.{are_plain, values_in}
-use Rattle.rhai_show.specs.HashBytes.{count_bytes, int_bytes, name_bytes, sized, host_bytes, some_bytes, hash_bytes}
+use Rattle.rhai_show.specs.Clean.{are_plain}
+use Rattle.rhai_show.specs.HashBytes.{count_bytes, name_bytes, sized, some_bytes, hash_bytes}
 use Rattle.rhai_show.proofs.Measures.{left_in, left-entry, nodes_item}
 use Rattle.rhai_show.proofs.Plains.{plain-branch, plain-map, plain-closed}
 use Rattle.rhai_show.proofs.Pushed.{added_as, added_twice, added_more}

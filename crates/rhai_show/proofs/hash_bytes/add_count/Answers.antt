@@ -1,4 +1,3 @@
-use Rattle.std.proofs.Common.{ap}
 use Rattle.rhai_show.proofs.Pushed.{added_as}
 use Rattle.rhai_show.specs.HashBytes.{count_bytes}
 use Rattle.rhai_show.proofs.hash_bytes.add_count.Goals as goal

@@ -1,17 +1,18 @@
-use Rattle.std.proofs.Common.{◌≡◌, ◌+◌, ◌*◌, true, ◌∷◌, drop, Some, None, IfSome, is_some, option_copied, refl, sym, ap, ap₂, ◌∙◌, arith, add-one}
+use Rattle.std.proofs.Common.{◌≡◌, ◌+◌, ◌*◌, true, false, ◌∷◌, drop, Some, None, IfSome, is_some, option_copied, sym, ap, ap₂, ◌∙◌, arith, add-one}
 use Rattle.std.proofs.Math.Seq.{drop-cons}
 use Rattle.std.specs.Map.Iter.{deref_pair}
 use Rattle.std.proofs.lemmas.Map.Iter.{rest_more}
 use Rattle.std.proofs.lemmas.Option.{MatchOption-at_some}
 use Rattle.rhai_value.specs.Rows.{trees_of, fields_of}
-use Rattle.rhai_value.specs.Tree.{nodes, nodes_trees, nodes_fields, array, function, unit, bool, int, char, text, blob, host, cell_of}
+use Rattle.rhai_value.specs.Tree.{nodes, nodes_fields, array, function, unit, bool, int, char, text, blob, host, cell_of}
 use Rattle.rhai_value.specs.View.{tree_of}
 use Rattle.rhai_value.specs.Walk.{entry}
 use Rattle.rhai_show.specs.Plain.{plain}
 use Rattle.rhai_show.specs.Clean.{are_plain, values_in}
 use Rattle.rhai_show.proofs.Measures.{left_in, left-entry, nodes_item}
+use Rattle.rhai_show.proofs.NoHolders.{item_free, fields_free, first_free}
 use Rattle.rhai_show.proofs.Plains.{plain-leaf, plain-branch, plain-map, plain-closed}
-use Rattle.rhai_show.proofs.Searches.{so_far_turns, answered, again_answers, inside_requires, inside_answers, inside_leaves, leaf_leaves, map_leaves, searched_by}
+use Rattle.rhai_show.proofs.Searches.{so_far_turns, answered, again_answers, inside_requires, inside_answers, inside_leaves, map_leaves, searched_by}
 use Rattle.rhai_show.proofs.hashable.+search.Goals as goal
 
 pub is_clean-returns-in-None-clause-answer : goal.is_clean-returns-in-None-clause-answer
@@ -97,6 +98,7 @@ is_map_clean-loop-value-preserved t c =
       path = e.path ∙ i.path;
       so_far = so_far_turns c.args.store.now c.args.path.now c.args.seen.now c.loop-value.seen c.in-Some.value.now (values_in (fields_of c.loop-value.value-iterator)) (values_in (fields_of c.next.new.self)) (values_in (fields_of c.args.map.now)) (ap (λ rs. values_in (fields_of rs)) next) i.so_far c.is_clean.new.seen yes one;
       nodes_left = omega arith;
+      free_left = λ h. (first_free _ _ _ _ (ap fields_of next) (i.free_left h)).1;
     }
 
 pub is_map_clean-is_clean-requires : goal.is_map_clean-is_clean-requires
@@ -159,3 +161,17 @@ is_clean-returns-in-Blob-clause-answer t c =
 pub is_clean-returns-in-Variant-clause-answer : goal.is_clean-returns-in-Variant-clause-answer
 is_clean-returns-in-Variant-clause-answer t c =
     plain-leaf c.args.store.now c.args.path.now c.args.value.now (host c.in-Variant.field-2) c.in-Variant.field-0 c.in-Variant.field-1 (sym c.parts.ensures ∙ ap tree_of c.in-Variant.is)
+
+-- no memory is wanted where no holder stands in the value
+pub are_clean-returns-in_err-is_clean-clause-free : goal.are_clean-returns-in_err-is_clean-clause-free
+are_clean-returns-in_err-is_clean-clause-free t c = λ h.
+    let no : false ≡ true = c.in_err-is_clean.ensures.free (item_free c.args.items.now c.loop-item.item-index c.item-item.result (omega arith) c.item-item.is h) in cc
+
+pub is_clean-returns-in-Map-clause-free : goal.is_clean-returns-in-Map-clause-free
+is_clean-returns-in-Map-clause-free t c = λ h.
+    c.is_map_clean.ensures.free (fields_free c.args.value.now (fields_of c.in-Map.map) c.in-Map.field-0 c.in-Map.field-1 (sym c.parts.ensures ∙ ap tree_of c.in-Map.is) h)
+
+pub is_map_clean-returns-in_err-is_clean-clause-free : goal.is_map_clean-returns-in_err-is_clean-clause-free
+is_map_clean-returns-in_err-is_clean-clause-free t c = λ h.
+    let next = rest_more deref_pair c.loop-value.value-iterator c.next.new.self c.next.result (c.in-Some.field-0-0, c.in-Some.value) c.in-Some.is c.next.ensures.steps in
+    let no : false ≡ true = c.in_err-is_clean.ensures.free (first_free _ _ _ _ (ap fields_of next) (c.loop-value.invariant.free_left h)).0 in cc

@@ -1,7 +1,7 @@
 use Rattle.std.proofs.Common.{◌≡◌, ◌+◌, ◌*◌, ◌≤◌, drop}
 use Rattle.rhai_value.specs.Tree.{nodes, nodes_trees, nodes_fields}
 use Rattle.rhai_value.specs.Rows.{trees_of, fields_of}
-use Rattle.rhai_show.specs.Clean.{values_in}
+use Rattle.rhai_show.specs.Clean.{values_in, FieldsHaveNoHolders}
 use Rattle.rhai_show.proofs.Measures.{left_in}
 use Rattle.rhai_show.proofs.Searches.{SoFar}
 use Rattle.rhai_show.proofs.hashable.+search.Given as goal
@@ -26,4 +26,5 @@ invariant-is_map_clean-loop-value l = record {
   path : l.path ≡ l.fn.path;
   so_far : SoFar l.store l.fn.path l.fn.seen l.seen (values_in (fields_of l.value-iterator)) (values_in (fields_of l.map));
   nodes_left : nodes_fields (fields_of l.value-iterator) ≤ nodes_fields (fields_of l.map);
+  free_left : FieldsHaveNoHolders (fields_of l.map) → FieldsHaveNoHolders (fields_of l.value-iterator);
 }

@@ -1,5 +1,5 @@
 use Rattle.std.proofs.Common.{ap, sym, ◌∙◌}
-use Rattle.rhai_text.proofs.Texts.{chars-one}
+use Rattle.rhai_text.proofs.ForCallers.{chars-one}
 use Rattle.rhai_value.specs.Tree.{char}
 use Rattle.rhai_show.specs.Leaves.{leaf_printed}
 use Rattle.rhai_show.proofs.Pushed.{added_as}

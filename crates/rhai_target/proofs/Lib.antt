@@ -9,4 +9,5 @@ pub mod MarkedTexts
 pub mod SameChanges
 pub mod Owned
 pub mod Fields
+pub mod MadeTargets
 pub mod TargetMarks

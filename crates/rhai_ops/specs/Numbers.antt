@@ -80,8 +80,3 @@ compared op.GreaterThanEqualsTo o = Some (is_ge o)
 compared op.LessThan o = Some (is_lt o)
 compared op.LessThanEqualsTo o = Some (is_le o)
 compared _ o = None
-
--- a checked number, or overflow
-abbrev pub checked : Option ℤ → Number
-checked (Some z) = Ok z
-checked None = Err Overflow

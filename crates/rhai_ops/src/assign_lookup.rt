@@ -9,7 +9,8 @@ use crate::token::{is_assign, is_bits_assign, is_minus_assign, is_plus_assign};
 use rhai_text::Token;
 use rhai_value::Dynamic;
 
-/// The row of an assignment on these operands, by their own constructors alone: a holder is none of the table's. Takes no memory.
+/// The row of an assignment on these operands, by their own constructors alone. So it takes no store, where `get_builtin_binary_op_fn`
+/// does: on a holder there is no row, and a caller that wants the row of what is shared hands that in. Takes no memory.
 /// (`get_builtin_op_assignment_fn`)
 pub fn get_builtin_op_assignment_fn(op: &Token, x: &Dynamic, y: &Dynamic) -> Option<FnBuiltin>
     ensures { result ≡ assign_row op.now x.now y.now }

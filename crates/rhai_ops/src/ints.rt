@@ -1,6 +1,8 @@
 //! Integers under operators.
 ghost use Rattle.std.specs.Prelude.{◌≡◌, [], IsTrue, IsSome, Some, IfOk, IfErr};
+ghost use Rattle.std.specs.Option.{ok_or};
 ghost use Rattle.std.specs.Ordering.{int_cmp};
+ghost use Rattle.rhai_text.specs.declared.error.ArithmeticFault.TheVariants.{Overflow};
 ghost use Rattle.rhai_ops.specs.Numbers as specs;
 ghost use Rattle.rhai_value.specs.Parts.{int_of};
 ghost use Rattle.rhai_value.specs.Tree.{Tree};
@@ -115,12 +117,9 @@ pub(crate) fn number(op: Token, x: INT, y: INT) -> Result<INT, ArithmeticFault>
 
 /// A checked number, or overflow.
 fn ranged(value: Option<INT>) -> Result<INT, ArithmeticFault>
-    ensures { result ≡ specs.checked value }
+    ensures { result ≡ ok_or value Overflow }
 {
-    match value {
-        Some(z) => Ok(z),
-        None => Err(ArithmeticFault::Overflow),
-    }
+    value.ok_or(ArithmeticFault::Overflow)
 }
 
 fn quotient(x: INT, y: INT) -> Result<INT, ArithmeticFault>

@@ -34,7 +34,7 @@ leaf_mode None t = refl
 leaf_mode (Some l) (node c g m) = refl
 
 -- a part that a leaf has becomes what its function makes of it
-changed : {A : Type 0} (part : Leaf → Option A) (make : A → Leaf) → ((a : A) → part (make a) ≡ Some a) → (f : A → A) (t : Tree) (o : Option A) → leaf_part part t ≡ o
+pub changed : {A : Type 0} (part : Leaf → Option A) (make : A → Leaf) → ((a : A) → part (make a) ≡ Some a) → (f : A → A) (t : Tree) (o : Option A) → leaf_part part t ≡ o
     → leaf_part part (with_leaf (option_map (λ a. make (f a)) o) t) ≡ option_map f o
 changed part make has f t None e = e
 changed part make has f (node c g m) (Some a) e = has (f a)

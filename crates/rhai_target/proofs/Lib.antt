@@ -1,10 +1,13 @@
 pub mod ForCallers
 pub mod FromBelow
+pub mod EndsAfter
 pub mod IntBits
 pub mod Items
+pub mod ReadBack
 pub mod Kept
 pub mod MarkedTexts
 pub mod SameChanges
 pub mod Owned
 pub mod Fields
+pub mod MadeTargets
 pub mod TargetMarks

@@ -68,6 +68,10 @@ abbrev pub store_changed : Change → End → List Cell → List Cell
 store_changed None e s = s
 store_changed (Some f) e s = store_after f e s
 
+-- where the chain from a value ends after a change
+abbrev pub end_changed : Change → List Cell → Tree → End
+end_changed change s t = end (store_changed change (end s [] t) s) [] (value_changed change (end s [] t) t)
+
 -- A write-back that is made answers nothing. One that isn't says which type is wanted and which is held, at this place of the
 -- script; want of memory may stand in the place of one that is made alone, and only where memory may be wanted.
 abbrev pub IsAnswer : Bool → Change → List ℕ → List ℕ → Position → Result (Unit {0}) EvalAltResult → Type 0

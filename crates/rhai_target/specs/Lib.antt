@@ -2,3 +2,4 @@ pub mod Offset
 pub mod Bits
 pub mod Change
 pub mod Target
+pub mod Found

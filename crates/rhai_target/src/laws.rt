@@ -1,15 +1,15 @@
 //! Laws of the definitions: each is the contract of a function that does nothing.
-ghost use Rattle.std.specs.Prelude.{◌≡◌, ◌≤◌, ◌<◌, ◌+◌, ◌-◌, ◌*ℤ◌, ◌^◌, ℕ, ℤ, pos, Bool, true, false, IfSome, List, Option, Some, option_map, length, slice_get, slice_set, FitsSigned};
+ghost use Rattle.std.specs.Prelude.{◌≡◌, ◌≤◌, ◌<◌, ◌+◌, ◌-◌, ◌*ℤ◌, ◌^◌, ℕ, ℤ, pos, Bool, true, false, IfSome, List, [], Option, Some, option_map, option_and_then, length, slice_get, FitsSigned};
 ghost use Rattle.std.specs.Int.{w64, int_wrap};
 ghost use Rattle.rhai_value.specs.declared.store.Cell.{Cell};
 ghost use Rattle.rhai_value.specs.Tree.{Tree, Leaf, tag_of, mode_of};
-ghost use Rattle.rhai_value.specs.Parts.{int_of, text_of, blob_of};
+ghost use Rattle.rhai_value.specs.Parts.{bool_of, int_of, char_of, text_of, blob_of};
 ghost use Rattle.rhai_value.specs.Store.{is_marked_at};
-ghost use Rattle.rhai_value.specs.End.{End};
+ghost use Rattle.rhai_value.specs.End.{End, end, held_part};
 ghost use Rattle.rhai_value.specs.Relation.{Renaming, Related, Alike, Respect, IsOneToOne, RelatedCells, RelatedEnds};
 ghost use Rattle.rhai_target.specs.declared.slice.Slice.{Slice};
-ghost use Rattle.rhai_target.specs.Bits.{bit, with_bit, with_field};
-ghost use Rattle.rhai_target.specs.Change.{Change, with_leaf, on_int, on_bytes, on_text, low_byte, bit_change, field_change, byte_change, char_change, slice_change, value_changed, store_changed};
+ghost use Rattle.rhai_target.specs.Bits.{bit};
+ghost use Rattle.rhai_target.specs.Change.{Change, with_leaf, on_int, on_bytes, on_text, low_byte, bit_change, field_change, byte_change, char_change, slice_change, value_changed, store_changed, end_changed};
 ghost use Rattle.rhai_target.specs.Offset.{offset, count, place};
 
 /// A slice ends within the list, and an item stands in it.
@@ -18,30 +18,58 @@ pub fn places_stay_inside()
     ensures item { (length : ℕ) (index : ℤ) (from_end : Bool) → IfSome (place length index from_end) (λ i. i < length) }
 {}
 
-/// A bit that was written reads as written, every other bit stays, and an int whose bit was written over itself is the same.
-#[tactic(auto, using(crate::proofs::IntBits::bit_written, crate::proofs::IntBits::other_bits, crate::proofs::IntBits::bit_kept))]
+/// A bit that was written back reads as written, and every other bit stays; a bit that is written over itself leaves source and store.
+#[tactic(auto, using(crate::proofs::ReadBack::bit_read, crate::proofs::ReadBack::other_bits_read))]
 pub fn bits_read_as_written()
-    ensures written { (place : ℕ) (b : Bool) (n : ℤ) → place < 64 → bit (with_bit place b n) place ≡ b }
-    ensures others { (place i : ℕ) (b : Bool) (n : ℤ) → i < 64 → (i ≡ place → ⊥) → bit (with_bit place b n) i ≡ bit n i }
-    ensures unchanged { (place : ℕ) (n : ℤ) → FitsSigned w64 n → with_bit place (bit n place) n ≡ n }
+    ensures written { (s : List Cell) (t v : Tree) (place : ℕ) (n : ℤ) (b : Bool) → place < 64
+        → held_part int_of (end s [] t) ≡ Some n → held_part bool_of (end s [] v) ≡ Some b
+        → option_map (λ m. bit m place) (held_part int_of (end_changed (bit_change s v place) s t)) ≡ Some b }
+    ensures others { (s : List Cell) (t v : Tree) (place i : ℕ) (n : ℤ) (b : Bool) → i < 64 → (i ≡ place → ⊥)
+        → held_part int_of (end s [] t) ≡ Some n → held_part bool_of (end s [] v) ≡ Some b
+        → option_map (λ m. bit m i) (held_part int_of (end_changed (bit_change s v place) s t)) ≡ Some (bit n i) }
+    ensures unchanged { (s : List Cell) (t v : Tree) (place : ℕ) (n : ℤ) → FitsSigned w64 n
+        → held_part int_of (end s [] t) ≡ Some n → held_part bool_of (end s [] v) ≡ Some (bit n place)
+        → (value_changed (bit_change s v place) (end s [] t) t ≡ t) × (store_changed (bit_change s v place) (end s [] t) s ≡ s) }
 {}
 
 /// A field's write-back changes the bits of its mask alone: these become the bits of the value times a power of two, cut to 64.
-#[tactic(auto, using(crate::proofs::IntBits::outside_field, crate::proofs::IntBits::inside_field))]
+#[tactic(auto, using(crate::proofs::ReadBack::outside_read, crate::proofs::ReadBack::inside_read))]
 pub fn fields_keep_to_the_mask()
-    ensures outside { (mask v n : ℤ) (shift i : ℕ) → i < 64 → bit mask i ≡ false → bit (with_field mask shift v n) i ≡ bit n i }
-    ensures inside { (mask v n : ℤ) (shift i : ℕ) → i < 64 → shift < 64 → FitsSigned w64 v → bit mask i ≡ true
-        → bit (with_field mask shift v n) i ≡ bit (int_wrap w64 (v *ℤ pos (2 ^ shift))) i }
+    ensures outside { (s : List Cell) (t v : Tree) (mask : ℤ) (shift i : ℕ) (n x : ℤ) → i < 64 → bit mask i ≡ false
+        → held_part int_of (end s [] t) ≡ Some n → held_part int_of (end s [] v) ≡ Some x
+        → option_map (λ m. bit m i) (held_part int_of (end_changed (field_change s v mask shift) s t)) ≡ Some (bit n i) }
+    ensures inside { (s : List Cell) (t v : Tree) (mask : ℤ) (shift i : ℕ) (n x : ℤ) → i < 64 → shift < 64 → FitsSigned w64 x → bit mask i ≡ true
+        → held_part int_of (end s [] t) ≡ Some n → held_part int_of (end s [] v) ≡ Some x
+        → option_map (λ m. bit m i) (held_part int_of (end_changed (field_change s v mask shift) s t)) ≡ Some (bit (int_wrap w64 (x *ℤ pos (2 ^ shift))) i) }
 {}
 
-/// A byte or a character that was written reads as written, every other stays, and a list that was written over itself is the same;
-/// a byte as an int is written as that byte.
-#[tactic(auto, using(crate::proofs::Items::item_written, crate::proofs::Items::other_items, crate::proofs::Items::item_kept, crate::proofs::Items::byte_kept))]
-pub fn items_read_as_written()
-    ensures written { (items : List ℕ) (index x : ℕ) → index < length items → slice_get (slice_set items index x) index ≡ Some x }
-    ensures others { (items : List ℕ) (index i x : ℕ) → (i ≡ index → ⊥) → slice_get (slice_set items index x) i ≡ slice_get items i }
-    ensures unchanged { (items : List ℕ) (index x : ℕ) → slice_get items index ≡ Some x → slice_set items index x ≡ items }
-    ensures byte { (b : ℕ) → b < 256 → low_byte (pos b) ≡ b }
+/// A byte that was written back reads as the int modulo 256, and every other byte stays; a byte that is written over itself leaves
+/// source and store.
+#[tactic(auto, using(crate::proofs::ReadBack::byte_read, crate::proofs::ReadBack::other_bytes_read))]
+pub fn bytes_read_as_written()
+    ensures written { (s : List Cell) (t v : Tree) (index : ℕ) (bs : List ℕ) (n : ℤ) → index < length bs
+        → held_part blob_of (end s [] t) ≡ Some bs → held_part int_of (end s [] v) ≡ Some n
+        → option_and_then (λ x. slice_get x index) (held_part blob_of (end_changed (byte_change s v index) s t)) ≡ Some (low_byte n) }
+    ensures others { (s : List Cell) (t v : Tree) (index i : ℕ) (bs : List ℕ) (n : ℤ) → (i ≡ index → ⊥)
+        → held_part blob_of (end s [] t) ≡ Some bs → held_part int_of (end s [] v) ≡ Some n
+        → option_and_then (λ x. slice_get x i) (held_part blob_of (end_changed (byte_change s v index) s t)) ≡ slice_get bs i }
+    ensures unchanged { (s : List Cell) (t v : Tree) (index b : ℕ) (bs : List ℕ) → b < 256 → slice_get bs index ≡ Some b
+        → held_part blob_of (end s [] t) ≡ Some bs → held_part int_of (end s [] v) ≡ Some (pos b)
+        → (value_changed (byte_change s v index) (end s [] t) t ≡ t) × (store_changed (byte_change s v index) (end s [] t) s ≡ s) }
+{}
+
+/// The same of characters.
+#[tactic(auto, using(crate::proofs::ReadBack::char_read, crate::proofs::ReadBack::other_chars_read))]
+pub fn characters_read_as_written()
+    ensures written { (s : List Cell) (t v : Tree) (index : ℕ) (cs : List ℕ) (c : ℕ) → index < length cs
+        → held_part text_of (end s [] t) ≡ Some cs → held_part char_of (end s [] v) ≡ Some c
+        → option_and_then (λ x. slice_get x index) (held_part text_of (end_changed (char_change s v index) s t)) ≡ Some c }
+    ensures others { (s : List Cell) (t v : Tree) (index i : ℕ) (cs : List ℕ) (c : ℕ) → (i ≡ index → ⊥)
+        → held_part text_of (end s [] t) ≡ Some cs → held_part char_of (end s [] v) ≡ Some c
+        → option_and_then (λ x. slice_get x i) (held_part text_of (end_changed (char_change s v index) s t)) ≡ slice_get cs i }
+    ensures unchanged { (s : List Cell) (t v : Tree) (index c : ℕ) (cs : List ℕ) → slice_get cs index ≡ Some c
+        → held_part text_of (end s [] t) ≡ Some cs → held_part char_of (end s [] v) ≡ Some c
+        → (value_changed (char_change s v index) (end s [] t) t ≡ t) × (store_changed (char_change s v index) (end s [] t) s ≡ s) }
 {}
 
 /// A change of an int, of bytes or of characters keeps tag and mode, changes the content by its function, and leaves a value of

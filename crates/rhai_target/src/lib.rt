@@ -2,6 +2,7 @@
 #![tactic(auto)]
 
 mod bits;
+mod found;
 pub mod laws;
 mod lent;
 mod offset;

@@ -1,17 +1,12 @@
 //! Write-back of a target: its working value becomes the part of its source that the target is.
-ghost use Rattle.std.specs.Prelude.{◌≡◌, ◌<◌, [], true, is_some, OnOk, OnErr};
-ghost use Rattle.rhai_value.specs.End.{end, held_part, value_after, store_after};
-ghost use Rattle.rhai_value.specs.Parts.{int_of};
-ghost use Rattle.rhai_target.specs.Bits.{with_field as changed_field};
-ghost use Rattle.rhai_target.specs.Change.{on_int};
+ghost use Rattle.std.specs.Prelude.{◌≡◌, OnOk, OnErr};
 ghost use Rattle.rhai_target.specs.Target.{write_back_of, HasPart, IsMarkedIn, target_written, store_written, IsWrittenBack, IsPropagated, kind_of, a_bit, a_field, a_byte, a_character, a_slice};
 
-use crate::bits::with_field;
 use crate::slice::{Slice, write_slice};
 use crate::target::Target;
-use crate::write_back::{write_bit, write_byte, write_char};
+use crate::write_back::{put_field, write_bit, write_byte, write_char};
 use rhai_text::{EvalAltResult, Position};
-use rhai_value::{Dynamic, INT, InStore, Store};
+use rhai_value::Store;
 use std::alloc::Global;
 
 impl<'a> Target<'a> {
@@ -155,22 +150,5 @@ impl<'a> Target<'a> {
             Ok(()) => Ok(()),
             Err(refused) => Err(EvalAltResult::ErrorMemory(refused)),
         }
-    }
-}
-
-/// Puts these bits into a field of the held int.
-fn put_field(source: &mut Dynamic, m: &mut Store, mask: INT, shift: u8, bits: INT)
-    requires place { shift < 64 }
-    requires held { is_some (held_part int_of (end m.old [] source.old)) ≡ true }
-    ensures own { source.new ≡ value_after (on_int (changed_field mask shift bits)) (end m.old [] source.old) source.old }
-    ensures store { m.new ≡ store_after (on_int (changed_field mask shift bits)) (end m.old [] source.old) m.old }
-{
-    let mut place = InStore {
-        value: source,
-        store: m,
-    };
-    match place.part_mut::<INT>() {
-        Ok(number) => *number = with_field(*number, mask, shift, bits),
-        Err(_) => unreachable!(),
     }
 }

@@ -1,14 +1,17 @@
 //! What an assignment writes to: a value, a shared value, a temporary one, or a part of a value.
 ghost use Rattle.std.specs.Prelude.{◌≡◌, true, is_some, option_map, option_copied, IfOk, IfErr, IsOk, MatchOption, OnOk, OnErr, Some, None};
+ghost use Rattle.std.specs.Borrow.{sem};
 ghost use Rattle.rhai_text.specs.declared.error.EvalAltResult.TheVariants.{ErrorDataRace};
 ghost use Rattle.rhai_value.specs.End.{first_cell};
 ghost use Rattle.rhai_value.specs.Store.{marked_with};
 ghost use Rattle.rhai_value.specs.Tree.{cell_of, copy, TakesNoMemory};
 ghost use Rattle.rhai_target.specs.declared.target.Target.TheVariants.{TempValue};
+ghost use Rattle.rhai_target.specs.Found.{IsLeftBy};
 ghost use Rattle.rhai_target.specs.Target.{target_of, mark_in, IsMarkedIn, unmarked_from, source_in, value_in, taken, owned, with_value, put_marked, is_reference, is_temporary, is_shared_target, reference_in};
 
+use crate::found::{Marked, found, made, mark_cell};
 use rhai_text::{EvalAltResult, Position};
-use rhai_value::{AccessMode, Dynamic, INT, Store, Union, WriteToken};
+use rhai_value::{Dynamic, INT, Store, WriteToken};
 use std::alloc::Global;
 
 /// What an assignment writes to. It must be spent, since it may have the mark of a cell: the compiler refuses to let one go.
@@ -79,20 +82,17 @@ pub enum Target<'a> {
 
 /// Making targets.
 impl<'a> Target<'a> {
-    /// A target that is this value: the value itself, or the content of a holder's cell, which is marked. `ErrorDataRace`, at no
-    /// place and with nothing changed, exactly for a holder of a cell that is marked or no cell of the store. Takes no memory.
-    /// (`TryFrom<&mut Dynamic>`)
+    /// A target that is this value: the value itself, or the content of a holder's cell, which is marked while the holder stays as it
+    /// is. `ErrorDataRace`, at no place and with nothing changed, exactly for a holder of a cell that is marked or no cell of the
+    /// store. Takes no memory. (`TryFrom<&mut Dynamic>`)
     pub fn try_from(value: &'a mut Dynamic, m: &mut Store) -> Result<Target<'a>, EvalAltResult>
+        ensures* stays { sem 𝓛 (IsLeftBy value.entry result) }
         ensures ok { IfOk result (λ t. target_of m.old value.entry ≡ Some t) }
         ensures err { IfErr result (λ e. (target_of m.old value.entry ≡ None) × (e ≡ ErrorDataRace Position.NONE)) }
         ensures marks { m.new ≡ marked_with (first_cell m.old value.old) m.old }
         ensures marked { IfOk result (λ t. IsMarkedIn m.new t) }
     {
-        if value.is_shared() {
-            Target::marked(value, m)
-        } else {
-            Ok(Target::RefMut(value))
-        }
+        made(found(value, m))
     }
 
     /// The same for a holder, which stays as it is.
@@ -103,16 +103,17 @@ impl<'a> Target<'a> {
         ensures marks { m.new ≡ marked_with (first_cell m.old holder.now) m.old }
         ensures marked { IfOk result (λ t. IsMarkedIn m.new t) }
     {
-        let Union::Shared(tag, _, cell) = holder.parts() else {
-            unreachable!()
-        };
-        let shared_value = Dynamic::from_parts(Union::Shared(*tag, AccessMode::ReadWrite, *cell));
-        match m.mark(holder) {
-            Some(token) => Ok(Target::SharedValue {
+        match mark_cell(holder, m) {
+            Ok(
+                Marked {
+                    token,
+                    shared_value,
+                },
+            ) => Ok(Target::SharedValue {
                 token,
                 shared_value,
             }),
-            None => Err(EvalAltResult::ErrorDataRace(Position::NONE)),
+            Err(e) => Err(e),
         }
     }
 }

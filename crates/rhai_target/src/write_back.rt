@@ -1,8 +1,9 @@
 //! Write-back: a working value becomes one part of what a source holds. Each call finds the end of the source's chain once.
 ghost use Rattle.std.specs.Prelude.{◌≡◌, ◌<◌, [], true, false, codes, length, is_some, MatchOption, OnOk, OnErr};
-ghost use Rattle.rhai_value.specs.End.{end, end_name, held_part};
+ghost use Rattle.rhai_value.specs.End.{end, end_name, held_part, value_after, store_after};
 ghost use Rattle.rhai_value.specs.Parts.{int_of, text_of, blob_of};
-ghost use Rattle.rhai_target.specs.Change.{bit_change, field_change, byte_change, char_change, value_changed, store_changed, IsAnswer};
+ghost use Rattle.rhai_target.specs.Bits.{with_field as changed_field};
+ghost use Rattle.rhai_target.specs.Change.{on_int, bit_change, field_change, byte_change, char_change, value_changed, store_changed, IsAnswer};
 
 use crate::bits::{with_bit, with_field};
 use rhai_text::{EvalAltResult, ImmutableString, Position};
@@ -59,6 +60,17 @@ pub fn write_field(
         Ok(bits) => bits,
         Err(found) => return Err(EvalAltResult::ErrorMismatchDataType("integer", found, pos)),
     };
+    put_field(source, m, mask, shift, bits);
+    Ok(())
+}
+
+/// Puts these bits into a field of the held int: what `write_field` and the write-back of a target share.
+pub(crate) fn put_field(source: &mut Dynamic, m: &mut Store, mask: INT, shift: u8, bits: INT)
+    requires place { shift < 64 }
+    requires held { is_some (held_part int_of (end m.old [] source.old)) ≡ true }
+    ensures own { source.new ≡ value_after (on_int (changed_field mask shift bits)) (end m.old [] source.old) source.old }
+    ensures store { m.new ≡ store_after (on_int (changed_field mask shift bits)) (end m.old [] source.old) m.old }
+{
     let mut place = InStore {
         value: source,
         store: m,
@@ -67,7 +79,6 @@ pub fn write_field(
         Ok(number) => *number = with_field(*number, mask, shift, bits),
         Err(_) => unreachable!(),
     }
-    Ok(())
 }
 
 /// One byte of the held blob becomes the int that the working value holds, modulo 256. Takes no memory.

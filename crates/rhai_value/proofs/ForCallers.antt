@@ -3,8 +3,11 @@
 pub use Rattle.rhai_value.proofs.SameTrees.{by_related, by_trees, same_copy, same_host, same_mode, same_paint, same_shared, same_tag, same_with_int, same_with_tag}
 -- related ends and stores, and what is written there
 pub use Rattle.rhai_value.proofs.RelatedCells.{length_changed, length_store_after, marked_added, marked_store_after, same_end_type, same_held_leaf, same_put, same_set_mark, same_store_after, same_value_after}
--- the end of a chain without holders
-pub use Rattle.rhai_value.proofs.Ends.{end_own}
+-- the end of a chain without holders, and what stands where a chain ends
+pub use Rattle.rhai_value.proofs.Ends.{end_own, stands}
+-- a cell's own value put into it, and cells that a write leaves
+pub use Rattle.rhai_value.proofs.Stores.{put-same}
+pub use Rattle.rhai_value.proofs.RelatedCells.{get_unchanged}
 -- first contents, flat values and locks
 pub use Rattle.rhai_value.proofs.SameFlat.{length_with_first, same_first, same_first_cell, same_flat, same_flattened, same_held_cell, same_locked, same_store_with_first, same_value_with_first}
 -- a held value that is written over itself

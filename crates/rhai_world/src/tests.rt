@@ -12,6 +12,7 @@ use std::io::{ErrorKind, Read, Write};
 use std::process::Abort;
 use std::test::Fail;
 
+mod assignments;
 mod both;
 mod entries;
 mod limits;
@@ -24,7 +25,9 @@ mod printed;
 mod printed_values;
 mod questions;
 mod session;
+mod texts;
 mod values;
+mod worked_operators;
 
 /// Gives a byte a call, and fails once, at the call before which `calls` others stand.
 #[derive(Drop)]

@@ -12,7 +12,7 @@ use Rattle.rhai_scope.specs.Entry.{Entry}
 use Rattle.rhai_run.specs.State.{State, with_hand, with_scope, with_cells}
 use Rattle.rhai_run.specs.Scope.{moved_into_entry}
 use Rattle.rhai_run.specs.Reply.{Reply, done, mismatch, refused}
-use Rattle.rhai_run.specs.Cost.{may_make, may_want, share_cost}
+use Rattle.rhai_run.specs.Cost.{may_make, may_want, share_cost, flatten_cost}
 use Rattle.rhai_run.specs.Outcome.{Outcome, with_value}
 use Rattle.rhai_run.specs.Change.{int_written, step_share, step_flatten, step_write_int}
 
@@ -65,8 +65,8 @@ push_wants mode w name i t e = rw e refl
 pub share_wants : (w : State) (i : ℕ) (t : Tree) → slice_get w.hand i ≡ Some t → is_some (cell_of t) ≡ false → may_want (share_cost (slice_get w.hand i)) (step_share w i).0 ≡ true
 share_wants w i t e f = rw e (rw f refl)
 
-pub flatten_wants : (w : State) (i : ℕ) (t : Tree) → slice_get w.hand i ≡ Some t → may_make (step_flatten w i).0 ≡ true
-flatten_wants w i t e = rw e refl
+pub flatten_wants : (w : State) (i : ℕ) (t : Tree) → slice_get w.hand i ≡ Some t → is_some (cell_of t) ≡ true → may_want (flatten_cost (slice_get w.hand i)) (step_flatten w i).0 ≡ true
+flatten_wants w i t e f = rw e (rw f refl)
 
 -- a holder stays
 holder_stays : (s : List Cell) (t : Tree) → is_some (cell_of t) ≡ true → (shared_store s t ≡ s) × (shared_value s t ≡ t)
@@ -79,6 +79,18 @@ pub share_stays : (w : State) (i : ℕ) (t : Tree) → slice_get w.hand i ≡ So
 share_stays w i t e f =
     at_value w i (λ x. (done, with_cells w (shared_store w.store x) (slice_set w.hand i (shared_value w.store x)))) t done w e
     (refl, sym (ap₂ (with_cells w) (holder_stays w.store t f).0 (ap (slice_set w.hand i) (holder_stays w.store t f).1 ∙ set_own w.hand i t e)))
+
+-- a value that is no holder stays
+own_stays : (s : List Cell) (t : Tree) → is_some (cell_of t) ≡ false → flattened s t ≡ t
+own_stays s (node (leaf l) g m) f = refl
+own_stays s (node (branch k ts) g m) f = refl
+own_stays s (node (fields fs) g m) f = refl
+own_stays s (node (holder c) g m) f = cc
+
+pub flatten_stays : (w : State) (i : ℕ) (t : Tree) → slice_get w.hand i ≡ Some t → is_some (cell_of t) ≡ false → (done ≡ (step_flatten w i).0) × (w ≡ (step_flatten w i).1)
+flatten_stays w i t e f =
+    at_value w i (λ x. (done, with_hand w (slice_set w.hand i (flattened w.store x)))) t done w e
+    (refl, sym (ap (with_hand w) (ap (slice_set w.hand i) (own_stays w.store t f) ∙ set_own w.hand i t e)))
 
 -- an int is written over the one that is held, or none is held
 pub int_done : (w : State) (i : ℕ) (n : ℤ) (t d : Tree) (s : List Cell) → slice_get w.hand i ≡ Some t → is_some (held_part int_of (end w.store [] t)) ≡ true

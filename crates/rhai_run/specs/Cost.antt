@@ -39,6 +39,11 @@ abbrev pub share_cost : Option Tree → Cost
 share_cost None = free
 share_cost (Some t) = if is_some (cell_of t) then free else keeps_all
 
+-- a value that is no holder stays
+abbrev pub flatten_cost : Option Tree → Cost
+flatten_cost None = free
+flatten_cost (Some t) = if is_some (cell_of t) then keeps_all else free
+
 -- whether there are hash bytes is known after a search that takes memory
 abbrev pub hash_cost : Option Tree → Cost
 hash_cost None = free
@@ -68,7 +73,7 @@ cost w (command.Copy i) = keeps_all
 cost w (command.Take i) = keeps_all
 cost w command.Drop = free
 cost w (command.Share i) = share_cost (slice_get w.hand i)
-cost w (command.Flatten i) = keeps_all
+cost w (command.Flatten i) = flatten_cost (slice_get w.hand i)
 cost w (command.FlattenClone i) = keeps_all
 cost w (command.Cast i kind) = keeps_all
 cost w (command.MakeReadOnly i) = free

@@ -1,6 +1,6 @@
 //! Commands that change values, in the hand and in cells.
 ghost use Rattle.std.specs.Prelude.{slice_get};
-ghost use Rattle.rhai_run.specs.Cost.{free, keeps_all, share_cost};
+ghost use Rattle.rhai_run.specs.Cost.{free, share_cost, flatten_cost};
 ghost use Rattle.rhai_run.specs.Change.{step_share, step_flatten, step_make_read_only, step_set_tag, step_write_int, step_write, step_scan};
 ghost use Rattle.rhai_run.specs.Does.{Does};
 
@@ -27,9 +27,11 @@ impl Desk {
     }
 
     pub(crate) fn flatten(&mut self, i: usize) -> Result<Answer, NotDone>
-        ensures { Does keeps_all result self.old self.new (step_flatten self.old i) }
+        ensures { Does (flatten_cost (slice_get self.old.hand i)) result self.old self.new (step_flatten self.old i) }
     {
-        self.value(i)?;
+        if !self.value(i)?.is_shared() {
+            return Ok(Answer::Done);
+        }
         let value = replace_at(&mut self.hand, i, Dynamic::UNIT);
         let flat = value.flatten(self.alloc, &self.store);
         put_back(&mut self.hand, i, flat)?;

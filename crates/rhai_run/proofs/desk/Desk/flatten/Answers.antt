@@ -9,8 +9,8 @@ use Rattle.rhai_run.specs.Change.{step_flatten}
 use Rattle.rhai_run.proofs.Moves.{changed_ok, changed_err, flatten_done, came_back, flatten_wants, flatten_stays, hand_within}
 use Rattle.rhai_run.proofs.desk.Desk.flatten.Goals as goal
 
-pub returns-else-is_shared : goal.returns-else-is_shared
-returns-else-is_shared c = flatten_stays c.args.self.now c.args.i c.in_ok-value.field-0.now c.in_ok-value.ensures.ok (sym c.is_shared.ensures ∙ c.if-is_shared.false)
+pub returns-then-not-is_shared : goal.returns-then-not-is_shared
+returns-then-not-is_shared c = flatten_stays c.args.self.now c.args.i c.in_ok-value.field-0.now c.in_ok-value.ensures.ok (sym c.is_shared.ensures ∙ c.if-not-is_shared.true)
 
 pub replace_at-value-requires : goal.replace_at-value-requires
 replace_at-value-requires c =
@@ -26,7 +26,7 @@ returns-in_err-put_back c =
     let p = err_from_is_err_and c.from_residual-in_err-put_back.result c.from_residual-in_err-put_back.ensures.1 in
     let m = changed_err c.flatten-flat.result c.put_back.result c.in_err-put_back.field-0.0 c.in_err-put_back.was c.flatten-flat.ensures.err c.put_back.ensures.ok c.put_back.ensures.err in
     rw (p.1, p.2) (
-      flatten_wants c.args.self.now c.args.i c.in_ok-value.field-0.now c.in_ok-value.ensures.ok (sym c.is_shared.ensures ∙ c.if-is_shared.true),
+      flatten_wants c.args.self.now c.args.i c.in_ok-value.field-0.now c.in_ok-value.ensures.ok (sym c.is_shared.ensures ∙ c.if-not-is_shared.false),
       subst (λ v. with_hand w c.put_back.new.values.items ≡ v) c.self.view_is
           (came_back w c.args.i c.replace_at-value.result (fresh unit) m.0 w.store c.put_back.new.values.items c.replace_at-value.ensures.value (m.1, refl) (rw (← c.replace_at-value.ensures.after) m.2)),
     )

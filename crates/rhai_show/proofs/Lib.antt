@@ -1,3 +1,4 @@
+pub mod Barred
 pub mod Bares
 pub mod Cleans
 pub mod Commas

@@ -1,6 +1,7 @@
 //! The hash bytes of a value.
-ghost use Rattle.std.specs.Prelude.{◌≡◌, ◌++◌, ◌∷◌, [], true, IfOk, OnOk, is_some, length, option_map};
+ghost use Rattle.std.specs.Prelude.{◌≡◌, ◌++◌, ◌∷◌, [], true, IfOk, IsOk, None, OnOk, is_some, length, option_map};
 ghost use Rattle.std.specs.List.{flat_map};
+ghost use Rattle.rhai_value.specs.End.{first};
 ghost use Rattle.rhai_value.specs.Rows.{trees_of, fields_of};
 ghost use Rattle.rhai_show.specs.Plain.{plain};
 ghost use Rattle.rhai_show.specs.Clean.{are_plain, values_in};
@@ -108,8 +109,10 @@ fn add_map(store: &Store, path: &mut Path, map: &Map, out: &mut Vec<u8>) -> Resu
 /// The hash bytes of a value, `None` exactly where it isn't hashable (`Hash` of rhai's `Dynamic`, which feeds any hasher). Costs
 /// what `is_hashable` costs and the number of the bytes, and for each holder on the way the logarithm of how many cells are open
 /// then. A cell that is reached on many ways gives its bytes on each, so that these can be very many more than the values are.
+#[tactic(auto, using(crate::proofs::Barred::barred_plain))]
 pub fn hashed(alloc: Global, value: &Dynamic, s: &Store) -> Result<Option<Hashed>, AllocError>
-    ensures { IfOk result (λ o. o ≡ option_map plain_bytes (plain s.now [] value.now)) }
+    ensures bytes { IfOk result (λ o. o ≡ option_map plain_bytes (plain s.now [] value.now)) }
+    ensures barred { first s.now value.now ≡ None → IsOk result }
 {
     if !is_hashable(alloc, value, s)? {
         return Ok(None);

@@ -1,5 +1,6 @@
 //! Whether a value can be hashed.
-ghost use Rattle.std.specs.Prelude.{◌≡◌, [], true, IfOk, IsOk, OnOk, is_some};
+ghost use Rattle.std.specs.Prelude.{◌≡◌, [], true, IfOk, IsOk, None, OnOk, is_some};
+ghost use Rattle.rhai_value.specs.End.{first};
 ghost use Rattle.rhai_value.specs.Rows.{trees_of, fields_of};
 ghost use Rattle.rhai_value.specs.Tree.{tree_then, no_trees};
 ghost use Rattle.rhai_show.specs.Plain.{plain};
@@ -11,6 +12,7 @@ use std::alloc::{AllocError, Global};
 /// Whether the value is plain, the cells of `path` being open. The cells of `seen` were opened before; of those that are still open
 /// none opens again, and those that were left are known to be clean, so that none of these is looked into a second time.
 #[cycle(search)]
+#[tactic(auto, using(crate::proofs::Barred::barred_closed))]
 fn is_clean(
     store: &Store,
     path: &mut Path,
@@ -22,6 +24,7 @@ fn is_clean(
     ensures path { OnOk result (path.new ≡ path.old) }
     ensures searched { IfOk result (λ b. b ≡ true → Searched store.now path.old seen.old seen.new (tree_then value.now no_trees)) }
     ensures free { HasNoHolder value.now → IsOk result }
+    ensures barred { first store.now value.now ≡ None → IsOk result }
 {
     match value.parts() {
         Union::Unit(_, _, _) => Ok(true),
@@ -100,6 +103,7 @@ fn is_map_clean(
 pub fn is_hashable(alloc: Global, value: &Dynamic, s: &Store) -> Result<bool, AllocError>
     ensures answer { IfOk result (λ b. b ≡ is_some (plain s.now [] value.now)) }
     ensures free { HasNoHolder value.now → IsOk result }
+    ensures barred { first s.now value.now ≡ None → IsOk result }
 {
     let mut path = Path::new(alloc);
     let mut seen = Path::new(alloc);

@@ -1,11 +1,11 @@
 //! Parts of values: the Rust types of which a value may have one, each the content of one constructor.
-ghost use Rattle.std.specs.Prelude.{◌≡◌, [], true, Option, Some, None, option_map, IfOk, IfErr, OnOk};
+ghost use Rattle.std.specs.Prelude.{◌≡◌, [], true, Option, Some, None, option_map, IfOk, IfErr, IsOk, OnOk};
 ghost use Rattle.std.specs.Borrow.{sem, LendsIf, LendsIfOk};
 ghost use Rattle.rhai_value.specs.contracts.dynamic.Dynamic as dynamic_type;
 ghost use Rattle.rhai_value.specs.declared.type_id.TypeId.{TypeId};
 ghost use Rattle.rhai_value.specs.End.{end, held_part, site_of, value_after, store_after, end_name};
 ghost use Rattle.rhai_value.specs.Parts.{with_content, with_part};
-ghost use Rattle.rhai_value.specs.Tree.{Tree, Content, made, copy_content};
+ghost use Rattle.rhai_value.specs.Tree.{Tree, Content, TakesNoMemory, made, copy_content};
 ghost use Rattle.rhai_value.specs.Types.{is_content_type, typed_content};
 ghost use Rattle.rhai_value.specs.Writes.{written, in_store_row};
 
@@ -53,9 +53,10 @@ pub trait Part: Sized + Drop {
         ensures ok { IfOk result (λ x. part_of value ≡ Some (meaning x)) }
         ensures err { IfErr result (λ back. (back ≡ value) × (part_of value ≡ None)) };
 
-    /// One more, with the copy of the content.
+    /// One more, with the copy of the content, at the cost of that copy.
     fn again(&self, alloc: Global) -> Result<Self, AllocError>
-        ensures { IfOk result (λ x. content (meaning x) ≡ copy_content (content (meaning self.now))) };
+        ensures copied { IfOk result (λ x. content (meaning x) ≡ copy_content (content (meaning self.now))) }
+        ensures free { TakesNoMemory (made (content (meaning self.now))) → IsOk result };
 
     // The type is that of a constructor.
     ghost constructs: { is_content_type KIND ≡ true };

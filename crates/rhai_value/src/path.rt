@@ -1,5 +1,6 @@
 //! The cells that are open on a walk.
 ghost use Rattle.std.specs.Prelude.{◌≡◌, ◌<◌, ◌∷◌, [], length, drop, IfOk, IfSome, IfNone, IsOk, None, OnErr, option_copied};
+ghost use Rattle.rhai_value.specs.End.{first};
 ghost use Rattle.rhai_value.specs.Walk.{entry};
 ghost use Rattle.rhai_value.specs.Tree.{cell_of};
 
@@ -51,6 +52,7 @@ impl Path {
         ensures stays { IfOk result (λ o. IfNone o (self.new ≡ self.old)) }
         ensures err { OnErr result (self.new ≡ self.old) }
         ensures free { cell_of value.now ≡ None → IsOk result }
+        ensures barred { first store.now value.now ≡ None → IsOk result }
     {
         let Some(cell) = value.cell() else {
             return Ok(None);

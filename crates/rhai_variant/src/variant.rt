@@ -1,11 +1,11 @@
 //! The types that script values are made of and read as.
-ghost use Rattle.std.specs.Prelude.{◌≡◌, refl, true, false, Some, None, option_map, IfOk, IfErr, string_bytes};
+ghost use Rattle.std.specs.Prelude.{◌≡◌, refl, true, false, Some, None, option_map, IfOk, IfErr, IsOk, string_bytes};
 ghost use Rattle.std.specs.Str.{chars};
 ghost use Rattle.std.specs.Borrow.{sem, LendsIf};
 ghost use Rattle.rhai_value.specs.contracts.dynamic.Dynamic as dynamic_type;
 ghost use Rattle.rhai_value.specs.declared.type_id.TypeId.{TypeId};
 ghost use Rattle.rhai_value.specs.declared.type_id.TypeId.TheVariants as type_id;
-ghost use Rattle.rhai_value.specs.Tree.{Tree, made, fresh, text, copy};
+ghost use Rattle.rhai_value.specs.Tree.{Tree, TakesNoMemory, made, fresh, text, copy};
 ghost use Rattle.rhai_value.specs.Types.{is_type, type_name};
 ghost use Rattle.rhai_variant.specs.Reads.{read, viewed, written_as, made_read, not_shared};
 ghost use Rattle.rhai_variant.specs.Refused.{IsRefused};
@@ -67,7 +67,8 @@ pub trait Variant: Sized + Drop {
     ///
     /// Where memory is refused.
     fn duplicate(&self, alloc: Global) -> Result<Self, AllocError>
-        ensures { IfOk result (λ x. tree x ≡ copy (tree self.now)) };
+        ensures copied { IfOk result (λ x. tree x ≡ copy (tree self.now)) }
+        ensures free { TakesNoMemory (tree self.now) → IsOk result };
 
     /// The name of the type, as scripts see it. (`Variant::type_name` of rhai, which is the path of the type in Rust)
     final fn type_name() -> &'static str

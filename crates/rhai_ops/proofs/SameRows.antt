@@ -22,7 +22,8 @@ use Rattle.rhai_ops.specs.Numbers.{Number, number}
 use Rattle.rhai_ops.specs.AssignTable.{assign_line, assign_row}
 use Rattle.rhai_ops.specs.Table.{own, row_of, own_pair, type_line, pair_row, pick}
 use Rattle.rhai_ops.specs.Outcome.{Outcome, answers, too_large, both, number_answer, bool_answer, is_allowed, limited_text, limited_blob, RelatedOutcomes}
-use Rattle.rhai_ops.specs.Results.{part, joined_blobs, joined_texts, joined_to_char, blob_and_text, byte_of, pushed, joined_items, held_or_own, outcome, range_type, unless}
+use Rattle.rhai_value.specs.Bytes.{low_byte}
+use Rattle.rhai_ops.specs.Results.{part, joined_blobs, joined_texts, joined_to_char, blob_and_text, pushed, joined_items, held_or_own, outcome, range_type, unless}
 use Rattle.rhai_ops.specs.Tokens.{without_assign}
 use Rattle.rhai_ops.proofs.SameItems.{both_alike, pushed_related, joined_related, same_items, same_moved, same_held}
 
@@ -145,7 +146,7 @@ module _ (r : Renaming) (s z : List Cell) (one : IsOneToOne r) (cells : RelatedC
     same_outcome row.ArrayPush l =
         both_alike r (AllRelated r) (Related r) (pushed l) (pushed l) (pushed_related r l) _ _ _ _ (same_items r s z one cells t u h) q
     same_outcome row.BlobPush l =
-        rw (same_leaf leaf_blob t u h, same_leaf leaf_int v w q) (both_self r _ _ (λ a b. blob_self r l (a ++ b)) (part (leaf_part leaf_blob) z u) (option_map (λ n. byte_of n ∷ []) (part (leaf_part leaf_int) z w)))
+        rw (same_leaf leaf_blob t u h, same_leaf leaf_int v w q) (both_self r _ _ (λ a b. blob_self r l (a ++ b)) (part (leaf_part leaf_blob) z u) (option_map (λ n. low_byte n ∷ []) (part (leaf_part leaf_int) z w)))
     same_outcome row.BlobCharAssign l =
         rw (same_leaf leaf_blob t u h, same_leaf leaf_char v w q) (both_self r _ _ (λ a b. blob_self r l (a ++ b)) (part (leaf_part leaf_blob) z u) (option_map encode_utf8 (part (leaf_part leaf_char) z w)))
     same_outcome row.BlobTextAssign l = by_both leaf_blob leaf_text _ (blob_and_text_self r l)

@@ -1,9 +1,9 @@
 -- What each row asks for, what it answers, and what it may want: one line a row.
-use Rattle.std.specs.Prelude.{ℕ, ℤ, pos, suc, ◌-◌, ◌^◌, Bool, true, false, not, ◌&&◌, List, [], ◌∷◌, ◌++◌, Option, Some, None, option_map, unwrap_or, unsigned_abs, nat_eq, IsTrue, IsSome, if◌then◌else◌}
+use Rattle.std.specs.Prelude.{ℕ, ℤ, pos, suc, ◌-◌, ◌^◌, Bool, true, false, not, ◌&&◌, List, [], ◌∷◌, ◌++◌, Option, Some, None, option_map, unwrap_or, nat_eq, IsTrue, IsSome, if◌then◌else◌}
 use Rattle.std.specs.Cmp.Lexicographic.{slice_cmp, pointwise}
 use Rattle.std.specs.Ordering.{bool_cmp, int_cmp, int_eq, nat_cmp}
 use Rattle.std.specs.Char.{encode_utf8}
-use Rattle.std.specs.Int.{int_rem_euclid}
+use Rattle.rhai_value.specs.Bytes.{low_byte}
 use Rattle.std.specs.Str.{encode_utf8_all}
 use Rattle.std.specs.declared.cmp.Ordering.{Ordering}
 use Rattle.rhai_text.specs.Text.{minus, minus_char}
@@ -84,10 +84,6 @@ abbrev pub blob_and_text : Limits → List ℕ → List ℕ → Outcome
 blob_and_text l v [] = answers (fresh (blob v))
 blob_and_text l v (d ∷ w) = appended l v (encode_utf8_all (d ∷ w))
 
--- an integer modulo 256
-abbrev pub byte_of : ℤ → ℕ
-byte_of n = unsigned_abs (int_rem_euclid n (pos 256))
-
 -- how many items there are, and items behind items
 abbrev pub count : Trees → ℕ
 count no_trees = 0
@@ -152,7 +148,7 @@ outcome row.TextCharAssign l s x y = both (λ v d. limited_text l (v ++ (d ∷ [
 outcome row.TextMinusCharAssign l s x y = both (λ v d. answers (fresh (text (minus_char v d)))) (part text_of s x) (part char_of s y)
 outcome row.CharTextAssign l s x y = both (joined_to_char l (held_or_own s x)) (part char_of s x) (part text_of s y)
 outcome row.ArrayPush l s x y = both (pushed l) (part array_of s x) (Some y)
-outcome row.BlobPush l s x y = both (appended l) (part blob_of s x) (option_map (λ n. byte_of n ∷ []) (part int_of s y))
+outcome row.BlobPush l s x y = both (appended l) (part blob_of s x) (option_map (λ n. low_byte n ∷ []) (part int_of s y))
 outcome row.BlobCharAssign l s x y = both (appended l) (part blob_of s x) (option_map encode_utf8 (part char_of s y))
 outcome row.BlobTextAssign l s x y = both (blob_and_text l) (part blob_of s x) (part text_of s y)
 

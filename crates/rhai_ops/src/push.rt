@@ -8,7 +8,8 @@ ghost use Rattle.rhai_value.specs.Rows.{trees_of};
 ghost use Rattle.rhai_value.specs.Tree.{array, blob, branch, copy_trees, fresh, made, unit};
 ghost use Rattle.rhai_ops.specs.declared.word.Word.TheVariants.{Keep};
 ghost use Rattle.rhai_ops.specs.Outcome.{IsOutcome, answers, both, too_large};
-ghost use Rattle.rhai_ops.specs.Results.{Holds, appended, blob_and_text, byte_of, joined_items, part as part_in, pushed};
+ghost use Rattle.rhai_value.specs.Bytes.{low_byte};
+ghost use Rattle.rhai_ops.specs.Results.{Holds, appended, blob_and_text, joined_items, part as part_in, pushed};
 ghost use Rattle.rhai_ops.specs.Ways.{answered, assignment, first_left, stays, store_left};
 
 use crate::answer::{is_allowed, part};
@@ -252,9 +253,9 @@ pub(crate) fn push_byte(
     byte: INT,
 ) -> Result<Dynamic, EvalAltResult>
     requires { Holds blob_of m.old x.old }
-    ensures result { IsOutcome (Unit {0}) result (answered (assignment Keep stays) (both (appended limits.now) (part_in blob_of m.old x.old) (Some (byte_of byte ∷ [])))) }
-    ensures first { IfOk result (λ d. x.new ≡ first_left (assignment Keep stays) (both (appended limits.now) (part_in blob_of m.old x.old) (Some (byte_of byte ∷ []))) m.old x.old) }
-    ensures store { IfOk result (λ d. m.new ≡ store_left (assignment Keep stays) (both (appended limits.now) (part_in blob_of m.old x.old) (Some (byte_of byte ∷ []))) m.old x.old) }
+    ensures result { IsOutcome (Unit {0}) result (answered (assignment Keep stays) (both (appended limits.now) (part_in blob_of m.old x.old) (Some (low_byte byte ∷ [])))) }
+    ensures first { IfOk result (λ d. x.new ≡ first_left (assignment Keep stays) (both (appended limits.now) (part_in blob_of m.old x.old) (Some (low_byte byte ∷ []))) m.old x.old) }
+    ensures store { IfOk result (λ d. m.new ≡ store_left (assignment Keep stays) (both (appended limits.now) (part_in blob_of m.old x.old) (Some (low_byte byte ∷ []))) m.old x.old) }
     ensures err { IfErr result (λ e. (x.new ≡ x.old) × (m.new ≡ m.old)) }
 {
     push_bytes(limits, m, x, &[byte.rem_euclid(256) as u8])

@@ -3,7 +3,8 @@ use Rattle.std.proofs.Common.{◌≡◌, ℕ, zero, suc, ℤ, pos, ◌<◌, List
 use Rattle.std.proofs.Math.Nat.{mod-eq_of_lt}
 use Rattle.rhai_value.specs.Tree.{Tree, node, Leaf, int, text, blob, tag_of, mode_of}
 use Rattle.rhai_value.specs.Parts.{leaf_part, leaf_int, leaf_text, leaf_blob, int_of, text_of, blob_of}
-use Rattle.rhai_target.specs.Change.{with_leaf, on_int, on_bytes, on_text, low_byte}
+use Rattle.rhai_value.specs.Bytes.{low_byte}
+use Rattle.rhai_target.specs.Change.{with_leaf, on_int, on_bytes, on_text}
 
 pub item_written : (items : List ℕ) (index x : ℕ) → index < length items → slice_get (slice_set items index x) index ≡ Some x
 item_written [] index x h = absurd (omega arith)

@@ -9,7 +9,8 @@ use Rattle.rhai_value.specs.Store.{put}
 use Rattle.rhai_value.specs.End.{End, held, stuck, closed, end, held_part, value_after, store_after}
 use Rattle.rhai_value.proofs.ForCallers.{end_own}
 use Rattle.rhai_target.specs.Bits.{bit, with_bit, with_field}
-use Rattle.rhai_target.specs.Change.{Change, with_leaf, low_byte, bit_change, field_change, byte_change, char_change, value_changed, store_changed, end_changed}
+use Rattle.rhai_value.specs.Bytes.{low_byte}
+use Rattle.rhai_target.specs.Change.{Change, with_leaf, bit_change, field_change, byte_change, char_change, value_changed, store_changed, end_changed}
 use Rattle.rhai_target.proofs.EndsAfter.{end_put}
 use Rattle.rhai_target.proofs.FromBelow.{put-same, stands}
 use Rattle.rhai_target.proofs.IntBits.{bit_written, other_bits, bit_kept, outside_field, inside_field}

@@ -1,6 +1,6 @@
 -- What a write-back makes of what its source holds, and what it answers and leaves.
-use Rattle.std.specs.Prelude.{◌≡◌, ℕ, ℤ, pos, Bool, true, List, [], slice_set, Option, Some, None, option_map, is_some, Result, Ok, Err, unsigned_abs}
-use Rattle.std.specs.Int.{int_rem_euclid}
+use Rattle.std.specs.Prelude.{◌≡◌, ℕ, ℤ, Bool, true, List, [], slice_set, Option, Some, None, option_map, is_some, Result, Ok, Err}
+use Rattle.rhai_value.specs.Bytes.{low_byte}
 use Rattle.rhai_text.specs.Text.{with_slice}
 use Rattle.rhai_text.specs.declared.error.EvalAltResult.{EvalAltResult}
 use Rattle.rhai_text.specs.declared.error.EvalAltResult.TheVariants.{ErrorArithmetic, ErrorDataTooLarge, ErrorMemory, ErrorDataRace, ErrorMismatchDataType}
@@ -29,10 +29,6 @@ on_bytes f t = with_leaf (option_map (λ bs. blob (f bs)) (blob_of t)) t
 
 abbrev pub on_text : (List ℕ → List ℕ) → Tree → Tree
 on_text f t = with_leaf (option_map (λ cs. text (f cs)) (text_of t)) t
-
--- an int modulo 256
-abbrev pub low_byte : ℤ → ℕ
-low_byte n = unsigned_abs (int_rem_euclid n (pos 256))
 
 -- what a write-back makes of what its source holds; nothing where the working value isn't of the type that is wanted
 abbrev pub Change : Type 0

@@ -9,7 +9,8 @@ ghost use Rattle.rhai_value.specs.End.{End, end, held_part};
 ghost use Rattle.rhai_value.specs.Relation.{Renaming, Related, Alike, Respect, IsOneToOne, RelatedCells, RelatedEnds};
 ghost use Rattle.rhai_target.specs.declared.slice.Slice.{Slice};
 ghost use Rattle.rhai_target.specs.Bits.{bit};
-ghost use Rattle.rhai_target.specs.Change.{Change, with_leaf, on_int, on_bytes, on_text, low_byte, bit_change, field_change, byte_change, char_change, slice_change, value_changed, store_changed, end_changed};
+ghost use Rattle.rhai_value.specs.Bytes.{low_byte};
+ghost use Rattle.rhai_target.specs.Change.{Change, with_leaf, on_int, on_bytes, on_text, bit_change, field_change, byte_change, char_change, slice_change, value_changed, store_changed, end_changed};
 ghost use Rattle.rhai_target.specs.Offset.{offset, count, place};
 
 /// A slice ends within the list, and an item stands in it.

@@ -4,6 +4,7 @@ pub mod Copied
 pub mod Rows
 pub mod Slots
 pub mod Parts
+pub mod Bytes
 pub mod View
 pub mod Falls
 pub mod Store

@@ -1,62 +1,80 @@
-//! What no clause says: that the definitions mean what is wanted, and that calls succeed with ample memory.
+//! Targets, where a call alone can show it: what a write-back makes of a value is tested by lines in `rhai_world`.
+// Proved callers.
 mod callers;
-mod numbers;
 mod readme;
-mod refusals;
-mod slices;
-mod targets;
 
-use rhai_target::{
-    Slice, Target, calc_index, calc_offset_len, write_bit, write_byte, write_char, write_field,
-    write_slice,
-};
+// Tests.
+mod lent;
+mod parts;
+mod refusals;
+mod shared_values;
+mod ways_out;
+
+use rhai_target::Target;
 use rhai_text::{EvalAltResult, Position};
-use rhai_value::{Dynamic, Store};
+use rhai_value::{AccessMode, Dynamic, Store, Union};
 use std::alloc::Global;
 use std::process::Abort;
 use std::test::Fail;
 
-#[test]
-fn places_in_lists(rt: HostRuntime) {
-    for (length, start, count, wanted) in [
-        (5, -2, 10, (3, 2)),
-        (0, -1, 4, (0, 0)),
-        (5, i64::MIN, i64::MAX, (0, 5)),
-        (5, 5, 1, (5, 0)),
-    ] {
-        assert_eq!(rt;
-            calc_offset_len(length, start, count),
-            wanted,
-            "{count} from {start}"
-        );
-    }
-    for (length, index, from_end, wanted) in [
-        (5, -5, true, Some(0)),
-        (5, -6, true, None),
-        (5, 5, true, None),
-        (0, 0, true, None),
-        (5, -1, false, None),
-    ] {
-        assert_eq!(rt;
-            calc_index(length, index, from_end),
-            wanted,
-            "{index} of {length}"
-        );
+/// A holder of a new cell with the value; the value itself where there is no room.
+fn shared(value: Dynamic, store: &mut Store) -> Dynamic {
+    match value.into_shared(store) {
+        Ok(holder) => holder,
+        Err(value) => value,
     }
 }
 
-/// A holder of a new cell with this value in it, also where the value is a holder.
-fn cell_of(rt: &impl Abort, value: Dynamic, store: &mut Store) -> Dynamic {
-    let mut holder = Dynamic::UNIT.into_shared(store).ok().expect(rt, "memory");
-    *holder.write_whole(store).expect(rt, "an unmarked cell") = value;
-    holder
+/// The constant 7 with tag 3.
+fn seven() -> Dynamic {
+    let mut value = Dynamic::from_int(7).into_read_only();
+    value.set_tag(3);
+    value
 }
 
-/// Whether this is the text that is held.
-fn is_text(value: &Dynamic, store: &Store, text: &str) -> bool {
-    match value.as_immutable_string_ref(store) {
-        Ok(held) => held.as_str() == text,
-        Err(_) => false,
+/// Whether a value is that constant.
+fn is_seven(value: &Dynamic) -> bool {
+    matches!(value.parts(), Union::Int(3, AccessMode::ReadOnly, 7))
+}
+
+/// Whether a value is a copy of that constant.
+fn is_copy_of_seven(value: &Dynamic) -> bool {
+    matches!(value.parts(), Union::Int(3, AccessMode::ReadWrite, 7))
+}
+
+/// A constant text with tag 3; unit where there is no room.
+fn hello(alloc: Global) -> Dynamic {
+    let mut value = match Dynamic::from_text(alloc, "hello") {
+        Ok(text) => text.into_read_only(),
+        Err(_) => Dynamic::UNIT,
+    };
+    value.set_tag(3);
+    value
+}
+
+/// Whether a value is a constant text with tag 3 and these characters.
+fn is_text(value: &Dynamic, wanted: &str) -> bool {
+    match value.parts() {
+        Union::Str(3, AccessMode::ReadOnly, text) => text.as_str() == wanted,
+        _ => false,
+    }
+}
+
+/// A constant blob of two bytes with tag 3; unit where there is no room.
+fn bytes(alloc: Global) -> Dynamic {
+    let mut value = match Vec::from_slice(alloc, &[1, 2]) {
+        Ok(bytes) => Dynamic::from_blob(bytes).into_read_only(),
+        Err(_) => Dynamic::UNIT,
+    };
+    value.set_tag(3);
+    value
+}
+
+/// Whether a value is a constant blob with tag 3 and these bytes.
+fn is_bytes(value: &Dynamic, wanted: &[u8]) -> bool {
+    match value.parts() {
+        Union::Blob(3, AccessMode::ReadOnly, bytes) => bytes.as_slice() == wanted,
+        _ => false,
     }
 }
 

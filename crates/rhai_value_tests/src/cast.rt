@@ -1,10 +1,14 @@
-//! Casts: that the definitions mean what is wanted, and that calls succeed with ample memory.
+//! Casts, where a call alone can show it: each type there and back, holders, typed arrays, values made of collections.
+// Proved callers.
+mod readme;
+
+// Tests.
 mod arrays;
 mod chains;
 mod makers;
-mod readme;
 mod refusals;
 
+use crate::values::{copied, is_named, shared, text_of};
 use readme::cast_or;
 use rhai_cast::DynamicCast;
 use rhai_text::ImmutableString;
@@ -13,161 +17,182 @@ use rhai_variant::{CastError, Variant};
 use std::alloc::Global;
 use std::test::Fail;
 
-/// A text as a `String`.
-fn string(alloc: Global, text: &str) -> Result<String, Fail> {
-    Ok(String::from_str(alloc, text)?)
-}
-
-/// A holder of a new cell with the value.
-fn shared(value: Dynamic, store: &mut Store) -> Result<Dynamic, Fail> {
-    match value.into_shared(store) {
-        Ok(holder) => Ok(holder),
-        Err(_back) => Err("no room for a cell".into()),
-    }
-}
-
 /// What `of` makes of a value, cast to its type again.
 fn there_and_back<T: Variant>(alloc: Global, store: &Store, x: T) -> Option<T> {
     match Dynamic::of(alloc, x) {
         Ok(value) => value.try_cast::<T>(alloc, store).ok()?,
-        Err(_back) => None,
+        Err(_) => None,
+    }
+}
+
+/// Whether a plain value is the same there and back.
+fn is_back<T: Variant + Copy + PartialEq>(alloc: Global, x: T) -> bool {
+    match there_and_back(alloc, &Store::new(alloc), x) {
+        Some(back) => back == x,
+        None => false,
     }
 }
 
 #[test]
-fn numbers_are_cast_there_and_back(rt: HostRuntime) {
+fn plain_values_are_cast_there_and_back(rt: HostRuntime) {
     let alloc = rt.alloc();
-    let store = Store::new(alloc);
-    assert_eq!(rt; there_and_back(alloc, &store, -7i64), Some(-7i64));
-    assert_eq!(rt; there_and_back(alloc, &store, 200u8), Some(200u8));
-    assert_eq!(rt; there_and_back(alloc, &store, 60_000u16), Some(60_000u16));
-    assert_eq!(rt; there_and_back(alloc, &store, 42u32), Some(42u32));
-    assert_eq!(rt; there_and_back(alloc, &store, u64::MAX), Some(u64::MAX));
-    assert_eq!(rt; there_and_back(alloc, &store, u128::MAX), Some(u128::MAX));
-    assert_eq!(rt; there_and_back(alloc, &store, -100i8), Some(-100i8));
-    assert_eq!(rt; there_and_back(alloc, &store, -30_000i16), Some(-30_000i16));
-    assert_eq!(rt; there_and_back(alloc, &store, i32::MIN), Some(i32::MIN));
-    assert_eq!(rt; there_and_back(alloc, &store, i128::MIN), Some(i128::MIN));
+    assert!(rt; is_back(alloc, ()));
+    assert!(rt; is_back(alloc, true));
+    assert!(rt; is_back(alloc, 'é'));
+    assert!(rt; is_back(alloc, -7i64));
+    assert!(rt; is_back(alloc, 200u8));
+    assert!(rt; is_back(alloc, 60_000u16));
+    assert!(rt; is_back(alloc, 42u32));
+    assert!(rt; is_back(alloc, u64::MAX));
+    assert!(rt; is_back(alloc, u128::MAX));
+    assert!(rt; is_back(alloc, -100i8));
+    assert!(rt; is_back(alloc, -30_000i16));
+    assert!(rt; is_back(alloc, i32::MIN));
+    assert!(rt; is_back(alloc, i128::MIN));
+    assert!(rt; is_back(alloc, ExclusiveRange { start: 1, end: 5 }));
+    assert!(rt; is_back(alloc, InclusiveRange { start: -1, end: 1 }));
 }
 
-#[test]
-fn other_small_values_are_cast_there_and_back(rt: HostRuntime) {
-    let alloc = rt.alloc();
-    let store = Store::new(alloc);
-    assert_eq!(rt; there_and_back(alloc, &store, ()), Some(()));
-    assert_eq!(rt; there_and_back(alloc, &store, true), Some(true));
-    assert_eq!(rt; there_and_back(alloc, &store, 'é'), Some('é'));
-    let exclusive = ExclusiveRange { start: 1, end: 5 };
-    assert_eq!(rt; there_and_back(alloc, &store, exclusive), Some(exclusive));
-    let inclusive = InclusiveRange { start: -1, end: 1 };
-    assert_eq!(rt; there_and_back(alloc, &store, inclusive), Some(inclusive));
+/// Whether a `String` is the same there and back.
+fn is_string_back(alloc: Global, store: &Store, text: String) -> bool {
+    match there_and_back(alloc, store, text) {
+        Some(text) => text.as_str() == "hé",
+        None => false,
+    }
+}
+
+/// Whether a text is the same there and back.
+fn is_text_back(alloc: Global, store: &Store, text: ImmutableString) -> bool {
+    match there_and_back(alloc, store, text) {
+        Some(text) => text.as_str() == "hé",
+        None => false,
+    }
 }
 
 #[test]
 fn texts_are_cast_there_and_back(rt: HostRuntime) -> Result<(), Fail> {
-    let alloc = rt.alloc();
-    let store = Store::new(alloc);
-    let text = ImmutableString::from_str(alloc, "hé")?;
-    match there_and_back(alloc, &store, text) {
-        Some(text) => assert_eq!(rt; text.as_str(), "hé"),
-        None => assert!(rt; false),
-    }
-    match there_and_back(alloc, &store, string(alloc, "hé")?) {
-        Some(text) => assert_eq!(rt; text.as_str(), "hé"),
-        None => assert!(rt; false),
-    }
+    let string = String::from_str(rt.alloc(), "hé")?;
+    let text = ImmutableString::from_str(rt.alloc(), "hé")?;
+    let store = Store::new(rt.alloc());
+    assert!(rt; is_string_back(rt.alloc(), &store, string));
+    assert!(rt; is_text_back(rt.alloc(), &store, text));
     Ok(())
+}
+
+/// How many items come back.
+fn items_back(alloc: Global, store: &Store, items: Array) -> Option<usize> {
+    Some(there_and_back(alloc, store, items)?.len())
+}
+
+/// How many bytes come back.
+fn bytes_back(alloc: Global, store: &Store, bytes: Blob) -> Option<usize> {
+    Some(there_and_back(alloc, store, bytes)?.len())
+}
+
+/// How many entries come back.
+fn entries_back(alloc: Global, store: &Store, map: Map) -> Option<usize> {
+    Some(there_and_back(alloc, store, map)?.len())
+}
+
+/// How many curried values come back.
+fn curried_back(alloc: Global, store: &Store, function: FnPtr) -> Option<usize> {
+    Some(there_and_back(alloc, store, function)?.curry().len())
+}
+
+/// Whether a value that is an int comes back.
+fn is_int_back(alloc: Global, store: &Store, value: Dynamic) -> bool {
+    match there_and_back(alloc, store, value) {
+        Some(value) => value.is_int(store),
+        None => false,
+    }
 }
 
 #[test]
 fn values_with_values_inside_are_cast_there_and_back(rt: HostRuntime) -> Result<(), Fail> {
     let alloc = rt.alloc();
     let store = Store::new(alloc);
-    let mut items: Array = Vec::new(alloc);
-    items.push(Dynamic::ONE)?;
-    assert_eq!(rt;
-        there_and_back(alloc, &store, items).map(|items| items.len()),
-        Some(1)
-    );
-    let mut bytes: Blob = Vec::new(alloc);
-    bytes.push(7)?;
-    assert_eq!(rt;
-        there_and_back(alloc, &store, bytes).map(|bytes| bytes.len()),
-        Some(1)
-    );
-    assert_eq!(rt;
-        there_and_back(alloc, &store, Map::new(alloc)).map(|map| map.len()),
-        Some(0)
-    );
     let name = ImmutableString::from_str(alloc, "f")?;
-    let function = FnPtr::new(name, Vec::new(alloc));
-    assert_eq!(rt;
-        there_and_back(alloc, &store, function).map(|f| f.curry().len()),
-        Some(0)
-    );
-    assert!(rt; there_and_back(alloc, &store, Dynamic::TEN).is_some());
+    let items = vec![in alloc; Dynamic::ONE]?;
+    let bytes = Blob::from_slice(alloc, &[7])?;
+    assert!(rt; curried_back(alloc, &store, FnPtr::new(name, items)) == Some(1));
+    assert!(rt; items_back(alloc, &store, vec![in alloc; Dynamic::ONE]?) == Some(1));
+    assert!(rt; bytes_back(alloc, &store, bytes) == Some(1));
+    assert!(rt; entries_back(alloc, &store, Map::new(alloc)) == Some(0));
+    assert!(rt; is_int_back(alloc, &store, Dynamic::TEN));
     Ok(())
 }
 
-#[test]
-fn a_number_of_the_host_is_no_int(rt: HostRuntime) -> Result<(), Fail> {
-    let alloc = rt.alloc();
-    let store = Store::new(alloc);
-    let Ok(value) = Dynamic::of(alloc, 5u8) else {
-        return Err("a number takes no memory".into());
-    };
-    assert!(rt; value.is::<u8>(&store) && !value.is::<INT>(&store));
-    assert_eq!(rt; value.copy(alloc)?.try_cast::<INT>(alloc, &store)?, None);
-    match value.try_cast_result::<INT>(alloc, &store) {
-        Err(CastError::Mismatch(back)) => assert_eq!(rt; back.type_name(&store), "u8"),
-        Err(CastError::Memory(_back)) => assert!(rt; false),
-        Ok(_n) => assert!(rt; false),
+/// A number of the host; unit where there was no room.
+fn byte(alloc: Global) -> Dynamic {
+    match Dynamic::of(alloc, 5u8) {
+        Ok(value) => value,
+        Err(_) => Dynamic::UNIT,
     }
-    Ok(())
+}
+
+/// Whether a value is of one of two types.
+fn is_of<T: Variant, U: Variant>(value: &Dynamic, store: &Store) -> bool {
+    value.is::<T>(store) && !value.is::<U>(store)
+}
+
+/// Whether a value that isn't read as an int comes back.
+fn is_no_int(alloc: Global, store: &Store, value: Dynamic) -> bool {
+    match value.try_cast_result::<INT>(alloc, store) {
+        Err(CastError::Mismatch(back)) => is_named(&back, store, "u8"),
+        Err(CastError::Memory(_)) => false,
+        Ok(_) => false,
+    }
 }
 
 #[test]
-fn a_text_is_both_texts_where_unshared(rt: HostRuntime) -> Result<(), Fail> {
-    let alloc = rt.alloc();
-    let mut store = Store::new(alloc);
-    let text = Dynamic::from_text(alloc, "a")?;
-    assert!(rt; text.is::<String>(&store) && text.is::<ImmutableString>(&store));
-    assert!(rt; text.read_lock::<String>(&store).is_none());
-    let holder = shared(text, &mut store)?;
-    assert!(rt; !holder.is::<String>(&store) && holder.is::<ImmutableString>(&store));
-    assert!(rt; holder.read_lock::<String>(&store).is_none());
-    assert!(rt; holder.read_lock::<ImmutableString>(&store).is_some());
-    assert_eq!(rt; holder.clone_cast::<String>(alloc, &store)?.as_str(), "a");
-    match holder.try_cast::<String>(alloc, &store)? {
-        Some(text) => assert_eq!(rt; text.as_str(), "a"),
-        None => assert!(rt; false),
+fn a_number_of_the_host_is_no_int(rt: HostRuntime) {
+    let store = Store::new(rt.alloc());
+    let value = byte(rt.alloc());
+    assert!(rt; is_of::<u8, INT>(&value, &store));
+    assert!(rt; is_no_int(rt.alloc(), &store, value));
+}
+
+/// Whether only the type of a text that is never changed in place looks into a value.
+fn is_looked_into(value: &Dynamic, store: &Store) -> bool {
+    value.read_lock::<String>(store).is_none()
+        && value.read_lock::<ImmutableString>(store).is_some()
+}
+
+/// Whether a text is read of a value as a `String`.
+fn is_read_as_string(alloc: Global, store: &Store, value: Dynamic) -> bool {
+    match value.try_cast::<String>(alloc, store) {
+        Ok(Some(text)) => text.as_str() == "a",
+        Ok(None) => false,
+        Err(_) => false,
     }
-    Ok(())
 }
 
 #[test]
-fn no_value_is_a_dynamic(rt: HostRuntime) -> Result<(), Fail> {
-    let alloc = rt.alloc();
-    let mut store = Store::new(alloc);
-    for value in Dynamic::constants() {
-        assert!(rt; !value.is::<Dynamic>(&store));
-    }
-    let holder = shared(Dynamic::ONE, &mut store)?;
-    assert!(rt; !holder.is::<Dynamic>(&store) && !holder.is::<Dynamic>(&Store::new(alloc)));
-    Ok(())
+fn a_text_is_both_texts_where_unshared(rt: HostRuntime) {
+    let mut store = Store::new(rt.alloc());
+    let text = text_of(rt.alloc(), "a");
+    assert!(rt; is_of::<String, Dynamic>(&text, &store));
+    assert!(rt; is_looked_into(&text, &store));
+    let holder = shared(text, &mut store);
+    assert!(rt; is_of::<ImmutableString, String>(&holder, &store));
+    assert!(rt; is_looked_into(&holder, &store));
+    assert!(rt; is_read_as_string(rt.alloc(), &store, holder));
+}
+
+/// Whether a caller casts a value to 1.
+fn is_cast_to_one(alloc: Global, store: &Store, value: Dynamic) -> bool {
+    matches!(cast_or(alloc, value, store, 5i64), Ok(1))
+}
+
+/// Whether a caller has true in the place of a value that is no boolean.
+fn is_cast_to_true(alloc: Global, store: &Store, value: Dynamic) -> bool {
+    matches!(cast_or(alloc, value, store, true), Ok(true))
 }
 
 #[test]
-fn a_caller_casts_to_any_type(rt: HostRuntime) -> Result<(), Fail> {
-    let alloc = rt.alloc();
-    let mut store = Store::new(alloc);
-    let mut holder = shared(Dynamic::ONE, &mut store)?;
-    assert_eq!(rt; cast_or(alloc, holder.copy(alloc)?, &store, 5i64)?, 1);
-    assert_eq!(rt; cast_or(alloc, holder.copy(alloc)?, &store, true)?, true);
-    match holder.write_lock::<INT>(&mut store) {
-        Some(n) => *n = 8,
-        None => assert!(rt; false),
-    }
-    assert_eq!(rt; cast_or(alloc, holder, &store, 5i64)?, 8);
-    Ok(())
+fn a_caller_casts_to_any_type(rt: HostRuntime) {
+    let mut store = Store::new(rt.alloc());
+    let holder = shared(Dynamic::ONE, &mut store);
+    assert!(rt; is_cast_to_one(rt.alloc(), &store, copied(rt.alloc(), &holder)));
+    assert!(rt; is_cast_to_true(rt.alloc(), &store, holder));
 }

@@ -10,4 +10,6 @@ mod text;
 #[cfg(test)]
 mod value;
 #[cfg(test)]
+mod values;
+#[cfg(test)]
 mod variant;

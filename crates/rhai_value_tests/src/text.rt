@@ -1,277 +1,135 @@
-//! Texts: that the definitions mean what is wanted, shown on values worked out by hand, and that calls succeed.
+//! Texts, where a call alone can show it.
 mod readme;
 
 use rhai_text::{EvalAltResult, ImmutableString, Position, quoted_char_into, quoted_text_into};
 use std::alloc::{AllocError, Global};
-use std::cmp::Ordering;
 use std::hash::{BuildHasher, BuildHasherDefault, FoldHasher};
 use std::mem::size_of;
-use std::process::Abort;
-use std::test::Fail;
 
-fn text(alloc: Global, characters: &str) -> Result<ImmutableString, AllocError> {
-    ImmutableString::from_str(alloc, characters)
+/// Whether a text has these characters in so many bytes.
+fn reads(text: &ImmutableString, characters: &str, bytes: usize) -> bool {
+    text.as_str() == characters && text.len() == bytes && text.is_empty() == (bytes == 0)
 }
 
-#[test]
-fn reads(rt: HostRuntime) -> Result<(), Fail> {
-    for (characters, bytes) in [("", 0), ("a", 1), ("é1", 3), ("€", 3), ("😀é", 6)] {
-        let text = text(rt.alloc(), characters)?;
-        assert_eq!(rt; text.as_str(), characters);
-        assert_eq!(rt; text.len(), bytes, "of {characters}");
-        assert_eq!(rt; text.is_empty(), bytes == 0, "of {characters}");
-        let copy = text.copy(rt.alloc())?;
-        assert_eq!(rt; copy.as_str(), characters);
-    }
-    assert_eq!(rt; size_of::<ImmutableString>(), 8);
-    Ok(())
-}
-
-#[test]
-fn compares_by_characters(rt: HostRuntime) -> Result<(), Fail> {
-    let rising = [
-        "",
-        "a",
-        "a\u{0}",
-        "ab",
-        "b",
-        "\u{7f}",
-        "é",
-        "é1",
-        "€",
-        "\u{ffff}",
-        "\u{10000}",
-        "😀",
-    ];
-    for (low, high) in rising.iter().zip(&rising[1..]) {
-        let left = text(rt.alloc(), low)?;
-        let right = text(rt.alloc(), high)?;
-        let same = left.copy(rt.alloc())?;
-        assert_eq!(rt; left.cmp(&right), Ordering::Less, "{low} and {high}");
-        assert_eq!(rt; right.cmp(&left), Ordering::Greater, "{low} and {high}");
-        assert_eq!(rt; left.cmp(&same), Ordering::Equal, "{low}");
-        assert!(rt; left == same && left != right, "{low} and {high}");
-    }
-    Ok(())
-}
-
-#[test]
-fn hashes_as_its_str(rt: HostRuntime) -> Result<(), Fail> {
-    let hashes = BuildHasherDefault::<FoldHasher>::new();
-    for characters in ["", "a", "é€😀"] {
-        let text = text(rt.alloc(), characters)?;
-        assert_eq!(rt;
-            hashes.hash_one(&text),
-            hashes.hash_one(&characters),
-            "of {characters}"
-        );
-    }
-    Ok(())
-}
-
-#[test]
-fn joins(rt: HostRuntime) -> Result<(), Fail> {
-    for (front, back, want) in [
-        ("", "", ""),
-        ("a", "", "a"),
-        ("", "b", "b"),
-        ("é", "😀€", "é😀€"),
-    ] {
-        let joined = text(rt.alloc(), front)?.concat(rt.alloc(), back)?;
-        assert_eq!(rt; joined.as_str(), want);
-    }
-    Ok(())
-}
-
-#[test]
-fn takes_patterns_away(rt: HostRuntime) -> Result<(), Fail> {
-    for (characters, pattern, want) in [
-        ("aaa", "aa", "a"),
-        ("aaa", "", "aaa"),
-        ("", "a", ""),
-        ("", "", ""),
-        ("aaaa", "aa", ""),
-        // What is left is not looked through again.
-        ("aabb", "ab", "ab"),
-        ("aabaa", "aba", "aa"),
-        ("ab", "abc", "ab"),
-        ("é€😀é", "é", "€😀"),
-        ("é€😀é", "€😀", "éé"),
-        ("é€😀é", "😀é", "é€"),
-    ] {
-        let left = text(rt.alloc(), characters)?.minus(rt.alloc(), pattern)?;
-        assert_eq!(rt; left.as_str(), want, "{characters} without {pattern}");
-    }
-    Ok(())
-}
-
-#[test]
-fn takes_characters_away(rt: HostRuntime) -> Result<(), Fail> {
-    for (characters, character, want) in [
-        ("hello", 'l', "heo"),
-        ("hello", 'x', "hello"),
-        ("", 'x', ""),
-        ("lll", 'l', ""),
-        ("lolllol", 'l', "oo"),
-        ("é€😀é", 'é', "€😀"),
-        ("é€😀é", '€', "é😀é"),
-        ("é€😀é", '😀', "é€é"),
-    ] {
-        let left = text(rt.alloc(), characters)?.minus_char(rt.alloc(), character)?;
-        assert_eq!(rt; left.as_str(), want, "{characters} without {character}");
-    }
-    Ok(())
-}
-
-#[test]
-fn replaces_characters(rt: HostRuntime) -> Result<(), Fail> {
-    for (characters, index, character, want) in [
-        ("é1", 1, 'x', "éx"),
-        ("hello", 0, 'j', "jello"),
-        ("hello", 4, '😀', "hell😀"),
-        ("hello", 5, 'x', "hello"),
-        ("hello", 9, 'x', "hello"),
-        ("hello", usize::MAX, 'x', "hello"),
-        ("", 0, 'x', ""),
-        ("é€😀", 0, 'x', "x€😀"),
-        ("é€😀", 1, 'é', "éé😀"),
-        ("é€😀", 2, '€', "é€€"),
-    ] {
-        let changed = text(rt.alloc(), characters)?.with_char(rt.alloc(), index, character)?;
-        assert_eq!(rt; changed.as_str(), want, "{characters} at {index}");
-    }
-    Ok(())
-}
-
-#[test]
-fn replaces_slices(rt: HostRuntime) -> Result<(), Fail> {
-    for (characters, start, end, exclusive, slice, want) in [
-        ("hello", 1, 3, true, "42", "h42lo"),
-        ("hello", 3, 1, true, "", "helello"),
-        ("hello", usize::MAX, 0, true, "", "hellohello"),
-        ("hello", 1, 0, false, "-", "h-ello"),
-        ("hello", 0, usize::MAX, true, "x", "x"),
-        ("hello", 0, usize::MAX, false, "x", "x"),
-        ("hello", 5, 5, true, "x", "hellox"),
-        ("hello", 4, 4, false, "x", "hellx"),
-        ("", 0, 0, false, "x", "x"),
-        ("", 0, 0, true, "x", "x"),
-        ("é€😀", 1, 2, true, "é", "éé😀"),
-        ("é€😀", 1, 2, false, "", "é"),
-        ("é€😀", 0, 1, true, "😀", "😀€😀"),
-    ] {
-        let changed = text(rt.alloc(), characters)?.with_slice(
-            rt.alloc(),
-            start,
-            end,
-            exclusive,
-            slice,
-        )?;
-        assert_eq!(rt;
-            changed.as_str(),
-            want,
-            "{characters} from {start} to {end}"
-        );
-    }
-    Ok(())
-}
-
-#[test]
-fn quotes_texts(rt: HostRuntime) -> Result<(), Fail> {
-    for (characters, want) in [
-        ("", r#""""#),
-        ("a\"b\n\u{1}", r#""a\"b\n\u{1}""#),
-        ("\0\t\n\r\\", r#""\0\t\n\r\\""#),
-        ("'\u{1f}\u{7f}\u{10}", r#""'\u{1f}\u{7f}\u{10}""#),
-        ("é€\n😀a\\\\b€", r#""é€\n😀a\\\\b€""#),
-        (
-            " ~\u{80}\u{ad}é€😀\u{10ffff}",
-            "\" ~\u{80}\u{ad}é€😀\u{10ffff}\"",
-        ),
-    ] {
-        let mut out = String::from_str(rt.alloc(), "é")?;
-        text(rt.alloc(), characters)?.quoted_into(&mut out)?;
-        assert_eq!(rt; out.as_str().strip_prefix('é'), Some(want));
-        let mut plain = String::new(rt.alloc());
-        quoted_text_into(characters, &mut plain)?;
-        assert_eq!(rt; plain.as_str(), want);
-    }
-    Ok(())
-}
-
-#[test]
-fn quotes_characters(rt: HostRuntime) -> Result<(), Fail> {
-    for (character, want) in [
-        ('\'', r"'\''"),
-        ('"', r#"'"'"#),
-        ('\0', r"'\0'"),
-        ('\t', r"'\t'"),
-        ('\n', r"'\n'"),
-        ('\r', r"'\r'"),
-        ('\\', r"'\\'"),
-        ('\u{1}', r"'\u{1}'"),
-        ('\u{1f}', r"'\u{1f}'"),
-        (' ', "' '"),
-        ('~', "'~'"),
-        ('\u{7f}', r"'\u{7f}'"),
-        ('\u{80}', "'\u{80}'"),
-        ('é', "'é'"),
-        ('😀', "'😀'"),
-    ] {
-        let mut out = String::new(rt.alloc());
-        quoted_char_into(character, &mut out)?;
-        assert_eq!(rt; out.as_str(), want);
-    }
-    Ok(())
-}
-
-// With a refused growth the text stays as it was, wherever the growth is met.
-fn expect_whole_or_nothing(
-    rt: &impl Abort,
-    outcome: Result<(), AllocError>,
-    out: &str,
-    quoted: &str,
-) {
-    match outcome {
-        Ok(()) => assert_eq!(rt; out.strip_prefix("ab"), Some(quoted)),
-        Err(_) => assert_eq!(rt; out, "ab"),
-    }
-}
-
-#[test]
-fn quotes_all_or_nothing(rt: HostRuntime) -> Result<(), Fail> {
-    let long = "0123456789\n0123456789\u{1}0123456789\"";
-    let Ok(text) = text(rt.alloc(), long) else {
-        return Ok(());
+/// Whether the text of these characters, and a copy of it, has them in so many bytes.
+fn is_read(alloc: Global, characters: &str, bytes: usize) -> bool {
+    let Ok(text) = ImmutableString::from_str(alloc, characters) else {
+        return false;
     };
-    let Ok(mut out) = String::from_str(rt.alloc(), "ab") else {
-        return Ok(());
+    match text.copy(alloc) {
+        Ok(copy) => reads(&text, characters, bytes) && reads(&copy, characters, bytes),
+        Err(_) => false,
+    }
+}
+
+#[test]
+fn a_text_has_characters_and_bytes(rt: HostRuntime) {
+    let alloc = rt.alloc();
+    assert!(rt; is_read(alloc, "", 0));
+    assert!(rt; is_read(alloc, "a", 1));
+    assert!(rt; is_read(alloc, "é1", 3));
+    assert!(rt; is_read(alloc, "€\n", 4));
+    assert!(rt; is_read(alloc, "😀é", 6));
+    assert!(rt; size_of::<ImmutableString>() == 8);
+}
+
+/// Whether a text has the hash of its characters.
+fn is_hashed_as_its_str(alloc: Global, characters: &str) -> bool {
+    let hashes = BuildHasherDefault::<FoldHasher>::new();
+    match ImmutableString::from_str(alloc, characters) {
+        Ok(text) => hashes.hash_one(&text) == hashes.hash_one(&characters),
+        Err(_) => false,
+    }
+}
+
+#[test]
+fn a_text_hashes_as_its_str(rt: HostRuntime) {
+    let alloc = rt.alloc();
+    assert!(rt; is_hashed_as_its_str(alloc, ""));
+    assert!(rt; is_hashed_as_its_str(alloc, "a"));
+    assert!(rt; is_hashed_as_its_str(alloc, "é€😀"));
+}
+
+/// Whether a text is quoted like this, behind what stands there.
+fn is_quoted(alloc: Global, characters: &str, wanted: &str) -> bool {
+    let Ok(text) = ImmutableString::from_str(alloc, characters) else {
+        return false;
+    };
+    let Ok(mut out) = String::from_str(alloc, "é") else {
+        return false;
+    };
+    text.quoted_into(&mut out).is_ok() && out.as_str().strip_prefix('é') == Some(wanted)
+}
+
+/// Whether a character is quoted like this, and the text of this one between quotation marks of its own.
+fn is_quoted_char(alloc: Global, character: char, wanted: &str, text: &str) -> bool {
+    let mut out = String::new(alloc);
+    quoted_char_into(character, &mut out).is_ok()
+        && quoted_text_into("\n", &mut out).is_ok()
+        && out.as_str().strip_prefix(wanted) == Some(text)
+}
+
+/// A line has no line feed, so texts that have one are quoted here.
+#[test]
+fn line_feeds_are_quoted(rt: HostRuntime) {
+    let alloc = rt.alloc();
+    assert!(rt; is_quoted(alloc, "a\"b\n\u{1}", r#""a\"b\n\u{1}""#));
+    assert!(rt; is_quoted(alloc, "\0\t\n\r\\", r#""\0\t\n\r\\""#));
+    assert!(rt; is_quoted_char(alloc, '\n', r"'\n'", r#""\n""#));
+}
+
+/// Whether all of it was appended, or, where memory was refused, nothing.
+fn is_whole_or_nothing(outcome: Result<(), AllocError>, out: &str, quoted: &str) -> bool {
+    match outcome {
+        Ok(()) => out.strip_prefix("ab") == Some(quoted),
+        Err(_) => out == "ab",
+    }
+}
+
+/// Whether a text is quoted whole or not at all; true too where there was no room for the text.
+fn quotes_whole_or_nothing(alloc: Global, characters: &str, quoted: &str) -> bool {
+    let Ok(text) = ImmutableString::from_str(alloc, characters) else {
+        return true;
+    };
+    let Ok(mut out) = String::from_str(alloc, "ab") else {
+        return true;
     };
     let outcome = text.quoted_into(&mut out);
-    expect_whole_or_nothing(
-        &rt,
-        outcome,
-        out.as_str(),
-        r#""0123456789\n0123456789\u{1}0123456789\"""#,
-    );
-    let Ok(mut out) = String::from_str(rt.alloc(), "ab") else {
-        return Ok(());
+    is_whole_or_nothing(outcome, out.as_str(), quoted)
+}
+
+/// The same of a character.
+fn quotes_char_or_nothing(alloc: Global, character: char, quoted: &str) -> bool {
+    let Ok(mut out) = String::from_str(alloc, "ab") else {
+        return true;
     };
-    let outcome = quoted_char_into('\u{1f}', &mut out);
-    expect_whole_or_nothing(&rt, outcome, out.as_str(), r"'\u{1f}'");
-    Ok(())
+    let outcome = quoted_char_into(character, &mut out);
+    is_whole_or_nothing(outcome, out.as_str(), quoted)
+}
+
+/// Passes whichever growth is refused.
+#[test]
+fn quotes_all_or_nothing(rt: HostRuntime) {
+    let alloc = rt.alloc();
+    assert!(rt;
+        quotes_whole_or_nothing(
+            alloc,
+            "0123456789\n0123456789\u{1}0123456789\"",
+            r#""0123456789\n0123456789\u{1}0123456789\"""#
+        )
+    );
+    assert!(rt; quotes_char_or_nothing(alloc, '\u{1f}', r"'\u{1f}'"));
 }
 
 #[test]
-fn places_and_errors(rt: HostRuntime) -> Result<(), Fail> {
+fn places_and_errors(rt: HostRuntime) {
     let place = Position::new(3, 14);
-    assert_eq!(rt; (place.line(), place.position()), (3, 14));
-    assert_eq!(rt; Position::NONE, Position::new(0, 0));
+    assert!(rt; place.line() == 3 && place.position() == 14);
+    assert!(rt; Position::NONE == Position::new(0, 0));
     assert!(rt;
         matches!(
             EvalAltResult::from(AllocError),
             EvalAltResult::ErrorMemory(_)
         )
     );
-    Ok(())
 }

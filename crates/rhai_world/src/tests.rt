@@ -262,6 +262,17 @@ const INPUT: &[u8] = b"int 7\nshow 0\nno\nshow 0";
 
 const OUTPUT: &[u8] = b"ok\n7\nrefused BadLine\n7\n";
 
+/// What stopped a run, by its name.
+fn fault(outcome: &Result<(), LinesFault>) -> &'static str {
+    match outcome {
+        Ok(()) => "none",
+        Err(LinesFault::Read(_)) => "Read",
+        Err(LinesFault::Write(_)) => "Write",
+        Err(LinesFault::Memory) => "Memory",
+    }
+}
+
+/// A read that was interrupted is made again; any other fault of the reader ends the run.
 #[test]
 fn reads_may_fail(rt: HostRuntime) -> Result<(), Fail> {
     for calls in 0..30 {
@@ -274,10 +285,10 @@ fn reads_may_fail(rt: HostRuntime) -> Result<(), Fail> {
             let mut out = Vec::new(rt.alloc());
             let outcome = run_lines(rt.alloc(), &mut reader, &mut out);
             if calls > INPUT.len() || error == ErrorKind::Interrupted {
-                assert_eq!(rt; status(&outcome), 0, "at {calls}");
+                assert_eq!(rt; fault(&outcome), "none", "at {calls}");
                 assert_eq!(rt; out.as_slice(), OUTPUT, "at {calls}");
             } else {
-                assert_eq!(rt; status(&outcome), 1, "at {calls}");
+                assert_eq!(rt; fault(&outcome), "Read", "at {calls}");
                 assert!(rt; OUTPUT.starts_with(&out), "at {calls}");
                 assert!(rt; matches!(out.last(), None | Some(b'\n')), "at {calls}");
             }
@@ -296,11 +307,28 @@ fn writes_may_fail(rt: HostRuntime) -> Result<(), Fail> {
         };
         let outcome = run_lines(rt.alloc(), &mut reader, &mut writer);
         // The input comes in one read: there is a flush after it, and one after the last line.
-        let failed = calls < OUTPUT.len() + 2;
-        assert_eq!(rt; status(&outcome), u8::from(failed), "at {calls}");
+        let wanted = if calls < OUTPUT.len() + 2 {
+            "Write"
+        } else {
+            "none"
+        };
+        assert_eq!(rt; fault(&outcome), wanted, "at {calls}");
         assert!(rt; OUTPUT.starts_with(&writer.bytes), "at {calls}");
     }
     Ok(())
+}
+
+/// Whether a fault, and no fault, give the exit statuses that they should.
+fn is_told_by_status(error: io::Error, other: io::Error) -> bool {
+    status(&Ok(())) == 0
+        && status(&Err(LinesFault::Read(error))) == 1
+        && status(&Err(LinesFault::Write(other))) == 1
+        && status(&Err(LinesFault::Memory)) == 1
+}
+
+#[test]
+fn each_fault_has_status_1(rt: HostRuntime) {
+    assert!(rt; is_told_by_status(io::Error::other("no byte"), io::Error::other("no room")));
 }
 
 /// A line that comes a byte a call, in more than a million calls.

@@ -1,9 +1,13 @@
 //! The row of each assignment on each pair of kinds, against a table that was typed by hand.
-use super::pairs::kinds;
-use super::*;
+use super::pairs::{OPERATORS, kind};
+use super::shared;
+use rhai_ops::{FnBuiltin, get_builtin_op_assignment_fn};
+use rhai_text::Token;
+use rhai_value::{Dynamic, Store};
+use std::alloc::Global;
 
 /// The assignments in the order of the lines below.
-const ASSIGNMENTS: [Token; 11] = [
+pub(super) const ASSIGNMENTS: [Token; 11] = [
     Token::PlusAssign,
     Token::MinusAssign,
     Token::MultiplyAssign,
@@ -17,7 +21,7 @@ const ASSIGNMENTS: [Token; 11] = [
     Token::XOrAssign,
 ];
 
-/// For each kind of the first operand, in the order of `kinds`, the line of each kind of the second one; `-` has no row.
+/// For each kind of the first operand, in the order of `kind`, the line of each kind of the second one; `-` has no row.
 const PAIRS: [&str; 20] = [
     "--------------------",
     "-B------------------",
@@ -84,33 +88,44 @@ fn has_line(pair: char, x: &Dynamic, y: &Dynamic) -> bool {
     true
 }
 
+/// Whether each assignment has its row on a value and one of each kind.
+fn has_lines(alloc: Global, x: &Dynamic, pairs: &str) -> bool {
+    for (which, pair) in pairs.chars().enumerate() {
+        if !has_line(pair, x, &kind(alloc, which)) {
+            return false;
+        }
+    }
+    true
+}
+
 #[test]
 fn each_assignment_on_each_pair_of_kinds(rt: HostRuntime) {
     let alloc = rt.alloc();
-    let kinds = kinds(alloc);
-    for (x, pairs) in kinds.iter().zip(PAIRS.iter()) {
-        for (y, pair) in kinds.iter().zip(pairs.chars()) {
-            assert!(rt; has_line(pair, x, y));
-        }
+    for (which, pairs) in PAIRS.iter().enumerate() {
+        assert!(rt; has_lines(alloc, &kind(alloc, which), pairs), "{which}");
     }
 }
 
-#[test]
-fn holders_are_pushed_and_nothing_else(rt: HostRuntime) -> Result<(), Fail> {
-    let alloc = rt.alloc();
-    let mut store = Store::new(alloc);
-    let one = shared(Dynamic::ONE, &mut store)?;
-    assert!(rt; has_line('-', &one, &Dynamic::ONE));
-    assert!(rt; has_line('-', &Dynamic::ONE, &one));
-    assert!(rt; has_line('p', &Dynamic::from_array(Vec::new(alloc)), &one));
-    Ok(())
+/// Whether a holder has no row but where it is pushed.
+fn is_pushed_alone(array: &Dynamic, holder: &Dynamic) -> bool {
+    has_line('-', holder, &Dynamic::ONE)
+        && has_line('-', &Dynamic::ONE, holder)
+        && has_line('p', array, holder)
 }
 
-/// Whether no pair of kinds has a row.
-fn has_none(op: Token, kinds: &[Dynamic]) -> bool {
-    for x in kinds {
-        for y in kinds {
-            if get_builtin_op_assignment_fn(&op, x, y).is_some() {
+#[test]
+fn holders_are_pushed_and_nothing_else(rt: HostRuntime) {
+    let mut store = Store::new(rt.alloc());
+    let one = shared(Dynamic::ONE, &mut store);
+    assert!(rt; is_pushed_alone(&kind(rt.alloc(), 5), &one));
+}
+
+/// Whether an operator has no row of an assignment on any pair of kinds.
+fn has_none(alloc: Global, op: Token) -> bool {
+    for x in 0..20 {
+        for y in 0..20 {
+            let (x, y) = (kind(alloc, x), kind(alloc, y));
+            if get_builtin_op_assignment_fn(&op, &x, &y).is_some() {
                 return false;
             }
         }
@@ -120,24 +135,7 @@ fn has_none(op: Token, kinds: &[Dynamic]) -> bool {
 
 #[test]
 fn operators_have_no_row_of_an_assignment(rt: HostRuntime) {
-    let alloc = rt.alloc();
-    let kinds = kinds(alloc);
-    for op in &[
-        Token::Plus,
-        Token::Minus,
-        Token::Multiply,
-        Token::Divide,
-        Token::Modulo,
-        Token::PowerOf,
-        Token::RightShift,
-        Token::LeftShift,
-        Token::Ampersand,
-        Token::Pipe,
-        Token::XOr,
-        Token::EqualsTo,
-        Token::ExclusiveRange,
-        Token::Equals,
-    ] {
-        assert!(rt; has_none(*op, &kinds[..]));
+    for op in &OPERATORS {
+        assert!(rt; has_none(rt.alloc(), *op), "{op:?}");
     }
 }

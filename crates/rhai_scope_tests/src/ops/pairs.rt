@@ -1,9 +1,13 @@
 //! The row of each operator on each pair of kinds, against a table that was typed by hand.
-use super::*;
-use rhai_text::ImmutableString;
+use super::assigned_pairs::ASSIGNMENTS;
+use super::shared;
+use rhai_ops::{FnBuiltin, get_builtin_binary_op_fn};
+use rhai_text::{ImmutableString, Token};
+use rhai_value::{Dynamic, ExclusiveRange, FnPtr, Host, InclusiveRange, Map, Store};
+use std::alloc::Global;
 
 /// The operators in the order of the lines below.
-const OPERATORS: [Token; 20] = [
+pub(super) const OPERATORS: [Token; 20] = [
     Token::Plus,
     Token::Minus,
     Token::Multiply,
@@ -26,7 +30,7 @@ const OPERATORS: [Token; 20] = [
     Token::Equals,
 ];
 
-/// For each kind of the first operand, in the order of `kinds`, the line of each kind of the second one. `d` is the line of two
+/// For each kind of the first operand, in the order of `kind`, the line of each kind of the second one. `d` is the line of two
 /// types that differ, `-` that of no row.
 const PAIRS: [&str; 20] = [
     "Uddtuddddddddddddddd",
@@ -52,29 +56,45 @@ const PAIRS: [&str; 20] = [
 ];
 
 /// A value of each kind: unit, bool, char, int, text, array, blob, map, function pointer, u8 to u128, i8 to i128, both ranges.
-pub(super) fn kinds(alloc: Global) -> [Dynamic; 20] {
-    [
-        Dynamic::UNIT,
-        Dynamic::TRUE,
-        Dynamic::from_char('c'),
-        Dynamic::ONE,
-        text(alloc, "a"),
-        Dynamic::from_array(Vec::new(alloc)),
-        blob(alloc, &[1]),
-        Dynamic::from_map(Map::new(alloc)),
-        function(alloc),
-        Dynamic::from(Host::U8(1)),
-        Dynamic::from(Host::U16(1)),
-        Dynamic::from(Host::U32(1)),
-        Dynamic::from(Host::U64(1)),
-        Dynamic::from(Host::U128(1)),
-        Dynamic::from(Host::I8(1)),
-        Dynamic::from(Host::I16(1)),
-        Dynamic::from(Host::I32(1)),
-        Dynamic::from(Host::I128(1)),
-        Dynamic::from(ExclusiveRange { start: 0, end: 3 }),
-        Dynamic::from(InclusiveRange { start: 0, end: 3 }),
-    ]
+pub(super) fn kind(alloc: Global, which: usize) -> Dynamic {
+    match which {
+        0 => Dynamic::UNIT,
+        1 => Dynamic::TRUE,
+        2 => Dynamic::from_char('c'),
+        3 => Dynamic::ONE,
+        4 => text(alloc),
+        5 => Dynamic::from_array(Vec::new(alloc)),
+        6 => blob(alloc),
+        7 => Dynamic::from_map(Map::new(alloc)),
+        8 => function(alloc),
+        9 => Dynamic::from(Host::U8(1)),
+        10 => Dynamic::from(Host::U16(1)),
+        11 => Dynamic::from(Host::U32(1)),
+        12 => Dynamic::from(Host::U64(1)),
+        13 => Dynamic::from(Host::U128(1)),
+        14 => Dynamic::from(Host::I8(1)),
+        15 => Dynamic::from(Host::I16(1)),
+        16 => Dynamic::from(Host::I32(1)),
+        17 => Dynamic::from(Host::I128(1)),
+        18 => Dynamic::from(ExclusiveRange { start: 0, end: 3 }),
+        _ => Dynamic::from(InclusiveRange { start: 0, end: 3 }),
+    }
+}
+
+/// A text; unit where there is no room for it.
+fn text(alloc: Global) -> Dynamic {
+    match Dynamic::from_text(alloc, "a") {
+        Ok(value) => value,
+        Err(_) => Dynamic::UNIT,
+    }
+}
+
+/// A blob; unit where there is no room for it.
+fn blob(alloc: Global) -> Dynamic {
+    match Vec::from_slice(alloc, &[1]) {
+        Ok(bytes) => Dynamic::from_blob(bytes),
+        Err(_) => Dynamic::UNIT,
+    }
 }
 
 /// A function pointer; unit where there is no room for it.
@@ -159,73 +179,65 @@ fn has_line(pair: char, x: &Dynamic, y: &Dynamic, s: &Store) -> bool {
     true
 }
 
+/// Whether each operator has its row on a value and one of each kind.
+fn has_lines(alloc: Global, x: &Dynamic, pairs: &str, s: &Store) -> bool {
+    for (which, pair) in pairs.chars().enumerate() {
+        if !has_line(pair, x, &kind(alloc, which), s) {
+            return false;
+        }
+    }
+    true
+}
+
 #[test]
 fn each_operator_on_each_pair_of_kinds(rt: HostRuntime) {
     let alloc = rt.alloc();
     let store = Store::new(alloc);
-    let kinds = kinds(alloc);
-    for (x, pairs) in kinds.iter().zip(PAIRS.iter()) {
-        for (y, pair) in kinds.iter().zip(pairs.chars()) {
-            assert!(rt; has_line(pair, x, y, &store));
+    for (which, pairs) in PAIRS.iter().enumerate() {
+        assert!(rt;
+            has_lines(alloc, &kind(alloc, which), pairs, &store),
+            "{which}"
+        );
+    }
+}
+
+/// Whether a value and unit have no row, either first.
+fn has_no_row(x: &Dynamic, s: &Store) -> bool {
+    has_line('-', x, &Dynamic::UNIT, s) && has_line('-', &Dynamic::UNIT, x, s)
+}
+
+/// A holder of its own cell; unit where there is no room.
+fn closed(alloc: Global, store: &mut Store) -> Dynamic {
+    let mut holder = shared(Dynamic::UNIT, store);
+    let Ok(again) = holder.copy(alloc) else {
+        return Dynamic::UNIT;
+    };
+    match holder.write_whole(store) {
+        Some(content) => {
+            *content = again;
+            holder
         }
+        None => Dynamic::UNIT,
     }
 }
 
 #[test]
-fn shared_values_go_by_what_they_hold(rt: HostRuntime) -> Result<(), Fail> {
+fn what_holds_nothing_has_no_row(rt: HostRuntime) {
     let alloc = rt.alloc();
     let mut store = Store::new(alloc);
-    let one = shared(Dynamic::ONE, &mut store)?;
-    assert!(rt; has_line('-', &one, &Dynamic::ONE, &store));
-    assert!(rt; has_line('-', &Dynamic::ONE, &one, &store));
-    assert!(rt; has_line('-', &one, &Dynamic::from(Host::U8(1)), &store));
+    let one = shared(Dynamic::ONE, &mut store);
+    let closed = closed(alloc, &mut store);
+    assert!(rt; closed.is_shared() && has_no_row(&closed, &store));
+    assert!(rt; has_no_row(&one, &Store::new(alloc)));
     assert!(rt; has_line('d', &one, &Dynamic::UNIT, &store));
-    assert!(rt; has_line('d', &text(alloc, "b"), &one, &store));
-    Ok(())
 }
 
-#[test]
-fn shared_ranges_are_compared(rt: HostRuntime) -> Result<(), Fail> {
-    let alloc = rt.alloc();
-    let mut store = Store::new(alloc);
-    let exclusive = || Dynamic::from(ExclusiveRange { start: 0, end: 3 });
-    let range = shared(exclusive(), &mut store)?;
-    assert!(rt; has_line('e', &range, &exclusive(), &store));
-    let inclusive = Dynamic::from(InclusiveRange { start: 0, end: 3 });
-    assert!(rt; has_line('m', &range, &inclusive, &store));
-    Ok(())
-}
-
-#[test]
-fn a_holder_of_another_store_has_no_row(rt: HostRuntime) -> Result<(), Fail> {
-    let alloc = rt.alloc();
-    let mut store = Store::new(alloc);
-    let one = shared(Dynamic::ONE, &mut store)?;
-    let other = Store::new(alloc);
-    assert!(rt; has_line('-', &one, &Dynamic::UNIT, &other));
-    assert!(rt; has_line('-', &Dynamic::UNIT, &one, &other));
-    Ok(())
-}
-
-#[test]
-fn a_closed_chain_has_no_row(rt: HostRuntime) -> Result<(), Fail> {
-    let alloc = rt.alloc();
-    let mut store = Store::new(alloc);
-    let mut holder = shared(Dynamic::UNIT, &mut store)?;
-    let again = holder.copy(alloc)?;
-    if let Some(content) = holder.write_whole(&mut store) {
-        *content = again;
-    }
-    assert!(rt; has_line('-', &holder, &Dynamic::UNIT, &store));
-    assert!(rt; has_line('-', &Dynamic::UNIT, &holder, &store));
-    Ok(())
-}
-
-/// Whether no pair of kinds has a row.
-fn has_none(op: Token, kinds: &[Dynamic], s: &Store) -> bool {
-    for x in kinds {
-        for y in kinds {
-            if get_builtin_binary_op_fn(&op, x, y, s).is_some() {
+/// Whether an operator has no row on any pair of kinds.
+fn has_none(alloc: Global, op: Token, s: &Store) -> bool {
+    for x in 0..20 {
+        for y in 0..20 {
+            let (x, y) = (kind(alloc, x), kind(alloc, y));
+            if get_builtin_binary_op_fn(&op, &x, &y, s).is_some() {
                 return false;
             }
         }
@@ -235,22 +247,8 @@ fn has_none(op: Token, kinds: &[Dynamic], s: &Store) -> bool {
 
 #[test]
 fn assignments_have_no_binary_row(rt: HostRuntime) {
-    let alloc = rt.alloc();
-    let store = Store::new(alloc);
-    let kinds = kinds(alloc);
-    for op in &[
-        Token::PlusAssign,
-        Token::MinusAssign,
-        Token::MultiplyAssign,
-        Token::DivideAssign,
-        Token::ModuloAssign,
-        Token::PowerOfAssign,
-        Token::RightShiftAssign,
-        Token::LeftShiftAssign,
-        Token::AndAssign,
-        Token::OrAssign,
-        Token::XOrAssign,
-    ] {
-        assert!(rt; has_none(*op, &kinds[..], &store));
+    let store = Store::new(rt.alloc());
+    for op in &ASSIGNMENTS {
+        assert!(rt; has_none(rt.alloc(), *op, &store), "{op:?}");
     }
 }

@@ -1,75 +1,70 @@
-use super::*;
+//! Entries, one after another.
+use rhai_scope::Scope;
+use rhai_value::{Dynamic, Store};
 
-fn pairs(alloc: Global) -> Result<Vec<(ImmutableString, Dynamic)>, AllocError> {
-    let mut pairs = Vec::new(alloc);
-    pairs.push((ImmutableString::from_str(alloc, "a")?, Dynamic::from_int(1)))?;
-    pairs.push((ImmutableString::from_str(alloc, "b")?, Dynamic::from_int(2)))?;
-    Ok(pairs)
+/// Puts a variable of 1 with an alias, and a holder of a constant 2, into a scope.
+fn fill(scope: &mut Scope, store: &mut Store) -> bool {
+    let Ok(holder) = Dynamic::TWO.into_read_only().into_shared(store) else {
+        return false;
+    };
+    scope.push("a", 1i64).is_ok()
+        && scope.set_alias("a", "c").is_ok()
+        && scope.push("b", holder).is_ok()
 }
 
-#[test]
-fn entries_come_in_order(rt: HostRuntime) -> Result<(), Fail> {
-    let alloc = rt.alloc();
-    let store = Store::new(alloc);
-    let mut scope = Scope::from_pairs(alloc, pairs(alloc)?)?;
-    scope.set_alias("a", "c")?;
-    prints(&rt, alloc, &scope, &store, "[1] a = 1\n[2] b = 2\n")?;
-    let mut entries = (&scope).into_iter();
-    assert_eq!(rt; entries.len(), 2);
-    assert!(rt;
-        matches!(entries.next(), Some((name, _, aliases)) if name == "a" && aliases.len() == 1)
-    );
-    assert!(rt; entries.len() == 1 && entries.size_hint() == (1, Some(1)));
-    assert!(rt;
-        matches!(entries.next(), Some((name, _, aliases)) if name == "b" && aliases.is_empty())
-    );
-    assert!(rt; entries.next().is_none());
-    let mut raw = scope.iter_raw(&store);
-    assert_eq!(rt; raw.len(), 2);
-    assert!(rt; matches!(raw.next(), Some((name, false, _)) if name == "b"));
-    assert!(rt; matches!(raw.next(), Some((name, false, _)) if name == "a"));
-    assert!(rt; raw.next().is_none());
-    Ok(())
-}
-
-#[test]
-fn a_scope_comes_apart(rt: HostRuntime) -> Result<(), Fail> {
-    let alloc = rt.alloc();
-    let store = Store::new(alloc);
-    let mut scope = Scope::from_pairs(alloc, pairs(alloc)?)?;
-    scope.set_alias("a", "c")?;
+/// Whether entries come first to last.
+fn is_in_order(scope: &Scope) -> bool {
     let mut entries = scope.into_iter();
-    assert_eq!(rt; entries.len(), 2);
-    let Some((name, value, aliases)) = entries.next() else {
-        return Err("no entry".into());
+    entries.len() == 2
+        && matches!(entries.next(), Some((name, _, aliases)) if name == "a" && aliases.len() == 1)
+        && entries.size_hint() == (1, Some(1))
+        && matches!(entries.next(), Some((name, _, aliases)) if name == "b" && aliases.is_empty())
+        && entries.next().is_none()
+}
+
+/// Whether values as they are come last to first, with the modes of what holders hold.
+fn is_in_turn(scope: &Scope, store: &Store) -> bool {
+    let mut raw = scope.iter_raw(store);
+    raw.len() == 2
+        && matches!(raw.next(), Some((name, true, value)) if name == "b" && value.is_shared())
+        && matches!(raw.next(), Some((name, false, _)) if name == "a")
+        && raw.next().is_none()
+}
+
+/// Whether the next value is without its holder.
+fn is_flat(scope: &Scope, store: &Store) -> bool {
+    let mut values = scope.iter(store);
+    let _first = values.next();
+    match values.next() {
+        Some(Ok((name, _, value))) => name == "b" && !value.is_shared(),
+        Some(Err(_)) => false,
+        None => false,
+    }
+}
+
+/// Whether a scope comes apart in order.
+fn comes_apart(scope: Scope, store: &Store) -> bool {
+    let mut entries = scope.into_iter();
+    let is_first = match entries.next() {
+        Some((name, value, aliases)) => name.as_str() == "a"
+            && aliases.len() == 1
+            && value.as_int(store) == Ok(1),
+        None => false,
     };
-    assert!(rt; name.as_str() == "a" && aliases.len() == 1);
-    assert!(rt; value.as_int(&store).ok() == Some(1));
-    let Some((name, value, aliases)) = entries.next() else {
-        return Err("one entry".into());
+    let is_second = match entries.next() {
+        Some((name, value, aliases)) => name.as_str() == "b"
+            && aliases.is_empty()
+            && value.is_shared(),
+        None => false,
     };
-    assert!(rt; name.as_str() == "b" && aliases.is_empty());
-    assert!(rt; value.as_int(&store).ok() == Some(2));
-    assert!(rt; entries.next().is_none());
-    Ok(())
+    is_first && is_second && entries.next().is_none()
 }
 
 #[test]
-fn flags_make_constants(rt: HostRuntime) -> Result<(), Fail> {
-    let alloc = rt.alloc();
-    let store = Store::new(alloc);
-    let mut items = Vec::new(alloc);
-    items.push((
-        ImmutableString::from_str(alloc, "x")?,
-        false,
-        Dynamic::from_int(42),
-    ))?;
-    items.push((
-        ImmutableString::from_str(alloc, "y")?,
-        true,
-        Dynamic::from_int(1),
-    ))?;
-    let scope = Scope::from_flagged(alloc, items)?;
-    prints(&rt, alloc, &scope, &store, "[1] x = 42\n[2] const y = 1\n")?;
-    Ok(())
+fn entries_come_one_after_another(rt: HostRuntime) {
+    let mut store = Store::new(rt.alloc());
+    let mut scope = Scope::new(rt.alloc());
+    assert!(rt; fill(&mut scope, &mut store));
+    assert!(rt; is_in_order(&scope) && is_in_turn(&scope, &store) && is_flat(&scope, &store));
+    assert!(rt; comes_apart(scope, &store));
 }

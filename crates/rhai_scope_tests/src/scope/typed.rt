@@ -1,59 +1,73 @@
-use super::*;
+//! Entries by types of Rust.
+use super::{is_int, prints};
+use rhai_scope::Scope;
+use rhai_text::ImmutableString;
+use rhai_value::{AccessMode, Dynamic, Store};
+use std::alloc::Global;
+use std::test::Fail;
 
-#[test]
-fn an_entry_goes_also_where_its_value_is_not_cast(rt: HostRuntime) -> Result<(), Fail> {
-    let alloc = rt.alloc();
-    let store = Store::new(alloc);
-    let mut scope = Scope::new(alloc);
-    scope.push("x", 42i64)?;
-    scope.push_constant("y", 1i64)?;
-    prints(&rt, alloc, &scope, &store, "[1] x = 42\n[2] const y = 1\n")?;
-    assert!(rt; scope.remove::<String>("x", &store)?.is_none());
-    assert_eq!(rt; scope.len(), 1);
-    assert!(rt; scope.remove::<i64>("z", &store)?.is_none() && scope.len() == 1);
-    Ok(())
+/// Whether values go in by their types, and a constant is hidden by a new entry.
+fn is_filled(scope: &mut Scope) -> bool {
+    scope.push("x", 42i64).is_ok()
+        && scope.push_constant("y", 1i64).is_ok()
+        && scope.push_dynamic("z", Dynamic::TRUE).is_ok()
+        && scope.push_constant_dynamic("z", Dynamic::FALSE).is_ok()
+        && scope.set_or_push("x", 43i64).is_ok()
+        && scope.set_or_push("y", 2i64).is_ok()
+        && scope.len() == 5
+        && scope.is_constant("z") == Some(true)
+        && scope.is_constant("y") == Some(false)
+}
+
+/// Whether values come out by their types, and an entry goes also where its value isn't cast.
+fn is_emptied(scope: &mut Scope, store: &Store) -> bool {
+    matches!(scope.get_value::<i64>("x", store), Ok(Some(43)))
+        && matches!(scope.get_value::<bool>("x", store), Ok(None))
+        && matches!(scope.remove::<i64>("y", store), Ok(Some(2)))
+        && matches!(scope.get_value::<i64>("y", store), Ok(Some(1)))
+        && matches!(scope.remove::<String>("x", store), Ok(None))
+        && scope.len() == 3
+        && matches!(scope.remove::<i64>("x", store), Ok(None))
+        && scope.len() == 3
 }
 
 #[test]
-fn the_last_entry_of_a_name_is_taken_out(rt: HostRuntime) -> Result<(), Fail> {
+fn values_go_in_and_out_by_their_types(rt: HostRuntime) {
     let alloc = rt.alloc();
-    let store = Store::new(alloc);
     let mut scope = Scope::new(alloc);
-    scope.push("x", 123i64)?;
-    scope.push("x", 42i64)?;
-    assert_eq!(rt; scope.remove::<i64>("x", &store)?, Some(42));
-    assert_eq!(rt; scope.get_value::<i64>("x", &store)?, Some(123));
-    Ok(())
+    assert!(rt; is_filled(&mut scope));
+    assert!(rt; is_emptied(&mut scope, &Store::new(alloc)));
 }
 
-#[test]
-fn no_value_has_a_string(rt: HostRuntime) -> Result<(), Fail> {
-    let alloc = rt.alloc();
-    let store = Store::new(alloc);
-    let mut scope = Scope::new(alloc);
-    scope.push("t", ImmutableString::from_str(alloc, "a")?)?;
-    assert!(rt; own_value::<String>(&scope, "t").is_none());
-    assert!(rt; own_value::<ImmutableString>(&scope, "t").is_some());
-    match scope.get_value::<String>("t", &store)? {
-        Some(text) => assert_eq!(rt; text.as_str(), "a"),
-        None => assert!(rt; false),
+/// Writes 5 over a value that is lent.
+fn write_five(scope: &mut Scope, name: &str) -> bool {
+    match scope.get_mut(name) {
+        Some(value) => {
+            *value = Dynamic::from_int(5);
+            true
+        }
+        None => false,
     }
-    Ok(())
+}
+
+/// Whether a variable is lent for writing, and neither a constant nor what isn't there.
+fn is_lent(scope: &mut Scope, store: &Store, name: ImmutableString) -> bool {
+    scope.push("x", 1i64).is_ok()
+        && write_five(scope, "x")
+        && is_int(scope, store, "x", 5)
+        && scope
+            .push_entry(name, AccessMode::ReadOnly, Dynamic::TEN)
+            .is_ok()
+        && !write_five(scope, "x")
+        && !write_five(scope, "z")
+        && is_int(scope, store, "x", 10)
 }
 
 #[test]
-fn a_constant_is_hidden_by_a_new_entry(rt: HostRuntime) -> Result<(), Fail> {
+fn a_variable_is_lent_for_writing(rt: HostRuntime) -> Result<(), Fail> {
     let alloc = rt.alloc();
-    let store = Store::new(alloc);
-    let mut scope = Scope::new(alloc);
-    scope.push_constant("y", 1i64)?;
-    assert!(rt; write_int(&mut scope, "y", 5));
-    assert!(rt; int(&scope, &store, "y") == 5 && scope.is_constant("y") == Some(true));
-    scope.set_or_push("y", 6i64)?;
-    assert!(rt; scope.len() == 2 && scope.is_constant("y") == Some(false));
-    set(&mut scope, "y", 7)?;
-    assert!(rt; scope.len() == 2 && int(&scope, &store, "y") == 7);
-    set(&mut scope, "z", 8)?;
-    assert!(rt; scope.len() == 3 && int(&scope, &store, "z") == 8);
+    let mut scope = Scope::with_capacity(alloc, 2)?;
+    let name = ImmutableString::from_str(alloc, "x")?;
+    assert!(rt; is_lent(&mut scope, &Store::new(alloc), name));
     Ok(())
 }

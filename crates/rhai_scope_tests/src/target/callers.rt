@@ -41,57 +41,44 @@ fn share_meanwhile(holder: &Dynamic, m: &mut Store, value: Dynamic) -> Result<Dy
     }
 }
 
-#[test]
-fn a_cell_is_made_while_another_is_marked(rt: HostRuntime) -> Result<(), Fail> {
-    let mut store = Store::new(rt.alloc());
-    let holder = cell_of(&rt, Dynamic::ONE, &mut store);
-    assert!(rt; holder.is_shared());
-    match share_meanwhile(&holder, &mut store, Dynamic::TRUE) {
-        Ok(shared) => assert!(rt; shared.is_bool(&store) && holder.is_int(&store)),
-        Err(_) => return Err("room for a cell".into()),
+/// Whether a cell is made while another is marked.
+fn is_made_meanwhile(holder: &Dynamic, m: &mut Store) -> bool {
+    if !holder.is_shared() {
+        return false;
     }
-    Ok(())
-}
-
-#[test]
-fn a_holder_is_assigned_through_its_mark(rt: HostRuntime) -> Result<(), Fail> {
-    let mut store = Store::new(rt.alloc());
-    let holder = cell_of(&rt, Dynamic::ONE, &mut store);
-    assert!(rt; holder.is_shared());
-    assert!(rt; assign(&holder, &mut store, Dynamic::TRUE).is_ok());
-    assert!(rt; holder.is_bool(&store) && !holder.is_locked(&store));
-    Ok(())
-}
-
-#[test]
-fn a_value_is_changed_by_a_function(rt: HostRuntime) -> Result<(), Fail> {
-    let alloc = rt.alloc();
-    let mut store = Store::new(alloc);
-    let mut target = Target::from(Dynamic::ONE);
-    let tag = target.with_mut(&mut store, |value| {
-        value.set_tag(5);
-        value.tag()
-    });
-    match target.take_or_clone(alloc, &mut store) {
-        Ok(value) => assert!(rt; tag == 5 && value.tag() == 5),
-        Err(target) => target.release(&mut store),
+    match share_meanwhile(holder, m, Dynamic::TRUE) {
+        Ok(other) => other.is_shared() && other.is_bool(m) && holder.is_int(m),
+        Err(_) => false,
     }
-    Ok(())
+}
+
+/// Whether a holder's cell is written over, and opens again.
+fn is_assigned(holder: &Dynamic, m: &mut Store) -> bool {
+    holder.is_shared()
+        && assign(holder, m, Dynamic::TRUE).is_ok()
+        && holder.is_bool(m)
+        && !holder.is_locked(m)
 }
 
 #[test]
-fn a_flag_is_written_where_an_int_is_held(rt: HostRuntime) -> Result<(), Fail> {
+fn a_cell_is_written_through_its_mark(rt: HostRuntime) {
+    let mut store = Store::new(rt.alloc());
+    let holder = shared(Dynamic::ONE, &mut store);
+    assert!(rt; is_made_meanwhile(&holder, &mut store));
+    assert!(rt; is_assigned(&holder, &mut store));
+}
+
+/// Whether a flag is written where an int is held, and nowhere else.
+fn is_flag(flags: &mut Dynamic, unit: &mut Dynamic, m: &mut Store) -> bool {
+    matches!(write_flag(flags, m, &Dynamic::TRUE, 1), Ok(true))
+        && flags.as_int(m) == Ok(6)
+        && matches!(write_flag(unit, m, &Dynamic::TRUE, 1), Ok(false))
+        && unit.is_unit(m)
+}
+
+#[test]
+fn a_flag_is_written_where_an_int_is_held(rt: HostRuntime) {
     let mut store = Store::new(rt.alloc());
     let mut flags = Dynamic::from_int(4);
-    assert_eq!(rt;
-        write_flag(&mut flags, &mut store, &Dynamic::TRUE, 1).ok(),
-        Some(true)
-    );
-    assert_eq!(rt; flags.as_int(&store).ok(), Some(6));
-    let mut unit = Dynamic::UNIT;
-    assert_eq!(rt;
-        write_flag(&mut unit, &mut store, &Dynamic::TRUE, 1).ok(),
-        Some(false)
-    );
-    Ok(())
+    assert!(rt; is_flag(&mut flags, &mut { Dynamic::UNIT }, &mut store));
 }

@@ -1,82 +1,69 @@
 //! Arrays of values of one type.
+use crate::values::{blob_of, copied, pair_of, shared};
+use rhai_cast::DynamicCast;
+use rhai_value::{Dynamic, INT, IntoError, Store};
+use std::alloc::Global;
 
-use super::*;
-use rhai_value::IntoError;
-
-/// The array of these values.
-fn array(alloc: Global, first: Dynamic, second: Dynamic) -> Result<Dynamic, Fail> {
-    let mut items: Array = Vec::new(alloc);
-    items.push(first)?;
-    items.push(second)?;
-    Ok(Dynamic::from_array(items))
-}
-
-/// The blob 01 02.
-fn blob(alloc: Global) -> Result<Dynamic, Fail> {
-    let mut bytes: Blob = Vec::new(alloc);
-    bytes.push(1)?;
-    bytes.push(2)?;
-    Ok(Dynamic::from_blob(bytes))
-}
-
-/// The ints of an array, or the name of what doesn't fit.
-fn ints(alloc: Global, store: &Store, value: Dynamic) -> Result<Vec<INT>, &'static str> {
+/// Whether the ints of an array are 1 and 2.
+fn is_one_two(alloc: Global, store: &Store, value: Dynamic) -> bool {
     match value.into_typed_array::<INT>(alloc, store) {
-        Ok(numbers) => Ok(numbers),
-        Err(IntoError::Mismatch(name)) => Err(name),
-        Err(IntoError::Memory(_refused)) => Err("no memory"),
+        Ok(numbers) => numbers.as_slice() == [1, 2].as_slice(),
+        Err(_) => false,
+    }
+}
+
+/// Whether the bytes of an array or blob are 1 and 2.
+fn is_bytes(alloc: Global, store: &Store, value: Dynamic) -> bool {
+    match value.into_typed_array::<u8>(alloc, store) {
+        Ok(bytes) => bytes.as_slice() == [1, 2].as_slice(),
+        Err(_) => false,
+    }
+}
+
+/// Whether what is no int has this name.
+fn is_refused(alloc: Global, store: &Store, value: Dynamic, wanted: &str) -> bool {
+    match value.into_typed_array::<INT>(alloc, store) {
+        Err(IntoError::Mismatch(name)) => name == wanted,
+        Err(IntoError::Memory(_)) => false,
+        Ok(_) => false,
     }
 }
 
 #[test]
-fn the_first_item_that_is_not_cast_is_named(rt: HostRuntime) -> Result<(), Fail> {
+fn the_first_item_that_is_not_cast_is_named(rt: HostRuntime) {
     let alloc = rt.alloc();
     let store = Store::new(alloc);
-    let mixed = array(alloc, Dynamic::ONE, Dynamic::from_char('a'))?;
-    assert_eq!(rt; ints(alloc, &store, mixed).err(), Some("char"));
-    let numbers = array(alloc, Dynamic::ONE, Dynamic::TWO)?;
-    match ints(alloc, &store, numbers) {
-        Ok(numbers) => assert!(rt; numbers.as_slice() == [1, 2].as_slice()),
-        Err(_name) => assert!(rt; false),
-    }
-    assert_eq!(rt; ints(alloc, &store, Dynamic::TRUE).err(), Some("bool"));
-    Ok(())
+    let mixed = pair_of(alloc, Dynamic::ONE, Dynamic::from_char('a'));
+    assert!(rt; is_refused(alloc, &store, mixed, "char"));
+    assert!(rt; is_refused(alloc, &store, blob_of(alloc, &[1, 2]), "blob"));
+    assert!(rt; is_refused(alloc, &store, Dynamic::TRUE, "bool"));
 }
 
 #[test]
-fn items_are_cast_without_their_holders(rt: HostRuntime) -> Result<(), Fail> {
+fn items_are_cast_without_their_holders(rt: HostRuntime) {
     let alloc = rt.alloc();
     let mut store = Store::new(alloc);
-    let number = shared(Dynamic::ONE, &mut store)?;
-    let numbers = array(alloc, number, Dynamic::TWO)?;
-    let shared_numbers = shared(numbers.copy(alloc)?, &mut store)?;
-    match ints(alloc, &store, numbers) {
-        Ok(numbers) => assert!(rt; numbers.as_slice() == [1, 2].as_slice()),
-        Err(_name) => assert!(rt; false),
-    }
-    match ints(alloc, &store, shared_numbers) {
-        Ok(numbers) => assert!(rt; numbers.as_slice() == [1, 2].as_slice()),
-        Err(_name) => assert!(rt; false),
-    }
-    let letter = shared(Dynamic::from_char('a'), &mut store)?;
-    let letters = array(alloc, letter, Dynamic::ONE)?;
-    assert_eq!(rt; ints(alloc, &store, letters).err(), Some("<shared>"));
-    Ok(())
+    let number = shared(Dynamic::ONE, &mut store);
+    let numbers = pair_of(alloc, number, Dynamic::TWO);
+    let holder = shared(copied(alloc, &numbers), &mut store);
+    assert!(rt; is_one_two(alloc, &store, numbers));
+    assert!(rt; is_one_two(alloc, &store, holder));
 }
 
 #[test]
-fn a_blob_is_an_array_of_bytes(rt: HostRuntime) -> Result<(), Fail> {
+fn a_holder_that_is_not_cast_is_named_as_one(rt: HostRuntime) {
     let alloc = rt.alloc();
     let mut store = Store::new(alloc);
-    assert_eq!(rt; ints(alloc, &store, blob(alloc)?).err(), Some("blob"));
-    match blob(alloc)?.into_typed_array::<u8>(alloc, &store) {
-        Ok(bytes) => assert!(rt; bytes.as_slice() == [1, 2].as_slice()),
-        Err(_refused) => assert!(rt; false),
-    }
-    let holder = shared(blob(alloc)?, &mut store)?;
-    match holder.into_typed_array::<u8>(alloc, &store) {
-        Ok(bytes) => assert!(rt; bytes.as_slice() == [1, 2].as_slice()),
-        Err(_refused) => assert!(rt; false),
-    }
-    Ok(())
+    let letter = shared(Dynamic::from_char('a'), &mut store);
+    let letters = pair_of(alloc, letter, Dynamic::ONE);
+    assert!(rt; is_refused(alloc, &store, letters, "<shared>"));
+}
+
+#[test]
+fn a_blob_is_an_array_of_bytes(rt: HostRuntime) {
+    let alloc = rt.alloc();
+    let mut store = Store::new(alloc);
+    let holder = shared(blob_of(alloc, &[1, 2]), &mut store);
+    assert!(rt; is_bytes(alloc, &store, blob_of(alloc, &[1, 2])));
+    assert!(rt; is_bytes(alloc, &store, holder));
 }

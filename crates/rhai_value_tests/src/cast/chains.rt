@@ -1,126 +1,149 @@
 //! Casts of holders, and of chains that are stuck or close.
+use crate::values::{closed, copied, holds, is_shared, shared};
+use rhai_cast::{DynamicCast, write_lock};
+use rhai_value::{Dynamic, INT, InStore, Store};
+use std::alloc::Global;
 
-use super::*;
-use rhai_cast::write_lock;
-use rhai_value::InStore;
-use std::process::Abort;
-
-/// Writes over the content of a holder.
-fn put(holder: &mut Dynamic, value: Dynamic, store: &mut Store) -> Result<(), Fail> {
+/// Writes over the first content.
+fn put(holder: &mut Dynamic, value: Dynamic, store: &mut Store) -> bool {
     match holder.write_lock::<Dynamic>(store) {
         Some(content) => {
             *content = value;
-            Ok(())
+            true
         }
-        None => Err("the cell is marked".into()),
+        None => false,
+    }
+}
+
+/// Whether the flat copy of a holder is no holder.
+fn is_flat(alloc: Global, store: &Store, holder: &Dynamic) -> bool {
+    match holder.clone_cast::<Dynamic>(alloc, store) {
+        Ok(flat) => !is_shared(&flat),
+        Err(_) => false,
+    }
+}
+
+/// Whether a value is read as a holder, of one, as a `Dynamic`.
+fn is_read_shared(alloc: Global, store: &Store, value: Dynamic) -> bool {
+    match value.try_cast_result::<Dynamic>(alloc, store) {
+        Ok(read) => is_shared(&read),
+        Err(_) => false,
+    }
+}
+
+/// Whether a holder is cast to itself.
+fn is_same(alloc: Global, store: &Store, holder: Dynamic) -> bool {
+    match holder.cast::<Dynamic>(alloc, store) {
+        Ok(same) => is_shared(&same),
+        Err(_) => false,
     }
 }
 
 #[test]
-fn a_holder_is_itself_or_its_flat_copy(rt: HostRuntime) -> Result<(), Fail> {
+fn a_holder_is_itself_or_its_flat_copy(rt: HostRuntime) {
     let alloc = rt.alloc();
     let mut store = Store::new(alloc);
-    let holder = shared(Dynamic::ONE, &mut store)?;
-    assert!(rt; !holder.clone_cast::<Dynamic>(alloc, &store)?.is_shared());
-    assert!(rt; holder.downcast_ref::<INT>().is_none());
-    assert!(rt;
-        holder
-            .downcast_ref::<Dynamic>()
-            .map(|same| same.is_shared())
-            == Some(true)
-    );
-    match holder
-        .copy(alloc)?
-        .try_cast_result::<Dynamic>(alloc, &store)
-    {
-        Ok(flat) => assert!(rt; !flat.is_shared()),
-        Err(_refused) => assert!(rt; false),
+    let holder = shared(Dynamic::ONE, &mut store);
+    assert!(rt; is_flat(alloc, &store, &holder));
+    assert!(rt; !is_read_shared(alloc, &store, copied(alloc, &holder)));
+    assert!(rt; is_same(alloc, &store, holder));
+}
+
+/// Whether nothing but itself is lent of a value, as it is.
+fn is_lent_whole(value: &Dynamic) -> bool {
+    value.downcast_ref::<INT>().is_none() && value.downcast_ref::<Dynamic>().is_some()
+}
+
+/// Whether a value is read as no int.
+fn is_no_int(alloc: Global, store: &Store, value: Dynamic) -> bool {
+    match value.try_cast::<INT>(alloc, store) {
+        Ok(found) => found.is_none(),
+        Err(_) => false,
     }
-    assert!(rt; holder.cast::<Dynamic>(alloc, &store)?.is_shared());
-    Ok(())
 }
 
-/// Asserts that a value is cast to a `Dynamic`, and to nothing else, and that nothing is lent of it but itself.
-fn is_closed(rt: &impl Abort, alloc: Global, store: &Store, value: &Dynamic) -> Result<(), Fail> {
-    assert!(rt; !value.is::<INT>(store) && !value.is::<()>(store));
-    assert!(rt; value.read_lock::<INT>(store).is_none());
-    assert!(rt; value.copy(alloc)?.try_cast::<INT>(alloc, store)?.is_none());
-    assert!(rt;
-        value
-            .copy(alloc)?
-            .try_cast::<ImmutableString>(alloc, store)?
-            .is_none()
-    );
-    match value.copy(alloc)?.try_cast::<Dynamic>(alloc, store)? {
-        Some(same) => assert!(rt; same.is_shared()),
-        None => assert!(rt; false),
+/// Whether no int is in a value, and none is lent.
+fn has_no_int(value: &Dynamic, store: &Store) -> bool {
+    !value.is::<INT>(store) && value.read_lock::<INT>(store).is_none()
+}
+
+#[test]
+fn stuck_chains_are_cast_to_dynamic_alone(rt: HostRuntime) {
+    let alloc = rt.alloc();
+    let mut store = Store::new(alloc);
+    let holder = shared(Dynamic::ONE, &mut store);
+    let other = Store::new(alloc);
+    assert!(rt; is_lent_whole(&holder));
+    assert!(rt; has_no_int(&holder, &other));
+    assert!(rt; is_no_int(alloc, &other, copied(alloc, &holder)));
+    assert!(rt; is_read_shared(alloc, &other, holder));
+}
+
+#[test]
+fn closed_chains_are_cast_to_dynamic_alone(rt: HostRuntime) {
+    let alloc = rt.alloc();
+    let mut store = Store::new(alloc);
+    let holder = closed(alloc, &mut store);
+    assert!(rt; has_no_int(&holder, &store));
+    assert!(rt; is_no_int(alloc, &store, copied(alloc, &holder)));
+    assert!(rt; !is_flat(alloc, &store, &holder));
+    assert!(rt; is_read_shared(alloc, &store, holder));
+}
+
+/// Writes over the int that is held.
+fn put_int(place: &mut InStore<'_>, int: INT) -> bool {
+    match write_lock::<INT>(place) {
+        Some(held) => {
+            *held = int;
+            true
+        }
+        None => false,
     }
-    assert!(rt; value.clone_cast::<Dynamic>(alloc, store)?.is_shared());
-    Ok(())
+}
+
+/// The same, by the method.
+fn write_int(holder: &mut Dynamic, store: &mut Store, int: INT) -> bool {
+    match holder.write_lock::<INT>(store) {
+        Some(held) => {
+            *held = int;
+            true
+        }
+        None => false,
+    }
+}
+
+/// Writes over the value itself.
+fn replace(value: &mut Dynamic, other: Dynamic) -> bool {
+    match value.downcast_mut::<Dynamic>() {
+        Some(own) => {
+            *own = other;
+            true
+        }
+        None => false,
+    }
 }
 
 #[test]
-fn stuck_chains_are_cast_to_dynamic_alone(rt: HostRuntime) -> Result<(), Fail> {
-    let alloc = rt.alloc();
-    let mut store = Store::new(alloc);
-    let holder = shared(Dynamic::ONE, &mut store)?;
-    is_closed(&rt, alloc, &Store::new(alloc), &holder)?;
-    let Some(token) = store.mark(&holder) else {
-        return Err("the cell is not marked yet".into());
-    };
-    let closed = is_closed(&rt, alloc, &store, &holder);
-    let is_lent = holder.read_lock::<Dynamic>(&store).is_some();
-    store.release(token);
-    closed?;
-    assert!(rt; !is_lent);
-    assert!(rt; holder.is::<INT>(&store));
-    Ok(())
-}
-
-#[test]
-fn closed_chains_are_cast_to_dynamic_alone(rt: HostRuntime) -> Result<(), Fail> {
-    let alloc = rt.alloc();
-    let mut store = Store::new(alloc);
-    let mut holder = shared(Dynamic::UNIT, &mut store)?;
-    let again = holder.copy(alloc)?;
-    put(&mut holder, again, &mut store)?;
-    is_closed(&rt, alloc, &store, &holder)?;
-    assert!(rt; holder.read_lock::<Dynamic>(&store).is_some());
-    Ok(())
-}
-
-#[test]
-fn what_is_lent_is_written_where_it_is_held(rt: HostRuntime) -> Result<(), Fail> {
-    let alloc = rt.alloc();
-    let mut store = Store::new(alloc);
-    let mut number = Dynamic::ONE;
-    number.set_tag(3);
-    let mut inner = shared(number, &mut store)?;
-    let mut outer = shared(Dynamic::UNIT, &mut store)?;
-    put(&mut outer, inner.copy(alloc)?, &mut store)?;
+fn what_is_lent_is_written_where_it_is_held(rt: HostRuntime) {
+    let mut store = Store::new(rt.alloc());
+    let inner = shared(Dynamic::ONE, &mut store);
+    let mut outer = shared(Dynamic::UNIT, &mut store);
+    assert!(rt; put(&mut outer, copied(rt.alloc(), &inner), &mut store));
+    assert!(rt; write_int(&mut outer, &mut store, 7));
+    assert!(rt; holds(&inner, &store, 7));
     let mut place = InStore {
         value: &mut outer,
         store: &mut store,
     };
-    match write_lock::<INT>(&mut place) {
-        Some(n) => *n = 8,
-        None => assert!(rt; false),
-    }
-    assert_eq!(rt;
-        inner.read_whole(&store).map(|content| content.tag()),
-        Some(3)
-    );
-    assert_eq!(rt; inner.as_int(&store).ok(), Some(8));
-    assert!(rt; inner.downcast_mut::<INT>().is_none());
-    match outer.write_lock::<Dynamic>(&mut store) {
-        Some(content) => *content = Dynamic::TRUE,
-        None => assert!(rt; false),
-    }
-    assert!(rt; outer.is::<bool>(&store) && inner.is::<INT>(&store));
-    match outer.downcast_mut::<Dynamic>() {
-        Some(value) => *value = Dynamic::UNIT,
-        None => assert!(rt; false),
-    }
-    assert!(rt; outer.is::<()>(&store));
-    Ok(())
+    assert!(rt; put_int(&mut place, 8));
+    assert!(rt; holds(&inner, &store, 8));
+}
+
+#[test]
+fn a_holder_is_written_over_as_a_dynamic(rt: HostRuntime) {
+    let mut store = Store::new(rt.alloc());
+    let mut holder = shared(Dynamic::ONE, &mut store);
+    assert!(rt; replace(&mut holder, Dynamic::TWO));
+    assert!(rt; !is_shared(&holder));
+    assert!(rt; holds(&holder, &store, 2));
 }

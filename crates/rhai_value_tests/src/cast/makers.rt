@@ -1,24 +1,22 @@
 //! Values that are made of Rust's collections.
-
-use super::*;
+use rhai_cast::DynamicCast;
+use rhai_value::{Dynamic, INT, Store};
+use rhai_variant::Variant;
+use std::alloc::{AllocError, Global};
 use std::collections::{BTreeMap, BTreeSet, HashMap, HashSet};
-use std::process::Abort;
+use std::test::Fail;
 
-/// The numbers 1, 2, 3.
-fn numbers(alloc: Global) -> Result<Vec<INT>, Fail> {
-    let mut numbers = Vec::new(alloc);
-    numbers.push(1)?;
-    numbers.push(2)?;
-    numbers.push(3)?;
-    Ok(numbers)
-}
-
-/// Asserts that a value is the array of 1, 2, 3.
-fn is_numbers(rt: &impl Abort, alloc: Global, store: &Store, value: Dynamic) {
-    assert_eq!(rt; value.type_name(store), "array");
+/// Whether a value was made, and is the array of 1, 2, 3.
+fn is_numbers(alloc: Global, store: &Store, made: Result<Dynamic, AllocError>) -> bool {
+    let Ok(value) = made else {
+        return false;
+    };
+    if value.type_name(store) != "array" {
+        return false;
+    }
     match value.into_typed_array::<INT>(alloc, store) {
-        Ok(numbers) => assert!(rt; numbers.as_slice() == [1, 2, 3].as_slice()),
-        Err(_refused) => assert!(rt; false),
+        Ok(numbers) => numbers.as_slice() == [1, 2, 3].as_slice(),
+        Err(_) => false,
     }
 }
 
@@ -26,36 +24,26 @@ fn is_numbers(rt: &impl Abort, alloc: Global, store: &Store, value: Dynamic) {
 fn arrays_are_made_of_items(rt: HostRuntime) -> Result<(), Fail> {
     let alloc = rt.alloc();
     let store = Store::new(alloc);
-    is_numbers(
-        &rt,
-        alloc,
-        &store,
-        Dynamic::from_vec(alloc, numbers(alloc)?)?,
-    );
-    is_numbers(
-        &rt,
-        alloc,
-        &store,
-        Dynamic::from_slice(alloc, &numbers(alloc)?)?,
-    );
-    is_numbers(
-        &rt,
-        alloc,
-        &store,
-        Dynamic::from_iter(alloc, numbers(alloc)?)?,
-    );
+    let first = vec![in alloc; 1i64, 2, 3]?;
+    let second = vec![in alloc; 1i64, 2, 3]?;
+    let slice = [1i64, 2, 3];
+    assert!(rt; is_numbers(alloc, &store, Dynamic::from_vec(alloc, first)));
+    assert!(rt; is_numbers(alloc, &store, Dynamic::from_slice(alloc, &slice)));
+    assert!(rt; is_numbers(alloc, &store, Dynamic::from_iter(alloc, second)));
     Ok(())
 }
 
-/// Asserts that a value is a map of one key, "a", with this type at it.
-fn has_key<T: Variant>(rt: &impl Abort, store: &Store, value: &Dynamic) {
-    assert_eq!(rt; value.type_name(store), "map");
-    match value.as_map_ref(store) {
-        Ok(map) => {
-            assert_eq!(rt; map.len(), 1);
-            assert!(rt; map.get("a").map(|item| item.is::<T>(store)) == Some(true));
-        }
-        Err(_name) => assert!(rt; false),
+/// Whether a value was made, and is a map of one key, "a", with this type at it.
+fn has_key<T: Variant>(store: &Store, made: Result<Dynamic, AllocError>) -> bool {
+    let Ok(value) = made else {
+        return false;
+    };
+    let Ok(map) = value.as_map_ref(store) else {
+        return false;
+    };
+    match map.get("a") {
+        Some(item) => map.len() == 1 && item.is::<T>(store),
+        None => false,
     }
 }
 
@@ -64,11 +52,11 @@ fn maps_are_made_of_entries(rt: HostRuntime) -> Result<(), Fail> {
     let alloc = rt.alloc();
     let store = Store::new(alloc);
     let mut hashed: HashMap<String, INT> = HashMap::new(alloc);
-    hashed.insert(string(alloc, "a")?, 1)?;
-    has_key::<INT>(&rt, &store, &Dynamic::from_hash_map(alloc, hashed)?);
+    hashed.insert(String::from_str(alloc, "a")?, 1)?;
+    assert!(rt; has_key::<INT>(&store, Dynamic::from_hash_map(alloc, hashed)));
     let mut ordered: BTreeMap<String, bool> = BTreeMap::new(alloc);
-    ordered.insert(string(alloc, "a")?, true)?;
-    has_key::<bool>(&rt, &store, &Dynamic::from_btree_map(alloc, ordered)?);
+    ordered.insert(String::from_str(alloc, "a")?, true)?;
+    assert!(rt; has_key::<bool>(&store, Dynamic::from_btree_map(alloc, ordered)));
     Ok(())
 }
 
@@ -77,10 +65,10 @@ fn sets_are_made_maps_of_units(rt: HostRuntime) -> Result<(), Fail> {
     let alloc = rt.alloc();
     let store = Store::new(alloc);
     let mut hashed: HashSet<String> = HashSet::new(alloc);
-    hashed.insert(string(alloc, "a")?)?;
-    has_key::<()>(&rt, &store, &Dynamic::from_hash_set(alloc, hashed)?);
+    hashed.insert(String::from_str(alloc, "a")?)?;
+    assert!(rt; has_key::<()>(&store, Dynamic::from_hash_set(alloc, hashed)));
     let mut ordered: BTreeSet<String> = BTreeSet::new(alloc);
-    ordered.insert(string(alloc, "a")?)?;
-    has_key::<()>(&rt, &store, &Dynamic::from_btree_set(alloc, ordered)?);
+    ordered.insert(String::from_str(alloc, "a")?)?;
+    assert!(rt; has_key::<()>(&store, Dynamic::from_btree_set(alloc, ordered)));
     Ok(())
 }

@@ -1,110 +1,98 @@
-//! Which values are hashable, and by which bytes.
+//! Which values are hashable, where their cells are many, marked or foreign.
 
-use super::{add, function, put, shared};
+use crate::values::{copied, pair_of, put, shared};
 use rhai_show::{Hashed, hashed, is_hashable};
-use rhai_value::{Dynamic, Map, Store};
+use rhai_value::{Dynamic, Store};
 use std::alloc::Global;
 use std::hash::{DefaultHasher, Hash, Hasher};
-use std::process::Abort;
 use std::test::Fail;
 
-/// An array of two copies of a value.
-fn pair(alloc: Global, value: &Dynamic) -> Result<Dynamic, Fail> {
-    Ok(Dynamic::from_array(vec![in alloc; value.copy(alloc)?, value.copy(alloc)?]?))
+/// The hash of hash bytes.
+fn hash_of(bytes: &Hashed) -> u64 {
+    let mut hasher = DefaultHasher::new();
+    bytes.hash(&mut hasher);
+    hasher.finish()
 }
 
-/// A holder of a pair of holders of a pair, and so on, this deep, around a value.
-fn layers(
-    alloc: Global,
-    inside: Dynamic,
-    depth: usize,
-    store: &mut Store,
-) -> Result<Dynamic, Fail> {
-    let mut value = shared(inside, store)?;
-    for _ in 0..depth {
-        value = shared(pair(alloc, &value)?, store)?;
-    }
-    Ok(value)
-}
-
-/// Asserts the hash bytes of a value.
-fn hashes(
-    rt: &impl Abort,
-    alloc: Global,
-    value: &Dynamic,
-    store: &Store,
-    bytes: &[u8],
-) -> Result<(), Fail> {
-    assert!(rt; is_hashable(alloc, value, store)?);
-    let Some(found) = hashed(alloc, value, store)? else {
-        return Err("the value has hash bytes".into());
-    };
-    assert_eq!(rt; found.bytes(), bytes);
-    Ok(())
-}
-
-/// Asserts that a value has no hash bytes.
-fn is_refused(rt: &impl Abort, alloc: Global, value: &Dynamic, store: &Store) -> Result<(), Fail> {
-    assert!(rt; !is_hashable(alloc, value, store)?);
-    assert!(rt; hashed(alloc, value, store)?.is_none());
-    Ok(())
+/// Whether two are equal and have one hash, and a third is another.
+fn are_told_apart(first: &Hashed, second: &Hashed, third: &Hashed) -> bool {
+    first == second && hash_of(first) == hash_of(second) && first != third
 }
 
 #[test]
-fn equal_bytes_are_equal_with_equal_hashes(rt: HostRuntime) -> Result<(), Fail> {
+fn equal_bytes_have_equal_hashes(rt: HostRuntime) -> Result<(), Fail> {
     let alloc = rt.alloc();
     let first = Hashed::from_bytes(vec![in alloc; 1, 1]?);
     let second = Hashed::from_bytes(vec![in alloc; 1, 1]?);
     let third = Hashed::from_bytes(vec![in alloc; 1, 0]?);
-    assert!(rt; first == second);
-    assert!(rt; first != third);
-    let mut one = DefaultHasher::new();
-    let mut two = DefaultHasher::new();
-    first.hash(&mut one);
-    second.hash(&mut two);
-    assert_eq!(rt; one.finish(), two.finish());
+    assert!(rt; are_told_apart(&first, &second, &third));
+    assert!(rt; first.into_bytes().len() == 2);
     Ok(())
 }
 
-#[test]
-fn a_value_shared_in_forty_layers_is_searched_once(rt: HostRuntime) -> Result<(), Fail> {
-    let alloc = rt.alloc();
-    let mut store = Store::new(alloc);
-    let value = layers(alloc, Dynamic::ONE, 40, &mut store)?;
-    assert!(rt; is_hashable(alloc, &value, &store)?);
-    assert!(rt; is_hashable(alloc, &pair(alloc, &value)?, &store)?);
-    Ok(())
+/// An array of two copies of a value.
+fn pair(alloc: Global, value: &Dynamic) -> Dynamic {
+    pair_of(alloc, copied(alloc, value), copied(alloc, value))
 }
 
-#[test]
-fn a_loop_below_forty_layers_is_found(rt: HostRuntime) -> Result<(), Fail> {
-    let alloc = rt.alloc();
-    let mut store = Store::new(alloc);
-    let mut inner = shared(Dynamic::UNIT, &mut store)?;
-    let value = layers(alloc, inner.copy(alloc)?, 40, &mut store)?;
-    assert!(rt; is_hashable(alloc, &value, &store)?);
-    put(&mut inner, value.copy(alloc)?, &mut store)?;
-    is_refused(&rt, alloc, &value, &store)?;
-    is_refused(&rt, alloc, &inner, &store)
+/// A holder of a pair of holders of a pair, and so on, forty deep, around a holder.
+fn layers(alloc: Global, inside: &Dynamic, store: &mut Store) -> Dynamic {
+    let mut value = shared(pair(alloc, inside), store);
+    for _ in 0..40 {
+        value = shared(pair(alloc, &value), store);
+    }
+    value
 }
 
-#[test]
-fn marked_and_foreign_cells_have_no_bytes(rt: HostRuntime) -> Result<(), Fail> {
-    let alloc = rt.alloc();
-    let mut store = Store::new(alloc);
-    let empty = Store::new(alloc);
-    let holder = shared(Dynamic::UNIT, &mut store)?;
-    let mut map = Map::new(alloc);
-    add(&mut map, alloc, "k", holder.copy(alloc)?)?;
-    let curried = function(alloc, "f", vec![in alloc; Dynamic::from_map(map)]?)?;
-    is_refused(&rt, alloc, &curried, &empty)?;
-    let Some(token) = store.mark(&holder) else {
-        return Err("the cell is marked".into());
+/// Whether a value is hashable; not where the search found no room.
+fn is_found_hashable(alloc: Global, value: &Dynamic, store: &Store) -> bool {
+    matches!(is_hashable(alloc, value, store), Ok(true))
+}
+
+/// Whether a value is found to have no bytes, by both calls.
+fn has_no_bytes(alloc: Global, value: &Dynamic, store: &Store) -> bool {
+    let is_none = match hashed(alloc, value, store) {
+        Ok(found) => found.is_none(),
+        Err(_) => false,
     };
-    let of_holder = is_hashable(alloc, &holder, &store);
-    let of_curried = hashed(alloc, &curried, &store);
+    is_none && matches!(is_hashable(alloc, value, store), Ok(false))
+}
+
+/// A cell that two ways lead to in each layer is looked through once; a loop is found below all layers.
+#[test]
+fn forty_layers_are_searched(rt: HostRuntime) {
+    let alloc = rt.alloc();
+    let mut store = Store::new(alloc);
+    let mut inside = shared(Dynamic::ONE, &mut store);
+    let value = layers(alloc, &inside, &mut store);
+    assert!(rt; is_found_hashable(alloc, &value, &store));
+    assert!(rt; put(&mut inside, pair(alloc, &value), &mut store));
+    assert!(rt; has_no_bytes(alloc, &value, &store));
+    assert!(rt; has_no_bytes(alloc, &inside, &store));
+}
+
+/// Whether a value has no bytes while the cell of a holder is marked, and has them again.
+fn is_closed_by_a_mark(
+    alloc: Global,
+    store: &mut Store,
+    holder: &Dynamic,
+    value: &Dynamic,
+) -> bool {
+    let Some(token) = store.mark(holder) else {
+        return false;
+    };
+    let is_closed = has_no_bytes(alloc, value, store) && has_no_bytes(alloc, holder, store);
     store.release(token);
-    assert!(rt; !of_holder?);
-    assert!(rt; of_curried?.is_none());
-    hashes(&rt, alloc, &holder, &store, &[0])
+    is_closed && is_found_hashable(alloc, value, store)
+}
+
+#[test]
+fn marked_and_foreign_cells_have_no_bytes(rt: HostRuntime) {
+    let alloc = rt.alloc();
+    let mut store = Store::new(alloc);
+    let holder = shared(Dynamic::UNIT, &mut store);
+    let value = pair(alloc, &holder);
+    let other = Store::new(alloc);
+    assert!(rt; has_no_bytes(alloc, &value, &other));
+    assert!(rt; is_closed_by_a_mark(alloc, &mut store, &holder, &value));
 }

@@ -1,17 +1,43 @@
 //! Callers that are proved from the contracts of the calls alone.
-ghost use Rattle.std.specs.Prelude.{◌≡◌, [], true, is_some, IfOk, IfErr, IfSome};
+ghost use Rattle.std.specs.Prelude.{◌≡◌, [], true, None, is_some, IfOk, IfErr, IfSome};
 ghost use Rattle.std.specs.Bool.{OnTrue};
-ghost use Rattle.rhai_value.specs.End.{end, held_in, held_part, value_after, store_after, first_cell};
+ghost use Rattle.rhai_value.specs.End.{end, first, held_in, held_part, value_after, store_after, first_cell};
 ghost use Rattle.rhai_value.specs.Parts.{bool_of, text_of, blob_of, array_of, map_of, with_content, with_part};
 ghost use Rattle.rhai_value.specs.Rows.{trees_of, fields_of};
 ghost use Rattle.rhai_value.specs.Store.{shared_value, put};
-ghost use Rattle.rhai_value.specs.Tree.{leaf, branch, fields, bool as boolean, text, blob, array};
-ghost use Rattle.rhai_value.specs.Writes.{written};
+ghost use Rattle.rhai_value.specs.Tree.{cell_of, leaf, branch, fields, bool as boolean, text, blob, array};
+ghost use Rattle.rhai_value.specs.Writes.{first_written, written};
 
 use rhai_text::ImmutableString;
 use rhai_value::{Array, Blob, Dynamic, InStore, Map, Store, laws};
 
-fn write_held(place: &mut InStore<'_>, value: Dynamic) -> bool
+/// Writes over a value that is no holder.
+pub(super) fn overwrite(value: &mut Dynamic, store: &mut Store, other: Dynamic)
+    requires { cell_of value.old ≡ None }
+    ensures { value.new ≡ other }
+{
+    match value.write_whole(store) {
+        Some(content) => *content = other,
+        None => unreachable!(),
+    }
+}
+
+/// Writes over the first content, and says whether there is one.
+pub(super) fn write_first(place: &mut InStore<'_>, other: Dynamic) -> bool
+    ensures found { result ≡ is_some (first place.old.store.now place.old.value.now) }
+    ensures after { OnTrue result (place.new ≡ first_written place.old other) }
+{
+    match place.whole_mut() {
+        Some(content) => {
+            *content = other;
+            true
+        }
+        None => false,
+    }
+}
+
+/// Writes over what is held, and says whether anything is.
+pub(super) fn write_held(place: &mut InStore<'_>, value: Dynamic) -> bool
     ensures found { result ≡ is_some (held_in (end place.old.store.now [] place.old.value.now)) }
     ensures after { OnTrue result (place.new ≡ written place.old (λ _. value)) }
 {
@@ -24,7 +50,7 @@ fn write_held(place: &mut InStore<'_>, value: Dynamic) -> bool
     }
 }
 
-fn write_text(place: &mut InStore<'_>, value: ImmutableString) -> bool
+pub(super) fn write_text(place: &mut InStore<'_>, value: ImmutableString) -> bool
     ensures found { result ≡ is_some (held_part text_of (end place.old.store.now [] place.old.value.now)) }
     ensures after { OnTrue result (place.new ≡ written place.old (with_content (leaf (text value)))) }
 {
@@ -37,7 +63,7 @@ fn write_text(place: &mut InStore<'_>, value: ImmutableString) -> bool
     }
 }
 
-fn write_bytes(place: &mut InStore<'_>, value: Blob) -> bool
+pub(super) fn write_bytes(place: &mut InStore<'_>, value: Blob) -> bool
     ensures found { result ≡ is_some (held_part blob_of (end place.old.store.now [] place.old.value.now)) }
     ensures after { OnTrue result (place.new ≡ written place.old (with_content (leaf (blob value.items)))) }
 {
@@ -50,7 +76,7 @@ fn write_bytes(place: &mut InStore<'_>, value: Blob) -> bool
     }
 }
 
-fn write_items(place: &mut InStore<'_>, value: Array) -> bool
+pub(super) fn write_items(place: &mut InStore<'_>, value: Array) -> bool
     ensures found { result ≡ is_some (held_part array_of (end place.old.store.now [] place.old.value.now)) }
     ensures after { OnTrue result (place.new ≡ written place.old (with_content (branch array (trees_of value.items)))) }
 {
@@ -63,7 +89,7 @@ fn write_items(place: &mut InStore<'_>, value: Array) -> bool
     }
 }
 
-fn write_fields(place: &mut InStore<'_>, value: Map) -> bool
+pub(super) fn write_fields(place: &mut InStore<'_>, value: Map) -> bool
     ensures found { result ≡ is_some (held_part map_of (end place.old.store.now [] place.old.value.now)) }
     ensures after { OnTrue result (place.new ≡ written place.old (with_content (fields (fields_of value)))) }
 {
@@ -121,39 +147,34 @@ fn write_marked(store: &mut Store, holder: &Dynamic, value: Dynamic)
     store.release(token);
 }
 
-#[test]
-fn held_contents_are_written(rt: HostRuntime) {
-    let alloc = rt.alloc();
-    let mut store = Store::new(alloc);
-    let mut value = Dynamic::ZERO;
-    let mut place = InStore {
-        value: &mut value,
-        store: &mut store,
-    };
-    assert!(rt; write_held(&mut place, Dynamic::from_array(Vec::new(alloc))));
-    assert!(rt; write_items(&mut place, Vec::new(alloc)));
-    assert!(rt; write_held(&mut place, Dynamic::from_blob(Vec::new(alloc))));
-    assert!(rt; !write_items(&mut place, Vec::new(alloc)));
-    assert!(rt; write_bytes(&mut place, Vec::new(alloc)));
-    assert!(rt; write_held(&mut place, Dynamic::from_map(Map::new(alloc))));
-    assert!(rt; write_fields(&mut place, Map::new(alloc)));
-    let empty = ImmutableString::from_str(alloc, "").expect(&rt, "memory");
-    assert!(rt; !write_text(&mut place, empty));
+/// A holder of a new cell with the value; the value itself where there is no room.
+fn shared(value: Dynamic, store: &mut Store) -> Dynamic {
+    match value.into_shared(store) {
+        Ok(holder) => holder,
+        Err(value) => value,
+    }
+}
+
+/// Whether a cell opens after another was made while it was marked.
+fn is_unmarked_afterwards(store: &mut Store, holder: &Dynamic) -> bool {
+    match share_while_marked(store, holder, Dynamic::ONE) {
+        Ok(other) => other.is_int(store) && !holder.is_locked(store),
+        Err(_) => false,
+    }
+}
+
+/// Whether what was written to a holder, and through the mark of its cell, is held.
+fn is_written_through(store: &mut Store, holder: &mut Dynamic) -> bool {
+    turn_on(holder, store);
+    let is_on = holder.as_bool(store) == Ok(true);
+    write_marked(store, holder, Dynamic::TWO);
+    is_on && holder.as_int(store) == Ok(2)
 }
 
 #[test]
 fn marks_outlast_what_is_done_meanwhile(rt: HostRuntime) {
     let mut store = Store::new(rt.alloc());
-    let mut holder = Dynamic::FALSE
-        .into_shared(&mut store)
-        .ok()
-        .expect(&rt, "memory");
-    let other = share_while_marked(&mut store, &holder, Dynamic::ONE)
-        .ok()
-        .expect(&rt, "memory");
-    assert!(rt; !holder.is_locked(&store) && other.is_int(&store));
-    turn_on(&mut holder, &mut store);
-    assert_eq!(rt; holder.as_bool(&store).ok(), Some(true));
-    write_marked(&mut store, &holder, Dynamic::TWO);
-    assert_eq!(rt; holder.as_int(&store).ok(), Some(2));
+    let mut holder = shared(Dynamic::FALSE, &mut store);
+    assert!(rt; is_unmarked_afterwards(&mut store, &holder));
+    assert!(rt; is_written_through(&mut store, &mut holder));
 }

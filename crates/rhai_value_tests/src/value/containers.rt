@@ -1,296 +1,210 @@
-//! Arrays, maps, blobs, function pointers, host numbers and ranges.
+//! Arrays, maps and function pointers: modes and tags inside, and what is moved out.
+use crate::values::{blob_of, copied, shared, text_of};
 use rhai_text::ImmutableString;
-use rhai_value::{
-    AccessMode, Dynamic, ExclusiveRange, FnPtr, Host, InStore, InclusiveRange, IntoError, Map,
-    Store, TypeId, Union,
-};
+use rhai_value::{AccessMode, Dynamic, FnPtr, IntoError, Map, Store, Union};
 use std::alloc::Global;
-use std::process::Abort;
 
-/// An array of these two values.
-fn array_of(rt: &impl Abort, alloc: Global, first: Dynamic, second: Dynamic) -> Dynamic {
-    let mut items = Vec::with_capacity(alloc, 2).expect(rt, "memory");
-    items.push(first).expect(rt, "room");
-    items.push(second).expect(rt, "room");
-    Dynamic::from_array(items)
+/// An array of this item; unit where there is no room.
+fn array_of(alloc: Global, item: Dynamic) -> Dynamic {
+    match vec![in alloc; item] {
+        Ok(items) => Dynamic::from_array(items),
+        Err(_) => Dynamic::UNIT,
+    }
 }
 
-/// A map of one key to this value.
-fn map_of(rt: &impl Abort, alloc: Global, key: &str, value: Dynamic) -> Dynamic {
-    let key = String::from_str(alloc, key).expect(rt, "memory");
+/// Puts a value at "a" into a map.
+fn put_at_a(alloc: Global, map: &mut Map, value: Dynamic) -> bool {
+    match String::from_str(alloc, "a") {
+        Ok(key) => map.insert(key, value).is_ok(),
+        Err(_) => false,
+    }
+}
+
+/// A map of "a" to this value; an empty one where there is no room.
+fn map_of(alloc: Global, value: Dynamic) -> Dynamic {
     let mut map = Map::new(alloc);
-    map.insert(key, value).ok().expect(rt, "memory");
+    let _ = put_at_a(alloc, &mut map, value);
     Dynamic::from_map(map)
 }
 
-/// A function pointer with this value curried.
-fn function_of(rt: &impl Abort, alloc: Global, name: &str, value: Dynamic) -> Dynamic {
-    let name = ImmutableString::from_str(alloc, name).expect(rt, "memory");
-    let mut curry = Vec::new(alloc);
-    curry.push(value).expect(rt, "memory");
-    Dynamic::from(FnPtr::new(name, curry))
+/// A function pointer with this value curried; without it where there is no room.
+fn function_of(name: ImmutableString, alloc: Global, value: Dynamic) -> Dynamic {
+    let mut pointer = FnPtr::new(name, Vec::new(alloc));
+    let _ = pointer.curry_mut().push(value);
+    Dynamic::from(pointer)
 }
 
-fn shared(rt: &impl Abort, value: Dynamic, store: &mut Store) -> Dynamic {
-    value.into_shared(store).ok().expect(rt, "room for a cell")
-}
-
-/// A holder of a new cell with this value in it, also where the value is a holder.
-fn cell_of(rt: &impl Abort, value: Dynamic, store: &mut Store) -> Dynamic {
-    let mut holder = shared(rt, Dynamic::UNIT, store);
-    *holder.write_whole(store).expect(rt, "an unmarked cell") = value;
-    holder
-}
-
-fn copy_of(rt: &impl Abort, alloc: Global, value: &Dynamic) -> Dynamic {
-    value.copy(alloc).expect(rt, "memory")
-}
-
-fn item<'a>(rt: &impl Abort, items: &'a [Dynamic], i: usize) -> &'a Dynamic {
-    items.get(i).expect(rt, "an item")
-}
-
-/// The mode of the first item of an array.
-fn mode_of_first(value: &Dynamic, store: &Store) -> Option<AccessMode> {
-    let items = value.as_array_ref(store).ok()?;
-    Some(items.first()?.access_mode())
-}
-
-#[test]
-fn types_have_names(rt: HostRuntime) {
-    let alloc = rt.alloc();
-    let store = Store::new(alloc);
-    let range = ExclusiveRange { start: 0, end: 3 };
-    let closed = InclusiveRange { start: 0, end: 3 };
-    let values = [
-        (array_of(&rt, alloc, Dynamic::ONE, Dynamic::TWO), "array"),
-        (map_of(&rt, alloc, "a", Dynamic::ONE), "map"),
-        (function_of(&rt, alloc, "f", Dynamic::ONE), "Fn"),
-        (Dynamic::from_blob(Vec::new(alloc)), "blob"),
-        (Dynamic::from(Host::U8(1)), "u8"),
-        (Dynamic::from(Host::U16(1)), "u16"),
-        (Dynamic::from(Host::U32(1)), "u32"),
-        (Dynamic::from(Host::U64(1)), "u64"),
-        (Dynamic::from(Host::U128(1)), "u128"),
-        (Dynamic::from(Host::I8(1)), "i8"),
-        (Dynamic::from(Host::I16(1)), "i16"),
-        (Dynamic::from(Host::I32(1)), "i32"),
-        (Dynamic::from(Host::I128(1)), "i128"),
-        (Dynamic::from(range), "core::ops::range::Range<i64>"),
-        (
-            Dynamic::from(closed),
-            "core::ops::range::RangeInclusive<i64>",
-        ),
-    ];
-    for (value, name) in &values {
-        assert_eq!(rt; value.type_name(&store), *name);
+/// The first value inside another.
+fn inside(value: &Dynamic) -> Option<&Dynamic> {
+    match value.parts() {
+        Union::Array(_, _, items) => items.first(),
+        Union::Map(_, _, map) => map.get("a"),
+        Union::FnPtr(_, _, pointer) => pointer.curry().first(),
+        _ => None,
     }
-    assert_eq!(rt; TypeId::String.name(), "string");
-    assert_eq!(rt; TypeId::Dynamic.name(), "Dynamic");
-    assert!(rt; values[0].0.is_array(&store) && !values[0].0.is_map(&store));
-    assert!(rt; values[1].0.is_map(&store) && values[2].0.is_fnptr(&store));
-    assert!(rt; values[3].0.is_blob(&store) && !values[3].0.is_variant());
-    assert!(rt; values[4].0.is_variant() && values[13].0.is_variant());
 }
 
-#[test]
-fn a_mode_goes_through_arrays_and_maps_alone(rt: HostRuntime) {
-    let alloc = rt.alloc();
-    let mut store = Store::new(alloc);
-    let inner = array_of(&rt, alloc, Dynamic::ONE, Dynamic::TWO);
-    let holder = shared(
-        &rt,
-        array_of(&rt, alloc, Dynamic::ONE, Dynamic::TWO),
-        &mut store,
-    );
-    let mut items = Vec::new(alloc);
-    items
-        .push(map_of(&rt, alloc, "a", inner))
-        .expect(&rt, "memory");
-    items
-        .push(function_of(&rt, alloc, "f", Dynamic::ONE))
-        .expect(&rt, "memory");
-    items.push(holder).expect(&rt, "memory");
-    let constant = Dynamic::from_array(items).into_read_only();
-    let items = constant.as_array_ref(&store).expect(&rt, "an array");
-    let map = item(&rt, items, 0).as_map_ref(&store).expect(&rt, "a map");
-    let inside = map.get("a").expect(&rt, "the key");
-    assert!(rt; mode_of_first(inside, &store) == Some(AccessMode::ReadOnly));
-    assert_eq!(rt; item(&rt, items, 1).access_mode(), AccessMode::ReadOnly);
-    match item(&rt, items, 1).parts() {
-        Union::FnPtr(_, _, pointer) => {
-            assert_eq!(rt; pointer.fn_name(), "f");
-            assert_eq!(rt;
-                item(&rt, pointer.curry(), 0).access_mode(),
-                AccessMode::ReadWrite
-            );
-        }
-        _ => assert!(rt; false),
+/// Whether the first value inside another has this mode.
+fn has_mode_inside(value: &Dynamic, wanted: AccessMode) -> bool {
+    match inside(value) {
+        Some(item) => item.access_mode() == wanted,
+        None => false,
     }
-    assert_eq!(rt; item(&rt, items, 2).access_mode(), AccessMode::ReadOnly);
-    assert!(rt; mode_of_first(item(&rt, items, 2), &store) == Some(AccessMode::ReadWrite));
-    let copy = copy_of(&rt, alloc, &constant);
-    assert_eq!(rt; copy.access_mode(), AccessMode::ReadWrite);
-    assert!(rt; mode_of_first(&copy, &store) == Some(AccessMode::ReadWrite));
+}
+
+/// Whether the value in what is in a map has this mode.
+fn has_mode_in_both(map: &Dynamic, wanted: AccessMode) -> bool {
+    match inside(map) {
+        Some(array) => has_mode_inside(array, wanted),
+        None => false,
+    }
 }
 
 #[test]
-fn copies_keep_tags_and_cells(rt: HostRuntime) {
-    let alloc = rt.alloc();
-    let mut store = Store::new(alloc);
-    let mut five = Dynamic::from_int(5);
-    five.set_tag(9);
-    let holder = shared(&rt, five, &mut store);
-    let mut tagged = Dynamic::from_int(1);
-    tagged.set_tag(4);
-    let array = array_of(&rt, alloc, holder, tagged);
-    let mut copy = copy_of(&rt, alloc, &array);
-    let items = copy.as_array_mut(&mut store).expect(&rt, "an array");
-    assert_eq!(rt; items.len(), 2);
-    assert_eq!(rt; item(&rt, items, 1).tag(), 4);
-    let mut first = items.first_mut().expect(&rt, "an item").take();
-    assert!(rt; first.set_int(&mut store, 6));
-    let items = array.as_array_ref(&store).expect(&rt, "an array");
-    assert_eq!(rt; item(&rt, items, 0).as_int(&store).ok(), Some(6));
-    let held = item(&rt, items, 0).held(&store).expect(&rt, "an int");
-    assert_eq!(rt; held.tag(), 9);
+fn a_mode_goes_through_arrays_and_maps(rt: HostRuntime) {
+    let array = array_of(rt.alloc(), Dynamic::ONE);
+    let constant = map_of(rt.alloc(), array).into_read_only();
+    assert!(rt; has_mode_in_both(&constant, AccessMode::ReadOnly));
+    let copy = copied(rt.alloc(), &constant);
+    assert!(rt; has_mode_in_both(&copy, AccessMode::ReadWrite));
 }
 
-#[test]
-fn locks_are_seen_at_any_depth(rt: HostRuntime) {
-    let alloc = rt.alloc();
-    let mut store = Store::new(alloc);
-    let holder = shared(&rt, Dynamic::ONE, &mut store);
-    let outer = cell_of(&rt, copy_of(&rt, alloc, &holder), &mut store);
-    let in_map = map_of(&rt, alloc, "k", copy_of(&rt, alloc, &holder));
-    let curried = function_of(&rt, alloc, "f", copy_of(&rt, alloc, &holder));
-    let array = array_of(&rt, alloc, Dynamic::ONE, in_map);
-    assert!(rt; !array.is_locked(&store) && !curried.is_locked(&store));
-    let token = store.mark(&holder).expect(&rt, "an unmarked cell");
-    assert!(rt; array.is_locked(&store) && curried.is_locked(&store) && holder.is_locked(&store));
-    assert!(rt; !outer.is_locked(&store));
-    store.release(token);
-    assert!(rt; !array.is_locked(&store));
-}
-
-#[test]
-fn contents_are_written_in_place(rt: HostRuntime) {
-    let alloc = rt.alloc();
-    let mut store = Store::new(alloc);
-    let mut holder = shared(&rt, map_of(&rt, alloc, "a", Dynamic::ONE), &mut store);
-    let mut place = InStore {
-        value: &mut holder,
-        store: &mut store,
+/// Whether what is inside what the holder inside a value holds has this mode.
+fn has_mode_held(value: &Dynamic, store: &Store, wanted: AccessMode) -> bool {
+    let Some(holder) = inside(value) else {
+        return false;
     };
-    match place.map_mut() {
-        Ok(map) => match map.get_mut("a") {
-            Some(value) => *value = Dynamic::TWO,
-            None => assert!(rt; false),
-        },
-        Err(_) => assert!(rt; false),
+    match holder.held(store) {
+        Some(array) => has_mode_inside(array, wanted),
+        None => false,
     }
-    let map = holder.as_map_ref(&store).expect(&rt, "a map");
-    let value = map.get("a").expect(&rt, "the key");
-    assert_eq!(rt; value.as_int(&store).ok(), Some(2));
-    assert_eq!(rt; holder.as_array_mut(&mut store).err(), Some("map"));
-    assert_eq!(rt; holder.as_blob_ref(&store).err(), Some("map"));
-    let mut blob = Dynamic::from_blob(Vec::from_slice(alloc, &[1, 2]).expect(&rt, "memory"));
-    blob.set_tag(3);
-    match blob.as_blob_mut(&mut store) {
-        Ok(bytes) => bytes.push(255).expect(&rt, "memory"),
-        Err(_) => assert!(rt; false),
-    }
-    assert_eq!(rt;
-        blob.as_blob_ref(&store).ok().map(|bytes| bytes.len()),
-        Some(3)
-    );
-    assert_eq!(rt; blob.tag(), 3);
 }
 
 #[test]
-fn contents_are_moved_out(rt: HostRuntime) {
+fn a_mode_stays_outside_cells(rt: HostRuntime) {
+    let mut store = Store::new(rt.alloc());
+    let holder = shared(array_of(rt.alloc(), Dynamic::ONE), &mut store);
+    let constant = array_of(rt.alloc(), holder).into_read_only();
+    assert!(rt; has_mode_inside(&constant, AccessMode::ReadOnly));
+    assert!(rt; has_mode_held(&constant, &store, AccessMode::ReadWrite));
+}
+
+/// Whether the mode of a function pointer stays outside what is curried.
+fn is_constant_outside(alloc: Global, name: ImmutableString) -> bool {
+    let constant = function_of(name, alloc, Dynamic::ONE).into_read_only();
+    constant.access_mode() == AccessMode::ReadOnly
+        && has_mode_inside(&constant, AccessMode::ReadWrite)
+}
+
+#[test]
+fn a_mode_stays_outside_curried_values(rt: HostRuntime) {
+    match ImmutableString::from_str(rt.alloc(), "f") {
+        Ok(name) => assert!(rt; is_constant_outside(rt.alloc(), name)),
+        Err(_) => assert!(rt; false),
+    }
+}
+
+/// Whether a copy of an array has the tag of its item.
+fn keeps_tag_inside(alloc: Global, mut item: Dynamic) -> bool {
+    item.set_tag(4);
+    let copy = copied(alloc, &array_of(alloc, item));
+    match inside(&copy) {
+        Some(item) => item.tag() == 4,
+        None => false,
+    }
+}
+
+#[test]
+fn copies_keep_the_tags_inside(rt: HostRuntime) {
+    assert!(rt; keeps_tag_inside(rt.alloc(), Dynamic::ONE));
+}
+
+/// Whether this text is moved out of a value.
+fn gives_string(alloc: Global, store: &Store, value: Dynamic, wanted: &str) -> bool {
+    match value.into_string(alloc, store) {
+        Ok(text) => text.as_str() == wanted,
+        Err(_) => false,
+    }
+}
+
+/// The same, by the type that is never changed in place.
+fn gives_text(alloc: Global, store: &Store, value: Dynamic, wanted: &str) -> bool {
+    match value.into_immutable_string(alloc, store) {
+        Ok(text) => text.as_str() == wanted,
+        Err(_) => false,
+    }
+}
+
+#[test]
+fn texts_are_moved_out(rt: HostRuntime) {
     let alloc = rt.alloc();
     let mut store = Store::new(alloc);
-    let constant = array_of(&rt, alloc, Dynamic::ONE, Dynamic::TWO).into_read_only();
-    let holder = shared(
-        &rt,
-        copy_of(&rt, alloc, &constant).into_read_only(),
-        &mut store,
-    );
-    match constant.into_array(alloc, &store) {
-        Ok(items) => assert_eq!(rt; item(&rt, &items, 0).access_mode(), AccessMode::ReadOnly),
-        Err(_) => assert!(rt; false),
-    }
-    let again = copy_of(&rt, alloc, &holder);
-    match holder.into_array(alloc, &store) {
-        Ok(items) => assert_eq!(rt; item(&rt, &items, 0).access_mode(), AccessMode::ReadWrite),
-        Err(_) => assert!(rt; false),
-    }
-    match again.into_blob(alloc, &store) {
-        Err(IntoError::Mismatch(name)) => assert_eq!(rt; name, "array"),
-        _ => assert!(rt; false),
-    }
-    let text = shared(
-        &rt,
-        Dynamic::from_text(alloc, "hé").expect(&rt, "memory"),
-        &mut store,
-    );
-    match copy_of(&rt, alloc, &text).into_string(alloc, &store) {
-        Ok(text) => assert_eq!(rt; text.as_str(), "hé"),
-        Err(_) => assert!(rt; false),
-    }
-    match text.into_immutable_string(alloc, &store) {
-        Ok(text) => assert_eq!(rt; text.len(), 3),
-        Err(_) => assert!(rt; false),
-    }
-    match Dynamic::from_blob(Vec::from_slice(alloc, &[7]).expect(&rt, "memory")).into_blob(
-        alloc, &store,
-    ) {
-        Ok(bytes) => assert_eq!(rt; bytes.first().copied(), Some(7)),
-        Err(_) => assert!(rt; false),
-    }
-    match Dynamic::ONE.into_string(alloc, &store) {
-        Err(IntoError::Mismatch(name)) => assert_eq!(rt; name, "i64"),
-        _ => assert!(rt; false),
+    let holder = shared(text_of(alloc, "hé"), &mut store);
+    assert!(rt; gives_string(alloc, &store, copied(alloc, &holder), "hé"));
+    assert!(rt; gives_text(alloc, &store, holder, "hé"));
+    assert!(rt; gives_string(alloc, &store, text_of(alloc, "hé"), "hé"));
+    assert!(rt; gives_text(alloc, &store, text_of(alloc, "hé"), "hé"));
+}
+
+/// Whether the items that are moved out of an array begin with a value of this mode.
+fn gives_item(alloc: Global, store: &Store, value: Dynamic, wanted: AccessMode) -> bool {
+    match value.into_array(alloc, store) {
+        Ok(items) => match items.first() {
+            Some(item) => item.access_mode() == wanted,
+            None => false,
+        },
+        Err(_) => false,
     }
 }
 
 #[test]
-fn parts_are_taken_and_put_together(rt: HostRuntime) {
+fn own_items_are_moved_out_as_they_are(rt: HostRuntime) {
     let alloc = rt.alloc();
-    let store = Store::new(alloc);
-    let mut value = Dynamic::from_int(1);
+    let mut store = Store::new(alloc);
+    let constant = array_of(alloc, Dynamic::ONE).into_read_only();
+    let holder = shared(array_of(alloc, Dynamic::ONE).into_read_only(), &mut store);
+    assert!(rt; gives_item(alloc, &store, constant, AccessMode::ReadOnly));
+    assert!(rt; gives_item(alloc, &store, holder, AccessMode::ReadWrite));
+}
+
+/// Whether these bytes are moved out of a value.
+fn gives_bytes(alloc: Global, store: &Store, value: Dynamic, wanted: &[u8]) -> bool {
+    match value.into_blob(alloc, store) {
+        Ok(bytes) => bytes.as_slice() == wanted,
+        Err(_) => false,
+    }
+}
+
+/// Whether a value that is no blob is refused by this name.
+fn is_no_blob(alloc: Global, store: &Store, value: Dynamic, wanted: &str) -> bool {
+    match value.into_blob(alloc, store) {
+        Err(IntoError::Mismatch(name)) => name == wanted,
+        Err(IntoError::Memory(_)) => false,
+        Ok(_) => false,
+    }
+}
+
+#[test]
+fn bytes_are_moved_out(rt: HostRuntime) {
+    let alloc = rt.alloc();
+    let mut store = Store::new(alloc);
+    let holder = shared(blob_of(alloc, &[1, 2]), &mut store);
+    assert!(rt; gives_bytes(alloc, &store, holder, &[1, 2]));
+    assert!(rt; gives_bytes(alloc, &store, blob_of(alloc, &[7]), &[7]));
+    let array = shared(array_of(alloc, Dynamic::ONE), &mut store);
+    assert!(rt; is_no_blob(alloc, &store, array, "array"));
+}
+
+/// Whether a value comes apart, is changed and is put together.
+fn is_changed_apart(mut value: Dynamic) -> bool {
     if let Union::Int(_, _, int) = value.parts_mut() {
         *int = 2;
     }
     let again = Dynamic::from_parts(value.into_parts());
-    assert_eq!(rt; again.as_int(&store).ok(), Some(2));
-    let mut pointer = FnPtr::new(
-        ImmutableString::from_str(alloc, "f").expect(&rt, "memory"),
-        Vec::new(alloc),
-    );
-    pointer.curry_mut().push(Dynamic::ONE).expect(&rt, "memory");
-    assert_eq!(rt; pointer.curry().len(), 1);
+    matches!(again.parts(), Union::Int(0, _, 2))
 }
 
 #[test]
-fn long_closed_chains_are_closed(rt: HostRuntime) {
-    let alloc = rt.alloc();
-    let mut store = Store::new(alloc);
-    let mut first = shared(&rt, Dynamic::UNIT, &mut store);
-    let mut last = copy_of(&rt, alloc, &first);
-    for _ in 0..20 {
-        last = cell_of(&rt, last, &mut store);
-    }
-    let entry = cell_of(&rt, copy_of(&rt, alloc, &last), &mut store);
-    *first
-        .write_whole(&mut store)
-        .expect(&rt, "an unmarked cell") = last;
-    assert_eq!(rt; entry.type_name(&store), "<shared>");
-    assert!(rt; entry.held(&store).is_none() && !entry.is_locked(&store));
-    let flat = entry
-        .flatten(alloc, &store)
-        .ok()
-        .expect(&rt, "the holder itself");
-    assert!(rt; flat.is_shared());
+fn parts_are_taken_and_put_together(rt: HostRuntime) {
+    assert!(rt; is_changed_apart(Dynamic::ONE));
 }

@@ -3,6 +3,7 @@ ghost use Rattle.std.specs.Prelude.{◌≡◌, [], pos, is_some};
 ghost use Rattle.rhai_value.specs.End.{end, held_part, store_after};
 ghost use Rattle.rhai_value.specs.Parts.{int_of, with_int};
 
+use crate::values::holds;
 use rhai_value::{Dynamic, Store};
 
 fn reset(counter: &mut Dynamic, store: &mut Store) -> bool
@@ -17,5 +18,5 @@ fn a_counter_is_reset(rt: HostRuntime) {
     let mut store = Store::new(rt.alloc());
     let mut counter = Dynamic::THREE;
     assert!(rt; reset(&mut counter, &mut store));
-    assert_eq!(rt; counter.as_int(&store).ok(), Some(0));
+    assert!(rt; holds(&counter, &store, 0));
 }

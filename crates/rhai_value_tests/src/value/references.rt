@@ -1,22 +1,62 @@
-//! References for writing: what they leave where there is nothing to lend.
-use rhai_value::{Dynamic, Store};
-use std::process::Abort;
+//! References for writing: what is lent is written, and where nothing is lent all stays.
+use crate::values::{
+    blob_of, cell_with, closed, copied, holds, is_named, is_shared, shared, text_of,
+};
+use rhai_text::ImmutableString;
+use rhai_value::{AccessMode, Dynamic, INT, Map, Store, Union};
+use std::test::Fail;
 
-/// A holder of a new cell with this value in it.
-fn cell_of(rt: &impl Abort, value: Dynamic, store: &mut Store) -> Dynamic {
-    let mut holder = Dynamic::UNIT.into_shared(store).ok().expect(rt, "memory");
-    *holder.write_whole(store).expect(rt, "an unmarked cell") = value;
-    holder
+/// The name of what is held where no text is lent.
+fn name_for_text(value: &mut Dynamic, store: &mut Store) -> &'static str {
+    match value.as_immutable_string_mut(store) {
+        Ok(_) => "lent",
+        Err(name) => name,
+    }
 }
 
-/// None of the calls lends what isn't held, and each names what is.
-fn lends_none(rt: &impl Abort, value: &mut Dynamic, store: &mut Store, name: &str) {
-    let (tag, mode) = (value.tag(), value.access_mode());
-    assert!(rt; value.as_immutable_string_mut(store).err() == Some(name));
-    assert!(rt; value.as_array_mut(store).err() == Some(name));
-    assert!(rt; value.as_blob_mut(store).err() == Some(name));
-    assert!(rt; value.as_map_mut(store).err() == Some(name));
-    assert!(rt; value.tag() == tag && value.access_mode() == mode);
+/// The same of an array.
+fn name_for_array(value: &mut Dynamic, store: &mut Store) -> &'static str {
+    match value.as_array_mut(store) {
+        Ok(_) => "lent",
+        Err(name) => name,
+    }
+}
+
+/// The same of a blob.
+fn name_for_blob(value: &mut Dynamic, store: &mut Store) -> &'static str {
+    match value.as_blob_mut(store) {
+        Ok(_) => "lent",
+        Err(name) => name,
+    }
+}
+
+/// The same of a map.
+fn name_for_map(value: &mut Dynamic, store: &mut Store) -> &'static str {
+    match value.as_map_mut(store) {
+        Ok(_) => "lent",
+        Err(name) => name,
+    }
+}
+
+/// Whether nothing is lent of another kind than is held, and its name is told.
+fn lends_none(value: &mut Dynamic, store: &mut Store, name: &str) -> bool {
+    name_for_text(value, store) == name
+        && name_for_array(value, store) == name
+        && name_for_blob(value, store) == name
+        && name_for_map(value, store) == name
+}
+
+/// Whether a value is the constant 7 with tag 3.
+fn is_seven(value: &Dynamic) -> bool {
+    matches!(value.parts(), Union::Int(3, AccessMode::ReadOnly, 7))
+}
+
+/// Whether the cell of a holder with tag 4 has that.
+fn has_seven(holder: &Dynamic, store: &Store) -> bool {
+    match holder.read_whole(store) {
+        Some(content) => holder.tag() == 4 && is_seven(content),
+        None => false,
+    }
 }
 
 #[test]
@@ -24,68 +64,120 @@ fn nothing_is_lent_of_another_kind(rt: HostRuntime) {
     let mut store = Store::new(rt.alloc());
     let mut value = Dynamic::from_int(7).into_read_only();
     value.set_tag(3);
-    lends_none(&rt, &mut value, &mut store, "i64");
-    assert_eq!(rt; value.as_int(&store).ok(), Some(7));
-    let mut holder = cell_of(&rt, value, &mut store);
+    assert!(rt; lends_none(&mut value, &mut store, "i64"));
+    assert!(rt; is_seven(&value));
+    let mut holder = shared(value, &mut store);
     holder.set_tag(4);
-    lends_none(&rt, &mut holder, &mut store, "i64");
-    let content = holder.read_whole(&store).expect(&rt, "an unmarked cell");
-    assert_eq!(rt; content.as_int(&store).ok(), Some(7));
-    assert!(rt; content.tag() == 3 && content.is_read_only(&store));
+    assert!(rt; lends_none(&mut holder, &mut store, "i64"));
+    assert!(rt; has_seven(&holder, &store));
+}
+
+/// Whether a value lends neither its first content nor what it holds.
+fn lends_nothing(value: &mut Dynamic, store: &mut Store) -> bool {
+    value.write_whole(store).is_none() && value.held_mut(store).is_none()
 }
 
 #[test]
 fn nothing_is_lent_of_a_stuck_chain(rt: HostRuntime) {
-    let alloc = rt.alloc();
-    let mut store = Store::new(alloc);
-    let mut other = Store::new(alloc);
-    let mut holder = cell_of(&rt, Dynamic::ONE, &mut store);
-    let again = holder.copy(alloc).expect(&rt, "a holder");
-    let mut outer = cell_of(&rt, again, &mut store);
-    lends_none(&rt, &mut holder, &mut other, "<shared>");
-    lends_none(&rt, &mut outer, &mut other, "<shared>");
-    assert!(rt; holder.write_whole(&mut other).is_none() && holder.held_mut(&mut other).is_none());
-    assert!(rt; holder.is_locked(&other) && !holder.is_locked(&store));
-    assert!(rt; holder.is_int(&store) && outer.is_int(&store));
+    let mut store = Store::new(rt.alloc());
+    let mut other = Store::new(rt.alloc());
+    let mut holder = shared(Dynamic::ONE, &mut store);
+    let mut outer = cell_with(copied(rt.alloc(), &holder), &mut store);
+    assert!(rt; lends_none(&mut holder, &mut other, "<shared>"));
+    assert!(rt; lends_nothing(&mut holder, &mut other));
+    assert!(rt; lends_none(&mut outer, &mut other, "<shared>"));
+    assert!(rt; holds(&outer, &store, 1));
+}
+
+/// Whether a value that closes holds nothing, and lends its first content, a holder.
+fn lends_first(value: &mut Dynamic, store: &mut Store) -> bool {
+    if value.held_mut(store).is_some() {
+        return false;
+    }
+    match value.write_whole(store) {
+        Some(content) => is_shared(content),
+        None => false,
+    }
 }
 
 #[test]
 fn nothing_is_lent_of_a_closed_chain(rt: HostRuntime) {
-    let alloc = rt.alloc();
-    let mut store = Store::new(alloc);
-    let mut holder = cell_of(&rt, Dynamic::UNIT, &mut store);
-    let copy = holder.copy(alloc).expect(&rt, "a holder");
-    *holder
-        .write_whole(&mut store)
-        .expect(&rt, "an unmarked cell") = copy;
-    lends_none(&rt, &mut holder, &mut store, "<shared>");
-    assert!(rt; holder.held_mut(&mut store).is_none());
-    assert!(rt;
-        holder
-            .write_whole(&mut store)
-            .expect(&rt, "an unmarked cell")
-            .is_shared()
-    );
+    let mut store = Store::new(rt.alloc());
+    let mut holder = closed(rt.alloc(), &mut store);
+    assert!(rt; lends_none(&mut holder, &mut store, "<shared>"));
+    assert!(rt; lends_first(&mut holder, &mut store));
+}
+
+/// Writes over the int that is held.
+fn write_int(value: &mut Dynamic, store: &mut Store, wanted: INT) -> bool {
+    match value.as_part_mut::<INT>(store) {
+        Ok(int) => {
+            *int = wanted;
+            true
+        }
+        Err(_) => false,
+    }
+}
+
+/// Writes over the text that is held.
+fn write_text(value: &mut Dynamic, store: &mut Store, text: ImmutableString) -> bool {
+    match value.as_immutable_string_mut(store) {
+        Ok(held) => {
+            *held = text;
+            true
+        }
+        Err(_) => false,
+    }
+}
+
+/// Whether a text of so many bytes is held.
+fn has_bytes(value: &Dynamic, store: &Store, wanted: usize) -> bool {
+    match value.as_immutable_string_ref(store) {
+        Ok(text) => text.len() == wanted,
+        Err(_) => false,
+    }
 }
 
 #[test]
-fn constants_are_what_they_are_named_for(rt: HostRuntime) {
-    let store = Store::new(rt.alloc());
-    assert!(rt; Dynamic::UNIT.is_unit(&store));
-    assert_eq!(rt; Dynamic::TRUE.as_bool(&store).ok(), Some(true));
-    assert_eq!(rt; Dynamic::FALSE.as_bool(&store).ok(), Some(false));
-    for (constant, wanted) in [
-        (Dynamic::ZERO, 0),
-        (Dynamic::ONE, 1),
-        (Dynamic::TWO, 2),
-        (Dynamic::THREE, 3),
-        (Dynamic::TEN, 10),
-        (Dynamic::HUNDRED, 100),
-        (Dynamic::THOUSAND, 1000),
-        (Dynamic::MILLION, 1000000),
-        (Dynamic::NEGATIVE_ONE, -1),
-        (Dynamic::NEGATIVE_TWO, -2),
-    ] {
-        assert_eq!(rt; constant.as_int(&store).ok(), Some(wanted));
+fn what_is_lent_is_written_where_it_is_held(rt: HostRuntime) -> Result<(), Fail> {
+    let other = ImmutableString::from_str(rt.alloc(), "bcd")?;
+    let mut store = Store::new(rt.alloc());
+    let mut int = shared(Dynamic::ONE, &mut store);
+    assert!(rt; write_int(&mut int, &mut store, 8));
+    assert!(rt; holds(&int, &store, 8));
+    let mut text = shared(text_of(rt.alloc(), "a"), &mut store);
+    assert!(rt; write_text(&mut text, &mut store, other));
+    assert!(rt; has_bytes(&text, &store, 3));
+    Ok(())
+}
+
+/// Takes the bytes, items or entries out of what is held.
+fn clear(value: &mut Dynamic, store: &mut Store) -> bool {
+    if let Ok(bytes) = value.as_blob_mut(store) {
+        bytes.clear();
+        return true;
     }
+    if let Ok(items) = value.as_array_mut(store) {
+        items.clear();
+        return true;
+    }
+    match value.as_map_mut(store) {
+        Ok(map) => {
+            map.clear();
+            true
+        }
+        Err(_) => false,
+    }
+}
+
+#[test]
+fn lists_are_emptied_where_they_are_held(rt: HostRuntime) {
+    let mut store = Store::new(rt.alloc());
+    let mut blob = shared(blob_of(rt.alloc(), &[1, 2]), &mut store);
+    assert!(rt; clear(&mut blob, &mut store));
+    assert!(rt; is_named(&blob, &store, "blob"));
+    let mut map = shared(Dynamic::from_map(Map::new(rt.alloc())), &mut store);
+    assert!(rt; clear(&mut map, &mut store));
+    let mut array = shared(Dynamic::from_array(Vec::new(rt.alloc())), &mut store);
+    assert!(rt; clear(&mut array, &mut store));
 }

@@ -5,6 +5,7 @@ ghost use Rattle.rhai_value.specs.Types.{is_type};
 
 use rhai_variant::Variant;
 use std::alloc::Global;
+use std::test::Fail;
 
 /// Makes a script value and reads it again; only a `String` may find no memory.
 pub fn there_and_back<T: Variant>(alloc: Global, x: T) -> Option<T>
@@ -18,4 +19,19 @@ pub fn there_and_back<T: Variant>(alloc: Global, x: T) -> Option<T>
         Ok(y) => Some(y),
         Err(_) => None,
     }
+}
+
+/// Whether a text goes there and back.
+fn is_back(alloc: Global, text: String) -> bool {
+    match there_and_back(alloc, text) {
+        Some(text) => text.as_str() == "a",
+        None => false,
+    }
+}
+
+#[test]
+fn a_text_goes_there_and_back(rt: HostRuntime) -> Result<(), Fail> {
+    let text = String::from_str(rt.alloc(), "a")?;
+    assert!(rt; is_back(rt.alloc(), text));
+    Ok(())
 }

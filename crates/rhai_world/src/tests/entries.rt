@@ -200,6 +200,60 @@ show 3 -> 123
 remove x String -> none
 len -> 0
 remove x i64 -> refused NoEntry
+# what reads nothing appends nothing and leaves the entry
+text a -> ok
+push t 0 -> ok
+alias t u -> ok
+value t i64 -> none
+value t <shared> -> none
+ref t i64 -> none
+ref t String -> none
+ref t <shared> -> none
+refint t 1 -> none
+show 1 -> refused NoValue
+showscope -> [1] t = \"a\"
+ ->
+alias nothing u -> ok
+aliases t -> u
+ ->
+aliases nothing -> refused NoEntry
+len -> 1
+# what is removed goes also where it is not read
+int 1 -> ok
+push x 0 -> ok
+alias x first -> ok
+int 2 -> ok
+push x 1 -> ok
+alias x second -> ok
+int 3 -> ok
+push y 2 -> ok
+remove x String -> none
+show 3 -> refused NoValue
+showscope -> [1] x = 1
+ -> [2] y = 3
+ ->
+aliases x -> first
+ ->
+remove y <shared> -> none
+show 3 -> refused NoValue
+remove y i64 -> refused NoEntry
+len -> 1
+remove x Dynamic -> ok
+show 3 -> 1
+len -> 0
+# a chain that closes is read as a Dynamic alone
+unit -> ok
+share 0 -> ok
+copy 0 -> ok
+store 0 1 -> ok
+push l 0 -> ok
+value l () -> none
+value l Dynamic -> ok
+show 2 -> <shared> (shared)
+ref l Dynamic -> refused SharedEntry
+refint l 1 -> refused SharedEntry
+remove l () -> none
+len -> 0
 ";
 
 #[test]
@@ -262,6 +316,86 @@ aliases x -> z
  -> x
  ->
 aliases y -> refused NoEntry
+# aliases go with their entries
+int 1 -> ok
+push x 0 -> ok
+int 2 -> ok
+push y 1 -> ok
+int 3 -> ok
+push x 2 -> ok
+alias x z -> ok
+rewind 2 -> ok
+int 4 -> ok
+push x 3 -> ok
+aliases x ->
+aliases y ->
+rewind 1 -> ok
+aliases x ->
+# copies keep constants and aliases
+int 42 -> ok
+push x 0 -> ok
+int 1 -> ok
+pushconst y 1 -> ok
+alias x z -> ok
+copyscope -> ok
+showscope -> [1] x = 42
+ -> [2] const y = 1
+ ->
+constant y -> true
+aliases x -> z
+ ->
+visible -> ok
+names -> x
+ -> const y
+ ->
+aliases x -> z
+ ->
+aliases y ->
+constant y -> true
+int 3 -> ok
+push x 2 -> ok
+visible -> ok
+showscope -> [1] x = 3
+ -> [2] const y = 1
+ ->
+aliases x ->
+# values that are constants may be written in entries of a list
+int 1 -> ok
+readonly 0 -> ok
+int 2 -> ok
+readonly 1 -> ok
+extendflagged a !b -> ok
+showscope -> [1] a = 1
+ -> [2] const b = 2
+ ->
+int 5 -> ok
+readonly 0 -> ok
+extend c -> ok
+constant c -> false
+int 6 -> ok
+set c 0 -> ok
+int 7 -> ok
+set b 1 -> refused ConstantEntry
+# a marked cell in an entry
+int 1 -> ok
+share 0 -> ok
+push x 0 -> ok
+hashscope -> 01000000000000000100000000000000780401000000000000000000000000000000
+mark @x -> ok
+hashscope -> refused NotHashable
+showscope -> [1] x = <shared>
+ ->
+value x i64 -> none
+# a value that is set leaves the cell
+int 1 -> ok
+share 0 -> ok
+copy 0 -> ok
+push x 1 -> ok
+int 5 -> ok
+setorpush x 2 -> ok
+get x -> ok
+show 3 -> 5
+show 0 -> 1 (shared)
 ";
 
 #[test]

@@ -149,22 +149,31 @@ ask 9 variant -> true
 # every type of the host
 host u8 0 -> ok
 ask 0 held u8 -> true
+ask 0 type -> u8
 host u16 0 -> ok
 ask 1 held u16 -> true
+ask 1 type -> u16
 host u32 0 -> ok
 ask 2 held u32 -> true
+ask 2 type -> u32
 host u64 0 -> ok
 ask 3 held u64 -> true
+ask 3 type -> u64
 host u128 0 -> ok
 ask 4 held u128 -> true
+ask 4 type -> u128
 host i8 0 -> ok
 ask 5 held i8 -> true
+ask 5 type -> i8
 host i16 0 -> ok
 ask 6 held i16 -> true
+ask 6 type -> i16
 host i32 0 -> ok
 ask 7 held i32 -> true
+ask 7 type -> i32
 host i128 0 -> ok
 ask 8 held i128 -> true
+ask 8 type -> i128
 # words that are none
 int 5 -> ok
 ask 0 is int -> refused BadLine

@@ -228,9 +228,68 @@ text hello -> ok
 text - -> ok
 sliceeq 0 1 0 1 -> ok
 show 0 -> h-ello
+# a bit keeps tag and mode
+int 5 -> ok
+tag 0 9 -> ok
+readonly 0 -> ok
+bool true -> ok
+bool false -> ok
+bit 0 1 1 -> ok
+show 0 -> 7
+bit 0 0 2 -> ok
+show 0 -> 6
+bit 0 63 1 -> ok
+show 0 -> -9223372036854775802
+ask 0 tag -> 9
+ask 0 readonly -> true
+# a field in a cell
+int 0 -> ok
+tag 0 9 -> ok
+share 0 -> ok
+int 3 -> ok
+field 0 -1 63 1 -> ok
+show 0 -> -9223372036854775808 (shared)
+flatclone 0 -> ok
+ask 2 tag -> 9
+bool true -> ok
+field 0 -1 0 3 -> refused ErrorMismatchDataType integer bool
+show 0 -> -9223372036854775808 (shared)
+# a byte of a negative int
+blob 010203 -> ok
+int -2 -> ok
+byte 0 2 1 -> ok
+show 0 -> [0102fe]
+text 2 -> ok
+byte 0 1 2 -> refused ErrorMismatchDataType INT string
+show 0 -> [0102fe]
+# a working value is read where its chain ends
+int 0 -> ok
+bool true -> ok
+share 1 -> ok
+bit 0 4 1 -> ok
+show 0 -> 16
+mark 1 -> ok
+bit 0 5 1 -> refused ErrorMismatchDataType bool <shared>
+show 0 -> 16
 ";
 
 #[test]
 fn parts_of_values(rt: HostRuntime) -> Result<(), Fail> {
     are_answered(&rt, rt.alloc(), WRITTEN)
+}
+
+/// Places in lists.
+const COUNTED: &str = "
+# slices that reach past an end
+offset 5 -9223372036854775808 9223372036854775807 -> 0 5
+offset 5 5 1 -> 5 0
+# items that are not there
+index 5 -6 true -> none
+index 0 0 true -> none
+index 5 4 false -> 4
+";
+
+#[test]
+fn places_in_lists(rt: HostRuntime) -> Result<(), Fail> {
+    are_answered(&rt, rt.alloc(), COUNTED)
 }

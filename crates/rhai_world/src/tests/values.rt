@@ -68,6 +68,76 @@ take 0 -> ok
 debug 0 -> ()
 debug 1 -> 3
 debug 2 -> refused NoValue
+# a holder stays a holder
+int 9 -> ok
+share 0 -> ok
+copy 0 -> ok
+share 0 -> ok
+show 0 -> 9 (shared)
+write 0 8 -> ok
+show 1 -> 8 (shared)
+# a cell in a loop is entered from outside
+unit -> ok
+share 0 -> ok
+unit -> ok
+share 1 -> ok
+unit -> ok
+share 2 -> ok
+copy 0 -> ok
+copy 1 -> ok
+copy 2 -> ok
+store 0 4 -> ok
+store 1 5 -> ok
+store 2 3 -> ok
+unit -> ok
+share 6 -> ok
+store 6 2 -> ok
+ask 6 type -> <shared>
+ask 6 locked -> false
+write 6 5 -> refused Mismatch <shared>
+flatclone 6 -> ok
+ask 7 shared -> true
+cast 6 Dynamic -> ok
+ask 8 shared -> true
+# copies keep the cells and tags of what is inside
+int 5 -> ok
+share 0 -> ok
+int 1 -> ok
+array 2 -> ok
+copy 0 -> ok
+scan 1 zero -> 3
+show 0 -> [5 (shared), 1]
+show 1 -> [5 (shared), 0]
+int 5 -> ok
+share 2 -> ok
+copy 2 -> ok
+array 1 -> ok
+copy 3 -> ok
+write 2 6 -> ok
+show 3 -> [6 (shared)]
+show 4 -> [6 (shared)]
+# marks are seen at any depth
+int 1 -> ok
+share 0 -> ok
+copy 0 -> ok
+map k -> ok
+int 1 -> ok
+array 2 -> ok
+copy 0 -> ok
+fn f 1 -> ok
+copy 0 -> ok
+unit -> ok
+share 4 -> ok
+store 4 3 -> ok
+ask 1 locked -> false
+ask 2 locked -> false
+mark 0 -> ok
+ask 0 locked -> true
+ask 1 locked -> true
+ask 2 locked -> true
+ask 4 locked -> false
+unmark 0 -> ok
+ask 1 locked -> false
 ";
 
 #[test]

@@ -162,7 +162,7 @@ def main(words):
     tell("beneath " + ", ".join(it for _, functions in run for it in functions), seen)
     if not words:
         # the program's own: where run_lines stands
-        file = next(it for it in ("crates/rhai_lines/src/lines.rt", "crates/rhai_world/src/lines.rt") if os.path.isfile(f"{TOP}/{it}"))
+        file = "crates/rhai_lines/src/lines.rt"
         tell("and beneath run_lines besides", reach(clauses(file, ["run_lines"])), seen)
 
 

@@ -1,20 +1,12 @@
 //! Runs commands over one world of script values: reads a command a line from standard input, and prints an answer to each.
 #![tactic(auto)]
 
-mod hand_lines;
-mod line;
-mod lines;
-mod literals;
-mod numbers;
-mod place_lines;
-mod print;
-mod scope_lines;
+ghost use Rattle.std.specs.Prelude.{◌≡◌, OnOk, OnErr};
+
 #[cfg(test)]
 mod tests;
-mod vocabulary;
-mod words;
 
-use crate::lines::{LinesFault, run_lines, status};
+use rhai_lines::{LinesFault, run_lines};
 use std::io;
 use std::io::BufWriter;
 use std::process::ExitCode;
@@ -24,6 +16,17 @@ fn answer_standard_input(rt: &(impl Input + Print + AllocGlobal)) -> Result<(), 
     match BufWriter::new(rt.alloc(), io::writer(rt)) {
         Ok(mut writer) => run_lines(rt.alloc(), &mut rt.reader(), &mut writer),
         Err(_) => Err(LinesFault::Memory),
+    }
+}
+
+/// The exit status of a run.
+fn status(outcome: &Result<(), LinesFault>) -> u8
+    ensures done { OnOk outcome.now (result ≡ 0) }
+    ensures fault { OnErr outcome.now (result ≡ 1) }
+{
+    match outcome {
+        Ok(()) => 0,
+        Err(_) => 1,
     }
 }
 

@@ -1,9 +1,8 @@
 ghost use Rattle.std.specs.Prelude.{◌≡◌, IfOk};
-ghost use Rattle.rhai_world.specs.Output.{output};
+ghost use Rattle.rhai_lines.specs.Output.{output};
 
-use crate::line::command;
-use crate::lines::{LinesFault, run_lines, status};
-use crate::print::write_answer;
+use crate::status;
+use rhai_lines::{LinesFault, command, run_lines, write_answer};
 use rhai_run::{Answer, Command};
 use std::alloc::{AllocError, Global};
 use std::cell::Cell;

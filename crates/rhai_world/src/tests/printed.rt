@@ -1,6 +1,6 @@
 //! How each answer and each refusal is printed, those too that no line of today leads to.
 
-use crate::print::write_answer;
+use rhai_lines::write_answer;
 use rhai_run::{Answer, Refusal};
 use rhai_text::{ArithmeticFault, EvalAltResult, Position, SizeKind};
 use std::alloc::{AllocError, Global};

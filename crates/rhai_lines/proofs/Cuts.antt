@@ -1,0 +1,43 @@
+-- Where a text is cut into words.
+use Rattle.std.proofs.Common.{◌≡◌, ℕ, ◌<◌, true, false, nat_lt, if◌then◌else◌, List, length, take, Option, Some, None, refl, sym, ap, ◌∙◌, arith, lit<}
+use Rattle.std.specs.Borrow.{Bor}
+use Rattle.std.specs.Str.{IsUtf8, is_utf8}
+use Rattle.std.proofs.lemmas.Bool.Decides.{nat_tests}
+use Rattle.std.proofs.lemmas.List.{take_all}
+use Rattle.std.specs.List.{position_or_len, after_first}
+use Rattle.std.proofs.lemmas.Str.{IsUtf8-from_is_utf8, is_utf8-from_IsUtf8}
+use Rattle.std.proofs.lemmas.Str.Pattern.{IsSplitOnceResult, split_once_first}
+use Rattle.rhai_lines.specs.Words.{is_space, word_of, left_of}
+use Rattle.rhai_lines.specs.Forms.{said, command_of}
+
+cut : (bs : List ℕ) → position_or_len is_space bs < length bs → Some (after_first is_space bs) ≡ left_of bs
+cut bs l =
+    let t : nat_lt (position_or_len is_space bs) (length bs) ≡ true = grind (arith, nat_tests) in
+    sym (ap (λ b. if b then Some (after_first is_space bs) else None) t)
+
+whole : (bs : List ℕ) → position_or_len is_space bs ≡ length bs → None ≡ left_of bs
+whole bs e =
+    let t : nat_lt (position_or_len is_space bs) (length bs) ≡ false = grind (arith, nat_tests) in
+    sym (ap (λ b. if b then Some (after_first is_space bs) else None) t)
+
+pub word-cut : (bs : List ℕ) (r : Option (Bor (List ℕ) × Bor (List ℕ))) (x : Bor (List ℕ) × Bor (List ℕ)) → IsSplitOnceResult 32 bs r → r ≡ Some x → (x.0.now ≡ word_of bs) × (Some x.1.now ≡ left_of bs)
+word-cut bs r x h e =
+    let k = split_once_first 32 bs r h (lit< tt) in
+    let m = rw e at k in
+    (m.1, ap Some m.2 ∙ cut bs m.0)
+
+pub word-whole : (bs : List ℕ) (r : Option (Bor (List ℕ) × Bor (List ℕ))) → IsSplitOnceResult 32 bs r → r ≡ None → (bs ≡ word_of bs) × (None ≡ left_of bs)
+word-whole bs r h e =
+    let k = split_once_first 32 bs r h (lit< tt) in
+    let m = rw e at k in
+    (sym (ap (λ n. take n bs) m ∙ take_all (length bs) bs (omega arith)), whole bs m)
+
+pub command_of-text : (line text : List ℕ) → text ≡ line → IsUtf8 line → command_of line ≡ said (word_of text) (left_of text)
+command_of-text line text t u = ap (λ b. if b then said (word_of line) (left_of line) else None) (is_utf8-from_IsUtf8 line u) ∙ ap (λ l. said (word_of l) (left_of l)) (sym t)
+
+pub command_of-no_text : (line : List ℕ) → (IsUtf8 line → ⊥) → command_of line ≡ None
+command_of-no_text line n =
+    elim (is_utf8 line) as (λ b. is_utf8 line ≡ b → (if b then said (word_of line) (left_of line) else None) ≡ None) [
+      | true ↦ λ e. absurd (n (IsUtf8-from_is_utf8 line e))
+      | false ↦ λ e. refl
+    ] refl

@@ -1,0 +1,11 @@
+pub mod Results
+pub mod Cuts
+pub mod Digits
+pub mod Characters
+pub mod Names
+pub mod MarkedWords
+pub mod WordLists
+pub mod Tables
+pub mod Prints
+pub mod Feeds
+pub mod Reaches

@@ -1,0 +1,33 @@
+-- How far an input is answered.
+use Rattle.std.specs.Prelude.{◌≡◌, ℕ, false, List, [], ◌++◌, Option, Some, All, ◌==◌}
+use Rattle.std.specs.Io.KnownBytes.{Appends}
+use Rattle.rhai_run.specs.State.{State}
+use Rattle.rhai_lines.specs.Output.{lines_of, answers_to_lines, state_after_lines, output_from, output_of_first_from}
+
+-- Of the input, the rest is not read yet, and some first lines have their answers: the world is no longer start but now, and the writer's bytes
+-- no longer old but new. The bytes of the partial line are read and have no answer.
+pub record Fed (input rest partial : List ℕ) (start now : State) (old new : Option (List ℕ)) : Type 0 where
+  pub lines : List (List ℕ)
+  pub input_is : lines_of input ≡ lines ++ lines_of (partial ++ rest)
+  pub has_no_feed : All (λ b. (b == 10) ≡ false) partial
+  pub state_is : now ≡ state_after_lines start lines
+  pub told : Appends old new (answers_to_lines start lines)
+
+-- Taking the bytes leads from a partial line, a world and what is written to others, wherever they stand in the input.
+abbrev pub Feeds : List ℕ → List ℕ → State → Option (List ℕ) → List ℕ → State → Option (List ℕ) → Type 0
+Feeds bytes partial now written next after more =
+    (input rest : List ℕ) (start : State) (old : Option (List ℕ)) → Fed input (bytes ++ rest) partial start now old written → Fed input rest next start after old more
+
+-- Somewhere in these bytes a run stops, where it has written the answers of some number of first lines.
+abbrev pub StopsWithin : List ℕ → List ℕ → State → Option (List ℕ) → Option (List ℕ) → Type 0
+StopsWithin bytes partial now written more =
+    (input rest : List ℕ) (start : State) (old : Option (List ℕ)) → Fed input (bytes ++ rest) partial start now old written → (n : ℕ) × Appends old more (output_of_first_from start n input)
+
+-- At the end of the input, what was written becomes its whole output.
+abbrev pub Completes : List ℕ → State → Option (List ℕ) → Option (List ℕ) → Type 0
+Completes partial now written more =
+    (input : List ℕ) (start : State) (old : Option (List ℕ)) → Fed input [] partial start now old written → Appends old more (output_from start input)
+
+-- The rest of the input is left in the reader, and of what it gave the whole lines have their answers: only a partial line has none.
+abbrev pub AnswersWhatIsRead : State → List ℕ → Option (List ℕ) → Option (List ℕ) → Option (List ℕ) → Type 0
+AnswersWhatIsRead start input left old new = (rest : List ℕ) × (partial : List ℕ) × (now : State) × (left ≡ Some rest) × Fed input rest partial start now old new

@@ -1,0 +1,146 @@
+-- The forms of line: which command a verb and what stands behind it say.
+use Rattle.std.specs.Prelude.{ℕ, true, false, if◌then◌else◌, List, [], ◌∷◌, Option, Some, None, option_map, option_and_then, IsSomeAnd, codes, ◌≡◌}
+use Rattle.std.specs.Str.{is_utf8}
+use Rattle.rhai_run.specs.declared.command.Command.{Command}
+use Rattle.rhai_run.specs.declared.command.Command.TheVariants.{Put, MakeArray, MakeMap, MakeFn, Copy, Take, Drop, Share, Flatten, FlattenClone, Cast, MakeReadOnly, SetTag, Ask, WriteInt, Write, Binary, Assign, Scan, Push, PushDynamic, PushConstant, SetEntry, SetOrPush, SetValue, Pop, Rewind, Clear, Len, IsEmpty, Contains, Search, IsConstant, Get, GetValue, GetRef, SetRef, Remove, SetAlias, Aliases, KeepVisible, CopyScope, Entries, Names as Listed, Extend, ExtendFlagged, ShowScope, HashScope, Mark, Unmark, WriteMarked, ReadMarked, WriteBit, WriteField, WriteByte, WriteChar, WriteSlice, Offset, Index, Show, Debug, Hash}
+use Rattle.rhai_run.specs.declared.command.Literal.TheVariants.{Unit, Bool as Truth, Int, Char, Text, Blob, Host as Hosted, Range, RangeEq}
+use Rattle.rhai_lines.specs.Words.{Left, Word, word_of, left_of, named, a_name, a_truth}
+use Rattle.rhai_lines.specs.Numbers.{a_position, a_bit, an_int, a_tag}
+use Rattle.rhai_lines.specs.Vocabulary.{a_kind, a_token, a_question, a_scanner, a_host, a_place}
+use Rattle.rhai_lines.specs.Rests.{Rest, alone, one, two, three, four, before, names, flagged_names, an_alias, a_char, a_text, a_blob}
+
+-- The form of a line behind its verb, and tables of verbs and forms.
+abbrev pub Form : Type 0
+Form = Rest Command
+
+abbrev pub Forms : Type 0
+Forms = List (List ℕ × Form)
+
+-- the command that is made of what is said
+abbrev pub of_all : {A : Type 0} → Rest A → (A → Command) → Form
+of_all rest make = record { says = λ left. option_map make (rest.says left); takes = rest.takes }
+
+abbrev pub of_one : {A : Type 0} → Word A → (A → Command) → Form
+of_one first make = of_all (one first) make
+
+abbrev pub of_two : {A B : Type 0} → Word A → Word B → (A → B → Command) → Form
+of_two first second make = of_all (two first second) (λ p. make p.0 p.1)
+
+abbrev pub of_three : {A B C : Type 0} → Word A → Word B → Word C → (A → B → C → Command) → Form
+of_three first second third make = of_all (three first second third) (λ p. make p.0 p.1 p.2)
+
+abbrev pub of_four : {A B C D : Type 0} → Word A → Word B → Word C → Word D → (A → B → C → D → Command) → Form
+of_four first second third fourth make = of_all (four first second third fourth) (λ p. make p.0 p.1 p.2 p.3)
+
+-- a value is made anew
+abbrev pub value_forms : Forms
+value_forms =
+    (codes "unit", alone (Put Unit))
+    ∷ (codes "bool", of_one a_truth (λ b. Put (Truth b)))
+    ∷ (codes "int", of_one an_int (λ n. Put (Int n)))
+    ∷ (codes "host", of_one a_host (λ h. Put (Hosted h)))
+    ∷ (codes "range", of_two an_int an_int (λ a b. Put (Range (record { start = a; end = b }))))
+    ∷ (codes "rangeeq", of_two an_int an_int (λ a b. Put (RangeEq (record { start = a; end = b }))))
+    ∷ (codes "char", of_all a_char (λ c. Put (Char c)))
+    ∷ (codes "text", of_all a_text (λ t. Put (Text t)))
+    ∷ (codes "blob", of_all a_blob (λ bytes. Put (Blob bytes)))
+    ∷ []
+
+-- the values of the hand are made of others, moved, changed and asked
+abbrev pub hand_forms : Forms
+hand_forms =
+    (codes "array", of_one a_position MakeArray)
+    ∷ (codes "map", of_all names MakeMap)
+    ∷ (codes "fn", of_two a_name a_position MakeFn)
+    ∷ (codes "copy", of_one a_position Copy)
+    ∷ (codes "flatclone", of_one a_position FlattenClone)
+    ∷ (codes "cast", of_two a_position a_kind Cast)
+    ∷ (codes "take", of_one a_position Take)
+    ∷ (codes "drop", alone Drop)
+    ∷ (codes "share", of_one a_position Share)
+    ∷ (codes "flatten", of_one a_position Flatten)
+    ∷ (codes "readonly", of_one a_position MakeReadOnly)
+    ∷ (codes "tag", of_two a_position a_tag SetTag)
+    ∷ (codes "write", of_two a_position an_int WriteInt)
+    ∷ (codes "store", of_two a_position a_position Write)
+    ∷ (codes "scan", of_two a_position a_scanner Scan)
+    ∷ (codes "ask", of_two a_position a_question Ask)
+    ∷ (codes "show", of_one a_position Show)
+    ∷ (codes "debug", of_one a_position Debug)
+    ∷ (codes "hash", of_one a_position Hash)
+    ∷ (codes "op", of_three a_position a_token a_position (λ i op j. Binary op i j))
+    ∷ []
+
+-- the entries of the scope
+abbrev pub scope_forms : Forms
+scope_forms =
+    (codes "push", of_two a_name a_position Push)
+    ∷ (codes "pushdyn", of_two a_name a_position PushDynamic)
+    ∷ (codes "pushconst", of_two a_name a_position PushConstant)
+    ∷ (codes "set", of_two a_name a_position SetEntry)
+    ∷ (codes "setorpush", of_two a_name a_position SetOrPush)
+    ∷ (codes "setvalue", of_two a_name a_position SetValue)
+    ∷ (codes "pop", alone Pop)
+    ∷ (codes "rewind", of_one a_position Rewind)
+    ∷ (codes "clear", alone Clear)
+    ∷ (codes "len", alone Len)
+    ∷ (codes "empty", alone IsEmpty)
+    ∷ (codes "iter", alone Entries)
+    ∷ (codes "names", alone Listed)
+    ∷ (codes "visible", alone KeepVisible)
+    ∷ (codes "copyscope", alone CopyScope)
+    ∷ (codes "showscope", alone ShowScope)
+    ∷ (codes "hashscope", alone HashScope)
+    ∷ (codes "contains", of_one a_name Contains)
+    ∷ (codes "search", of_one a_name Search)
+    ∷ (codes "constant", of_one a_name IsConstant)
+    ∷ (codes "get", of_one a_name Get)
+    ∷ (codes "aliases", of_one a_name Aliases)
+    ∷ (codes "alias", before a_name an_alias SetAlias)
+    ∷ (codes "value", of_two a_name a_kind GetValue)
+    ∷ (codes "ref", of_two a_name a_kind GetRef)
+    ∷ (codes "remove", of_two a_name a_kind Remove)
+    ∷ (codes "refint", of_two a_name an_int SetRef)
+    ∷ (codes "extend", of_all names Extend)
+    ∷ (codes "extendflagged", of_all flagged_names ExtendFlagged)
+    ∷ []
+
+-- cells are marked, parts of values are written, and places in lists are asked for
+abbrev pub place_forms : Forms
+place_forms =
+    (codes "mark", of_one a_place Mark)
+    ∷ (codes "unmark", of_one a_position Unmark)
+    ∷ (codes "writemarked", of_two a_position a_position WriteMarked)
+    ∷ (codes "readmarked", of_one a_position ReadMarked)
+    ∷ (codes "bit", of_three a_place a_bit a_position WriteBit)
+    ∷ (codes "field", of_four a_place an_int a_bit a_position WriteField)
+    ∷ (codes "byte", of_three a_place a_position a_position WriteByte)
+    ∷ (codes "charat", of_three a_place a_position a_position WriteChar)
+    ∷ (codes "slice", of_four a_place a_position a_position a_position (λ p a b j. WriteSlice p a b true j))
+    ∷ (codes "sliceeq", of_four a_place a_position a_position a_position (λ p a b j. WriteSlice p a b false j))
+    ∷ (codes "assign", of_three a_place a_token a_position (λ p op j. Assign op p j))
+    ∷ (codes "offset", of_three a_position an_int an_int Offset)
+    ∷ (codes "index", of_three a_position an_int a_truth Index)
+    ∷ []
+
+-- the first of two forms, where there is one, and else the second
+infixr 5 ◌or_else◌
+abbrev pub ◌or_else◌ : Option Form → Option Form → Option Form
+None or_else next = next
+Some form or_else next = Some form
+
+-- the form of a verb, which stands in one of the tables
+abbrev pub form_of : List ℕ → Option Form
+form_of verb = named value_forms verb or_else named hand_forms verb or_else named scope_forms verb or_else named place_forms verb
+
+-- what a verb and what is left behind it say
+abbrev pub said : List ℕ → Left → Option Command
+said verb left = option_and_then (λ form. form.says left) (form_of verb)
+
+-- what a line says, if it says a command; one that is no text says nothing
+abbrev pub command_of : List ℕ → Option Command
+command_of line = if is_utf8 line then said (word_of line) (left_of line) else None
+
+-- memory is taken to read the line
+abbrev pub TakesMemory : List ℕ → Type 0
+TakesMemory line = IsSomeAnd (form_of (word_of line)) (λ form. form.takes (left_of line) ≡ true)

@@ -1,0 +1,10 @@
+pub mod Words
+pub mod Numbers
+pub mod Vocabulary
+pub mod Rests
+pub mod Forms
+pub mod Cursor
+pub mod Printed
+pub mod Output
+pub mod Fed
+pub mod Faults

@@ -1,0 +1,149 @@
+//! A run over lines: each is answered as soon as it is complete.
+ghost use Rattle.std.specs.Prelude.{◌≡◌, ℕ, List, Option, [], ◌∷◌, ◌++◌, take, Some, OnOk, OnErr, IfErr, IfSome};
+ghost use Rattle.std.specs.Io.KnownBytes.{Appends};
+ghost use Rattle.rhai_run.specs.State.{State};
+ghost use Rattle.rhai_lines.specs.Output.{line_answer, line_state, output_from, output_of_first_from, new_world, output, output_of_first};
+ghost use Rattle.rhai_lines.specs.Fed.{Feeds, StopsWithin, Completes, AnswersWhatIsRead};
+ghost use Rattle.rhai_lines.specs.Faults.{IsNoWriteFault, IsReadFault, IsNoReadFault};
+
+use crate::forms::command;
+use crate::print::{write_answer, write_bad_line};
+use rhai_run::{World, apply};
+use rhai_text::Limits;
+use std::alloc::Global;
+use std::io;
+use std::io::{ErrorKind, Read, Write};
+use thiserror::Error;
+
+/// Why a run over lines stopped before the end of the input.
+#[derive(Debug, Drop, Error)]
+pub enum LinesFault {
+    /// The reader failed, or was read 2^64 - 1 times without an end.
+    #[error("the input can't be read")]
+    Read(io::Error),
+    /// The writer failed.
+    #[error("the answers can't be written")]
+    Write(io::Error),
+    /// Memory was refused.
+    #[error("out of memory")]
+    Memory,
+}
+
+/// Answers a line.
+fn answer_line<W: Write>(
+    alloc: Global,
+    world: &mut World,
+    line: &[u8],
+    writer: &mut W,
+) -> Result<(), LinesFault>
+    ensures state { OnOk result (world.new ≡ line_state world.old line.now) }
+    ensures answer { OnOk result (Appends (W.contents writer.old) (W.contents writer.new) (line_answer world.old line.now)) }
+    ensures fault { IfErr result (λ e. IsNoWriteFault e → W.contents writer.new ≡ W.contents writer.old) }
+    ensures kind { IfErr result IsNoReadFault }
+{
+    let Ok(command) = command(alloc, line) else {
+        return Err(LinesFault::Memory);
+    };
+    let Some(command) = command else {
+        return write_bad_line(writer).map_err(LinesFault::Write);
+    };
+    let Ok(answer) = apply(world, &command) else {
+        return Err(LinesFault::Memory);
+    };
+    write_answer(&answer, writer).map_err(LinesFault::Write)
+}
+
+/// Takes bytes of the input: each line that they complete is answered, and what is left is kept for the next ones.
+fn feed<W: Write>(
+    alloc: Global,
+    world: &mut World,
+    partial: &mut Vec<u8>,
+    bytes: &[u8],
+    writer: &mut W,
+) -> Result<(), LinesFault>
+    ensures fed { OnOk result (Feeds bytes.now partial.old.items world.old (W.contents writer.old) partial.new.items world.new (W.contents writer.new)) }
+    ensures fault { IfErr result (λ e. IsNoWriteFault e → StopsWithin bytes.now partial.old.items world.old (W.contents writer.old) (W.contents writer.new)) }
+    ensures kind { IfErr result IsNoReadFault }
+{
+    for byte in bytes {
+        if *byte == b'\n' {
+            answer_line(alloc, world, partial, writer)?;
+            partial.clear();
+        } else if partial.push(*byte).is_err() {
+            return Err(LinesFault::Memory);
+        }
+    }
+    Ok(())
+}
+
+/// Answers a last line that no line feed ends, if there is one.
+fn finish<W: Write>(
+    alloc: Global,
+    world: &mut World,
+    partial: &[u8],
+    writer: &mut W,
+) -> Result<(), LinesFault>
+    ensures done { OnOk result (Completes partial.now world.old (W.contents writer.old) (W.contents writer.new)) }
+    ensures fault { IfErr result (λ e. IsNoWriteFault e → W.contents writer.new ≡ W.contents writer.old) }
+    ensures kind { IfErr result IsNoReadFault }
+{
+    if partial.is_empty() {
+        return Ok(());
+    }
+    answer_line(alloc, world, partial, writer)?;
+    writer.flush().map_err(LinesFault::Write)
+}
+
+/// Answers the lines of all that the reader gives.
+fn answer_input<R: Read, W: Write>(
+    alloc: Global,
+    world: &mut World,
+    reader: &mut R,
+    writer: &mut W,
+) -> Result<(), LinesFault>
+    ensures done { OnOk result (IfSome (R.remaining reader.old) (λ input. Appends (W.contents writer.old) (W.contents writer.new) (output_from world.old input))) }
+    ensures end { OnOk result (IfSome (R.remaining reader.old) (λ _. R.remaining reader.new ≡ Some [])) }
+    ensures fault { IfErr result (λ e. IsNoWriteFault e → IfSome (R.remaining reader.old) (λ input. (n : ℕ) × Appends (W.contents writer.old) (W.contents writer.new) (output_of_first_from world.old n input))) }
+    ensures read { IfErr result (λ e. IsReadFault e → IfSome (R.remaining reader.old) (λ input. AnswersWhatIsRead world.old input (R.remaining reader.new) (W.contents writer.old) (W.contents writer.new))) }
+{
+    let mut partial = Vec::new(alloc);
+    let mut buffer = [0; 4096];
+    for _turn in 0..u64::MAX {
+        let count = match reader.read(&mut buffer) {
+            Ok(count) => count,
+            Err(error) if error.kind() == ErrorKind::Interrupted => continue,
+            Err(error) => return Err(LinesFault::Read(error)),
+        };
+        if count == 0 {
+            return finish(alloc, world, &partial, writer);
+        }
+        let bytes = &buffer[..count];
+        feed(alloc, world, &mut partial, bytes, writer)?;
+        // The answers go out before a read that may wait.
+        if bytes.contains(&b'\n') {
+            writer.flush().map_err(LinesFault::Write)?;
+        }
+    }
+    Err(LinesFault::Read(io::Error::other("the input has no end")))
+}
+
+/// Reads lines until the end of the input, does on a new world the command that each says, and writes an answer for each: the
+/// README.md has both. Lines end with a line feed; the last one may end with the input.
+///
+/// A line is answered as soon as it is complete, and the writer is flushed before the next read. Memory is taken for the world and for
+/// the longest line. After a `Read` or `Memory` the first lines have their answers, each whole; after a `Write` the writer knows how much it took.
+pub fn run_lines<R: Read, W: Write>(
+    alloc: Global,
+    reader: &mut R,
+    writer: &mut W,
+) -> Result<(), LinesFault>
+    ensures done { OnOk result (IfSome (R.remaining reader.old) (λ input. Appends (W.contents writer.old) (W.contents writer.new) (output input))) }
+    ensures end { OnOk result (IfSome (R.remaining reader.old) (λ _. R.remaining reader.new ≡ Some [])) }
+    ensures fault { IfErr result (λ e. IsNoWriteFault e → IfSome (R.remaining reader.old) (λ input. (n : ℕ) × Appends (W.contents writer.old) (W.contents writer.new) (output_of_first n input))) }
+    ensures read { IfErr result (λ e. IsReadFault e → IfSome (R.remaining reader.old) (λ input. AnswersWhatIsRead new_world input (R.remaining reader.new) (W.contents writer.old) (W.contents writer.new))) }
+{
+    let mut world = World::new(alloc, Limits { text: 0, items: 0 });
+    let outcome = answer_input(alloc, &mut world, reader, writer);
+    world.close();
+    outcome
+}

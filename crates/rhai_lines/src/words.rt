@@ -1,0 +1,136 @@
+//! The words of a line, one after another.
+ghost use Rattle.std.specs.Prelude.{◌≡◌, true, Some, None, ◌∷◌, ℕ, List, false, IfOk, IfErr, IfSome, IfNone};
+ghost use Rattle.std.specs.Str.{chars};
+ghost use Rattle.rhai_lines.specs.declared.words.NoCommand.TheVariants.{BadLine, Memory as no_memory};
+ghost use Rattle.rhai_lines.specs.Words.{word_of, left_of, next_word, is_name, name_of, named, truths, a_name, a_truth, Word as reading};
+ghost use Rattle.rhai_lines.specs.Cursor.{left_in, Reads, Yields};
+
+use rhai_text::ImmutableString;
+use std::alloc::{AllocError, Global};
+
+/// Why a line gives no command: it says none, or memory is refused.
+#[derive(Drop)]
+pub(crate) enum NoCommand {
+    BadLine,
+    Memory,
+}
+
+impl From<AllocError> for NoCommand {
+    ghost from_gives = { λ error result. result ≡ no_memory };
+
+    fn from(_error: AllocError) -> NoCommand {
+        NoCommand::Memory
+    }
+}
+
+/// A value that a word says, or a word and the one behind it.
+pub(crate) trait Word: Sized + Drop {
+    ghost word: { reading Self };
+
+    /// The value, and what is left behind it.
+    fn read(alloc: Global, left: Option<&str>) -> Result<(Self, Option<&str>), NoCommand>
+        ensures { Reads result word (left_in left.entry) };
+}
+
+/// The first word of a text, and what is left behind it.
+pub(crate) fn first_word(text: &str) -> (&str, Option<&str>)
+    ensures word { result.0.now ≡ word_of text.now }
+    ensures left { left_in result.1 ≡ left_of text.now }
+{
+    match text.split_once(' ') {
+        Some((word, left)) => (word, Some(left)),
+        None => (text, None),
+    }
+}
+
+/// The next word of what is left of a line.
+pub(crate) fn next_word(left: Option<&str>) -> Result<(&str, Option<&str>), NoCommand>
+    ensures ok { IfOk result (λ p. next_word (λ w. Some w) (left_in left.entry) ≡ Some (p.0.now, left_in p.1)) }
+    ensures err { IfErr result (λ e. (e ≡ BadLine) × (left_in left.entry ≡ None)) }
+{
+    match left {
+        Some(text) => Ok(first_word(text)),
+        None => Err(NoCommand::BadLine),
+    }
+}
+
+fn truth_in(word: &str) -> Option<bool>
+    ensures { result ≡ named truths word.now }
+{
+    match word {
+        "true" => Some(true),
+        "false" => Some(false),
+        _ => None,
+    }
+}
+
+impl Word for bool {
+    ghost word = { a_truth };
+
+    fn read(_alloc: Global, left: Option<&str>) -> Result<(bool, Option<&str>), NoCommand> {
+        let (word, left) = next_word(left)?;
+        Ok((truth_in(word).ok_or(NoCommand::BadLine)?, left))
+    }
+}
+
+/// Whether the word is one or more ASCII letters, digits and underscores.
+pub(crate) fn is_name(word: &[u8]) -> bool
+    ensures { result ≡ is_name word.now }
+{
+    if word.is_empty() {
+        return false;
+    }
+    for byte in word {
+        if !byte.is_ascii_alphanumeric() && *byte != b'_' {
+            return false;
+        }
+    }
+    true
+}
+
+/// Bytes as a text, if they are one: those of a name are.
+#[tactic(auto, using(crate::proofs::MarkedWords::name_is_text))]
+fn text_of(bytes: &[u8]) -> Option<&str>
+    ensures some { IfSome result (λ text. text.now ≡ bytes.now) }
+    ensures none { IfNone result (is_name bytes.now ≡ false) }
+{
+    match str::from_utf8(bytes) {
+        Ok(text) => Some(text),
+        Err(_) => None,
+    }
+}
+
+/// What stands behind a mark that a word begins with.
+#[tactic(auto, using(crate::proofs::MarkedWords::no_name_behind))]
+pub(crate) fn behind(word: &str, mark: u8) -> Option<&str>
+    ensures some { IfSome result (λ name. word.now ≡ mark ∷ name.now) }
+    ensures none { IfNone result ((name : List ℕ) → word.now ≡ mark ∷ name → is_name name ≡ false) }
+{
+    match word.as_bytes() {
+        [first, name @ ..] if *first == mark => text_of(name),
+        _ => None,
+    }
+}
+
+/// The name that a word is.
+#[tactic(auto, using(crate::proofs::Names::name_chars, crate::proofs::Names::no_name))]
+pub(crate) fn name(alloc: Global, word: &str) -> Result<ImmutableString, NoCommand>
+    ensures { Yields result (name_of word.now) (λ n. true) }
+{
+    if !is_name(word.as_bytes()) {
+        return Err(NoCommand::BadLine);
+    }
+    Ok(ImmutableString::from_str(alloc, word)?)
+}
+
+impl Word for ImmutableString {
+    ghost word = { a_name };
+
+    fn read(
+        alloc: Global,
+        left: Option<&str>,
+    ) -> Result<(ImmutableString, Option<&str>), NoCommand> {
+        let (word, left) = next_word(left)?;
+        Ok((name(alloc, word)?, left))
+    }
+}

@@ -1,7 +1,0 @@
-use Rattle.std.proofs.Common.{take}
-use Rattle.rhai_world.specs.Fed.{Feeds}
-use Rattle.rhai_world.proofs.lines.feed.Given as goal
-
-abbrev pub invariant-loop-byte : goal.invariant-loop-byte
-invariant-loop-byte g l =
-    Feeds (take l.byte-index l.bytes) l.fn.partial.items l.fn.world (g.W.Write.contents l.fn.writer) l.partial.items l.world (g.W.Write.contents l.writer)

@@ -8,7 +8,7 @@ use Rattle.std.specs.List.{position_or_len, after_first}
 use Rattle.std.proofs.lemmas.Str.{IsUtf8-from_is_utf8, is_utf8-from_IsUtf8}
 use Rattle.std.proofs.lemmas.Str.Pattern.{IsSplitOnceResult, split_once_first}
 use Rattle.rhai_lines.specs.Words.{is_space, word_of, left_of}
-use Rattle.rhai_lines.specs.Forms.{said, command_of}
+use Rattle.rhai_lines.specs.Forms.{form_of, said, command_of}
 
 cut : (bs : List ℕ) → position_or_len is_space bs < length bs → Some (after_first is_space bs) ≡ left_of bs
 cut bs l =
@@ -32,12 +32,12 @@ word-whole bs r h e =
     let m = rw e at k in
     (sym (ap (λ n. take n bs) m ∙ take_all (length bs) bs (omega arith)), whole bs m)
 
-pub command_of-text : (line text : List ℕ) → text ≡ line → IsUtf8 line → command_of line ≡ said (word_of text) (left_of text)
-command_of-text line text t u = ap (λ b. if b then said (word_of line) (left_of line) else None) (is_utf8-from_IsUtf8 line u) ∙ ap (λ l. said (word_of l) (left_of l)) (sym t)
+pub command_of-text : (line text : List ℕ) → text ≡ line → IsUtf8 line → command_of line ≡ said (form_of (word_of text)) (left_of text)
+command_of-text line text t u = ap (λ b. if b then said (form_of (word_of line)) (left_of line) else None) (is_utf8-from_IsUtf8 line u) ∙ ap (λ l. said (form_of (word_of l)) (left_of l)) (sym t)
 
 pub command_of-no_text : (line : List ℕ) → (IsUtf8 line → ⊥) → command_of line ≡ None
 command_of-no_text line n =
-    elim (is_utf8 line) as (λ b. is_utf8 line ≡ b → (if b then said (word_of line) (left_of line) else None) ≡ None) [
+    elim (is_utf8 line) as (λ b. is_utf8 line ≡ b → (if b then said (form_of (word_of line)) (left_of line) else None) ≡ None) [
       | true ↦ λ e. absurd (n (IsUtf8-from_is_utf8 line e))
       | false ↦ λ e. refl
     ] refl

@@ -9,3 +9,10 @@ pub mod Tables
 pub mod Prints
 pub mod Feeds
 pub mod Reaches
+pub mod Added
+pub mod Spoken
+pub mod SaysBack
+pub mod WordsBack
+pub mod RestsBack
+pub mod LinesBack
+pub mod Replays

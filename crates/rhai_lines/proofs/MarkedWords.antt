@@ -17,7 +17,7 @@ use Rattle.rhai_lines.proofs.Names.{name_is_ascii, no_name}
 pub place_behind : (word name : List ℕ) → word ≡ 64 ∷ name → place_of word ≡ option_map place.Entry (name_of name)
 place_behind word name e = ap place_of e
 
-no_digits : (bs : List ℕ) → whole_number_of (64 ∷ bs) ≡ None
+pub no_digits : (bs : List ℕ) → whole_number_of (64 ∷ bs) ≡ None
 no_digits bs = by (nat_lt 0 (length (64 ∷ bs)))
   where
     by : (t : Bool) → (if t && list_all is_ascii_digit (64 ∷ bs) then Some (digits_value 10 (64 ∷ bs)) else None) ≡ None
@@ -47,7 +47,7 @@ place_takes word name e h = rw e (entry_takes (name_of name) h)
 pub flagged_behind : (word name : List ℕ) → word ≡ 33 ∷ name → flagged_of word ≡ option_map (λ n. (n, true)) (name_of name)
 flagged_behind word name e = ap flagged_of e
 
-no_mark : (bs : List ℕ) → is_name (33 ∷ bs) ≡ false
+pub no_mark : (bs : List ℕ) → is_name (33 ∷ bs) ≡ false
 no_mark bs = by (nat_lt 0 (length (33 ∷ bs)))
   where
     by : (t : Bool) → (t && list_all is_name_byte (33 ∷ bs)) ≡ false

@@ -1,12 +1,13 @@
 -- What the reader of a line owes.
-use Rattle.std.specs.Prelude.{◌≡◌, ℕ, Bool, true, List, Option, Some, None, IsSomeAnd, Result, Ok, Err}
+use Rattle.std.specs.Prelude.{◌≡◌, ℕ, ◌++◌, ⊤, Bool, true, false, List, Option, Some, None, IsSomeAnd, Result, Ok, Err}
 use Rattle.std.specs.Borrow.{Bor}
+use Rattle.std.specs.declared.alloc.AllocError.{AllocError}
 use Rattle.rhai_run.specs.declared.command.Command.{Command}
 use Rattle.rhai_lines.specs.declared.words.NoCommand.{NoCommand}
 use Rattle.rhai_lines.specs.declared.words.NoCommand.TheVariants.{BadLine, Memory}
 use Rattle.rhai_lines.specs.Words.{Left, Word}
 use Rattle.rhai_lines.specs.Rests.{Rest}
-use Rattle.rhai_lines.specs.Forms.{Form}
+use Rattle.rhai_lines.specs.Forms.{Form, said}
 
 -- what is left behind the words that are read, as its bytes
 abbrev pub left_in : Option (Bor (List ℕ)) → Left
@@ -35,9 +36,14 @@ abbrev pub Finds : {A : Type 0} → Result A NoCommand → Rest A → Left → T
 Finds (Ok a) rest left = rest.says left ≡ Some a
 Finds (Err e) rest left = Lacks e rest left
 
--- The form of the verb says the command; or there is no form; or there is one, and what is left says nothing in it; or memory was refused where it is taken.
-abbrev pub Says : Result (Option Command) NoCommand → Option Form → Left → Type 0
-Says (Ok (Some c)) form left = IsSomeAnd form (λ f. f.says left ≡ Some c)
-Says (Ok None) form left = form ≡ None
-Says (Err BadLine) form left = IsSomeAnd form (λ f. f.says left ≡ None)
+-- The form says the command; or there is no form, or what is left says nothing in it; or memory was refused where it is taken.
+abbrev pub Says : Result Command NoCommand → Option Form → Left → Type 0
+Says (Ok c) form left = IsSomeAnd form (λ f. f.says left ≡ Some c)
+Says (Err BadLine) form left = said form left ≡ None
 Says (Err Memory) form left = IsSomeAnd form (λ f. f.takes left ≡ true)
+
+-- The bytes of a value are added, where there are such.
+abbrev pub Adds : Result Bool AllocError → Option (List ℕ) → List ℕ → List ℕ → Type 0
+Adds (Ok true) said old new = IsSomeAnd said (λ bytes. new ≡ old ++ bytes)
+Adds (Ok false) said old new = said ≡ None
+Adds (Err e) said old new = ⊤

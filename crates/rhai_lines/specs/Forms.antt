@@ -1,5 +1,5 @@
 -- The forms of line: which command a verb and what stands behind it say.
-use Rattle.std.specs.Prelude.{ℕ, true, false, if◌then◌else◌, List, [], ◌∷◌, Option, Some, None, option_map, option_and_then, IsSomeAnd, codes, ◌≡◌}
+use Rattle.std.specs.Prelude.{ℕ, Bool, true, false, if◌then◌else◌, List, [], ◌∷◌, Option, Some, None, option_map, option_and_then, IsSomeAnd, codes, ◌≡◌}
 use Rattle.std.specs.Str.{is_utf8}
 use Rattle.rhai_run.specs.declared.command.Command.{Command}
 use Rattle.rhai_run.specs.declared.command.Command.TheVariants.{Put, MakeArray, MakeMap, MakeFn, Copy, Take, Drop, Share, Flatten, FlattenClone, Cast, MakeReadOnly, SetTag, Ask, WriteInt, Write, Binary, Assign, Scan, Push, PushDynamic, PushConstant, SetEntry, SetOrPush, SetValue, Pop, Rewind, Clear, Len, IsEmpty, Contains, Search, IsConstant, Get, GetValue, GetRef, SetRef, Remove, SetAlias, Aliases, KeepVisible, CopyScope, Entries, Names as Listed, Extend, ExtendFlagged, ShowScope, HashScope, Mark, Unmark, WriteMarked, ReadMarked, WriteBit, WriteField, WriteByte, WriteChar, WriteSlice, Offset, Index, Show, Debug, Hash}
@@ -7,11 +7,12 @@ use Rattle.rhai_run.specs.declared.command.Literal.TheVariants.{Unit, Bool as Tr
 use Rattle.rhai_lines.specs.Words.{Left, Word, word_of, left_of, named, a_name, a_truth}
 use Rattle.rhai_lines.specs.Numbers.{a_position, a_bit, an_int, a_tag}
 use Rattle.rhai_lines.specs.Vocabulary.{a_kind, a_token, a_question, a_scanner, a_host, a_place}
-use Rattle.rhai_lines.specs.Rests.{Rest, alone, one, two, three, four, before, names, flagged_names, an_alias, a_char, a_text, a_blob}
+use Rattle.rhai_lines.specs.Rests.{Rest, alone, one, two, three, four, names, flagged_names, a_name_and_alias, a_char, a_text, a_blob}
 
--- The form of a line behind its verb, and tables of verbs and forms.
-abbrev pub Form : Type 0
-Form = Rest Command
+-- The form of a line behind its verb: the command that is said, and whether memory is taken; and tables of verbs and forms.
+pub record Form : Type 0 where
+  pub says : Left → Option Command
+  pub takes : Left → Bool
 
 abbrev pub Forms : Type 0
 Forms = List (List ℕ × Form)
@@ -19,6 +20,9 @@ Forms = List (List ℕ × Form)
 -- the command that is made of what is said
 abbrev pub of_all : {A : Type 0} → Rest A → (A → Command) → Form
 of_all rest make = record { says = λ left. option_map make (rest.says left); takes = rest.takes }
+
+abbrev pub of_none : Command → Form
+of_none c = of_all (alone c) (λ a. a)
 
 abbrev pub of_one : {A : Type 0} → Word A → (A → Command) → Form
 of_one first make = of_all (one first) make
@@ -35,7 +39,7 @@ of_four first second third fourth make = of_all (four first second third fourth)
 -- a value is made anew
 abbrev pub value_forms : Forms
 value_forms =
-    (codes "unit", alone (Put Unit))
+    (codes "unit", of_none (Put Unit))
     ∷ (codes "bool", of_one a_truth (λ b. Put (Truth b)))
     ∷ (codes "int", of_one an_int (λ n. Put (Int n)))
     ∷ (codes "host", of_one a_host (λ h. Put (Hosted h)))
@@ -46,7 +50,7 @@ value_forms =
     ∷ (codes "blob", of_all a_blob (λ bytes. Put (Blob bytes)))
     ∷ []
 
--- the values of the hand are made of others, moved, changed and asked
+-- values of the hand are made of others and moved
 abbrev pub hand_forms : Forms
 hand_forms =
     (codes "array", of_one a_position MakeArray)
@@ -56,9 +60,14 @@ hand_forms =
     ∷ (codes "flatclone", of_one a_position FlattenClone)
     ∷ (codes "cast", of_two a_position a_kind Cast)
     ∷ (codes "take", of_one a_position Take)
-    ∷ (codes "drop", alone Drop)
+    ∷ (codes "drop", of_none Drop)
     ∷ (codes "share", of_one a_position Share)
-    ∷ (codes "flatten", of_one a_position Flatten)
+    ∷ []
+
+-- values of the hand are changed, asked and printed
+abbrev pub change_forms : Forms
+change_forms =
+    (codes "flatten", of_one a_position Flatten)
     ∷ (codes "readonly", of_one a_position MakeReadOnly)
     ∷ (codes "tag", of_two a_position a_tag SetTag)
     ∷ (codes "write", of_two a_position an_int WriteInt)
@@ -71,56 +80,71 @@ hand_forms =
     ∷ (codes "op", of_three a_position a_token a_position (λ i op j. Binary op i j))
     ∷ []
 
--- the entries of the scope
-abbrev pub scope_forms : Forms
-scope_forms =
+-- entries of the scope come, go and are written over
+abbrev pub entry_forms : Forms
+entry_forms =
     (codes "push", of_two a_name a_position Push)
     ∷ (codes "pushdyn", of_two a_name a_position PushDynamic)
     ∷ (codes "pushconst", of_two a_name a_position PushConstant)
     ∷ (codes "set", of_two a_name a_position SetEntry)
     ∷ (codes "setorpush", of_two a_name a_position SetOrPush)
     ∷ (codes "setvalue", of_two a_name a_position SetValue)
-    ∷ (codes "pop", alone Pop)
+    ∷ (codes "pop", of_none Pop)
     ∷ (codes "rewind", of_one a_position Rewind)
-    ∷ (codes "clear", alone Clear)
-    ∷ (codes "len", alone Len)
-    ∷ (codes "empty", alone IsEmpty)
-    ∷ (codes "iter", alone Entries)
-    ∷ (codes "names", alone Listed)
-    ∷ (codes "visible", alone KeepVisible)
-    ∷ (codes "copyscope", alone CopyScope)
-    ∷ (codes "showscope", alone ShowScope)
-    ∷ (codes "hashscope", alone HashScope)
+    ∷ (codes "clear", of_none Clear)
+    ∷ (codes "visible", of_none KeepVisible)
+    ∷ (codes "copyscope", of_none CopyScope)
+    ∷ []
+
+-- the scope is asked, and lists of entries are added to it
+abbrev pub scope_forms : Forms
+scope_forms =
+    (codes "len", of_none Len)
+    ∷ (codes "empty", of_none IsEmpty)
+    ∷ (codes "iter", of_none Entries)
+    ∷ (codes "names", of_none Listed)
+    ∷ (codes "showscope", of_none ShowScope)
+    ∷ (codes "hashscope", of_none HashScope)
     ∷ (codes "contains", of_one a_name Contains)
     ∷ (codes "search", of_one a_name Search)
     ∷ (codes "constant", of_one a_name IsConstant)
-    ∷ (codes "get", of_one a_name Get)
-    ∷ (codes "aliases", of_one a_name Aliases)
-    ∷ (codes "alias", before a_name an_alias SetAlias)
-    ∷ (codes "value", of_two a_name a_kind GetValue)
-    ∷ (codes "ref", of_two a_name a_kind GetRef)
-    ∷ (codes "remove", of_two a_name a_kind Remove)
-    ∷ (codes "refint", of_two a_name an_int SetRef)
     ∷ (codes "extend", of_all names Extend)
     ∷ (codes "extendflagged", of_all flagged_names ExtendFlagged)
     ∷ []
 
--- cells are marked, parts of values are written, and places in lists are asked for
-abbrev pub place_forms : Forms
-place_forms =
+-- the last entry of a name
+abbrev pub name_forms : Forms
+name_forms =
+    (codes "get", of_one a_name Get)
+    ∷ (codes "aliases", of_one a_name Aliases)
+    ∷ (codes "alias", of_all a_name_and_alias (λ p. SetAlias p.0 p.1))
+    ∷ (codes "value", of_two a_name a_kind GetValue)
+    ∷ (codes "ref", of_two a_name a_kind GetRef)
+    ∷ (codes "remove", of_two a_name a_kind Remove)
+    ∷ (codes "refint", of_two a_name an_int SetRef)
+    ∷ []
+
+-- cells are marked, and places in lists are asked for
+abbrev pub mark_forms : Forms
+mark_forms =
     (codes "mark", of_one a_place Mark)
     ∷ (codes "unmark", of_one a_position Unmark)
     ∷ (codes "writemarked", of_two a_position a_position WriteMarked)
     ∷ (codes "readmarked", of_one a_position ReadMarked)
-    ∷ (codes "bit", of_three a_place a_bit a_position WriteBit)
+    ∷ (codes "offset", of_three a_position an_int an_int Offset)
+    ∷ (codes "index", of_three a_position an_int a_truth Index)
+    ∷ []
+
+-- parts of values are written
+abbrev pub part_forms : Forms
+part_forms =
+    (codes "bit", of_three a_place a_bit a_position WriteBit)
     ∷ (codes "field", of_four a_place an_int a_bit a_position WriteField)
     ∷ (codes "byte", of_three a_place a_position a_position WriteByte)
     ∷ (codes "charat", of_three a_place a_position a_position WriteChar)
     ∷ (codes "slice", of_four a_place a_position a_position a_position (λ p a b j. WriteSlice p a b true j))
     ∷ (codes "sliceeq", of_four a_place a_position a_position a_position (λ p a b j. WriteSlice p a b false j))
     ∷ (codes "assign", of_three a_place a_token a_position (λ p op j. Assign op p j))
-    ∷ (codes "offset", of_three a_position an_int an_int Offset)
-    ∷ (codes "index", of_three a_position an_int a_truth Index)
     ∷ []
 
 -- the first of two forms, where there is one, and else the second
@@ -129,17 +153,38 @@ abbrev pub ◌or_else◌ : Option Form → Option Form → Option Form
 None or_else next = next
 Some form or_else next = Some form
 
--- the form of a verb, which stands in one of the tables
-abbrev pub form_of : List ℕ → Option Form
-form_of verb = named value_forms verb or_else named hand_forms verb or_else named scope_forms verb or_else named place_forms verb
+-- the form of a verb, looked for in the tables one after another
+unfoldable pub from_parts : List ℕ → Option Form
+from_parts verb = named part_forms verb
 
--- what a verb and what is left behind it say
-abbrev pub said : List ℕ → Left → Option Command
-said verb left = option_and_then (λ form. form.says left) (form_of verb)
+unfoldable pub from_marks : List ℕ → Option Form
+from_marks verb = named mark_forms verb or_else from_parts verb
+
+unfoldable pub from_names : List ℕ → Option Form
+from_names verb = named name_forms verb or_else from_marks verb
+
+unfoldable pub from_scope : List ℕ → Option Form
+from_scope verb = named scope_forms verb or_else from_names verb
+
+unfoldable pub from_entries : List ℕ → Option Form
+from_entries verb = named entry_forms verb or_else from_scope verb
+
+unfoldable pub from_changes : List ℕ → Option Form
+from_changes verb = named change_forms verb or_else from_entries verb
+
+unfoldable pub from_hand : List ℕ → Option Form
+from_hand verb = named hand_forms verb or_else from_changes verb
+
+unfoldable pub form_of : List ℕ → Option Form
+form_of verb = named value_forms verb or_else from_hand verb
+
+-- what a form says of what is left, where there is one
+abbrev pub said : Option Form → Left → Option Command
+said form left = option_and_then (λ f. f.says left) form
 
 -- what a line says, if it says a command; one that is no text says nothing
 abbrev pub command_of : List ℕ → Option Command
-command_of line = if is_utf8 line then said (word_of line) (left_of line) else None
+command_of line = if is_utf8 line then said (form_of (word_of line)) (left_of line) else None
 
 -- memory is taken to read the line
 abbrev pub TakesMemory : List ℕ → Type 0

@@ -1,9 +1,10 @@
 -- What is written for an input.
-use Rattle.std.specs.Prelude.{ℕ, List, [], ◌∷◌, ◌++◌, take, length, Option, Some, None, if◌then◌else◌, ◌==◌, codes}
+use Rattle.std.specs.Prelude.{ℕ, List, [], ◌∷◌, ◌++◌, flat_map, take, length, Option, Some, None, if◌then◌else◌, ◌==◌, codes}
 use Rattle.std.specs.List.{slice_split}
 use Rattle.rhai_run.specs.declared.command.Command.{Command}
 use Rattle.rhai_run.specs.State.{State, empty_state}
 use Rattle.rhai_run.specs.Step.{step}
+use Rattle.rhai_run.specs.Machine.{replies}
 use Rattle.rhai_lines.specs.Printed.{printed}
 use Rattle.rhai_lines.specs.Forms.{command_of}
 
@@ -59,3 +60,7 @@ output input = output_from new_world input
 
 abbrev pub output_of_first : ℕ → List ℕ → List ℕ
 output_of_first n input = output_of_first_from new_world n input
+
+-- what is written for commands that a world is told
+abbrev pub output_of_commands : State → List Command → List ℕ
+output_of_commands w commands = flat_map (λ reply. printed reply ++ 10 ∷ []) (replies w commands)

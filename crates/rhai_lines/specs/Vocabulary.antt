@@ -1,7 +1,10 @@
 -- The kinds, the operators, the questions, the scanners, the numbers of the host and the places of a line.
-use Rattle.std.specs.Prelude.{ℕ, Bool, true, false, ◌==◌, List, [], ◌∷◌, Option, Some, None, option_map, codes, bytes_eq, if◌then◌else◌}
+use Rattle.std.specs.Prelude.{ℕ, Bool, true, false, ◌==◌, List, [], ◌∷◌, ◌++◌, Option, Some, None, option_map, codes, bytes_eq, if◌then◌else◌}
 use Rattle.rhai_text.specs.declared.token.Token.{Token}
 use Rattle.rhai_text.specs.declared.token.Token.TheVariants.{Plus, Minus, Multiply, Divide, Modulo, PowerOf, RightShift, LeftShift, Ampersand, Pipe, XOr, EqualsTo, NotEqualsTo, GreaterThan, GreaterThanEqualsTo, LessThan, LessThanEqualsTo, ExclusiveRange, InclusiveRange, Equals, PlusAssign, MinusAssign, MultiplyAssign, DivideAssign, ModuloAssign, PowerOfAssign, RightShiftAssign, LeftShiftAssign, AndAssign, OrAssign, XOrAssign}
+use denote.Enum.Bare.{sameb}
+use Rattle.rhai_text.specs.contracts.token.Token as token
+use Rattle.rhai_value.specs.Types.{is_type}
 use Rattle.rhai_value.specs.declared.type_id.TypeId.{TypeId}
 use Rattle.rhai_value.specs.declared.type_id.TypeId.TheVariants as kind
 use Rattle.rhai_run.specs.declared.command.Question.{Question}
@@ -12,11 +15,11 @@ use Rattle.rhai_run.specs.declared.command.Place.{Place}
 use Rattle.rhai_run.specs.declared.command.Place.TheVariants as place
 use Rattle.rhai_value.specs.declared.host.Host.{Host}
 use Rattle.rhai_value.specs.declared.host.Host.TheVariants as host
-use Rattle.rhai_lines.specs.Words.{Left, Word, next_word, a_word, told, named, name_of}
-use Rattle.rhai_lines.specs.Numbers.{unsigned_of, signed_of, a_position, a_tag}
+use Rattle.rhai_lines.specs.Words.{Left, Word, next_word, a_word, told, named, called, name_of, a_name}
+use Rattle.rhai_lines.specs.Numbers.{unsigned_of, unsigned_word, signed_of, signed_word, a_position, a_tag}
 
 -- the names of types
-abbrev pub kinds : List (List ℕ × TypeId)
+unfoldable pub kinds : List (List ℕ × TypeId)
 kinds =
     (codes "()", kind.Unit)
     ∷ (codes "bool", kind.Bool)
@@ -43,11 +46,11 @@ kinds =
     ∷ (codes "<shared>", kind.Shared)
     ∷ []
 
-abbrev pub a_kind : Word TypeId
-a_kind = a_word (named kinds)
+unfoldable pub a_kind : Word TypeId
+a_kind = a_word (named kinds) (called is_type kinds)
 
 -- the operators between two operands, and those that assign
-abbrev pub operators : List (List ℕ × Token)
+unfoldable pub operators : List (List ℕ × Token)
 operators =
     (codes "+", Plus)
     ∷ (codes "-", Minus)
@@ -82,8 +85,11 @@ operators =
     ∷ (codes "^=", XOrAssign)
     ∷ []
 
-abbrev pub a_token : Word Token
-a_token = a_word (named operators)
+abbrev pub is_token : Token → Token → Bool
+is_token s t = sameb token.the_type s t
+
+unfoldable pub a_token : Word Token
+a_token = a_word (named operators) (called is_token operators)
 
 -- the questions of one word; two more name a type behind it
 abbrev pub plain_questions : List (List ℕ × Question)
@@ -107,12 +113,31 @@ question_by word rest =
     if bytes_eq word (codes "held") then told (a_kind.reads rest) (λ k more. Some (question.Held k, more)) else
     option_map (λ q. (q, rest)) (named plain_questions word)
 
--- a value that its first word and the words behind it say
-abbrev pub words_by : {A : Type 0} → (List ℕ → Left → Option (A × Left)) → Word A
-words_by by = record { reads = λ left. told (next_word (λ word. Some word) left) by; takes = λ a. false }
+-- a word, and the words of one more value behind it
+abbrev pub with_word : List ℕ → Option (List ℕ) → Option (List ℕ)
+with_word word more = option_map (λ w. word ++ 32 ∷ w) more
 
-abbrev pub a_question : Word Question
-a_question = words_by question_by
+abbrev pub question_words : Question → Option (List ℕ)
+question_words question.Tag = Some (codes "tag")
+question_words question.Variant = Some (codes "variant")
+question_words question.Shared = Some (codes "shared")
+question_words question.ReadOnly = Some (codes "readonly")
+question_words question.Locked = Some (codes "locked")
+question_words question.TypeName = Some (codes "type")
+question_words (question.Held k) = with_word (codes "held") (a_kind.spells k)
+question_words question.Hashable = Some (codes "hashable")
+question_words (question.Is k) = with_word (codes "is") (a_kind.spells k)
+question_words question.Unit = Some (codes "unit")
+question_words question.Int = Some (codes "int")
+question_words question.Bool = Some (codes "bool")
+question_words question.Char = Some (codes "char")
+
+-- a value that its first word and the words behind it say
+abbrev pub words_by : {A : Type 0} → (List ℕ → Left → Option (A × Left)) → (A → Option (List ℕ)) → Word A
+words_by by spells = record { reads = λ left. told (next_word (λ word. Some word) left) by; takes = λ a. false; spells = spells }
+
+unfoldable pub a_question : Word Question
+a_question = words_by question_by question_words
 
 -- the scanners
 abbrev pub scanner_by : List ℕ → Left → Option (Scanner × Left)
@@ -123,8 +148,14 @@ scanner_by word rest =
     if bytes_eq word (codes "cut") then told (a_position.reads rest) (λ n more. Some (Cut n, more)) else
     None
 
-abbrev pub a_scanner : Word Scanner
-a_scanner = words_by scanner_by
+abbrev pub scanner_words : Scanner → Option (List ℕ)
+scanner_words (Tags t) = with_word (codes "tags") (a_tag.spells t)
+scanner_words Zero = Some (codes "zero")
+scanner_words NoShare = Some (codes "noshare")
+scanner_words (Cut n) = with_word (codes "cut") (a_position.spells n)
+
+unfoldable pub a_scanner : Word Scanner
+a_scanner = words_by scanner_by scanner_words
 
 -- a number of one of the host's types: the name of the type, and the number in its range
 abbrev pub host_of : List ℕ → List ℕ → Option Host
@@ -140,8 +171,21 @@ host_of kind word =
     if bytes_eq kind (codes "i128") then option_map host.I128 (signed_of 127 word) else
     None
 
-abbrev pub a_host : Word Host
-a_host = words_by (λ kind. next_word (host_of kind))
+abbrev pub host_words : Host → Option (List ℕ)
+host_words (host.U8 n) = with_word (codes "u8") (unsigned_word 8 n)
+host_words (host.U16 n) = with_word (codes "u16") (unsigned_word 16 n)
+host_words (host.U32 n) = with_word (codes "u32") (unsigned_word 32 n)
+host_words (host.U64 n) = with_word (codes "u64") (unsigned_word 64 n)
+host_words (host.U128 n) = with_word (codes "u128") (unsigned_word 128 n)
+host_words (host.I8 n) = with_word (codes "i8") (signed_word 7 n)
+host_words (host.I16 n) = with_word (codes "i16") (signed_word 15 n)
+host_words (host.I32 n) = with_word (codes "i32") (signed_word 31 n)
+host_words (host.I128 n) = with_word (codes "i128") (signed_word 127 n)
+host_words (host.ExclusiveRange r) = None
+host_words (host.InclusiveRange r) = None
+
+unfoldable pub a_host : Word Host
+a_host = words_by (λ kind. next_word (host_of kind)) host_words
 
 -- a place: a hand position, or the name of an entry behind an at sign (64)
 abbrev pub place_of : List ℕ → Option Place
@@ -152,5 +196,9 @@ abbrev pub names_entry : Place → Bool
 names_entry (place.Hand i) = false
 names_entry (place.Entry name) = true
 
-abbrev pub a_place : Word Place
-a_place = record { reads = next_word place_of; takes = names_entry }
+abbrev pub place_word : Place → Option (List ℕ)
+place_word (place.Hand i) = a_position.spells i
+place_word (place.Entry name) = option_map (λ n. 64 ∷ n) (a_name.spells name)
+
+unfoldable pub a_place : Word Place
+a_place = record { reads = next_word place_of; takes = names_entry; spells = place_word }

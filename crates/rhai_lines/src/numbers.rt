@@ -1,11 +1,11 @@
 //! The numbers of a line.
-ghost use Rattle.std.specs.Prelude.{◌≡◌, ◌^◌, nat_lt, if◌then◌else◌, Some, None, option_and_then};
-ghost use Rattle.rhai_lines.specs.Numbers.{whole_number_of, below, unsigned_of, signed_of, a_position, a_bit, an_int, a_tag};
-ghost use Rattle.rhai_lines.specs.Cursor.{left_in};
+ghost use Rattle.std.specs.Prelude.{◌≡◌, ◌^◌, nat_lt, if◌then◌else◌, Some, None, option_and_then, string_bytes};
+ghost use Rattle.rhai_lines.specs.Numbers.{whole_number_of, below, unsigned_of, unsigned_word, signed_of, signed_word, a_position, a_bit, an_int, a_tag};
+ghost use Rattle.rhai_lines.specs.Cursor.{left_in, Adds};
 
 use crate::words::{NoCommand, Word, next_word};
 use rhai_value::{INT, Tag};
-use std::alloc::Global;
+use std::alloc::{AllocError, Global};
 
 /// The whole number that the digits say, where it is below 2^128.
 fn whole_number(digits: &[u8]) -> Option<u128>
@@ -102,7 +102,24 @@ pub(crate) fn i64_in(word: &str) -> Option<i64>
     i64::try_from(signed(word)?).ok()
 }
 
+/// Adds the digits of a number.
+pub(crate) fn add_unsigned(line: &mut String, n: u128) -> Result<bool, AllocError>
+    ensures { Adds result (unsigned_word 128 n) (string_bytes line.old) (string_bytes line.new) }
+{
+    write!(line, "{n}")?;
+    Ok(true)
+}
+
+/// Adds a minus, where the number is negative, and the digits.
+pub(crate) fn add_signed(line: &mut String, n: i128) -> Result<bool, AllocError>
+    ensures { Adds result (signed_word 127 n) (string_bytes line.old) (string_bytes line.new) }
+{
+    write!(line, "{n}")?;
+    Ok(true)
+}
+
 /// A position or a count.
+#[tactic(auto, unfolding(crate::specs::Numbers::a_position))]
 impl Word for usize {
     ghost word = { a_position };
 
@@ -110,9 +127,14 @@ impl Word for usize {
         let (word, left) = next_word(left)?;
         Ok((usize_in(word).ok_or(NoCommand::BadLine)?, left))
     }
+
+    fn spell(&self, line: &mut String) -> Result<bool, AllocError> {
+        add_unsigned(line, *self as u128)
+    }
 }
 
 /// The number of a bit.
+#[tactic(auto, unfolding(crate::specs::Numbers::a_bit))]
 impl Word for u8 {
     ghost word = { a_bit };
 
@@ -120,9 +142,14 @@ impl Word for u8 {
         let (word, left) = next_word(left)?;
         Ok((u8_in(word).ok_or(NoCommand::BadLine)?, left))
     }
+
+    fn spell(&self, line: &mut String) -> Result<bool, AllocError> {
+        add_unsigned(line, *self as u128)
+    }
 }
 
 /// An int.
+#[tactic(auto, unfolding(crate::specs::Numbers::an_int))]
 impl Word for INT {
     ghost word = { an_int };
 
@@ -130,14 +157,23 @@ impl Word for INT {
         let (word, left) = next_word(left)?;
         Ok((i64_in(word).ok_or(NoCommand::BadLine)?, left))
     }
+
+    fn spell(&self, line: &mut String) -> Result<bool, AllocError> {
+        add_signed(line, *self as i128)
+    }
 }
 
 /// A tag.
+#[tactic(auto, unfolding(crate::specs::Numbers::a_tag))]
 impl Word for Tag {
     ghost word = { a_tag };
 
     fn read(_alloc: Global, left: Option<&str>) -> Result<(Tag, Option<&str>), NoCommand> {
         let (word, left) = next_word(left)?;
         Ok((i32_in(word).ok_or(NoCommand::BadLine)?, left))
+    }
+
+    fn spell(&self, line: &mut String) -> Result<bool, AllocError> {
+        add_signed(line, *self as i128)
     }
 }

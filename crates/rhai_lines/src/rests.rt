@@ -1,13 +1,13 @@
 //! All that is left of a line, to its end.
-ghost use Rattle.std.specs.Prelude.{◌≡◌, ◌<◌, ℕ, List, Option, Some, true, IfOk, IfErr};
+ghost use Rattle.std.specs.Prelude.{◌≡◌, ◌<◌, ℕ, List, Option, Some, true, string_bytes, IfOk, IfErr};
 ghost use Rattle.std.specs.Char.{is_ascii_hexdigit, digit_value};
 ghost use Rattle.std.specs.List.{list_all};
 ghost use Rattle.std.specs.Str.{chars};
 ghost use Rattle.rhai_lines.specs.Words.{name_of};
-ghost use Rattle.rhai_lines.specs.Rests.{alone, one as one_word, two as two_words, three as three_words, four as four_words, list_of, names, flagged_of, flagged_names, an_alias, rest_of, a_text, only, a_char, is_hex, bytes_of_pairs, a_blob};
-ghost use Rattle.rhai_lines.specs.Cursor.{left_in, Yields, Finds, Lacks};
+ghost use Rattle.rhai_lines.specs.Rests.{alone, one as one_word, two as two_words, three as three_words, four as four_words, list_of, names, flagged_of, flagged_word, flagged_names, an_alias, a_name_and_alias, rest_of, a_text, only, a_char, is_hex, bytes_of_pairs, a_blob};
+ghost use Rattle.rhai_lines.specs.Cursor.{left_in, Yields, Finds, Lacks, Adds};
 
-use crate::words::{NoCommand, Word, behind, first_word, name};
+use crate::words::{NoCommand, Word, add_name, behind, first_word, name};
 use rhai_run::{Bytes, FlaggedNames, Names};
 use rhai_text::ImmutableString;
 use std::alloc::{AllocError, Global};
@@ -23,6 +23,7 @@ pub(crate) fn alone<A: Drop>(a: A, left: Option<&str>) -> Result<A, NoCommand>
 }
 
 /// One word is left.
+#[tactic(auto, unfolding(crate::specs::Rests::one))]
 pub(crate) fn one<A: Word>(alloc: Global, left: Option<&str>) -> Result<A, NoCommand>
     ensures { Finds result (one_word A.word) (left_in left.entry) }
 {
@@ -31,6 +32,7 @@ pub(crate) fn one<A: Word>(alloc: Global, left: Option<&str>) -> Result<A, NoCom
 }
 
 /// Two words are left.
+#[tactic(auto, unfolding(crate::specs::Rests::two))]
 pub(crate) fn two<A: Word, B: Word>(alloc: Global, left: Option<&str>) -> Result<(A, B), NoCommand>
     ensures { Finds result (two_words A.word B.word) (left_in left.entry) }
 {
@@ -40,6 +42,7 @@ pub(crate) fn two<A: Word, B: Word>(alloc: Global, left: Option<&str>) -> Result
 }
 
 /// Three words are left.
+#[tactic(auto, unfolding(crate::specs::Rests::three))]
 pub(crate) fn three<A: Word, B: Word, C: Word>(
     alloc: Global,
     left: Option<&str>,
@@ -52,6 +55,7 @@ pub(crate) fn three<A: Word, B: Word, C: Word>(
 }
 
 /// Four words are left.
+#[tactic(auto, unfolding(crate::specs::Rests::four))]
 pub(crate) fn four<A: Word, B: Word, C: Word, D: Word>(
     alloc: Global,
     left: Option<&str>,
@@ -67,15 +71,26 @@ pub(crate) fn four<A: Word, B: Word, C: Word, D: Word>(
 pub(crate) trait Item: Sized + Drop {
     ghost said: { List ℕ → Option Self };
 
+    ghost spelled: { Self → Option (List ℕ) };
+
     fn of_word(alloc: Global, word: &str) -> Result<Self, NoCommand>
         ensures { Yields result (said word.now) (λ a. true) };
+
+    fn spell(&self, line: &mut String) -> Result<bool, AllocError>
+        ensures { Adds result (spelled self.now) (string_bytes line.old) (string_bytes line.new) };
 }
 
 impl Item for ImmutableString {
     ghost said = { name_of };
 
+    ghost spelled = { name_of };
+
     fn of_word(alloc: Global, word: &str) -> Result<ImmutableString, NoCommand> {
         name(alloc, word)
+    }
+
+    fn spell(&self, line: &mut String) -> Result<bool, AllocError> {
+        add_name(line, self)
     }
 }
 
@@ -93,15 +108,25 @@ fn flagged(alloc: Global, word: &str) -> Result<(ImmutableString, bool), NoComma
 impl Item for (ImmutableString, bool) {
     ghost said = { flagged_of };
 
+    ghost spelled = { flagged_word };
+
     fn of_word(alloc: Global, word: &str) -> Result<(ImmutableString, bool), NoCommand> {
         flagged(alloc, word)
+    }
+
+    fn spell(&self, line: &mut String) -> Result<bool, AllocError> {
+        let (name, is_flagged) = self;
+        if *is_flagged {
+            line.push_str("!")?;
+        }
+        add_name(line, name)
     }
 }
 
 /// Each word that is left says an item.
 fn list<A: Item>(alloc: Global, left: Option<&str>) -> Result<Vec<A>, NoCommand>
-    ensures ok { IfOk result (λ items. (list_of A.said).says (left_in left.entry) ≡ Some items.items) }
-    ensures err { IfErr result (λ e. Lacks e (list_of A.said) (left_in left.entry)) }
+    ensures ok { IfOk result (λ items. (list_of A.said A.spelled).says (left_in left.entry) ≡ Some items.items) }
+    ensures err { IfErr result (λ e. Lacks e (list_of A.said A.spelled) (left_in left.entry)) }
 {
     let mut items = Vec::new(alloc);
     let mut rest = left;
@@ -116,7 +141,21 @@ fn list<A: Item>(alloc: Global, left: Option<&str>) -> Result<Vec<A>, NoCommand>
     Ok(items)
 }
 
+/// A name and an alias, which may be missing, are left.
+#[tactic(auto, unfolding(crate::specs::Rests::a_name_and_alias))]
+pub(crate) fn name_and_alias(
+    alloc: Global,
+    left: Option<&str>,
+) -> Result<(ImmutableString, ImmutableString), NoCommand>
+    ensures { Finds result a_name_and_alias (left_in left.entry) }
+{
+    let (name, left) = Word::read(alloc, left)?;
+    let alias = alias(alloc, left)?;
+    Ok((name, alias))
+}
+
 /// The words that are left are names.
+#[tactic(auto, unfolding(crate::specs::Rests::names))]
 pub(crate) fn names(alloc: Global, left: Option<&str>) -> Result<Names, NoCommand>
     ensures { Finds result names (left_in left.entry) }
 {
@@ -124,6 +163,7 @@ pub(crate) fn names(alloc: Global, left: Option<&str>) -> Result<Names, NoComman
 }
 
 /// The words that are left are names, flagged or not.
+#[tactic(auto, unfolding(crate::specs::Rests::flagged_names))]
 pub(crate) fn flagged_names(alloc: Global, left: Option<&str>) -> Result<FlaggedNames, NoCommand>
     ensures { Finds result flagged_names (left_in left.entry) }
 {
@@ -131,11 +171,11 @@ pub(crate) fn flagged_names(alloc: Global, left: Option<&str>) -> Result<Flagged
 }
 
 /// An alias, which may be missing: then it is the empty text.
-pub(crate) fn alias(alloc: Global, left: Option<&str>) -> Result<ImmutableString, NoCommand>
+fn alias(alloc: Global, left: Option<&str>) -> Result<ImmutableString, NoCommand>
     ensures { Finds result an_alias (left_in left.entry) }
 {
     match left {
-        None => Ok(ImmutableString::from_str(alloc, "")?),
+        None => text(alloc, left),
         Some(_) => one(alloc, left),
     }
 }
@@ -151,6 +191,7 @@ fn rest(left: Option<&str>) -> &str
 }
 
 /// A text.
+#[tactic(auto, unfolding(crate::specs::Rests::a_text))]
 pub(crate) fn text(alloc: Global, left: Option<&str>) -> Result<ImmutableString, NoCommand>
     ensures { Finds result a_text (left_in left.entry) }
 {
@@ -165,6 +206,7 @@ fn only_char(text: &str) -> Option<char>
 }
 
 /// A character.
+#[tactic(auto, unfolding(crate::specs::Rests::a_char))]
 pub(crate) fn character(left: Option<&str>) -> Result<char, NoCommand>
     ensures { Finds result a_char (left_in left.entry) }
 {
@@ -214,6 +256,7 @@ fn bytes_in(alloc: Global, digits: &[u8]) -> Result<Bytes, AllocError>
 }
 
 /// The bytes of a blob: none where nothing is left.
+#[tactic(auto, unfolding(crate::specs::Rests::a_blob))]
 pub(crate) fn blob(alloc: Global, left: Option<&str>) -> Result<Bytes, NoCommand>
     ensures { Finds result a_blob (left_in left.entry) }
 {

@@ -1,50 +1,78 @@
 //! The kinds, the operators, the questions, the scanners, the numbers of the host and the places of a line.
-ghost use Rattle.std.specs.Prelude.{◌≡◌};
-ghost use Rattle.rhai_lines.specs.Words.{named};
-ghost use Rattle.rhai_lines.specs.Vocabulary.{kinds, operators, plain_questions, host_of, place_of, names_entry, a_kind, a_token, a_question, a_scanner, a_host, a_place};
-ghost use Rattle.rhai_lines.specs.Cursor.{left_in, Yields};
+ghost use Rattle.std.specs.Prelude.{◌≡◌, ◌++◌, option_map, string_bytes};
+ghost use Rattle.rhai_value.specs.Types.{is_type};
+ghost use Rattle.rhai_lines.specs.Words.{named, called, rows};
+ghost use Rattle.rhai_lines.specs.Numbers.{unsigned_word, signed_word};
+ghost use Rattle.rhai_lines.specs.Vocabulary.{is_token, kinds, operators, plain_questions, host_of, place_of, names_entry, a_kind, a_token, a_question, a_scanner, a_host, a_place};
+ghost use Rattle.rhai_lines.specs.Cursor.{left_in, Yields, Adds};
 
 use crate::numbers::{
-    i8_in, i16_in, i32_in, signed, u8_in, u16_in, u32_in, u64_in, unsigned, usize_in,
+    add_signed, add_unsigned, i8_in, i16_in, i32_in, signed, u8_in, u16_in, u32_in, u64_in,
+    unsigned, usize_in,
 };
-use crate::words::{NoCommand, Word, behind, name, next_word};
+use crate::words::{NoCommand, Word, add, behind, called, name, named, next_word};
 use rhai_run::{Place, Question, Scanner};
 use rhai_text::Token;
 use rhai_value::{Host, TypeId};
-use std::alloc::Global;
+use std::alloc::{AllocError, Global};
 
-fn kind_in(word: &str) -> Option<TypeId>
-    ensures { result ≡ named kinds word.now }
+/// The names of types.
+const KINDS: [(&str, TypeId); 23] = [
+    ("()", TypeId::Unit),
+    ("bool", TypeId::Bool),
+    ("char", TypeId::Char),
+    ("i64", TypeId::Int),
+    ("u8", TypeId::U8),
+    ("u16", TypeId::U16),
+    ("u32", TypeId::U32),
+    ("u64", TypeId::U64),
+    ("u128", TypeId::U128),
+    ("i8", TypeId::I8),
+    ("i16", TypeId::I16),
+    ("i32", TypeId::I32),
+    ("i128", TypeId::I128),
+    ("String", TypeId::String),
+    ("string", TypeId::ImmutableString),
+    ("array", TypeId::Array),
+    ("blob", TypeId::Blob),
+    ("map", TypeId::Map),
+    ("Fn", TypeId::FnPtr),
+    ("range", TypeId::ExclusiveRange),
+    ("rangeeq", TypeId::InclusiveRange),
+    ("Dynamic", TypeId::Dynamic),
+    ("<shared>", TypeId::Shared),
+];
+
+/// Adds what a table calls a value.
+fn add_called<A: Copy + Eq>(
+    line: &mut String,
+    table: &[(&str, A)],
+    value: A,
+) -> Result<bool, AllocError>
+    ensures { Adds result (called A.eq (rows table.now) value) (string_bytes line.old) (string_bytes line.new) }
 {
-    match word {
-        "()" => Some(TypeId::Unit),
-        "bool" => Some(TypeId::Bool),
-        "char" => Some(TypeId::Char),
-        "i64" => Some(TypeId::Int),
-        "u8" => Some(TypeId::U8),
-        "u16" => Some(TypeId::U16),
-        "u32" => Some(TypeId::U32),
-        "u64" => Some(TypeId::U64),
-        "u128" => Some(TypeId::U128),
-        "i8" => Some(TypeId::I8),
-        "i16" => Some(TypeId::I16),
-        "i32" => Some(TypeId::I32),
-        "i128" => Some(TypeId::I128),
-        "String" => Some(TypeId::String),
-        "string" => Some(TypeId::ImmutableString),
-        "array" => Some(TypeId::Array),
-        "blob" => Some(TypeId::Blob),
-        "map" => Some(TypeId::Map),
-        "Fn" => Some(TypeId::FnPtr),
-        "range" => Some(TypeId::ExclusiveRange),
-        "rangeeq" => Some(TypeId::InclusiveRange),
-        "Dynamic" => Some(TypeId::Dynamic),
-        "<shared>" => Some(TypeId::Shared),
-        _ => None,
+    match called(table, value) {
+        Some(word) => add(line, word),
+        None => Ok(false),
     }
 }
 
+#[tactic(auto, unfolding(crate::specs::Vocabulary::kinds))]
+fn kind_in(word: &str) -> Option<TypeId>
+    ensures { result ≡ named kinds word.now }
+{
+    named(&KINDS, word)
+}
+
+#[tactic(auto, unfolding(crate::specs::Vocabulary::kinds))]
+fn add_kind(line: &mut String, kind: TypeId) -> Result<bool, AllocError>
+    ensures { Adds result (called is_type kinds kind) (string_bytes line.old) (string_bytes line.new) }
+{
+    add_called(line, &KINDS, kind)
+}
+
 /// A type.
+#[tactic(auto, unfolding(crate::specs::Vocabulary::a_kind))]
 impl Word for TypeId {
     ghost word = { a_kind };
 
@@ -52,54 +80,73 @@ impl Word for TypeId {
         let (word, left) = next_word(left)?;
         Ok((kind_in(word).ok_or(NoCommand::BadLine)?, left))
     }
-}
 
-fn token_in(word: &str) -> Option<Token>
-    ensures { result ≡ named operators word.now }
-{
-    match word {
-        "+" => Some(Token::Plus),
-        "-" => Some(Token::Minus),
-        "*" => Some(Token::Multiply),
-        "/" => Some(Token::Divide),
-        "%" => Some(Token::Modulo),
-        "**" => Some(Token::PowerOf),
-        ">>" => Some(Token::RightShift),
-        "<<" => Some(Token::LeftShift),
-        "&" => Some(Token::Ampersand),
-        "|" => Some(Token::Pipe),
-        "^" => Some(Token::XOr),
-        "==" => Some(Token::EqualsTo),
-        "!=" => Some(Token::NotEqualsTo),
-        ">" => Some(Token::GreaterThan),
-        ">=" => Some(Token::GreaterThanEqualsTo),
-        "<" => Some(Token::LessThan),
-        "<=" => Some(Token::LessThanEqualsTo),
-        ".." => Some(Token::ExclusiveRange),
-        "..=" => Some(Token::InclusiveRange),
-        "=" => Some(Token::Equals),
-        "+=" => Some(Token::PlusAssign),
-        "-=" => Some(Token::MinusAssign),
-        "*=" => Some(Token::MultiplyAssign),
-        "/=" => Some(Token::DivideAssign),
-        "%=" => Some(Token::ModuloAssign),
-        "**=" => Some(Token::PowerOfAssign),
-        ">>=" => Some(Token::RightShiftAssign),
-        "<<=" => Some(Token::LeftShiftAssign),
-        "&=" => Some(Token::AndAssign),
-        "|=" => Some(Token::OrAssign),
-        "^=" => Some(Token::XOrAssign),
-        _ => None,
+    fn spell(&self, line: &mut String) -> Result<bool, AllocError> {
+        add_kind(line, *self)
     }
 }
 
+/// The operators between two operands, and those that assign.
+const OPERATORS: [(&str, Token); 31] = [
+    ("+", Token::Plus),
+    ("-", Token::Minus),
+    ("*", Token::Multiply),
+    ("/", Token::Divide),
+    ("%", Token::Modulo),
+    ("**", Token::PowerOf),
+    (">>", Token::RightShift),
+    ("<<", Token::LeftShift),
+    ("&", Token::Ampersand),
+    ("|", Token::Pipe),
+    ("^", Token::XOr),
+    ("==", Token::EqualsTo),
+    ("!=", Token::NotEqualsTo),
+    (">", Token::GreaterThan),
+    (">=", Token::GreaterThanEqualsTo),
+    ("<", Token::LessThan),
+    ("<=", Token::LessThanEqualsTo),
+    ("..", Token::ExclusiveRange),
+    ("..=", Token::InclusiveRange),
+    ("=", Token::Equals),
+    ("+=", Token::PlusAssign),
+    ("-=", Token::MinusAssign),
+    ("*=", Token::MultiplyAssign),
+    ("/=", Token::DivideAssign),
+    ("%=", Token::ModuloAssign),
+    ("**=", Token::PowerOfAssign),
+    (">>=", Token::RightShiftAssign),
+    ("<<=", Token::LeftShiftAssign),
+    ("&=", Token::AndAssign),
+    ("|=", Token::OrAssign),
+    ("^=", Token::XOrAssign),
+];
+
+#[tactic(auto, unfolding(crate::specs::Vocabulary::operators))]
+fn token_in(word: &str) -> Option<Token>
+    ensures { result ≡ named operators word.now }
+{
+    named(&OPERATORS, word)
+}
+
+#[tactic(auto, unfolding(crate::specs::Vocabulary::operators))]
+fn add_token(line: &mut String, op: Token) -> Result<bool, AllocError>
+    ensures { Adds result (called is_token operators op) (string_bytes line.old) (string_bytes line.new) }
+{
+    add_called(line, &OPERATORS, op)
+}
+
 /// An operator.
+#[tactic(auto, unfolding(crate::specs::Vocabulary::a_token))]
 impl Word for Token {
     ghost word = { a_token };
 
     fn read(_alloc: Global, left: Option<&str>) -> Result<(Token, Option<&str>), NoCommand> {
         let (word, left) = next_word(left)?;
         Ok((token_in(word).ok_or(NoCommand::BadLine)?, left))
+    }
+
+    fn spell(&self, line: &mut String) -> Result<bool, AllocError> {
+        add_token(line, *self)
     }
 }
 
@@ -123,6 +170,7 @@ fn plain_question_in(word: &str) -> Option<Question>
 }
 
 /// A question.
+#[tactic(auto, unfolding(crate::specs::Vocabulary::a_question, crate::specs::Vocabulary::a_kind))]
 impl Word for Question {
     ghost word = { a_question };
 
@@ -140,9 +188,34 @@ impl Word for Question {
             _ => Ok((plain_question_in(word).ok_or(NoCommand::BadLine)?, left)),
         }
     }
+
+    fn spell(&self, line: &mut String) -> Result<bool, AllocError> {
+        match self {
+            Question::Tag => add(line, "tag"),
+            Question::Variant => add(line, "variant"),
+            Question::Shared => add(line, "shared"),
+            Question::ReadOnly => add(line, "readonly"),
+            Question::Locked => add(line, "locked"),
+            Question::TypeName => add(line, "type"),
+            Question::Held(kind) => {
+                line.push_str("held ")?;
+                kind.spell(line)
+            }
+            Question::Hashable => add(line, "hashable"),
+            Question::Is(kind) => {
+                line.push_str("is ")?;
+                kind.spell(line)
+            }
+            Question::Unit => add(line, "unit"),
+            Question::Int => add(line, "int"),
+            Question::Bool => add(line, "bool"),
+            Question::Char => add(line, "char"),
+        }
+    }
 }
 
 /// A scanner.
+#[tactic(auto, unfolding(crate::specs::Vocabulary::a_scanner, crate::specs::Numbers::a_tag, crate::specs::Numbers::a_position))]
 impl Word for Scanner {
     ghost word = { a_scanner };
 
@@ -160,6 +233,21 @@ impl Word for Scanner {
                 Ok((Scanner::Cut(n), left))
             }
             _ => Err(NoCommand::BadLine),
+        }
+    }
+
+    fn spell(&self, line: &mut String) -> Result<bool, AllocError> {
+        match self {
+            Scanner::Tags(tag) => {
+                line.push_str("tags ")?;
+                tag.spell(line)
+            }
+            Scanner::Zero => add(line, "zero"),
+            Scanner::NoShare => add(line, "noshare"),
+            Scanner::Cut(n) => {
+                line.push_str("cut ")?;
+                n.spell(line)
+            }
         }
     }
 }
@@ -182,7 +270,22 @@ fn host_in(kind: &str, word: &str) -> Option<Host>
     }
 }
 
+fn unsigned_behind(line: &mut String, kind: &str, n: u128) -> Result<bool, AllocError>
+    ensures { Adds result (option_map (λ w. kind.now ++ w) (unsigned_word 128 n)) (string_bytes line.old) (string_bytes line.new) }
+{
+    line.push_str(kind)?;
+    add_unsigned(line, n)
+}
+
+fn signed_behind(line: &mut String, kind: &str, n: i128) -> Result<bool, AllocError>
+    ensures { Adds result (option_map (λ w. kind.now ++ w) (signed_word 127 n)) (string_bytes line.old) (string_bytes line.new) }
+{
+    line.push_str(kind)?;
+    add_signed(line, n)
+}
+
 /// The name of one of the host's types, and a number of it.
+#[tactic(auto, unfolding(crate::specs::Vocabulary::a_host))]
 impl Word for Host {
     ghost word = { a_host };
 
@@ -190,6 +293,22 @@ impl Word for Host {
         let (kind, left) = next_word(left)?;
         let (number, left) = next_word(left)?;
         Ok((host_in(kind, number).ok_or(NoCommand::BadLine)?, left))
+    }
+
+    fn spell(&self, line: &mut String) -> Result<bool, AllocError> {
+        match *self {
+            Host::U8(n) => unsigned_behind(line, "u8 ", n as u128),
+            Host::U16(n) => unsigned_behind(line, "u16 ", n as u128),
+            Host::U32(n) => unsigned_behind(line, "u32 ", n as u128),
+            Host::U64(n) => unsigned_behind(line, "u64 ", n as u128),
+            Host::U128(n) => unsigned_behind(line, "u128 ", n),
+            Host::I8(n) => signed_behind(line, "i8 ", n as i128),
+            Host::I16(n) => signed_behind(line, "i16 ", n as i128),
+            Host::I32(n) => signed_behind(line, "i32 ", n as i128),
+            Host::I128(n) => signed_behind(line, "i128 ", n),
+            Host::ExclusiveRange(_) => Ok(false),
+            Host::InclusiveRange(_) => Ok(false),
+        }
     }
 }
 
@@ -204,11 +323,22 @@ fn place_in(alloc: Global, word: &str) -> Result<Place, NoCommand>
     }
 }
 
+#[tactic(auto, using(crate::proofs::Added::added_behind), unfolding(crate::specs::Vocabulary::a_place))]
 impl Word for Place {
     ghost word = { a_place };
 
     fn read(alloc: Global, left: Option<&str>) -> Result<(Place, Option<&str>), NoCommand> {
         let (word, left) = next_word(left)?;
         Ok((place_in(alloc, word)?, left))
+    }
+
+    fn spell(&self, line: &mut String) -> Result<bool, AllocError> {
+        match self {
+            Place::Hand(i) => i.spell(line),
+            Place::Entry(name) => {
+                line.push_str("@")?;
+                name.spell(line)
+            }
+        }
     }
 }

@@ -1,9 +1,9 @@
 //! The words of a line, one after another.
-ghost use Rattle.std.specs.Prelude.{◌≡◌, true, Some, None, ◌∷◌, ℕ, List, false, IfOk, IfErr, IfSome, IfNone};
+ghost use Rattle.std.specs.Prelude.{◌≡◌, true, Some, None, ◌∷◌, ℕ, List, false, string_bytes, option_map, IfOk, IfErr, IfSome, IfNone};
 ghost use Rattle.std.specs.Str.{chars};
 ghost use Rattle.rhai_lines.specs.declared.words.NoCommand.TheVariants.{BadLine, Memory as no_memory};
-ghost use Rattle.rhai_lines.specs.Words.{word_of, left_of, next_word, is_name, name_of, named, truths, a_name, a_truth, Word as reading};
-ghost use Rattle.rhai_lines.specs.Cursor.{left_in, Reads, Yields};
+ghost use Rattle.rhai_lines.specs.Words.{called, word_of, left_of, next_word, is_name, name_of, named, rows, truths, a_name, a_truth, Word as reading};
+ghost use Rattle.rhai_lines.specs.Cursor.{left_in, Reads, Yields, Adds};
 
 use rhai_text::ImmutableString;
 use std::alloc::{AllocError, Global};
@@ -30,6 +30,18 @@ pub(crate) trait Word: Sized + Drop {
     /// The value, and what is left behind it.
     fn read(alloc: Global, left: Option<&str>) -> Result<(Self, Option<&str>), NoCommand>
         ensures { Reads result word (left_in left.entry) };
+
+    /// Adds the words that say it to a line, if there are such.
+    fn spell(&self, line: &mut String) -> Result<bool, AllocError>
+        ensures { Adds result (word.spells self.now) (string_bytes line.old) (string_bytes line.new) };
+}
+
+/// Adds a text to a line.
+pub(crate) fn add(line: &mut String, text: &str) -> Result<bool, AllocError>
+    ensures { Adds result (Some text.now) (string_bytes line.old) (string_bytes line.new) }
+{
+    line.push_str(text)?;
+    Ok(true)
 }
 
 /// The first word of a text, and what is left behind it.
@@ -54,6 +66,20 @@ pub(crate) fn next_word(left: Option<&str>) -> Result<(&str, Option<&str>), NoCo
     }
 }
 
+/// What a table has for a word.
+pub(crate) fn named<A: Copy>(table: &[(&str, A)], word: &str) -> Option<A>
+    ensures { result ≡ named (rows table.now) word.now }
+{
+    let mut left = table;
+    while let [(name, value), rest @ ..] = left {
+        if word == *name {
+            return Some(*value);
+        }
+        left = rest;
+    }
+    None
+}
+
 fn truth_in(word: &str) -> Option<bool>
     ensures { result ≡ named truths word.now }
 {
@@ -64,6 +90,7 @@ fn truth_in(word: &str) -> Option<bool>
     }
 }
 
+#[tactic(auto, unfolding(crate::specs::Words::a_truth))]
 impl Word for bool {
     ghost word = { a_truth };
 
@@ -71,6 +98,24 @@ impl Word for bool {
         let (word, left) = next_word(left)?;
         Ok((truth_in(word).ok_or(NoCommand::BadLine)?, left))
     }
+
+    fn spell(&self, line: &mut String) -> Result<bool, AllocError> {
+        add(line, if *self { "true" } else { "false" })
+    }
+}
+
+/// What a table calls a value.
+pub(crate) fn called<'a, A: Copy + Eq>(table: &[(&'a str, A)], value: A) -> Option<&'a str>
+    ensures { option_map (λ w. w.now) result ≡ called A.eq (rows table.now) value }
+{
+    let mut left = table;
+    while let [(name, other), rest @ ..] = left {
+        if value == *other {
+            return Some(*name);
+        }
+        left = rest;
+    }
+    None
 }
 
 /// Whether the word is one or more ASCII letters, digits and underscores.
@@ -123,6 +168,18 @@ pub(crate) fn name(alloc: Global, word: &str) -> Result<ImmutableString, NoComma
     Ok(ImmutableString::from_str(alloc, word)?)
 }
 
+/// Adds a name to a line, if it is one.
+#[tactic(auto, using(crate::proofs::Added::name_by_bytes))]
+pub(crate) fn add_name(line: &mut String, name: &ImmutableString) -> Result<bool, AllocError>
+    ensures { Adds result (name_of name.now) (string_bytes line.old) (string_bytes line.new) }
+{
+    if !is_name(name.as_str().as_bytes()) {
+        return Ok(false);
+    }
+    add(line, name.as_str())
+}
+
+#[tactic(auto, unfolding(crate::specs::Words::a_name))]
 impl Word for ImmutableString {
     ghost word = { a_name };
 
@@ -132,5 +189,9 @@ impl Word for ImmutableString {
     ) -> Result<(ImmutableString, Option<&str>), NoCommand> {
         let (word, left) = next_word(left)?;
         Ok((name(alloc, word)?, left))
+    }
+
+    fn spell(&self, line: &mut String) -> Result<bool, AllocError> {
+        add_name(line, self)
     }
 }

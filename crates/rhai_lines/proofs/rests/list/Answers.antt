@@ -8,7 +8,7 @@ pub returns-in_err-item-clause-err : goal.returns-in_err-item-clause-err
 returns-in_err-item-clause-err g c =
     let p = err_from_is_err_and c.from_residual.result c.from_residual.ensures.1 in
     let e = c.first_word.ensures in
-    rw (p.1, p.2) (lacks g.A.Item.said c.in_err-item.field-0.0 _ _ _ _ _ c.loop-rest.invariant.found c.loop-rest.invariant.first (ap left_in c.in-Some.is) e.word c.in_err-item.ensures)
+    rw (p.1, p.2) (lacks g.A.Item.said g.A.Item.spelled c.in_err-item.field-0.0 _ _ _ _ _ c.loop-rest.invariant.found c.loop-rest.invariant.first (ap left_in c.in-Some.is) e.word c.in_err-item.ensures)
 
 pub loop-rest-preserved : goal.loop-rest-preserved
 loop-rest-preserved g c =

@@ -7,7 +7,7 @@ use Rattle.rhai_lines.proofs.rests.list.Given as goal
 
 abbrev pub invariant-loop-rest : goal.invariant-loop-rest
 invariant-loop-rest g l = record {
-  found : (list_of g.A.Item.said).says (left_in l.fn.left) ≡ option_map (λ more. l.items.items ++ more) (each_of g.A.Item.said (words_of (left_in l.rest)));
+  found : (list_of g.A.Item.said g.A.Item.spelled).says (left_in l.fn.left) ≡ option_map (λ more. l.items.items ++ more) (each_of g.A.Item.said (words_of (left_in l.rest)));
   first : first_says g.A.Item.said (left_in l.fn.left) ≡ false → left_in l.rest ≡ left_in l.fn.left;
 }
 

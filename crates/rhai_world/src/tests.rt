@@ -14,6 +14,7 @@ use std::test::Fail;
 mod assignments;
 mod both;
 mod entries;
+mod journals;
 mod limits;
 mod lines;
 mod machine;

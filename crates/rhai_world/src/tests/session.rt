@@ -4,7 +4,7 @@ use crate::tests::are_answered;
 use std::test::Fail;
 
 /// Values of the hand, shared and written over; then entries of the scope. And captures, loops, marks and operators, on a new world.
-const SESSIONS: &str = "
+pub const SESSIONS: &str = "
 # values and entries
 int 7 -> ok
 share 0 -> ok

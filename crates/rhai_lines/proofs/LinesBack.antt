@@ -10,8 +10,7 @@ use Rattle.rhai_lines.specs.Words.{Left, behind, word_of, left_of, a_name, a_tru
 use Rattle.rhai_lines.specs.Numbers.{a_position, a_bit, an_int, a_tag}
 use Rattle.rhai_lines.specs.Vocabulary.{a_kind, a_token, a_question, a_scanner, a_host, a_place}
 use Rattle.rhai_lines.specs.Rests.{Rest, has_feed, one, two, three, four, names, flagged_names, a_name_and_alias, a_char, a_text, a_blob}
-use Rattle.rhai_lines.specs.Forms.{Form, of_all, of_none, said, form_of, from_hand, from_changes, from_entries, from_scope, from_names, from_marks, from_parts, command_of}
-use Rattle.rhai_lines.specs.Lines.{spoken, literal_line, line_of}
+use Rattle.rhai_lines.specs.Forms.{Form, of_all, of_none, said, form_of, from_hand, from_changes, from_entries, from_scope, from_names, from_marks, from_parts, command_of, spoken, literal_line, line_of}
 use Rattle.rhai_lines.proofs.SaysBack.{the_same, graphic, word_is, left_is, has_feed_append, graphic_no_feed, graphic_utf8}
 use Rattle.rhai_lines.proofs.WordsBack.{name_back, truth_back, position_back, bit_back, int_back, tag_back, kind_back, token_back, question_back, scanner_back, host_back, place_back}
 use Rattle.rhai_lines.proofs.RestsBack.{RestBack, one_rest, two_rest, three_rest, four_rest, names_rest, flagged_rest, name_and_alias_rest, text_rest, char_rest, blob_rest}

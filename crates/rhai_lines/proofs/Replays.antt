@@ -5,7 +5,7 @@ use Rattle.std.proofs.lemmas.List.Elements.{All-from_recursion}
 use Rattle.rhai_run.specs.declared.command.Command.{Command}
 use Rattle.rhai_run.specs.State.{State}
 use Rattle.rhai_run.specs.Step.{step}
-use Rattle.rhai_lines.specs.Lines.{line_of, journal_of}
+use Rattle.rhai_lines.specs.Forms.{line_of, journal_of}
 use Rattle.rhai_lines.specs.Rests.{has_feed}
 use Rattle.rhai_lines.specs.Printed.{printed}
 use Rattle.rhai_lines.specs.Output.{lines_of, answer_to, state_by, answers_to_lines, output_from, output_of_commands}

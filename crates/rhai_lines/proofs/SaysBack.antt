@@ -9,7 +9,7 @@ use Rattle.std.proofs.lemmas.List.Elements.{All-from_recursion}
 use Rattle.std.proofs.lemmas.List.Folds.{list_any-append}
 use Rattle.std.proofs.lemmas.Str.{IsUtf8-from_ascii, IsUtf8-append}
 use Rattle.std.proofs.lemmas.Str.Ascii.{IsAscii-from_all}
-use Rattle.rhai_lines.specs.Words.{Left, Word, is_space, word_of, left_of, next_word, a_word, behind, named, called}
+use Rattle.rhai_lines.specs.Words.{Left, Word, is_space, word_of, left_of, next_word, behind, named, called}
 use Rattle.rhai_lines.specs.Rests.{has_feed}
 
 -- a byte that stands in a word of ASCII: above the space (32), and below 128
@@ -97,8 +97,9 @@ pub record SaysBack {A : Type 0} (word : Word A) (a : A) (w : List ℕ) : Type 0
 abbrev pub Back : {A : Type 0} → Word A → Type 0
 Back {A} word = (a : A) (w : List ℕ) → word.spells a ≡ Some w → SaysBack word a w
 
-pub one_back : {A : Type 0} (says : List ℕ → Option A) (spells : A → Option (List ℕ)) (a : A) (w : List ℕ) → graphic w ≡ true → says w ≡ Some a → SaysBack (a_word says spells) a w
-one_back says spells a w g e = record { back = λ left. next_is says a w left g e; fits = (graphic_no_feed w g, graphic_utf8 w g) }
+-- one word that says the value
+pub one_back : {A : Type 0} (word : Word A) (says : List ℕ → Option A) (a : A) (w : List ℕ) → ((left : Left) → word.reads left ≡ next_word says left) → graphic w ≡ true → says w ≡ Some a → SaysBack word a w
+one_back word says a w is g e = record { back = λ left. is (Some (w ++ behind left)) ∙ next_is says a w left g e; fits = (graphic_no_feed w g, graphic_utf8 w g) }
 
 -- ---- tables
 

@@ -10,7 +10,7 @@ use Rattle.std.proofs.lemmas.Str.{scalars-chars, encodes-chars, chars-nil}
 use Rattle.rhai_lines.specs.Words.{Left, Word, behind, a_name}
 use Rattle.rhai_lines.specs.Rests.{one, two, three, four, joined, a_name_and_alias, an_alias, a_text, a_char, a_blob, text_words, has_feed}
 use Rattle.rhai_lines.specs.Printed.{byte_text}
-use Rattle.rhai_lines.specs.Lines.{spoken}
+use Rattle.rhai_lines.specs.Forms.{spoken}
 use Rattle.rhai_lines.specs.Cursor.{Adds}
 
 -- a line and one more word, where there are both

@@ -13,7 +13,7 @@ use Rattle.rhai_text.specs.declared.token.Token.{Token}
 use Rattle.rhai_value.specs.contracts.type_id.TypeId as type_id
 use Rattle.rhai_value.specs.declared.type_id.TypeId.{TypeId}
 use Rattle.rhai_value.specs.Types.{is_type}
-use Rattle.rhai_lines.specs.Words.{Left, Word, behind, next_word, a_word, told, named, called, is_name, is_name_byte, name_of, a_name, truths, a_truth}
+use Rattle.rhai_lines.specs.Words.{Left, Word, behind, next_word, a_word, told, named, is_name, is_name_byte, name_of, a_name, truths, a_truth}
 use Rattle.rhai_lines.specs.Numbers.{whole_number_of, number_of, below, as_unsigned, as_signed, unsigned_of, signed_of, unsigned_word, signed_word, a_position, a_bit, an_int, a_tag}
 use Rattle.rhai_run.specs.declared.command.Question.{Question}
 use Rattle.rhai_run.specs.declared.command.Question.TheVariants as question
@@ -35,11 +35,11 @@ one_token a b e = same_true token.the_type tt a b e
 
 pub kind_back : Back a_kind
 unfolding a_kind kinds
-kind_back a w e = let h = called_back is_type one_kind kinds kinds a w refl e in one_back (named kinds) (called is_type kinds) a w h.1 h.0
+kind_back a w e = let h = called_back is_type one_kind kinds kinds a w refl e in one_back a_kind (named kinds) a w (λ left. refl) h.1 h.0
 
 pub token_back : Back a_token
 unfolding a_token operators
-token_back a w e = let h = called_back is_token one_token operators operators a w refl e in one_back (named operators) (called is_token operators) a w h.1 h.0
+token_back a w e = let h = called_back is_token one_token operators operators a w refl e in one_back a_token (named operators) a w (λ left. refl) h.1 h.0
 
 -- ---- names and booleans
 
@@ -63,12 +63,12 @@ named_back a w e = by (is_name a) refl
 
 pub name_back : Back a_name
 unfolding a_name
-name_back a w e = let h = named_back a w e in record { back = (one_back name_of name_of a w h.1 h.0).back; fits = (one_back name_of name_of a w h.1 h.0).fits }
+name_back a w e = let h = named_back a w e in one_back a_name name_of a w (λ left. refl) h.1 h.0
 
 pub truth_back : Back a_truth
 unfolding a_truth
-truth_back true w e = subst (SaysBack a_truth true) (the_same e) (one_back (named truths) _ true (codes "true") refl refl)
-truth_back false w e = subst (SaysBack a_truth false) (the_same e) (one_back (named truths) _ false (codes "false") refl refl)
+truth_back true w e = subst (SaysBack a_truth true) (the_same e) (one_back a_truth (named truths) true (codes "true") (λ left. refl) refl refl)
+truth_back false w e = subst (SaysBack a_truth false) (the_same e) (one_back a_truth (named truths) false (codes "false") (λ left. refl) refl refl)
 
 -- ---- numbers
 
@@ -101,13 +101,6 @@ number_of-digits (d ∷ ds) h =
 -- a number that so many bits can be has fewer than 64 digits
 wide : (bits n : ℕ) → nat_lt (2 ^ bits) (10 ^ 64) ≡ true → nat_lt n (2 ^ bits) ≡ true → suc n < 10 ^ 64
 wide bits n h k = grind (arith, nat_tests, h, k)
-
-below_is : (bits n m : ℕ) → below bits n ≡ Some m → (nat_lt n (2 ^ bits) ≡ true) × (n ≡ m)
-below_is bits n m e = by (nat_lt n (2 ^ bits)) refl
-  where
-    by : (t : Bool) → nat_lt n (2 ^ bits) ≡ t → (nat_lt n (2 ^ bits) ≡ true) × (n ≡ m)
-    by true f = (f, the_same (sym (ap (λ x. if x then Some n else None) f) ∙ e))
-    by false f = cc (sym (ap (λ x. if x then Some n else None) f) ∙ e)
 
 pub unsigned_back : (bits n : ℕ) (w : List ℕ) → nat_lt (2 ^ bits) (10 ^ 64) ≡ true → unsigned_word bits n ≡ Some w → (unsigned_of bits w ≡ Some n) × (graphic w ≡ true)
 unsigned_back bits n w h e = by (nat_lt n (2 ^ bits)) refl
@@ -148,19 +141,19 @@ signed_back bits (negsuc n) w h e = by (nat_lt n (2 ^ bits)) refl
 
 pub position_back : Back a_position
 unfolding a_position
-position_back n w e = let h = unsigned_back 64 n w refl e in one_back (unsigned_of 64) (unsigned_word 64) n w h.1 h.0
+position_back n w e = let h = unsigned_back 64 n w refl e in one_back a_position (unsigned_of 64) n w (λ left. refl) h.1 h.0
 
 pub bit_back : Back a_bit
 unfolding a_bit
-bit_back n w e = let h = unsigned_back 8 n w refl e in one_back (unsigned_of 8) (unsigned_word 8) n w h.1 h.0
+bit_back n w e = let h = unsigned_back 8 n w refl e in one_back a_bit (unsigned_of 8) n w (λ left. refl) h.1 h.0
 
 pub int_back : Back an_int
 unfolding an_int
-int_back z w e = let h = signed_back 63 z w refl e in one_back (signed_of 63) (signed_word 63) z w h.1 h.0
+int_back z w e = let h = signed_back 63 z w refl e in one_back an_int (signed_of 63) z w (λ left. refl) h.1 h.0
 
 pub tag_back : Back a_tag
 unfolding a_tag
-tag_back z w e = let h = signed_back 31 z w refl e in one_back (signed_of 31) (signed_word 31) z w h.1 h.0
+tag_back z w e = let h = signed_back 31 z w refl e in one_back a_tag (signed_of 31) z w (λ left. refl) h.1 h.0
 
 -- ---- places
 
@@ -177,7 +170,7 @@ place_of-number (b ∷ bs) n e = by (b == 64) refl
 
 pub place_back : Back a_place
 unfolding a_place a_position a_name
-place_back (place.Hand n) w e = let h = unsigned_back 64 n w refl e in record { back = (one_back place_of a_place.spells (place.Hand n) w h.1 (place_of-number w n h.0)).back; fits = (one_back place_of a_place.spells (place.Hand n) w h.1 (place_of-number w n h.0)).fits }
+place_back (place.Hand n) w e = let h = unsigned_back 64 n w refl e in one_back a_place place_of (place.Hand n) w (λ left. refl) h.1 (place_of-number w n h.0)
 place_back (place.Entry name) w e = by (name_of name) refl
   where
     by : (o : Option (List ℕ)) → name_of name ≡ o → SaysBack a_place (place.Entry name) w
@@ -185,8 +178,7 @@ place_back (place.Entry name) w e = by (name_of name) refl
     by (Some n) f =
         let is : 64 ∷ n ≡ w = the_same (sym (ap (option_map (λ n. 64 ∷ n)) f) ∙ e) in
         let h = named_back name n f in
-        subst (SaysBack a_place (place.Entry name)) is
-        (record { back = (one_back place_of a_place.spells (place.Entry name) (64 ∷ n) h.1 (ap (option_map place.Entry) h.0)).back; fits = (one_back place_of a_place.spells (place.Entry name) (64 ∷ n) h.1 (ap (option_map place.Entry) h.0)).fits })
+        subst (SaysBack a_place (place.Entry name)) is (one_back a_place place_of (place.Entry name) (64 ∷ n) (λ left. refl) h.1 (ap (option_map place.Entry) h.0))
 
 -- ---- a word, and the words of one more value behind it
 
@@ -251,13 +243,13 @@ unsigned_host : (bits : ℕ) (kind : List ℕ) (make : ℕ → Host) (n : ℕ) (
     → with_word kind (unsigned_word bits n) ≡ Some w → SaysBack (words_by (λ k. next_word (host_of k)) host_words) (make n) w
 unsigned_host bits kind make n w h g is e = with_back (a_word (unsigned_of bits) (unsigned_word bits)) kind w n (SaysBack (words_by (λ k. next_word (host_of k)) host_words) (make n)) e (λ v f.
     let k = unsigned_back bits n v h f in
-    first_back (λ k. next_word (host_of k)) host_words (a_word (host_of kind) (λ x. None)) (λ x. x) kind v (make n) g (λ left. same_told (next_word (host_of kind) left)) (one_back (host_of kind) (λ x. None) (make n) v k.1 (is v ∙ ap (option_map make) k.0)))
+    first_back (λ k. next_word (host_of k)) host_words (a_word (host_of kind) (λ x. None)) (λ x. x) kind v (make n) g (λ left. same_told (next_word (host_of kind) left)) (one_back (a_word (host_of kind) (λ x. None)) (host_of kind) (make n) v (λ left. refl) k.1 (is v ∙ ap (option_map make) k.0)))
 
 signed_host : (bits : ℕ) (kind : List ℕ) (make : ℤ → Host) (z : ℤ) (w : List ℕ) → nat_lt (2 ^ bits) (10 ^ 64) ≡ true → graphic kind ≡ true → ((word : List ℕ) → host_of kind word ≡ option_map make (signed_of bits word))
     → with_word kind (signed_word bits z) ≡ Some w → SaysBack (words_by (λ k. next_word (host_of k)) host_words) (make z) w
 signed_host bits kind make z w h g is e = with_back (a_word (signed_of bits) (signed_word bits)) kind w z (SaysBack (words_by (λ k. next_word (host_of k)) host_words) (make z)) e (λ v f.
     let k = signed_back bits z v h f in
-    first_back (λ k. next_word (host_of k)) host_words (a_word (host_of kind) (λ x. None)) (λ x. x) kind v (make z) g (λ left. same_told (next_word (host_of kind) left)) (one_back (host_of kind) (λ x. None) (make z) v k.1 (is v ∙ ap (option_map make) k.0)))
+    first_back (λ k. next_word (host_of k)) host_words (a_word (host_of kind) (λ x. None)) (λ x. x) kind v (make z) g (λ left. same_told (next_word (host_of kind) left)) (one_back (a_word (host_of kind) (λ x. None)) (host_of kind) (make z) v (λ left. refl) k.1 (is v ∙ ap (option_map make) k.0)))
 
 pub host_back : Back a_host
 unfolding a_host

@@ -3,7 +3,6 @@ pub mod Numbers
 pub mod Vocabulary
 pub mod Rests
 pub mod Forms
-pub mod Lines
 pub mod Cursor
 pub mod Printed
 pub mod Output

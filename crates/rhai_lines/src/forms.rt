@@ -1,12 +1,13 @@
-//! The forms of line: which command a verb and what stands behind it say.
-ghost use Rattle.std.specs.Prelude.{◌≡◌, IfOk, OnErr};
-ghost use Rattle.rhai_lines.specs.Forms.{form_of, from_hand, from_changes, from_entries, from_scope, from_names, from_marks, from_parts, command_of, TakesMemory};
-ghost use Rattle.rhai_lines.specs.Cursor.{left_in, Says};
+//! The forms of line: which command a verb and what stands behind it say, and how a command is written.
+ghost use Rattle.std.specs.Prelude.{◌≡◌, IfOk, OnErr, string_bytes};
+ghost use Rattle.rhai_lines.specs.Forms.{form_of, from_hand, from_changes, from_entries, from_scope, from_names, from_marks, from_parts, command_of, TakesMemory, literal_line, line_of};
+ghost use Rattle.rhai_lines.specs.Cursor.{left_in, Says, Adds};
 
 use crate::rests::{
     alone, blob, character, flagged_names, four, name_and_alias, names, one, text, three, two,
 };
-use crate::words::{NoCommand, first_word};
+use crate::spell;
+use crate::words::{NoCommand, add, first_word};
 use rhai_run::{Command, Literal};
 use rhai_value::{ExclusiveRange, InclusiveRange};
 use std::alloc::{AllocError, Global};
@@ -192,5 +193,96 @@ pub fn command(alloc: Global, line: &[u8]) -> Result<Option<Command>, AllocError
         Ok(command) => Ok(Some(command)),
         Err(NoCommand::BadLine) => Ok(None),
         Err(NoCommand::Memory) => Err(AllocError),
+    }
+}
+
+/// Adds the line of a literal.
+fn add_literal(line: &mut String, literal: &Literal) -> Result<bool, AllocError>
+    ensures { Adds result (literal_line literal.now) (string_bytes line.old) (string_bytes line.new) }
+{
+    match literal {
+        Literal::Unit => add(line, "unit"),
+        Literal::Bool(b) => spell::one(line, "bool", b),
+        Literal::Int(n) => spell::one(line, "int", n),
+        Literal::Char(c) => spell::character(line, "char", *c),
+        Literal::Text(characters) => spell::text(line, "text", characters.as_str()),
+        Literal::Blob(bytes) => spell::blob(line, "blob", bytes.as_slice()),
+        Literal::Host(number) => spell::one(line, "host", number),
+        Literal::Range(range) => spell::two(line, "range", &range.start, &range.end),
+        Literal::RangeEq(range) => spell::two(line, "rangeeq", &range.start, &range.end),
+    }
+}
+
+/// Adds the line of a command.
+#[tactic(auto, unfolding(crate::specs::Forms::line_of, crate::specs::Rests::names, crate::specs::Rests::flagged_names))]
+pub(crate) fn add_line(line: &mut String, command: &Command) -> Result<bool, AllocError>
+    ensures { Adds result (line_of command.now) (string_bytes line.old) (string_bytes line.new) }
+{
+    match command {
+        Command::Put(literal) => add_literal(line, literal),
+        Command::MakeArray(n) => spell::one(line, "array", n),
+        Command::MakeMap(keys) => spell::list(line, "map", keys.as_slice()),
+        Command::MakeFn(name, n) => spell::two(line, "fn", name, n),
+        Command::Copy(i) => spell::one(line, "copy", i),
+        Command::Take(i) => spell::one(line, "take", i),
+        Command::Drop => add(line, "drop"),
+        Command::Share(i) => spell::one(line, "share", i),
+        Command::Flatten(i) => spell::one(line, "flatten", i),
+        Command::FlattenClone(i) => spell::one(line, "flatclone", i),
+        Command::Cast(i, kind) => spell::two(line, "cast", i, kind),
+        Command::MakeReadOnly(i) => spell::one(line, "readonly", i),
+        Command::SetTag(i, tag) => spell::two(line, "tag", i, tag),
+        Command::Ask(i, question) => spell::two(line, "ask", i, question),
+        Command::WriteInt(i, n) => spell::two(line, "write", i, n),
+        Command::Write(i, j) => spell::two(line, "store", i, j),
+        Command::Binary(op, i, j) => spell::three(line, "op", i, op, j),
+        Command::Assign(op, place, j) => spell::three(line, "assign", place, op, j),
+        Command::Scan(i, scanner) => spell::two(line, "scan", i, scanner),
+        Command::Push(name, i) => spell::two(line, "push", name, i),
+        Command::PushDynamic(name, i) => spell::two(line, "pushdyn", name, i),
+        Command::PushConstant(name, i) => spell::two(line, "pushconst", name, i),
+        Command::SetEntry(name, i) => spell::two(line, "set", name, i),
+        Command::SetOrPush(name, i) => spell::two(line, "setorpush", name, i),
+        Command::SetValue(name, i) => spell::two(line, "setvalue", name, i),
+        Command::Pop => add(line, "pop"),
+        Command::Rewind(n) => spell::one(line, "rewind", n),
+        Command::Clear => add(line, "clear"),
+        Command::Len => add(line, "len"),
+        Command::IsEmpty => add(line, "empty"),
+        Command::Contains(name) => spell::one(line, "contains", name),
+        Command::Search(name) => spell::one(line, "search", name),
+        Command::IsConstant(name) => spell::one(line, "constant", name),
+        Command::Get(name) => spell::one(line, "get", name),
+        Command::GetValue(name, kind) => spell::two(line, "value", name, kind),
+        Command::GetRef(name, kind) => spell::two(line, "ref", name, kind),
+        Command::SetRef(name, n) => spell::two(line, "refint", name, n),
+        Command::Remove(name, kind) => spell::two(line, "remove", name, kind),
+        Command::SetAlias(name, alias) => spell::name_and_alias(line, "alias", name, alias),
+        Command::Aliases(name) => spell::one(line, "aliases", name),
+        Command::KeepVisible => add(line, "visible"),
+        Command::CopyScope => add(line, "copyscope"),
+        Command::Entries => add(line, "iter"),
+        Command::Names => add(line, "names"),
+        Command::Extend(names) => spell::list(line, "extend", names.as_slice()),
+        Command::ExtendFlagged(names) => spell::list(line, "extendflagged", names.as_slice()),
+        Command::ShowScope => add(line, "showscope"),
+        Command::HashScope => add(line, "hashscope"),
+        Command::Mark(place) => spell::one(line, "mark", place),
+        Command::Unmark(k) => spell::one(line, "unmark", k),
+        Command::WriteMarked(k, i) => spell::two(line, "writemarked", k, i),
+        Command::ReadMarked(k) => spell::one(line, "readmarked", k),
+        Command::WriteBit(place, bit, j) => spell::three(line, "bit", place, bit, j),
+        Command::WriteField(place, mask, shift, j) => spell::four(
+            line, "field", place, mask, shift, j,
+        ),
+        Command::WriteByte(place, index, j) => spell::three(line, "byte", place, index, j),
+        Command::WriteChar(place, index, j) => spell::three(line, "charat", place, index, j),
+        Command::WriteSlice(place, a, b, true, j) => spell::four(line, "slice", place, a, b, j),
+        Command::WriteSlice(place, a, b, false, j) => spell::four(line, "sliceeq", place, a, b, j),
+        Command::Offset(length, start, n) => spell::three(line, "offset", length, start, n),
+        Command::Index(length, n, from_end) => spell::three(line, "index", length, n, from_end),
+        Command::Show(i) => spell::one(line, "show", i),
+        Command::Debug(i) => spell::one(line, "debug", i),
+        Command::Hash(i) => spell::one(line, "hash", i),
     }
 }

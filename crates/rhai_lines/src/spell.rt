@@ -3,7 +3,7 @@ ghost use Rattle.std.specs.Prelude.{◌≡◌, ◌∷◌, ◌++◌, OnOk, option
 ghost use Rattle.std.specs.Str.{chars};
 ghost use Rattle.rhai_lines.specs.Rests.{one as one_word, two as two_words, three as three_words, four as four_words, list_of, a_name_and_alias, a_text, has_feed, a_char, a_blob};
 ghost use Rattle.rhai_lines.specs.Printed.{byte_text};
-ghost use Rattle.rhai_lines.specs.Lines.{spoken};
+ghost use Rattle.rhai_lines.specs.Forms.{spoken};
 ghost use Rattle.rhai_lines.specs.Cursor.{Adds};
 
 use crate::rests::Item;
@@ -20,7 +20,7 @@ fn word<A: Word>(line: &mut String, a: &A) -> Result<bool, AllocError>
 }
 
 /// Adds a verb and one word.
-#[tactic(auto, unfolding(crate::specs::Lines::spoken, crate::specs::Rests::one))]
+#[tactic(auto, unfolding(crate::specs::Forms::spoken, crate::specs::Rests::one))]
 pub(crate) fn one<A: Word>(line: &mut String, verb: &str, a: &A) -> Result<bool, AllocError>
     ensures { Adds result (spoken verb.now (one_word A.word) a.now) (string_bytes line.old) (string_bytes line.new) }
 {
@@ -29,7 +29,7 @@ pub(crate) fn one<A: Word>(line: &mut String, verb: &str, a: &A) -> Result<bool,
 }
 
 /// Adds a verb and two words.
-#[tactic(auto, unfolding(crate::specs::Lines::spoken, crate::specs::Rests::two))]
+#[tactic(auto, unfolding(crate::specs::Forms::spoken, crate::specs::Rests::two))]
 pub(crate) fn two<A: Word, B: Word>(
     line: &mut String,
     verb: &str,
@@ -45,7 +45,7 @@ pub(crate) fn two<A: Word, B: Word>(
 }
 
 /// Adds a verb and three words.
-#[tactic(auto, unfolding(crate::specs::Lines::spoken, crate::specs::Rests::three))]
+#[tactic(auto, unfolding(crate::specs::Forms::spoken, crate::specs::Rests::three))]
 pub(crate) fn three<A: Word, B: Word, C: Word>(
     line: &mut String,
     verb: &str,
@@ -62,7 +62,7 @@ pub(crate) fn three<A: Word, B: Word, C: Word>(
 }
 
 /// Adds a verb and four words.
-#[tactic(auto, unfolding(crate::specs::Lines::spoken, crate::specs::Rests::four))]
+#[tactic(auto, unfolding(crate::specs::Forms::spoken, crate::specs::Rests::four))]
 pub(crate) fn four<A: Word, B: Word, C: Word, D: Word>(
     line: &mut String,
     verb: &str,
@@ -80,7 +80,7 @@ pub(crate) fn four<A: Word, B: Word, C: Word, D: Word>(
 }
 
 /// Adds a verb and a word for each item.
-#[tactic(auto, unfolding(crate::specs::Lines::spoken))]
+#[tactic(auto, unfolding(crate::specs::Forms::spoken))]
 pub(crate) fn list<A: Item>(line: &mut String, verb: &str, items: &[A]) -> Result<bool, AllocError>
     ensures { Adds result (spoken verb.now (list_of A.said A.spelled) items.now) (string_bytes line.old) (string_bytes line.new) }
 {
@@ -97,7 +97,7 @@ pub(crate) fn list<A: Item>(line: &mut String, verb: &str, items: &[A]) -> Resul
 }
 
 /// Adds a verb, a name, and an alias unless it is empty.
-#[tactic(auto, unfolding(crate::specs::Lines::spoken, crate::specs::Rests::a_name_and_alias))]
+#[tactic(auto, unfolding(crate::specs::Forms::spoken, crate::specs::Rests::a_name_and_alias))]
 pub(crate) fn name_and_alias(
     line: &mut String,
     verb: &str,
@@ -122,7 +122,7 @@ fn has_feed(text: &str) -> bool
 }
 
 /// Adds a verb and a text, unless that is empty.
-#[tactic(auto, unfolding(crate::specs::Lines::spoken, crate::specs::Rests::a_text))]
+#[tactic(auto, unfolding(crate::specs::Forms::spoken, crate::specs::Rests::a_text))]
 pub(crate) fn text(line: &mut String, verb: &str, text: &str) -> Result<bool, AllocError>
     ensures { Adds result (spoken verb.now a_text (chars text.now)) (string_bytes line.old) (string_bytes line.new) }
 {
@@ -138,7 +138,7 @@ pub(crate) fn text(line: &mut String, verb: &str, text: &str) -> Result<bool, Al
 }
 
 /// Adds a verb and a character.
-#[tactic(auto, unfolding(crate::specs::Lines::spoken, crate::specs::Rests::a_char))]
+#[tactic(auto, unfolding(crate::specs::Forms::spoken, crate::specs::Rests::a_char))]
 pub(crate) fn character(line: &mut String, verb: &str, c: char) -> Result<bool, AllocError>
     ensures { Adds result (spoken verb.now a_char c) (string_bytes line.old) (string_bytes line.new) }
 {
@@ -154,7 +154,7 @@ fn add_byte(line: &mut String, byte: u8) -> Result<(), AllocError>
 }
 
 /// Adds a verb and bytes as hexadecimal digits, unless there are none.
-#[tactic(auto, unfolding(crate::specs::Lines::spoken, crate::specs::Rests::a_blob))]
+#[tactic(auto, unfolding(crate::specs::Forms::spoken, crate::specs::Rests::a_blob))]
 pub(crate) fn blob(line: &mut String, verb: &str, bytes: &[u8]) -> Result<bool, AllocError>
     ensures { Adds result (spoken verb.now a_blob bytes.now) (string_bytes line.old) (string_bytes line.new) }
 {

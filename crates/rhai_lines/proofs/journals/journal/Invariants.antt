@@ -1,5 +1,5 @@
 use Rattle.std.proofs.Common.{◌≡◌, ◌++◌, length, option_map, string_bytes}
-use Rattle.rhai_lines.specs.Lines.{journal_of}
+use Rattle.rhai_lines.specs.Forms.{journal_of}
 use Rattle.rhai_lines.proofs.journals.journal.Given as goal
 
 abbrev pub invariant-loop-left : goal.invariant-loop-left

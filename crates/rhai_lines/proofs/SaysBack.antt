@@ -1,7 +1,7 @@
 -- What a word says that is written of a value: the value, and what is left behind it stays.
 use Rattle.std.proofs.Common.{◌≡◌, ℕ, ◌+◌, suc, ◌<◌, Bool, true, false, ◌&&◌, ◌||◌, nat_eq, nat_lt, if◌then◌else◌, cond, length, List, [], ◌∷◌, ◌++◌, length-append, Option, Some, None, option_map, take, drop, refl, sym, ap, ap₂, ◌∙◌, append-nil, arith}
 use Rattle.std.specs.List.{list_all, position_or_len, AllByRecursion}
-use Rattle.std.specs.Str.{IsUtf8}
+use Rattle.std.specs.Str.{IsUtf8, IsAscii}
 use Rattle.std.proofs.Math.Seq.{take-append_seam, drop-append-add}
 use Rattle.std.proofs.lemmas.Bool.Decides.{nat_tests}
 use Rattle.std.proofs.lemmas.List.Recursion.{is_position_or_len}
@@ -43,8 +43,11 @@ each_below : (w : List ℕ) → graphic w ≡ true → AllByRecursion (λ b. b <
 each_below [] e = tt
 each_below (b ∷ bs) e = let h = both (is_graphic b) (graphic bs) e in (below_128 b h.0, each_below bs h.1)
 
+pub graphic_ascii : (w : List ℕ) → graphic w ≡ true → IsAscii w
+graphic_ascii w e = IsAscii-from_all w (All-from_recursion (λ b. b < 128) w (each_below w e))
+
 pub graphic_utf8 : (w : List ℕ) → graphic w ≡ true → IsUtf8 w
-graphic_utf8 w e = IsUtf8-from_ascii w (IsAscii-from_all w (All-from_recursion (λ b. b < 128) w (each_below w e)))
+graphic_utf8 w e = IsUtf8-from_ascii w (graphic_ascii w e)
 
 -- where such a word stands before what is left, it is cut off there
 abbrev at_space : List ℕ → ℕ
@@ -127,10 +130,7 @@ called_back same is_same table (row ∷ rows) a w s e =
         (ap (named table) (sym is) ∙ so_named same is_same (named table row.0) row.1 k.0 ∙ ap Some (sym (is_same a row.1 f)), ap graphic (sym is) ∙ k.1)
     by false f k r = r (sym (ap (λ x. if x then Some row.0 else called same rows a) f) ∙ e)
 
--- two texts and a space between them
-pub no_feed_behind : (front w : List ℕ) → has_feed front ≡ false → has_feed w ≡ false → has_feed (front ++ 32 ∷ w) ≡ false
-no_feed_behind front w f h = list_any-append (λ b. nat_eq b 10) front (32 ∷ w) ∙ ap₂ (λ s t. s || t) f h
-
+-- texts behind each other, and with a space between them
 space_utf8 : IsUtf8 (32 ∷ [])
 space_utf8 = IsUtf8-from_ascii (32 ∷ []) (IsAscii-from_all (32 ∷ []) (All-from_recursion (λ b. b < 128) (32 ∷ []) (omega arith, tt)))
 

@@ -1,4 +1,4 @@
--- Lines that grow by a word.
+-- Lines that grow.
 use Rattle.std.proofs.Common.{◌≡◌, ℕ, ◌<◌, Bool, true, false, not, ◌&&◌, ◌==◌, if◌then◌else◌, nat_lt, flat_map, Fits, w8, slice_index_or, length, List, [], ◌∷◌, ◌++◌, suc, Option, Some, None, option_map, option_and_then, IsSomeAnd, IsTrue, Result, Ok, Err, encode_utf8_all, refl, sym, ap, ap₂, ◌∙◌, append_assoc, append-nil, arith}
 use Rattle.std.specs.List.{list_all}
 use Rattle.std.specs.Str.{chars, IsUtf8}
@@ -7,87 +7,37 @@ use Rattle.std.proofs.Math.Utf8.{scalars}
 use Rattle.std.proofs.lemmas.Bool.{false≢true}
 use Rattle.std.proofs.lemmas.Bool.Decides.{nat_tests}
 use Rattle.std.proofs.lemmas.Str.{scalars-chars, encodes-chars, chars-nil}
-use Rattle.rhai_lines.specs.Words.{Left, Word, behind, a_name}
-use Rattle.rhai_lines.specs.Rests.{one, two, three, four, joined, a_name_and_alias, an_alias, a_text, a_char, a_blob, text_words, has_feed}
+use Rattle.rhai_lines.specs.Words.{Left, Word, behind}
+use Rattle.rhai_lines.specs.Rests.{Rest, one, before, joined, a_text, a_char, a_blob, text_words, has_feed}
 use Rattle.rhai_lines.specs.Printed.{byte_text}
 use Rattle.rhai_lines.specs.Forms.{spoken}
 use Rattle.rhai_lines.specs.Cursor.{Adds}
 
--- a line and one more word, where there are both
-abbrev pub and_word : Option (List ℕ) → Option (List ℕ) → Option (List ℕ)
-and_word line word = option_and_then (λ l. option_map (λ w. l ++ 32 ∷ w) word) line
-
-pub word_added : (r : Result Bool AllocError) (line word : Option (List ℕ)) (old mid new : List ℕ) → IsSomeAnd line (λ bytes. mid ≡ old ++ bytes) → Adds r (option_map (λ w. 32 ∷ w) word) mid new → Adds r (and_word line word) old new
-word_added r None word old mid new h k = absurd h
-word_added (Ok true) (Some l) None old mid new h k = absurd k
-word_added (Ok true) (Some l) (Some w) old mid new h k = k ∙ ap (λ x. x ++ 32 ∷ w) h ∙ append_assoc old l (32 ∷ w)
-word_added (Ok false) (Some l) None old mid new h k = refl
-word_added (Ok false) (Some l) (Some w) old mid new h k = cc
-word_added (Err e) (Some l) word old mid new h k = tt
-
--- one word more
+-- a text, and behind it what is left
 abbrev written : List ℕ → Option Left → Option (List ℕ)
 written verb left = option_map (λ l. verb ++ behind l) left
 
-more : (verb v w : List ℕ) → verb ++ 32 ∷ (v ++ 32 ∷ w) ≡ (verb ++ 32 ∷ v) ++ 32 ∷ w
-more verb v w = sym (append_assoc verb (32 ∷ v) (32 ∷ w))
-
-pub two_is : {A B : Type 0} (verb : List ℕ) (p : Word A) (q : Word B) (a : A) (b : B) → spoken verb (two p q) (a, b) ≡ and_word (spoken verb (one p) a) (q.spells b)
-unfolding spoken one two
-two_is verb p q a b = by (p.spells a) (q.spells b)
+-- a word, and then what says the rest
+pub before_added : {A B C : Type 0} (r : Result Bool AllocError) (verb : List ℕ) (p : Word A) (next : Rest B) (join : A → B → C) (parts : C → A × B) (c : C) (old mid new : List ℕ)
+    → IsSomeAnd (spoken verb (one p) (parts c).0) (λ bytes. mid ≡ old ++ bytes) → Adds r (spoken [] next (parts c).1) mid new → Adds r (spoken verb (before p next join parts) c) old new
+unfolding spoken one
+before_added r verb p next join parts c old mid new = by r (p.spells (parts c).0) (next.spells (parts c).1)
   where
-    by : (u v : Option (List ℕ)) → written verb (joined u (option_map Some v)) ≡ and_word (written verb (option_map Some u)) v
-    by None v = refl
-    by (Some u) None = refl
-    by (Some u) (Some v) = ap Some (more verb u v)
+    by : (r : Result Bool AllocError) (u : Option (List ℕ)) (v : Option Left) → IsSomeAnd (written verb (option_map Some u)) (λ bytes. mid ≡ old ++ bytes) → Adds r (written [] v) mid new → Adds r (written verb (joined u v)) old new
+    by r None v h k = absurd h
+    by (Ok true) (Some w) None h k = absurd k
+    by (Ok true) (Some w) (Some l) h k = k ∙ ap (λ x. x ++ behind l) h ∙ append_assoc old (verb ++ 32 ∷ w) (behind l) ∙ ap (λ x. old ++ x) (append_assoc verb (32 ∷ w) (behind l))
+    by (Ok false) (Some w) None h k = refl
+    by (Ok false) (Some w) (Some l) h k = cc
+    by (Err e) (Some w) v h k = tt
 
-pub three_is : {A B C : Type 0} (verb : List ℕ) (p : Word A) (q : Word B) (r : Word C) (a : A) (b : B) (c : C) → spoken verb (three p q r) (a, b, c) ≡ and_word (spoken verb (two p q) (a, b)) (r.spells c)
-unfolding spoken one two three
-three_is verb p q r a b c = by (p.spells a) (q.spells b) (r.spells c)
-  where
-    by : (u v w : Option (List ℕ)) → written verb (joined u (joined v (option_map Some w))) ≡ and_word (written verb (joined u (option_map Some v))) w
-    by None v w = refl
-    by (Some u) None w = refl
-    by (Some u) (Some v) None = refl
-    by (Some u) (Some v) (Some w) = ap Some (ap (λ x. verb ++ 32 ∷ x) (more u v w) ∙ more verb (u ++ 32 ∷ v) w)
-
-pub four_is : {A B C D : Type 0} (verb : List ℕ) (p : Word A) (q : Word B) (r : Word C) (s : Word D) (a : A) (b : B) (c : C) (d : D) → spoken verb (four p q r s) (a, b, c, d) ≡ and_word (spoken verb (three p q r) (a, b, c)) (s.spells d)
-unfolding spoken one two three four
-four_is verb p q r s a b c d = by (p.spells a) (q.spells b) (r.spells c) (s.spells d)
-  where
-    by : (u v w x : Option (List ℕ)) → written verb (joined u (joined v (joined w (option_map Some x)))) ≡ and_word (written verb (joined u (joined v (option_map Some w)))) x
-    by None v w x = refl
-    by (Some u) None w x = refl
-    by (Some u) (Some v) None x = refl
-    by (Some u) (Some v) (Some w) None = refl
-    by (Some u) (Some v) (Some w) (Some x) = ap Some (ap (λ y. verb ++ 32 ∷ y) (ap (λ y. u ++ 32 ∷ y) (more v w x) ∙ more u (v ++ 32 ∷ w) x) ∙ more verb (u ++ 32 ∷ (v ++ 32 ∷ w)) x)
-
--- an alias that is empty is not said
-pub no_alias_is : (verb name : List ℕ) → spoken verb a_name_and_alias (name, []) ≡ spoken verb (one a_name) name
-unfolding spoken one a_name_and_alias an_alias
-no_alias_is verb name = by (a_name.spells name)
-  where
-    by : (u : Option (List ℕ)) → written verb (joined u (Some None)) ≡ written verb (option_map Some u)
-    by None = refl
-    by (Some u) = ap (λ x. Some (verb ++ 32 ∷ x)) (append-nil u)
-
-pub alias_is : (verb name alias : List ℕ) → (alias ≡ [] → IsTrue false) → spoken verb a_name_and_alias (name, alias) ≡ and_word (spoken verb (one a_name) name) (a_name.spells alias)
-unfolding spoken one a_name_and_alias an_alias
-alias_is verb name [] h = absurd (false≢true (h refl))
-alias_is verb name (c ∷ cs) h = by (a_name.spells name) (a_name.spells (c ∷ cs))
-  where
-    by : (u v : Option (List ℕ)) → written verb (joined u (option_map Some v)) ≡ and_word (written verb (option_map Some u)) v
-    by None v = refl
-    by (Some u) None = refl
-    by (Some u) (Some v) = ap Some (more verb u v)
-
-pub no_name_is : (verb name alias : List ℕ) → spoken verb (one a_name) name ≡ None → spoken verb a_name_and_alias (name, alias) ≡ None
-unfolding spoken one a_name_and_alias
-no_name_is verb name alias = by (a_name.spells name) (an_alias.spells alias)
+pub before_none : {A B C : Type 0} (verb : List ℕ) (p : Word A) (next : Rest B) (join : A → B → C) (parts : C → A × B) (c : C) → spoken verb (one p) (parts c).0 ≡ None → spoken verb (before p next join parts) c ≡ None
+unfolding spoken one
+before_none verb p next join parts c = by (p.spells (parts c).0) (next.spells (parts c).1)
   where
     by : (u : Option (List ℕ)) (v : Option Left) → written verb (option_map Some u) ≡ None → written verb (joined u v) ≡ None
     by None v e = refl
-    by (Some u) v e = cc
+    by (Some w) v e = cc
 
 -- a text: what is left for its characters
 pub text_is : (text : List ℕ) → IsUtf8 text → (length text == 0) ≡ false → text_words (chars text) ≡ (if not (has_feed text) then Some (Some text) else None)

@@ -8,7 +8,7 @@ use Rattle.rhai_run.specs.declared.command.Literal.TheVariants.{Unit, Bool as Tr
 use Rattle.rhai_lines.specs.Words.{behind, Left, Word, word_of, left_of, named, a_name, a_truth}
 use Rattle.rhai_lines.specs.Numbers.{a_position, a_bit, an_int, a_tag}
 use Rattle.rhai_lines.specs.Vocabulary.{a_kind, a_token, a_question, a_scanner, a_host, a_place}
-use Rattle.rhai_lines.specs.Rests.{Rest, alone, one, two, three, four, names, flagged_names, a_name_and_alias, a_char, a_text, a_blob}
+use Rattle.rhai_lines.specs.Rests.{Rest, last, one, two, three, four, names, flagged_names, a_name_and_alias, a_char, a_text, a_blob}
 
 -- The form of a line behind its verb: the command that is said, and whether memory is taken; and tables of verbs and forms.
 pub record Form : Type 0 where
@@ -23,7 +23,7 @@ abbrev pub of_all : {A : Type 0} → Rest A → (A → Command) → Form
 of_all rest make = record { says = λ left. option_map make (rest.says left); takes = rest.takes }
 
 abbrev pub of_none : Command → Form
-of_none c = of_all (alone c) (λ a. a)
+of_none c = record { says = last c; takes = λ left. false }
 
 abbrev pub of_one : {A : Type 0} → Word A → (A → Command) → Form
 of_one first make = of_all (one first) make

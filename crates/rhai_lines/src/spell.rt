@@ -1,7 +1,7 @@
-//! Commands as their lines: a verb, and the words of values behind it.
+//! Commands as their lines: a verb, and the words of values behind it. Without a verb these calls add words behind others.
 ghost use Rattle.std.specs.Prelude.{◌≡◌, ◌∷◌, ◌++◌, OnOk, option_map, string_bytes};
 ghost use Rattle.std.specs.Str.{chars};
-ghost use Rattle.rhai_lines.specs.Rests.{one as one_word, two as two_words, three as three_words, four as four_words, list_of, a_name_and_alias, a_text, has_feed, a_char, a_blob};
+ghost use Rattle.rhai_lines.specs.Rests.{one as one_word, two as two_words, three as three_words, four as four_words, list_of, an_alias, a_name_and_alias, a_text, has_feed, a_char, a_blob};
 ghost use Rattle.rhai_lines.specs.Printed.{byte_text};
 ghost use Rattle.rhai_lines.specs.Forms.{spoken};
 ghost use Rattle.rhai_lines.specs.Cursor.{Adds};
@@ -29,7 +29,6 @@ pub(crate) fn one<A: Word>(line: &mut String, verb: &str, a: &A) -> Result<bool,
 }
 
 /// Adds a verb and two words.
-#[tactic(auto, unfolding(crate::specs::Forms::spoken, crate::specs::Rests::two))]
 pub(crate) fn two<A: Word, B: Word>(
     line: &mut String,
     verb: &str,
@@ -41,11 +40,10 @@ pub(crate) fn two<A: Word, B: Word>(
     if !one(line, verb, a)? {
         return Ok(false);
     }
-    word(line, b)
+    one(line, "", b)
 }
 
 /// Adds a verb and three words.
-#[tactic(auto, unfolding(crate::specs::Forms::spoken, crate::specs::Rests::three))]
 pub(crate) fn three<A: Word, B: Word, C: Word>(
     line: &mut String,
     verb: &str,
@@ -55,14 +53,13 @@ pub(crate) fn three<A: Word, B: Word, C: Word>(
 ) -> Result<bool, AllocError>
     ensures { Adds result (spoken verb.now (three_words A.word B.word C.word) (a.now, b.now, c.now)) (string_bytes line.old) (string_bytes line.new) }
 {
-    if !two(line, verb, a, b)? {
+    if !one(line, verb, a)? {
         return Ok(false);
     }
-    word(line, c)
+    two(line, "", b, c)
 }
 
 /// Adds a verb and four words.
-#[tactic(auto, unfolding(crate::specs::Forms::spoken, crate::specs::Rests::four))]
 pub(crate) fn four<A: Word, B: Word, C: Word, D: Word>(
     line: &mut String,
     verb: &str,
@@ -73,10 +70,10 @@ pub(crate) fn four<A: Word, B: Word, C: Word, D: Word>(
 ) -> Result<bool, AllocError>
     ensures { Adds result (spoken verb.now (four_words A.word B.word C.word D.word) (a.now, b.now, c.now, d.now)) (string_bytes line.old) (string_bytes line.new) }
 {
-    if !three(line, verb, a, b, c)? {
+    if !one(line, verb, a)? {
         return Ok(false);
     }
-    word(line, d)
+    three(line, "", b, c, d)
 }
 
 /// Adds a verb and a word for each item.
@@ -96,8 +93,18 @@ pub(crate) fn list<A: Item>(line: &mut String, verb: &str, items: &[A]) -> Resul
     Ok(true)
 }
 
+/// Adds a verb, and an alias unless it is empty.
+#[tactic(auto, unfolding(crate::specs::Forms::spoken, crate::specs::Rests::an_alias))]
+fn add_alias(line: &mut String, verb: &str, alias: &ImmutableString) -> Result<bool, AllocError>
+    ensures { Adds result (spoken verb.now an_alias alias.now) (string_bytes line.old) (string_bytes line.new) }
+{
+    if alias.is_empty() {
+        return add(line, verb);
+    }
+    one(line, verb, alias)
+}
+
 /// Adds a verb, a name, and an alias unless it is empty.
-#[tactic(auto, unfolding(crate::specs::Forms::spoken, crate::specs::Rests::a_name_and_alias))]
 pub(crate) fn name_and_alias(
     line: &mut String,
     verb: &str,
@@ -109,10 +116,7 @@ pub(crate) fn name_and_alias(
     if !one(line, verb, name)? {
         return Ok(false);
     }
-    if alias.is_empty() {
-        return Ok(true);
-    }
-    word(line, alias)
+    add_alias(line, "", alias)
 }
 
 fn has_feed(text: &str) -> bool

@@ -1,9 +1,8 @@
 //! The kinds, the operators, the questions, the scanners, the numbers of the host and the places of a line.
 ghost use Rattle.std.specs.Prelude.{◌≡◌, ◌++◌, option_map, string_bytes};
-ghost use Rattle.rhai_value.specs.Types.{is_type};
 ghost use Rattle.rhai_lines.specs.Words.{named, called, rows};
 ghost use Rattle.rhai_lines.specs.Numbers.{unsigned_word, signed_word};
-ghost use Rattle.rhai_lines.specs.Vocabulary.{is_token, kinds, operators, plain_questions, host_of, place_of, names_entry, a_kind, a_token, a_question, a_scanner, a_host, a_place};
+ghost use Rattle.rhai_lines.specs.Vocabulary.{kinds, operators, plain_questions, host_of, place_of, names_entry, a_kind, a_token, a_question, a_scanner, a_host, a_place};
 ghost use Rattle.rhai_lines.specs.Cursor.{left_in, Yields, Adds};
 
 use crate::numbers::{
@@ -64,13 +63,6 @@ fn kind_in(word: &str) -> Option<TypeId>
     named(&KINDS, word)
 }
 
-#[tactic(auto, unfolding(crate::specs::Vocabulary::kinds))]
-fn add_kind(line: &mut String, kind: TypeId) -> Result<bool, AllocError>
-    ensures { Adds result (called is_type kinds kind) (string_bytes line.old) (string_bytes line.new) }
-{
-    add_called(line, &KINDS, kind)
-}
-
 /// A type.
 #[tactic(auto, unfolding(crate::specs::Vocabulary::a_kind))]
 impl Word for TypeId {
@@ -81,8 +73,9 @@ impl Word for TypeId {
         Ok((kind_in(word).ok_or(NoCommand::BadLine)?, left))
     }
 
+    #[tactic(auto, unfolding(crate::specs::Vocabulary::a_kind, crate::specs::Vocabulary::kinds))]
     fn spell(&self, line: &mut String) -> Result<bool, AllocError> {
-        add_kind(line, *self)
+        add_called(line, &KINDS, *self)
     }
 }
 
@@ -128,13 +121,6 @@ fn token_in(word: &str) -> Option<Token>
     named(&OPERATORS, word)
 }
 
-#[tactic(auto, unfolding(crate::specs::Vocabulary::operators))]
-fn add_token(line: &mut String, op: Token) -> Result<bool, AllocError>
-    ensures { Adds result (called is_token operators op) (string_bytes line.old) (string_bytes line.new) }
-{
-    add_called(line, &OPERATORS, op)
-}
-
 /// An operator.
 #[tactic(auto, unfolding(crate::specs::Vocabulary::a_token))]
 impl Word for Token {
@@ -145,8 +131,9 @@ impl Word for Token {
         Ok((token_in(word).ok_or(NoCommand::BadLine)?, left))
     }
 
+    #[tactic(auto, unfolding(crate::specs::Vocabulary::a_token, crate::specs::Vocabulary::operators))]
     fn spell(&self, line: &mut String) -> Result<bool, AllocError> {
-        add_token(line, *self)
+        add_called(line, &OPERATORS, *self)
     }
 }
 

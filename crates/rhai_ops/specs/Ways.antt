@@ -1,6 +1,6 @@
 -- What a call does with what its row comes to: an operator answers it; an assignment writes it where the chain of the first operand
 -- ends, and answers unit.
-use Rattle.std.specs.Prelude.{Bool, true, false, List, [], Option, Some, None, if◌then◌else◌}
+use Rattle.std.specs.Prelude.{Bool, true, false, List, [], Option, Some, None}
 use Rattle.rhai_value.specs.declared.store.Cell.{Cell}
 use Rattle.rhai_value.specs.Tree.{Tree, node, leaf, char, text, content_of, fresh, unit}
 use Rattle.rhai_value.specs.Parts.{with_content}
@@ -10,7 +10,6 @@ use Rattle.rhai_ops.specs.declared.builtin.FnBuiltin.TheVariants as row
 use Rattle.rhai_ops.specs.declared.word.Word.{Word}
 use Rattle.rhai_ops.specs.declared.word.Word.TheVariants.{Keep, Whole}
 use Rattle.rhai_ops.specs.Outcome.{Outcome, fault, too_large, answers, unsuited}
-use Rattle.rhai_ops.specs.Tokens.{is_arithmetic_assign}
 
 -- the second operand of an assignment stays, or unit is left of it
 pub data Second : Type 0 where
@@ -49,16 +48,16 @@ way row.FirstCopy = operator
 way row.SecondCopy = operator
 way row.BlobChar = operator
 way (row.RangeEqual i n) = operator
-way (row.IntAssign t) = assignment (if is_arithmetic_assign t then Keep else Whole) stays
+way (row.IntAssign t) = assignment Keep stays
 way (row.BoolAssign t) = assignment Keep stays
-way row.CharJoinAssign = assignment Whole stays
+way row.CharJoinAssign = assignment Keep stays
 way row.TextJoinAssign = assignment Keep stays
 way row.TextMinusAssign = assignment Keep stays
 way row.ArrayAppend = assignment Keep taken
 way row.BlobAppend = assignment Keep taken
 way row.TextCharAssign = assignment Keep stays
 way row.TextMinusCharAssign = assignment Keep stays
-way row.CharTextAssign = assignment Whole stays
+way row.CharTextAssign = assignment Keep stays
 way row.ArrayPush = assignment Keep taken
 way row.BlobPush = assignment Keep stays
 way row.BlobCharAssign = assignment Keep stays

@@ -3,7 +3,6 @@ ghost use Rattle.std.specs.Prelude.{◌≡◌};
 ghost use Rattle.rhai_ops.specs.Results.{is_limited};
 ghost use Rattle.rhai_ops.specs.Ways.{way, word_of};
 
-use crate::token::is_arithmetic_assign;
 use crate::word::Word;
 use rhai_text::Token;
 
@@ -170,13 +169,10 @@ impl FnBuiltin {
             | FnBuiltin::SecondCopy
             | FnBuiltin::BlobChar
             | FnBuiltin::RangeEqual(_, _) => None,
-            FnBuiltin::IntAssign(t) => if is_arithmetic_assign(*t) {
-                Some(Word::Keep)
-            } else {
-                Some(Word::Whole)
-            },
-            FnBuiltin::CharJoinAssign | FnBuiltin::CharTextAssign => Some(Word::Whole),
-            FnBuiltin::BoolAssign(_)
+            FnBuiltin::IntAssign(_)
+            | FnBuiltin::CharJoinAssign
+            | FnBuiltin::CharTextAssign
+            | FnBuiltin::BoolAssign(_)
             | FnBuiltin::TextJoinAssign
             | FnBuiltin::TextMinusAssign
             | FnBuiltin::TextCharAssign

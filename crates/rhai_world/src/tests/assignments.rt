@@ -5,7 +5,7 @@ use std::test::Fail;
 
 /// Numbers, booleans and characters.
 const PLAIN: &str = "
-# arithmetic keeps tag and mode and bits and shifts do not
+# ints keep tag and mode
 int 10 -> ok
 tag 0 9 -> ok
 readonly 0 -> ok
@@ -16,8 +16,8 @@ ask 0 tag -> 9
 ask 0 readonly -> true
 assign 0 <<= 1 -> ok
 show 0 -> 400
-ask 0 tag -> 0
-ask 0 readonly -> false
+ask 0 tag -> 9
+ask 0 readonly -> true
 bool true -> ok
 assign 0 += 2 -> refused NoBuiltin
 # each sign
@@ -72,7 +72,7 @@ tag 0 7 -> ok
 text bc -> ok
 assign 0 += 1 -> ok
 debug 0 -> \"abc\"
-ask 0 tag -> 0
+ask 0 tag -> 7
 debug 1 -> \"bc\"
 ";
 

@@ -5,7 +5,7 @@ use std::test::Fail;
 
 /// Assignments.
 const ASSIGNED: &str = "
-# ints keep their tag or not
+# ints keep their tag and mode
 int 6 -> ok
 tag 0 9 -> ok
 int 1 -> ok
@@ -15,7 +15,14 @@ ask 0 tag -> 9
 int 3 -> ok
 assign 0 &= 2 -> ok
 show 0 -> 3
-ask 0 tag -> 0
+ask 0 tag -> 9
+# a constant in the hand stays one
+int 4 -> ok
+readonly 0 -> ok
+int 1 -> ok
+assign 0 |= 1 -> ok
+ask 0 readonly -> true
+show 0 -> 5
 # characters become texts
 char a -> ok
 tag 0 7 -> ok
@@ -26,7 +33,7 @@ ask 0 tag -> 7
 char b -> ok
 assign 0 += 2 -> ok
 debug 0 -> \"ab\"
-ask 0 tag -> 0
+ask 0 tag -> 7
 # places that are refused
 int 1 -> ok
 int 2 -> ok
@@ -71,6 +78,27 @@ assign 0 += 2 -> ok
 show 1 -> 10 (shared)
 flatclone 0 -> ok
 ask 3 tag -> 6
+# in a cell the content's tag stays, and the holder's too
+char a -> ok
+tag 0 7 -> ok
+share 0 -> ok
+tag 0 3 -> ok
+char b -> ok
+assign 0 += 1 -> ok
+show 0 -> ab (shared)
+ask 0 tag -> 3
+flatclone 0 -> ok
+ask 2 tag -> 7
+int 1 -> ok
+tag 3 9 -> ok
+share 3 -> ok
+tag 3 4 -> ok
+int 3 -> ok
+assign 3 <<= 4 -> ok
+show 3 -> 8 (shared)
+ask 3 tag -> 4
+flatclone 3 -> ok
+ask 5 tag -> 9
 ";
 
 #[test]

@@ -1,5 +1,5 @@
 -- An operator and its assignment come to the same content.
-use Rattle.std.proofs.Common.{◌≡◌, ℕ, ℤ, Bool, true, false, ◌||◌, ◌&&◌, List, [], ◌∷◌, ◌++◌, Option, Some, None, IsSome, unwrap_or, if◌then◌else◌, refl, sym, ap, ◌∙◌, subst}
+use Rattle.std.proofs.Common.{◌≡◌, ℕ, ℤ, Bool, true, false, ◌||◌, ◌&&◌, List, [], ◌∷◌, ◌++◌, Option, Some, None, IsTrue, unwrap_or, if◌then◌else◌, refl, sym, ap, ◌∙◌, subst}
 use Rattle.std.specs.Char.{encode_utf8}
 use Rattle.std.proofs.lemmas.List.{append-nil}
 use Rattle.std.proofs.lemmas.Option.{same_Some}
@@ -16,19 +16,17 @@ use Rattle.rhai_value.specs.declared.type_id.TypeId.TheVariants as id
 use Rattle.rhai_value.specs.Tree.{Tree, Trees, node, leaf, branch, fields, holder, array, function, Leaf, unit, bool, int, char, text, blob, host, fresh, copy, content_of}
 use Rattle.rhai_value.specs.Parts.{char_of, text_of, blob_of}
 use Rattle.rhai_value.specs.Types.{is_type}
-use Rattle.rhai_value.specs.End.{end, end_type, held_in, value_ahead, value_after, flat}
+use Rattle.rhai_value.specs.End.{end, end_type, value_ahead, value_after, flat}
 use Rattle.rhai_ops.specs.declared.builtin.FnBuiltin.{FnBuiltin}
 use Rattle.rhai_ops.specs.declared.builtin.FnBuiltin.TheVariants as row
 use Rattle.rhai_ops.specs.declared.own.Own.{Own}
 use Rattle.rhai_ops.specs.declared.own.Own.TheVariants as is
-use Rattle.rhai_ops.specs.declared.word.Word.{Word}
-use Rattle.rhai_ops.specs.declared.word.Word.TheVariants.{Keep, Whole}
 use Rattle.rhai_ops.specs.AssignTable.{assign_row, assign_line}
 use Rattle.rhai_ops.specs.Outcome.{Outcome, answers, too_large, limited_text, limited_blob}
 use Rattle.rhai_ops.specs.Results.{outcome, joined_texts, joined_blobs}
 use Rattle.rhai_ops.specs.Table.{own, own_leaf, row_of, own_pair, pair_row, type_line, pick, Line, is_numeric, is_range_type}
 use Rattle.rhai_ops.specs.Tokens.{is_assign, is_plus_assign, is_number, without_assign}
-use Rattle.rhai_ops.specs.Ways.{Way, operator, assignment, way, word_of, rewritten, first_left, takes_nothing}
+use Rattle.rhai_ops.specs.Ways.{Way, operator, assignment, way, writes, rewritten, first_left, takes_nothing}
 use Rattle.rhai_ops.proofs.Roles.{assignments}
 use Rattle.rhai_ops.proofs.Suited.{leaf_end, own_part}
 
@@ -209,10 +207,9 @@ beside t (blob v) = (refl, refl)
 beside t (host h) = (refl, refl)
 
 -- the content of a value that isn't shared, once another value was written there
-written : (w : Way) (v : Tree) (s : List Cell) (i : Leaf) (g : ℤ) (m : AccessMode) → IsSome (word_of w) → content_of (first_left w (answers v) s (node (leaf i) g m)) ≡ content_of v
+written : (w : Way) (v : Tree) (s : List Cell) (i : Leaf) (g : ℤ) (m : AccessMode) → IsTrue (writes w) → content_of (first_left w (answers v) s (node (leaf i) g m)) ≡ content_of v
 written operator v s i g m e = cc
-written (assignment Keep q) v s i g m e = ap (λ d. content_of (value_after (rewritten Keep v) d (node (leaf i) g m))) (leaf_end s [] i g m)
-written (assignment Whole q) v s i g m e = ap (λ d. content_of (value_after (rewritten Whole v) d (node (leaf i) g m))) (leaf_end s [] i g m)
+written (assignment q) v s i g m e = ap (λ d. content_of (value_after (rewritten v) d (node (leaf i) g m))) (leaf_end s [] i g m)
 
 pub agree : (t : Token) (l : Limits) (s : List Cell) (x y : Tree) (b a : FnBuiltin) (v w : Tree) → row_of (without_assign t) s x y ≡ Some b → assign_row t x y ≡ Some a
     → outcome b l s x y ≡ answers v → outcome a l s x y ≡ answers w → takes_nothing x y ≡ false → content_of (first_left (way a) (outcome a l s x y) s x) ≡ content_of v
@@ -229,19 +226,9 @@ agree t l s (node (branch (function j) ts) g m) y b a v w e f p q k = absurd (no
 agree t l s (node (fields fs) g m) y b a v w e f p q k = absurd (none_is_some _ a (other_none t (own y)) f)
 agree t l s (node (holder c) g m) y b a v w e f p q k = absurd (none_is_some _ a (other_none t (own y)) f)
 
--- a value that is written over itself, by either word
-again : (w : Word) (t : Tree) → rewritten w t t ≡ t
-again Keep (node c g m) = refl
-again Whole t = refl
-
-unchanged : (w : Way) (s : List Cell) (i : Leaf) (g : ℤ) (m : AccessMode) → first_left w (answers (node (leaf i) g m)) s (node (leaf i) g m) ≡ node (leaf i) g m
-unchanged operator s i g m = refl
-unchanged (assignment w q) s i g m = ap (λ d. value_after (rewritten w (node (leaf i) g m)) d (node (leaf i) g m)) (leaf_end s [] i g m) ∙ again w (node (leaf i) g m)
-
 -- a character that takes an empty text
 pub stays : (l : Limits) (s : List Cell) (x y : Tree) → takes_nothing x y ≡ true → first_left (way row.CharTextAssign) (outcome row.CharTextAssign l s x y) s x ≡ x
 stays l s (node (leaf (char c)) g m) (node (leaf (text [])) h n) e =
     rw (own_part char_of s (char c) g m, own_part text_of s (text []) h n)
-    (ap (λ d. first_left (way row.CharTextAssign) (answers (unwrap_or (held_in d) (node (leaf (char c)) g m))) s (node (leaf (char c)) g m)) (leaf_end s [] (char c) g m)
-    ∙ unchanged (way row.CharTextAssign) s (char c) g m)
+    (ap (λ d. value_after (rewritten (fresh (char c))) d (node (leaf (char c)) g m)) (leaf_end s [] (char c) g m))
 stays l s _ _ e = cc

@@ -1,5 +1,5 @@
 -- The rows of operators only answer, those of assignments write.
-use Rattle.std.proofs.Common.{◌≡◌, ◌||◌, ◌&&◌, List, [], Some, IsSome, refl}
+use Rattle.std.proofs.Common.{◌≡◌, ◌||◌, ◌&&◌, List, [], Some, IsTrue, refl}
 use Rattle.rhai_text.specs.declared.token.Token.{Token}
 use Rattle.rhai_value.specs.declared.store.Cell.{Cell}
 use Rattle.rhai_value.specs.declared.type_id.TypeId.{TypeId}
@@ -12,14 +12,14 @@ use Rattle.rhai_ops.specs.declared.own.Own.{Own}
 use Rattle.rhai_ops.specs.declared.own.Own.TheVariants as is
 use Rattle.rhai_ops.specs.AssignTable.{assign_line, assign_row}
 use Rattle.rhai_ops.specs.Table.{own, row_of, own_pair, type_line, is_numeric, is_range_type}
-use Rattle.rhai_ops.specs.Ways.{way, operator, word_of}
+use Rattle.rhai_ops.specs.Ways.{way, operator, writes}
 use Rattle.rhai_ops.proofs.Lines.{LineAll, PairAll, pick_all, pair_all, if_all}
 
 abbrev Answers : FnBuiltin → Type 0
 Answers r = way r ≡ operator
 
 abbrev Writes : FnBuiltin → Type 0
-Writes r = IsSome (word_of (way r))
+Writes r = IsTrue (writes (way r))
 
 own_answers : (t : Token) (a b : Own) → PairAll Answers (own_pair t a b)
 own_answers t is.Int is.Int = (λ e. refl, (λ e. refl, (λ e. refl, tt)))
@@ -61,5 +61,5 @@ own_writes t is.Blob is.Char = (λ e. refl, tt)
 own_writes t is.Blob is.Str = (λ e. refl, tt)
 own_writes t _ _ = tt
 
-pub assignments : (t : Token) (x y : Tree) (r : FnBuiltin) → assign_row t x y ≡ Some r → IsSome (word_of (way r))
+pub assignments : (t : Token) (x y : Tree) (r : FnBuiltin) → assign_row t x y ≡ Some r → IsTrue (writes (way r))
 assignments t x y r e = pick_all Writes (assign_line t (own x) (own y)) r (own_writes t (own x) (own y)) e

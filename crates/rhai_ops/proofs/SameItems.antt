@@ -1,16 +1,16 @@
 -- Items of arrays that are the same up to the numbers of their cells.
-use Rattle.std.proofs.Common.{◌≡◌, suc, Bool, true, false, List, [], Option, Some, None, option_map, unwrap_or, if◌then◌else◌, refl, ap}
+use Rattle.std.proofs.Common.{◌≡◌, suc, Bool, true, false, List, [], Option, Some, None, option_map, if◌then◌else◌, refl, ap}
 use Rattle.std.specs.Option.{option_or}
 use Rattle.rhai_text.specs.declared.error.SizeKind.TheVariants as size
 use Rattle.rhai_text.specs.declared.limits.Limits.{Limits}
 use Rattle.rhai_value.specs.declared.store.Cell.{Cell}
 use Rattle.rhai_value.specs.Tree.{Tree, Trees, no_trees, tree_then, node, leaf, branch, fields, holder, array, function, made, copy_trees}
 use Rattle.rhai_value.specs.Parts.{array_of}
-use Rattle.rhai_value.specs.End.{End, end, held, stuck, closed, held_in, held_part, array_moved}
+use Rattle.rhai_value.specs.End.{End, end, held, stuck, closed, held_part, array_moved}
 use Rattle.rhai_value.specs.Relation.{Renaming, Related, AllRelated, Alike, IsOneToOne, RelatedCells, RelatedEnds}
 use Rattle.rhai_value.proofs.ForCallers.{same_copy, same_end}
 use Rattle.rhai_ops.specs.Outcome.{Outcome, answers, too_large, both, is_allowed, RelatedOutcomes}
-use Rattle.rhai_ops.specs.Results.{part, count, then_items, limited_array, pushed, joined_items, held_or_own}
+use Rattle.rhai_ops.specs.Results.{part, count, then_items, limited_array, pushed, joined_items}
 
 -- of what both hold, where it is alike
 pub both_alike : {A B C D : Type 0} (r : Renaming) (R : A → C → Type 0) (S : B → D → Type 0) (f : A → B → Outcome) (g : C → D → Outcome)
@@ -90,18 +90,9 @@ joined_related r l (tree_then t ts) us no_trees ws h k = absurd h
 joined_related r l (tree_then t ts) no_trees (tree_then v vs) (tree_then w ws) h k = absurd k
 joined_related r l (tree_then t ts) (tree_then u us) (tree_then v vs) no_trees h k = absurd k
 
-held_related : (r : Renaming) (e f : End) (t u : Tree) → Related r t u → RelatedEnds r e f → Related r (unwrap_or (held_in e) t) (unwrap_or (held_in f) u)
-held_related r (held p v) (held q w) t u h k = k.1
-held_related r (stuck v) (stuck w) t u h k = h
-held_related r closed closed t u h k = h
-held_related r _ _ t u h k = absurd k
-
 module _ (r : Renaming) (s z : List Cell) (one : IsOneToOne r) (cells : RelatedCells r s z) (t u : Tree) (h : Related r t u) where
   pub same_items : Alike (AllRelated r) (part array_of s t) (part array_of z u)
   same_items = end_items r (end s [] t) (end z [] u) (same_end r s z t u one cells h)
 
   pub same_moved : Alike (AllRelated r) (array_moved s t) (array_moved z u)
   same_moved = or_alike r (array_of t) _ (array_of u) _ (own_items r t u h) (copied_alike r (part array_of s t) (part array_of z u) same_items)
-
-  pub same_held : Related r (held_or_own s t) (held_or_own z u)
-  same_held = held_related r (end s [] t) (end z [] u) t u h (same_end r s z t u one cells h)

@@ -23,9 +23,9 @@ use Rattle.rhai_ops.specs.AssignTable.{assign_line, assign_row}
 use Rattle.rhai_ops.specs.Table.{own, row_of, own_pair, type_line, pair_row, pick}
 use Rattle.rhai_ops.specs.Outcome.{Outcome, answers, too_large, both, number_answer, bool_answer, is_allowed, limited_text, limited_blob, RelatedOutcomes}
 use Rattle.rhai_value.specs.Bytes.{low_byte}
-use Rattle.rhai_ops.specs.Results.{part, joined_blobs, joined_texts, joined_to_char, blob_and_text, pushed, joined_items, held_or_own, outcome, range_type, unless}
+use Rattle.rhai_ops.specs.Results.{part, joined_blobs, joined_texts, joined_to_char, blob_and_text, pushed, joined_items, outcome, range_type, unless}
 use Rattle.rhai_ops.specs.Tokens.{without_assign}
-use Rattle.rhai_ops.proofs.SameItems.{both_alike, pushed_related, joined_related, same_items, same_moved, same_held}
+use Rattle.rhai_ops.proofs.SameItems.{both_alike, pushed_related, joined_related, same_items, same_moved}
 
 pub same_own : (r : Renaming) (t u : Tree) → Related r t u → own t ≡ own u
 same_own r = by_trees r (λ t u. own t ≡ own u) (λ l g m. refl) same_branch (λ fs hs g m h. refl) (λ c d g m p. refl)
@@ -67,9 +67,9 @@ texts_self r l v [] = (refl, refl, refl)
 texts_self r l [] (d ∷ w) = (refl, refl, refl)
 texts_self r l (c ∷ v) (d ∷ w) = text_self r l ((c ∷ v) ++ (d ∷ w))
 
-char_same : (r : Renaming) (l : Limits) (t u : Tree) → Related r t u → (c : ℕ) (w : List ℕ) → RelatedOutcomes r (joined_to_char l t c w) (joined_to_char l u c w)
-char_same r l t u h c [] = h
-char_same r l t u h c (d ∷ w) = text_self r l (c ∷ d ∷ w)
+char_self : (r : Renaming) (l : Limits) (c : ℕ) (w : List ℕ) → RelatedOutcomes r (joined_to_char l c w) (joined_to_char l c w)
+char_self r l c [] = (refl, refl, refl)
+char_self r l c (d ∷ w) = text_self r l (c ∷ d ∷ w)
 
 blob_and_text_self : (r : Renaming) (l : Limits) (v w : List ℕ) → RelatedOutcomes r (blob_and_text l v w) (blob_and_text l v w)
 blob_and_text_self r l v [] = (refl, refl, refl)
@@ -141,8 +141,7 @@ module _ (r : Renaming) (s z : List Cell) (one : IsOneToOne r) (cells : RelatedC
     same_outcome row.BlobAppend l = by_both leaf_blob leaf_blob _ (λ a b. blob_self r l _)
     same_outcome row.TextCharAssign l = by_both leaf_text leaf_char _ (λ a b. text_self r l _)
     same_outcome row.TextMinusCharAssign l = by_both leaf_text leaf_char _ (λ a b. (refl, refl, refl))
-    same_outcome row.CharTextAssign l =
-        rw (same_leaf leaf_char t u h, same_leaf leaf_text v w q) (both_self r _ _ (char_same r l (held_or_own s t) (held_or_own z u) (same_held r s z one cells t u h)) (part (leaf_part leaf_char) z u) (part (leaf_part leaf_text) z w))
+    same_outcome row.CharTextAssign l = by_both leaf_char leaf_text _ (char_self r l)
     same_outcome row.ArrayPush l =
         both_alike r (AllRelated r) (Related r) (pushed l) (pushed l) (pushed_related r l) _ _ _ _ (same_items r s z one cells t u h) q
     same_outcome row.BlobPush l =

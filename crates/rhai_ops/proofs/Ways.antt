@@ -5,7 +5,7 @@ use Rattle.rhai_ops.specs.Ways.{Way, operator, assignment, answered}
 
 pub still_answer : (w : Way) (o : Outcome) → is_answer o ≡ true → is_answer (answered w o) ≡ true
 still_answer operator o e = e
-still_answer (assignment w q) (answers t) e = refl
-still_answer (assignment w q) (fault f) e = cc
-still_answer (assignment w q) (too_large k) e = cc
-still_answer (assignment w q) unsuited e = cc
+still_answer (assignment q) (answers t) e = refl
+still_answer (assignment q) (fault f) e = cc
+still_answer (assignment q) (too_large k) e = cc
+still_answer (assignment q) unsuited e = cc

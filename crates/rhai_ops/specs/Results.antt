@@ -1,5 +1,5 @@
 -- What each row asks for, what it answers, and what it may want: one line a row.
-use Rattle.std.specs.Prelude.{ℕ, ℤ, pos, suc, ◌-◌, ◌^◌, Bool, true, false, not, ◌&&◌, List, [], ◌∷◌, ◌++◌, Option, Some, None, option_map, unwrap_or, nat_eq, IsTrue, IsSome, if◌then◌else◌}
+use Rattle.std.specs.Prelude.{ℕ, ℤ, pos, suc, ◌-◌, ◌^◌, Bool, true, false, not, ◌&&◌, List, [], ◌∷◌, ◌++◌, Option, Some, None, option_map, nat_eq, IsTrue, IsSome, if◌then◌else◌}
 use Rattle.std.specs.Cmp.Lexicographic.{slice_cmp, pointwise}
 use Rattle.std.specs.Ordering.{bool_cmp, int_cmp, int_eq, nat_cmp}
 use Rattle.std.specs.Char.{encode_utf8}
@@ -14,9 +14,9 @@ use Rattle.rhai_value.specs.declared.host.Host.TheVariants.{ExclusiveRange, Incl
 use Rattle.rhai_value.specs.declared.store.Cell.{Cell}
 use Rattle.rhai_value.specs.declared.type_id.TypeId.{TypeId}
 use Rattle.rhai_value.specs.declared.type_id.TypeId.TheVariants as id
-use Rattle.rhai_value.specs.Tree.{Tree, Trees, no_trees, tree_then, branch, array, made, fresh, bool, text, blob, host, copy, TakesNoMemory}
+use Rattle.rhai_value.specs.Tree.{Tree, Trees, no_trees, tree_then, branch, array, made, fresh, bool, char, text, blob, host, copy, TakesNoMemory}
 use Rattle.rhai_value.specs.Parts.{unit_of, bool_of, int_of, char_of, text_of, blob_of, array_of, typed_host_of}
-use Rattle.rhai_value.specs.End.{end, held_in, held_part, flat, array_moved}
+use Rattle.rhai_value.specs.End.{end, held_part, flat, array_moved}
 use Rattle.rhai_ops.specs.declared.builtin.FnBuiltin.{FnBuiltin}
 use Rattle.rhai_ops.specs.declared.builtin.FnBuiltin.TheVariants as row
 use Rattle.rhai_ops.specs.Tokens.{is_number, is_bits, is_cmp, is_assign, is_bits_assign, without_assign}
@@ -70,10 +70,10 @@ joined_texts l v [] = answers (fresh (text v))
 joined_texts l [] (d ∷ w) = answers (fresh (text (d ∷ w)))
 joined_texts l (c ∷ v) (d ∷ w) = limited_text l ((c ∷ v) ++ (d ∷ w))
 
--- a text behind the character of t; an empty one leaves t as it is, and no limit is tested
-abbrev pub joined_to_char : Limits → Tree → ℕ → List ℕ → Outcome
-joined_to_char l t c [] = answers t
-joined_to_char l t c (d ∷ w) = limited_text l (c ∷ d ∷ w)
+-- a text behind a character; an empty one leaves the character, and no limit is tested
+abbrev pub joined_to_char : Limits → ℕ → List ℕ → Outcome
+joined_to_char l c [] = answers (fresh (char c))
+joined_to_char l c (d ∷ w) = limited_text l (c ∷ d ∷ w)
 
 -- bytes behind a blob
 abbrev pub appended : Limits → List ℕ → List ℕ → Outcome
@@ -105,10 +105,6 @@ abbrev pub joined_items : Limits → Trees → Trees → Outcome
 joined_items l no_trees us = answers (made (branch array us))
 joined_items l (tree_then t ts) no_trees = answers (made (branch array (then_items (tree_then t ts) no_trees)))
 joined_items l (tree_then t ts) (tree_then u us) = limited_array l (then_items (tree_then t ts) (tree_then u us))
-
--- what is held, or else the value itself
-abbrev pub held_or_own : List Cell → Tree → Tree
-held_or_own s t = unwrap_or (held_in (end s [] t)) t
 
 -- what a row comes to on x and y in the store s, under the limits l; both are read before anything is written
 abbrev pub outcome : FnBuiltin → Limits → List Cell → Tree → Tree → Outcome
@@ -146,7 +142,7 @@ outcome row.ArrayAppend l s x y = both (joined_items l) (part array_of s x) (arr
 outcome row.BlobAppend l s x y = both (appended l) (part blob_of s x) (part blob_of s y)
 outcome row.TextCharAssign l s x y = both (λ v d. limited_text l (v ++ (d ∷ []))) (part text_of s x) (part char_of s y)
 outcome row.TextMinusCharAssign l s x y = both (λ v d. answers (fresh (text (minus_char v d)))) (part text_of s x) (part char_of s y)
-outcome row.CharTextAssign l s x y = both (joined_to_char l (held_or_own s x)) (part char_of s x) (part text_of s y)
+outcome row.CharTextAssign l s x y = both (joined_to_char l) (part char_of s x) (part text_of s y)
 outcome row.ArrayPush l s x y = both (pushed l) (part array_of s x) (Some y)
 outcome row.BlobPush l s x y = both (appended l) (part blob_of s x) (option_map (λ n. low_byte n ∷ []) (part int_of s y))
 outcome row.BlobCharAssign l s x y = both (appended l) (part blob_of s x) (option_map encode_utf8 (part char_of s y))

@@ -1,14 +1,12 @@
 -- What a call does with what its row comes to: an operator answers it; an assignment writes it where the chain of the first operand
 -- ends, and answers unit.
-use Rattle.std.specs.Prelude.{Bool, true, false, List, [], Option, Some, None}
+use Rattle.std.specs.Prelude.{Bool, true, false, List, []}
 use Rattle.rhai_value.specs.declared.store.Cell.{Cell}
 use Rattle.rhai_value.specs.Tree.{Tree, node, leaf, char, text, content_of, fresh, unit}
 use Rattle.rhai_value.specs.Parts.{with_content}
 use Rattle.rhai_value.specs.End.{end, value_after, store_after}
 use Rattle.rhai_ops.specs.declared.builtin.FnBuiltin.{FnBuiltin}
 use Rattle.rhai_ops.specs.declared.builtin.FnBuiltin.TheVariants as row
-use Rattle.rhai_ops.specs.declared.word.Word.{Word}
-use Rattle.rhai_ops.specs.declared.word.Word.TheVariants.{Keep, Whole}
 use Rattle.rhai_ops.specs.Outcome.{Outcome, fault, too_large, answers, unsuited}
 
 -- the second operand of an assignment stays, or unit is left of it
@@ -16,10 +14,10 @@ pub data Second : Type 0 where
   stays : Second
   taken : Second
 
--- a row is of an operator, or of an assignment: with the word by which it writes, and what becomes of the second operand
+-- a row is of an operator, or of an assignment, which says what becomes of the second operand
 pub data Way : Type 0 where
   operator : Way
-  assignment : Word → Second → Way
+  assignment : Second → Way
 
 -- each row's way
 abbrev pub way : FnBuiltin → Way
@@ -48,30 +46,29 @@ way row.FirstCopy = operator
 way row.SecondCopy = operator
 way row.BlobChar = operator
 way (row.RangeEqual i n) = operator
-way (row.IntAssign t) = assignment Keep stays
-way (row.BoolAssign t) = assignment Keep stays
-way row.CharJoinAssign = assignment Keep stays
-way row.TextJoinAssign = assignment Keep stays
-way row.TextMinusAssign = assignment Keep stays
-way row.ArrayAppend = assignment Keep taken
-way row.BlobAppend = assignment Keep taken
-way row.TextCharAssign = assignment Keep stays
-way row.TextMinusCharAssign = assignment Keep stays
-way row.CharTextAssign = assignment Keep stays
-way row.ArrayPush = assignment Keep taken
-way row.BlobPush = assignment Keep stays
-way row.BlobCharAssign = assignment Keep stays
-way row.BlobTextAssign = assignment Keep stays
+way (row.IntAssign t) = assignment stays
+way (row.BoolAssign t) = assignment stays
+way row.CharJoinAssign = assignment stays
+way row.TextJoinAssign = assignment stays
+way row.TextMinusAssign = assignment stays
+way row.ArrayAppend = assignment taken
+way row.BlobAppend = assignment taken
+way row.TextCharAssign = assignment stays
+way row.TextMinusCharAssign = assignment stays
+way row.CharTextAssign = assignment stays
+way row.ArrayPush = assignment taken
+way row.BlobPush = assignment stays
+way row.BlobCharAssign = assignment stays
+way row.BlobTextAssign = assignment stays
 
--- the word of an assignment
-abbrev pub word_of : Way → Option Word
-word_of operator = None
-word_of (assignment w q) = Some w
+-- whether a row writes
+abbrev pub writes : Way → Bool
+writes operator = false
+writes (assignment q) = true
 
--- the place where u stood, once t was written there: t's content under the tag and the mode of u, or t as a whole
-abbrev pub rewritten : Word → Tree → Tree → Tree
-rewritten Keep t u = with_content (content_of t) u
-rewritten Whole t u = t
+-- the place where u stood, once t was written there: t's content under the tag and the mode of u
+abbrev pub rewritten : Tree → Tree → Tree
+rewritten t u = with_content (content_of t) u
 
 -- f of the value that a row comes to; else, as where it refuses, a
 abbrev pub on_value : {A : Type 0} → (Tree → A) → A → Outcome → A
@@ -83,21 +80,21 @@ on_value f a unsuited = a
 -- what the call answers
 abbrev pub answered : Way → Outcome → Outcome
 answered operator o = o
-answered (assignment w q) o = on_value (λ t. answers (fresh unit)) o o
+answered (assignment q) o = on_value (λ t. answers (fresh unit)) o o
 
 -- the first operand, the second one and the store s after the call
 abbrev pub first_left : Way → Outcome → List Cell → Tree → Tree
 first_left operator o s x = x
-first_left (assignment w q) o s x = on_value (λ t. value_after (rewritten w t) (end s [] x) x) x o
+first_left (assignment q) o s x = on_value (λ t. value_after (rewritten t) (end s [] x) x) x o
 
 abbrev pub second_left : Way → Outcome → Tree → Tree
 second_left operator o y = y
-second_left (assignment w stays) o y = y
-second_left (assignment w taken) o y = on_value (λ t. fresh unit) y o
+second_left (assignment stays) o y = y
+second_left (assignment taken) o y = on_value (λ t. fresh unit) y o
 
 abbrev pub store_left : Way → Outcome → List Cell → Tree → List Cell
 store_left operator o s x = s
-store_left (assignment w q) o s x = on_value (λ t. store_after (rewritten w t) (end s [] x) s) s o
+store_left (assignment q) o s x = on_value (λ t. store_after (rewritten t) (end s [] x) s) s o
 
 -- a character and an empty text
 abbrev pub takes_nothing : Tree → Tree → Bool

@@ -1,9 +1,8 @@
 //! The rows of the tables.
 ghost use Rattle.std.specs.Prelude.{◌≡◌};
 ghost use Rattle.rhai_ops.specs.Results.{is_limited};
-ghost use Rattle.rhai_ops.specs.Ways.{way, word_of};
+ghost use Rattle.rhai_ops.specs.Ways.{way, writes};
 
-use crate::word::Word;
 use rhai_text::Token;
 
 /// A built-in operator on operands of certain types: a row of the tables. Lookups answer it. The first 25 are between two operands;
@@ -139,9 +138,9 @@ impl FnBuiltin {
         }
     }
 
-    /// The word by which an assignment writes; an operator has none.
-    pub(crate) fn word(&self) -> Option<Word>
-        ensures { result ≡ word_of (way self.now) }
+    /// Whether the row is of an assignment.
+    pub(crate) fn is_assignment(&self) -> bool
+        ensures { result ≡ writes (way self.now) }
     {
         match self {
             FnBuiltin::Int(_)
@@ -168,7 +167,7 @@ impl FnBuiltin {
             | FnBuiltin::FirstCopy
             | FnBuiltin::SecondCopy
             | FnBuiltin::BlobChar
-            | FnBuiltin::RangeEqual(_, _) => None,
+            | FnBuiltin::RangeEqual(_, _) => false,
             FnBuiltin::IntAssign(_)
             | FnBuiltin::CharJoinAssign
             | FnBuiltin::CharTextAssign
@@ -182,7 +181,7 @@ impl FnBuiltin {
             | FnBuiltin::ArrayPush
             | FnBuiltin::BlobPush
             | FnBuiltin::BlobCharAssign
-            | FnBuiltin::BlobTextAssign => Some(Word::Keep),
+            | FnBuiltin::BlobTextAssign => true,
         }
     }
 }

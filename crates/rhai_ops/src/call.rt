@@ -1,15 +1,14 @@
 //! Calls of rows.
-ghost use Rattle.std.specs.Prelude.{◌≡◌, [], Some, None, Ok, IfOk, IfErr};
+ghost use Rattle.std.specs.Prelude.{◌≡◌, [], true, false, Ok, IfOk, IfErr};
 ghost use Rattle.rhai_ops.specs.Outcome.{IsOutcome};
 ghost use Rattle.rhai_ops.specs.Results.{MayWant, Suits, outcome};
-ghost use Rattle.rhai_ops.specs.Ways.{answered, first_left, rewritten, second_left, store_left, way, word_of};
+ghost use Rattle.rhai_ops.specs.Ways.{answered, first_left, rewritten, second_left, store_left, way, writes};
 ghost use Rattle.rhai_value.specs.End.{end, value_after, store_after};
 ghost use Rattle.rhai_value.specs.Tree.{fresh, unit};
 
 use crate::answer::{part, value};
 use crate::builtin::FnBuiltin;
 use crate::token::without_assign;
-use crate::word::Word;
 use crate::write::write;
 use crate::{blobs, bools, chars, ints, push, ranges, texts};
 use rhai_text::{EvalAltResult, Limits};
@@ -41,9 +40,10 @@ impl FnBuiltin {
         ensures store { IfOk result (λ d. m.new ≡ store_left (way self.now) (outcome self.now limits.now m.old x.old y.old) m.old x.old) }
         ensures err { IfErr result (λ e. (x.new ≡ x.old) × (y.new ≡ y.old) × (m.new ≡ m.old)) }
     {
-        match self.word() {
-            None => self.answer(alloc, m, limits, x, y),
-            Some(word) => self.assign(word, alloc, m, limits, x, y),
+        if self.is_assignment() {
+            self.assign(alloc, m, limits, x, y)
+        } else {
+            self.answer(alloc, m, limits, x, y)
         }
     }
 
@@ -57,7 +57,7 @@ impl FnBuiltin {
         y: &Dynamic,
     ) -> Result<Dynamic, EvalAltResult>
         requires suits { Suits self.now s.now x.now y.now }
-        requires answers { word_of (way self.now) ≡ None }
+        requires kind { writes (way self.now) ≡ false }
         ensures { IsOutcome (MayWant self.now x.now y.now) result (outcome self.now limits.now s.now x.now y.now) }
     {
         match *self {
@@ -108,7 +108,6 @@ impl FnBuiltin {
     #[tactic(auto, using(crate::proofs::Ways::still_answer))]
     fn assign(
         &self,
-        word: Word,
         alloc: Global,
         m: &mut Store,
         limits: &Limits,
@@ -116,7 +115,7 @@ impl FnBuiltin {
         y: &mut Dynamic,
     ) -> Result<Dynamic, EvalAltResult>
         requires suits { Suits self.now m.old x.old y.old }
-        requires writes { word_of (way self.now) ≡ Some word }
+        requires kind { writes (way self.now) ≡ true }
         ensures result { IsOutcome (MayWant self.now x.old y.old) result (answered (way self.now) (outcome self.now limits.now m.old x.old y.old)) }
         ensures first { IfOk result (λ d. x.new ≡ first_left (way self.now) (outcome self.now limits.now m.old x.old y.old) m.old x.old) }
         ensures second { IfOk result (λ d. y.new ≡ second_left (way self.now) (outcome self.now limits.now m.old x.old y.old) y.old) }
@@ -126,27 +125,20 @@ impl FnBuiltin {
         match *self {
             FnBuiltin::IntAssign(t) => {
                 let number = value(y, m);
-                ints::assign(without_assign(t), word, m, x, number)
+                ints::assign(without_assign(t), m, x, number)
             }
             FnBuiltin::BoolAssign(t) => put(
                 bools::answer(without_assign(t), value(x, m), value(y, m))?,
-                word,
                 m,
                 x,
             ),
-            FnBuiltin::CharJoinAssign => put(
-                chars::append(alloc, value(x, m), value(y, m))?,
-                word,
-                m,
-                x,
-            ),
-            FnBuiltin::TextJoinAssign => put(texts::append(alloc, limits, m, x, y)?, word, m, x),
-            FnBuiltin::TextMinusAssign => put(texts::minus(alloc, m, x, y)?, word, m, x),
-            FnBuiltin::TextCharAssign => put(texts::join_char(alloc, limits, m, x, y)?, word, m, x),
-            FnBuiltin::TextMinusCharAssign => put(texts::minus_char(alloc, m, x, y)?, word, m, x),
+            FnBuiltin::CharJoinAssign => put(chars::append(alloc, value(x, m), value(y, m))?, m, x),
+            FnBuiltin::TextJoinAssign => put(texts::append(alloc, limits, m, x, y)?, m, x),
+            FnBuiltin::TextMinusAssign => put(texts::minus(alloc, m, x, y)?, m, x),
+            FnBuiltin::TextCharAssign => put(texts::join_char(alloc, limits, m, x, y)?, m, x),
+            FnBuiltin::TextMinusCharAssign => put(texts::minus_char(alloc, m, x, y)?, m, x),
             FnBuiltin::CharTextAssign => put(
-                chars::append_text(alloc, limits, m, x, y)?,
-                word,
+                chars::append_text(alloc, limits, value(x, m), part(y, m))?,
                 m,
                 x,
             ),
@@ -192,11 +184,11 @@ impl FnBuiltin {
 }
 
 /// Writes a value to the place, and answers unit.
-fn put(new: Dynamic, word: Word, m: &mut Store, x: &mut Dynamic) -> Result<Dynamic, EvalAltResult>
+fn put(new: Dynamic, m: &mut Store, x: &mut Dynamic) -> Result<Dynamic, EvalAltResult>
     ensures result { result ≡ Ok (fresh unit) }
-    ensures value { x.new ≡ value_after (rewritten word new) (end m.old [] x.old) x.old }
-    ensures store { m.new ≡ store_after (rewritten word new) (end m.old [] x.old) m.old }
+    ensures value { x.new ≡ value_after (rewritten new) (end m.old [] x.old) x.old }
+    ensures store { m.new ≡ store_after (rewritten new) (end m.old [] x.old) m.old }
 {
-    write(new, word, m, x);
+    write(new, m, x);
     Ok(Dynamic::UNIT)
 }

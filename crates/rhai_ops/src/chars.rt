@@ -3,19 +3,16 @@ ghost use Rattle.std.specs.Prelude.{IsTrue, ◌≡◌, ◌≤◌, ◌∷◌, [],
 ghost use Rattle.std.specs.Str.{chars, encode_utf8_all};
 ghost use Rattle.std.specs.Ordering.{nat_cmp};
 ghost use Rattle.rhai_ops.specs.Numbers as specs;
-ghost use Rattle.rhai_value.specs.Parts.{char_of, text_of};
 ghost use Rattle.rhai_value.specs.Tree.{fresh, text as a_text};
-ghost use Rattle.rhai_ops.specs.Outcome.{IsOutcome, answers, bool_answer, both, limited_text};
-ghost use Rattle.rhai_ops.specs.Results.{Holds, held_or_own, joined_to_char, part as part_in, text_order};
+ghost use Rattle.rhai_ops.specs.Outcome.{IsOutcome, answers, bool_answer, limited_text};
+ghost use Rattle.rhai_ops.specs.Results.{joined_to_char, text_order};
 ghost use Rattle.rhai_ops.specs.Tokens.{is_cmp};
 
-use crate::answer::{is_allowed, part, value};
+use crate::answer::is_allowed;
 use crate::compare::compared;
-use crate::word::Word;
-use crate::write::under;
 use rhai_text::laws::byte_order_is_character_order;
 use rhai_text::{EvalAltResult, ImmutableString, Limits, Position, SizeKind, Token};
-use rhai_value::{Dynamic, Store};
+use rhai_value::Dynamic;
 use std::alloc::Global;
 
 /// The text of a character alone, in the buffer.
@@ -81,28 +78,19 @@ pub(crate) fn join_text(
     Ok(Dynamic::from(b.with_slice(alloc, 0, 0, true, a)?))
 }
 
-/// A text behind the character that is held. An empty one leaves the value as it is, and no limit is tested.
-#[tactic(auto, using(crate::proofs::FromBelow::same_char))]
+/// A text behind a character. An empty one leaves the character, and no limit is tested.
 pub(crate) fn append_text(
     alloc: Global,
     limits: &Limits,
-    s: &Store,
-    x: &Dynamic,
-    y: &Dynamic,
+    a: char,
+    b: &ImmutableString,
 ) -> Result<Dynamic, EvalAltResult>
-    requires first { Holds char_of s.now x.now }
-    requires second { Holds text_of s.now y.now }
-    ensures { IsOutcome (Unit {0}) result (both (joined_to_char limits.now (held_or_own s.now x.now)) (part_in char_of s.now x.now) (part_in text_of s.now y.now)) }
+    ensures { IsOutcome (Unit {0}) result (joined_to_char limits.now a b.now) }
 {
-    let a = value(x, s);
-    let b = part::<ImmutableString>(y, s);
-    if !b.is_empty() {
-        return join_text(alloc, limits, a, b);
+    if b.is_empty() {
+        return Ok(Dynamic::from_char(a));
     }
-    match x.held(s) {
-        Some(held) => Ok(under(Word::Keep, held, Dynamic::from_char(a))),
-        None => unreachable!(),
-    }
+    join_text(alloc, limits, a, b)
 }
 
 /// A comparison of a character, as the text of it alone, with a text.

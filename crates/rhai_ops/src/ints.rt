@@ -1,21 +1,19 @@
 //! Integers under operators.
-ghost use Rattle.std.specs.Prelude.{◌≡◌, [], IsTrue, IsSome, Some, IfOk, IfErr};
+ghost use Rattle.std.specs.Prelude.{◌≡◌, [], IsTrue, Some, IfOk, IfErr, OnOk, OnErr};
 ghost use Rattle.std.specs.Option.{ok_or};
 ghost use Rattle.std.specs.Ordering.{int_cmp};
 ghost use Rattle.rhai_text.specs.declared.error.ArithmeticFault.TheVariants.{Overflow};
 ghost use Rattle.rhai_ops.specs.Numbers as specs;
 ghost use Rattle.rhai_value.specs.Parts.{int_of};
-ghost use Rattle.rhai_value.specs.Tree.{Tree};
+ghost use Rattle.rhai_value.specs.Tree.{fresh, int};
 ghost use Rattle.rhai_ops.specs.Outcome.{IsOutcome, answers, bool_answer, both, number_answer};
 ghost use Rattle.rhai_ops.specs.Results.{Holds, part};
-ghost use Rattle.rhai_ops.specs.Ways.{answered, assignment, first_left, rewritten, stays, store_left};
+ghost use Rattle.rhai_ops.specs.Ways.{answered, assignment, first_left, stays, store_left};
 ghost use Rattle.rhai_ops.specs.Tokens.{is_cmp, is_number};
 
 use crate::compare::compared;
-use crate::word::Word;
-use crate::write::under;
 use rhai_text::{ArithmeticFault, EvalAltResult, Position, Token};
-use rhai_value::{Dynamic, INT, InStore, Part, Store};
+use rhai_value::{Dynamic, INT, InStore, Store};
 
 /// One of the first eleven operators on two ints.
 pub(crate) fn answer(op: Token, x: INT, y: INT) -> Result<Dynamic, EvalAltResult>
@@ -28,43 +26,42 @@ pub(crate) fn answer(op: Token, x: INT, y: INT) -> Result<Dynamic, EvalAltResult
     }
 }
 
-/// The same of the int at a place, where it is written by its word: the place and the second operand are each looked up once.
-#[tactic(auto, using(crate::proofs::FromBelow::kept))]
+/// The same of the int at a place, where it is written: the place and the second operand are each looked up once.
+#[tactic(auto, using(crate::proofs::FromBelow::int_stays))]
 pub(crate) fn assign(
     op: Token,
-    word: Word,
     m: &mut Store,
     x: &mut Dynamic,
     y: INT,
 ) -> Result<Dynamic, EvalAltResult>
     requires number { IsTrue (is_number op) }
     requires holds { Holds int_of m.old x.old }
-    ensures result { IsOutcome ⊥ result (answered (assignment word stays) (both (λ i j. number_answer (specs.number op i j)) (part int_of m.old x.old) (Some y))) }
-    ensures first { IfOk result (λ d. x.new ≡ first_left (assignment word stays) (both (λ i j. number_answer (specs.number op i j)) (part int_of m.old x.old) (Some y)) m.old x.old) }
-    ensures store { IfOk result (λ d. m.new ≡ store_left (assignment word stays) (both (λ i j. number_answer (specs.number op i j)) (part int_of m.old x.old) (Some y)) m.old x.old) }
+    ensures result { IsOutcome ⊥ result (answered (assignment stays) (both (λ i j. number_answer (specs.number op i j)) (part int_of m.old x.old) (Some y))) }
+    ensures first { IfOk result (λ d. x.new ≡ first_left (assignment stays) (both (λ i j. number_answer (specs.number op i j)) (part int_of m.old x.old) (Some y)) m.old x.old) }
+    ensures store { IfOk result (λ d. m.new ≡ store_left (assignment stays) (both (λ i j. number_answer (specs.number op i j)) (part int_of m.old x.old) (Some y)) m.old x.old) }
     ensures err { IfErr result (λ e. (x.new ≡ x.old) × (m.new ≡ m.old)) }
 {
     let mut place = InStore { value: x, store: m };
-    match place.held_mut() {
-        Some(held) => assign_held(op, word, held, y),
-        None => unreachable!(),
+    match place.part_mut::<INT>() {
+        Ok(held) => assign_held(op, held, y),
+        Err(_) => unreachable!(),
     }
 }
 
 /// The same of an int that is held.
-fn assign_held(op: Token, word: Word, held: &mut Dynamic, y: INT) -> Result<Dynamic, EvalAltResult>
-    requires number { IsTrue (is_number op) }
-    requires holds { IsSome (int_of held.old) }
-    ensures result { IsOutcome ⊥ result (answered (assignment word stays) (both (λ i j. number_answer (specs.number op i j)) (int_of held.old) (Some y))) }
-    ensures ok { IfOk result (λ d. (t : Tree) → both (λ i j. number_answer (specs.number op i j)) (int_of held.old) (Some y) ≡ answers t → held.new ≡ rewritten word t held.old) }
-    ensures err { IfErr result (λ e. held.new ≡ held.old) }
+fn assign_held(op: Token, held: &mut INT, y: INT) -> Result<Dynamic, EvalAltResult>
+    requires { IsTrue (is_number op) }
+    ensures result { IsOutcome ⊥ result (answered (assignment stays) (number_answer (specs.number op held.old y))) }
+    ensures ok { OnOk result (number_answer (specs.number op held.old y) ≡ answers (fresh (int held.new))) }
+    ensures err { OnErr result (held.new ≡ held.old) }
 {
-    let Some(x) = INT::own(held) else {
-        unreachable!();
-    };
-    let new = answer(op, *x, y)?;
-    *held = under(word, held, new);
-    Ok(Dynamic::UNIT)
+    match number(op, *held, y) {
+        Ok(n) => {
+            *held = n;
+            Ok(Dynamic::UNIT)
+        }
+        Err(fault) => Err(EvalAltResult::ErrorArithmetic(fault, Position::NONE)),
+    }
 }
 
 /// A comparison of two ints.

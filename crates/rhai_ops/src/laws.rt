@@ -1,5 +1,5 @@
 //! Laws of the operators, each the contract of a function that does nothing.
-ghost use Rattle.std.specs.Prelude.{◌≡◌, ℕ, ℤ, true, false, [], ◌∷◌, List, Option, Some, IsSome};
+ghost use Rattle.std.specs.Prelude.{◌≡◌, ℕ, ℤ, true, false, [], ◌∷◌, List, Option, Some, IsTrue};
 ghost use Rattle.rhai_text.specs.declared.limits.Limits.{Limits};
 ghost use Rattle.rhai_text.specs.declared.token.Token.{Token};
 ghost use Rattle.rhai_value.specs.declared.access_mode.AccessMode.{AccessMode};
@@ -14,7 +14,7 @@ ghost use Rattle.rhai_ops.specs.Outcome.{Outcome, RelatedOutcomes, answers};
 ghost use Rattle.rhai_ops.specs.Results.{Suits, outcome};
 ghost use Rattle.rhai_ops.specs.Table.{row_of};
 ghost use Rattle.rhai_ops.specs.Tokens.{without_assign};
-ghost use Rattle.rhai_ops.specs.Ways.{Way, first_left, operator, second_left, store_left, takes_nothing, way, word_of};
+ghost use Rattle.rhai_ops.specs.Ways.{Way, first_left, operator, second_left, store_left, takes_nothing, way, writes};
 
 /// The row that an operator has on two operands may be called on them. That of an assignment may be called on a value too whose first
 /// content it was looked up for.
@@ -29,7 +29,7 @@ pub fn rows_suit()
 #[tactic(auto, using(crate::proofs::Roles::operators, crate::proofs::Roles::assignments))]
 pub fn operators_write_nothing()
     ensures operator { (t : Token) (s : List Cell) (x y : Tree) (b : Row) → row_of t s x y ≡ Some b → way b ≡ operator }
-    ensures assignment { (t : Token) (x y : Tree) (b : Row) → assign_row t x y ≡ Some b → IsSome (word_of (way b)) }
+    ensures assignment { (t : Token) (x y : Tree) (b : Row) → assign_row t x y ≡ Some b → IsTrue (writes (way b)) }
 {}
 
 /// The row of an operator or an assignment, what it comes to, and what its call leaves don't depend on the numbers of cells.

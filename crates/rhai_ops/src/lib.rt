@@ -17,7 +17,6 @@ mod push;
 mod ranges;
 mod texts;
 mod token;
-mod word;
 mod write;
 
 pub use assign_lookup::get_builtin_op_assignment_fn;

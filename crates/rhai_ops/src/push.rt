@@ -6,7 +6,6 @@ ghost use Rattle.rhai_value.specs.End.{array_moved};
 ghost use Rattle.rhai_value.specs.Parts.{array_of, blob_of, text_of};
 ghost use Rattle.rhai_value.specs.Rows.{trees_of};
 ghost use Rattle.rhai_value.specs.Tree.{array, blob, branch, copy_trees, fresh, made, unit};
-ghost use Rattle.rhai_ops.specs.declared.word.Word.TheVariants.{Keep};
 ghost use Rattle.rhai_ops.specs.Outcome.{IsOutcome, answers, both, too_large};
 ghost use Rattle.rhai_value.specs.Bytes.{low_byte};
 ghost use Rattle.rhai_ops.specs.Results.{Holds, appended, blob_and_text, joined_items, part as part_in, pushed};
@@ -19,7 +18,7 @@ use std::alloc::Global;
 
 /// Bytes behind a blob, or the blob as it was.
 fn extend(limits: &Limits, bytes: &mut Blob, more: &[u8]) -> Result<Dynamic, EvalAltResult>
-    ensures result { IsOutcome (Unit {0}) result (answered (assignment Keep stays) (appended limits.now bytes.old.items more.now)) }
+    ensures result { IsOutcome (Unit {0}) result (answered (assignment stays) (appended limits.now bytes.old.items more.now)) }
     ensures ok { OnOk result (appended limits.now bytes.old.items more.now ≡ answers (fresh (blob bytes.new.items))) }
     ensures err { OnErr result (bytes.new.items ≡ bytes.old.items) }
 {
@@ -39,9 +38,9 @@ pub(crate) fn push_bytes(
     more: &[u8],
 ) -> Result<Dynamic, EvalAltResult>
     requires { Holds blob_of m.old x.old }
-    ensures result { IsOutcome (Unit {0}) result (answered (assignment Keep stays) (both (appended limits.now) (part_in blob_of m.old x.old) (Some more.now))) }
-    ensures first { IfOk result (λ d. x.new ≡ first_left (assignment Keep stays) (both (appended limits.now) (part_in blob_of m.old x.old) (Some more.now)) m.old x.old) }
-    ensures store { IfOk result (λ d. m.new ≡ store_left (assignment Keep stays) (both (appended limits.now) (part_in blob_of m.old x.old) (Some more.now)) m.old x.old) }
+    ensures result { IsOutcome (Unit {0}) result (answered (assignment stays) (both (appended limits.now) (part_in blob_of m.old x.old) (Some more.now))) }
+    ensures first { IfOk result (λ d. x.new ≡ first_left (assignment stays) (both (appended limits.now) (part_in blob_of m.old x.old) (Some more.now)) m.old x.old) }
+    ensures store { IfOk result (λ d. m.new ≡ store_left (assignment stays) (both (appended limits.now) (part_in blob_of m.old x.old) (Some more.now)) m.old x.old) }
     ensures err { IfErr result (λ e. (x.new ≡ x.old) × (m.new ≡ m.old)) }
 {
     let mut place = InStore { value: x, store: m };
@@ -54,7 +53,7 @@ pub(crate) fn push_bytes(
 /// An item behind an array, and unit where the item was, or both as they were.
 #[tactic(auto, using(crate::proofs::Items::item_behind, crate::proofs::Items::count_one_behind))]
 fn push(limits: &Limits, items: &mut Array, y: &mut Dynamic) -> Result<Dynamic, EvalAltResult>
-    ensures result { IsOutcome (Unit {0}) result (answered (assignment Keep stays) (pushed limits.now (trees_of items.old.items) y.old)) }
+    ensures result { IsOutcome (Unit {0}) result (answered (assignment stays) (pushed limits.now (trees_of items.old.items) y.old)) }
     ensures ok { OnOk result (pushed limits.now (trees_of items.old.items) y.old ≡ answers (made (branch array (trees_of items.new.items)))) }
     ensures left { OnOk result (y.new ≡ fresh unit) }
     ensures err { OnErr result ((items.new.items ≡ items.old.items) × (y.new ≡ y.old)) }
@@ -78,10 +77,10 @@ pub(crate) fn push_item(
     y: &mut Dynamic,
 ) -> Result<Dynamic, EvalAltResult>
     requires { Holds array_of m.old x.old }
-    ensures result { IsOutcome (Unit {0}) result (answered (assignment Keep stays) (both (pushed limits.now) (part_in array_of m.old x.old) (Some y.old))) }
-    ensures first { IfOk result (λ d. x.new ≡ first_left (assignment Keep stays) (both (pushed limits.now) (part_in array_of m.old x.old) (Some y.old)) m.old x.old) }
+    ensures result { IsOutcome (Unit {0}) result (answered (assignment stays) (both (pushed limits.now) (part_in array_of m.old x.old) (Some y.old))) }
+    ensures first { IfOk result (λ d. x.new ≡ first_left (assignment stays) (both (pushed limits.now) (part_in array_of m.old x.old) (Some y.old)) m.old x.old) }
     ensures second { IfOk result (λ d. y.new ≡ fresh unit) }
-    ensures store { IfOk result (λ d. m.new ≡ store_left (assignment Keep stays) (both (pushed limits.now) (part_in array_of m.old x.old) (Some y.old)) m.old x.old) }
+    ensures store { IfOk result (λ d. m.new ≡ store_left (assignment stays) (both (pushed limits.now) (part_in array_of m.old x.old) (Some y.old)) m.old x.old) }
     ensures err { IfErr result (λ e. (x.new ≡ x.old) × (y.new ≡ y.old) × (m.new ≡ m.old)) }
 {
     let mut place = InStore { value: x, store: m };
@@ -93,7 +92,7 @@ pub(crate) fn push_item(
 
 /// Items behind an array, where none are left, or both as they were.
 fn append(limits: &Limits, items: &mut Array, more: &mut Array) -> Result<Dynamic, EvalAltResult>
-    ensures result { IsOutcome (Unit {0}) result (answered (assignment Keep stays) (joined_items limits.now (trees_of items.old.items) (trees_of more.old.items))) }
+    ensures result { IsOutcome (Unit {0}) result (answered (assignment stays) (joined_items limits.now (trees_of items.old.items) (trees_of more.old.items))) }
     ensures ok { OnOk result (joined_items limits.now (trees_of items.old.items) (trees_of more.old.items) ≡ answers (made (branch array (trees_of items.new.items)))) }
     ensures err { OnErr result ((items.new.items ≡ items.old.items) × (more.new.items ≡ more.old.items)) }
 {
@@ -128,9 +127,9 @@ fn append_at(
     more: &mut Array,
 ) -> Result<Dynamic, EvalAltResult>
     requires { Holds array_of m.old x.old }
-    ensures result { IsOutcome (Unit {0}) result (answered (assignment Keep stays) (both (joined_items limits.now) (part_in array_of m.old x.old) (Some (trees_of more.old.items)))) }
-    ensures first { IfOk result (λ d. x.new ≡ first_left (assignment Keep stays) (both (joined_items limits.now) (part_in array_of m.old x.old) (Some (trees_of more.old.items))) m.old x.old) }
-    ensures store { IfOk result (λ d. m.new ≡ store_left (assignment Keep stays) (both (joined_items limits.now) (part_in array_of m.old x.old) (Some (trees_of more.old.items))) m.old x.old) }
+    ensures result { IsOutcome (Unit {0}) result (answered (assignment stays) (both (joined_items limits.now) (part_in array_of m.old x.old) (Some (trees_of more.old.items)))) }
+    ensures first { IfOk result (λ d. x.new ≡ first_left (assignment stays) (both (joined_items limits.now) (part_in array_of m.old x.old) (Some (trees_of more.old.items))) m.old x.old) }
+    ensures store { IfOk result (λ d. m.new ≡ store_left (assignment stays) (both (joined_items limits.now) (part_in array_of m.old x.old) (Some (trees_of more.old.items))) m.old x.old) }
     ensures err { IfErr result (λ e. (x.new ≡ x.old) × (m.new ≡ m.old) × (more.new.items ≡ more.old.items)) }
 {
     let mut place = InStore { value: x, store: m };
@@ -152,7 +151,7 @@ fn copies(
     requires first { Holds array_of s.now x.now }
     requires second { Holds array_of s.now y.now }
     ensures ok { IfOk result (λ v. option_map copy_trees (part_in array_of s.now y.now) ≡ Some (trees_of v.items)) }
-    ensures err { IfErr result (λ e. IsOutcome (Unit {0}) (Err e) (answered (assignment Keep stays) (both (joined_items limits.now) (part_in array_of s.now x.now) (option_map copy_trees (part_in array_of s.now y.now))))) }
+    ensures err { IfErr result (λ e. IsOutcome (Unit {0}) (Err e) (answered (assignment stays) (both (joined_items limits.now) (part_in array_of s.now x.now) (option_map copy_trees (part_in array_of s.now y.now))))) }
 {
     let more = part::<Array>(y, s);
     if !may_join(limits, part::<Array>(x, s), more) {
@@ -173,10 +172,10 @@ pub(crate) fn append_items(
 ) -> Result<Dynamic, EvalAltResult>
     requires first { Holds array_of m.old x.old }
     requires second { Holds array_of m.old y.old }
-    ensures result { IsOutcome (Unit {0}) result (answered (assignment Keep stays) (both (joined_items limits.now) (part_in array_of m.old x.old) (array_moved m.old y.old))) }
-    ensures first { IfOk result (λ d. x.new ≡ first_left (assignment Keep stays) (both (joined_items limits.now) (part_in array_of m.old x.old) (array_moved m.old y.old)) m.old x.old) }
+    ensures result { IsOutcome (Unit {0}) result (answered (assignment stays) (both (joined_items limits.now) (part_in array_of m.old x.old) (array_moved m.old y.old))) }
+    ensures first { IfOk result (λ d. x.new ≡ first_left (assignment stays) (both (joined_items limits.now) (part_in array_of m.old x.old) (array_moved m.old y.old)) m.old x.old) }
     ensures second { IfOk result (λ d. y.new ≡ fresh unit) }
-    ensures store { IfOk result (λ d. m.new ≡ store_left (assignment Keep stays) (both (joined_items limits.now) (part_in array_of m.old x.old) (array_moved m.old y.old)) m.old x.old) }
+    ensures store { IfOk result (λ d. m.new ≡ store_left (assignment stays) (both (joined_items limits.now) (part_in array_of m.old x.old) (array_moved m.old y.old)) m.old x.old) }
     ensures err { IfErr result (λ e. (x.new ≡ x.old) × (y.new ≡ y.old) × (m.new ≡ m.old)) }
 {
     if let Some(own) = Array::own_mut(y) {
@@ -208,9 +207,9 @@ fn append_bytes(
 ) -> Result<Dynamic, EvalAltResult>
     requires first { Holds blob_of m.old x.old }
     requires second { Holds blob_of m.old y.now }
-    ensures result { IsOutcome (Unit {0}) result (answered (assignment Keep stays) (both (appended limits.now) (part_in blob_of m.old x.old) (part_in blob_of m.old y.now))) }
-    ensures first { IfOk result (λ d. x.new ≡ first_left (assignment Keep stays) (both (appended limits.now) (part_in blob_of m.old x.old) (part_in blob_of m.old y.now)) m.old x.old) }
-    ensures store { IfOk result (λ d. m.new ≡ store_left (assignment Keep stays) (both (appended limits.now) (part_in blob_of m.old x.old) (part_in blob_of m.old y.now)) m.old x.old) }
+    ensures result { IsOutcome (Unit {0}) result (answered (assignment stays) (both (appended limits.now) (part_in blob_of m.old x.old) (part_in blob_of m.old y.now))) }
+    ensures first { IfOk result (λ d. x.new ≡ first_left (assignment stays) (both (appended limits.now) (part_in blob_of m.old x.old) (part_in blob_of m.old y.now)) m.old x.old) }
+    ensures store { IfOk result (λ d. m.new ≡ store_left (assignment stays) (both (appended limits.now) (part_in blob_of m.old x.old) (part_in blob_of m.old y.now)) m.old x.old) }
     ensures err { IfErr result (λ e. (x.new ≡ x.old) × (m.new ≡ m.old)) }
 {
     if let Some(own) = Blob::own(y) {
@@ -234,10 +233,10 @@ pub(crate) fn append_blob(
 ) -> Result<Dynamic, EvalAltResult>
     requires first { Holds blob_of m.old x.old }
     requires second { Holds blob_of m.old y.old }
-    ensures result { IsOutcome (Unit {0}) result (answered (assignment Keep stays) (both (appended limits.now) (part_in blob_of m.old x.old) (part_in blob_of m.old y.old))) }
-    ensures first { IfOk result (λ d. x.new ≡ first_left (assignment Keep stays) (both (appended limits.now) (part_in blob_of m.old x.old) (part_in blob_of m.old y.old)) m.old x.old) }
+    ensures result { IsOutcome (Unit {0}) result (answered (assignment stays) (both (appended limits.now) (part_in blob_of m.old x.old) (part_in blob_of m.old y.old))) }
+    ensures first { IfOk result (λ d. x.new ≡ first_left (assignment stays) (both (appended limits.now) (part_in blob_of m.old x.old) (part_in blob_of m.old y.old)) m.old x.old) }
     ensures second { IfOk result (λ d. y.new ≡ fresh unit) }
-    ensures store { IfOk result (λ d. m.new ≡ store_left (assignment Keep stays) (both (appended limits.now) (part_in blob_of m.old x.old) (part_in blob_of m.old y.old)) m.old x.old) }
+    ensures store { IfOk result (λ d. m.new ≡ store_left (assignment stays) (both (appended limits.now) (part_in blob_of m.old x.old) (part_in blob_of m.old y.old)) m.old x.old) }
     ensures err { IfErr result (λ e. (x.new ≡ x.old) × (y.new ≡ y.old) × (m.new ≡ m.old)) }
 {
     let done = append_bytes(alloc, limits, m, x, y)?;
@@ -253,9 +252,9 @@ pub(crate) fn push_byte(
     byte: INT,
 ) -> Result<Dynamic, EvalAltResult>
     requires { Holds blob_of m.old x.old }
-    ensures result { IsOutcome (Unit {0}) result (answered (assignment Keep stays) (both (appended limits.now) (part_in blob_of m.old x.old) (Some (low_byte byte ∷ [])))) }
-    ensures first { IfOk result (λ d. x.new ≡ first_left (assignment Keep stays) (both (appended limits.now) (part_in blob_of m.old x.old) (Some (low_byte byte ∷ []))) m.old x.old) }
-    ensures store { IfOk result (λ d. m.new ≡ store_left (assignment Keep stays) (both (appended limits.now) (part_in blob_of m.old x.old) (Some (low_byte byte ∷ []))) m.old x.old) }
+    ensures result { IsOutcome (Unit {0}) result (answered (assignment stays) (both (appended limits.now) (part_in blob_of m.old x.old) (Some (low_byte byte ∷ [])))) }
+    ensures first { IfOk result (λ d. x.new ≡ first_left (assignment stays) (both (appended limits.now) (part_in blob_of m.old x.old) (Some (low_byte byte ∷ []))) m.old x.old) }
+    ensures store { IfOk result (λ d. m.new ≡ store_left (assignment stays) (both (appended limits.now) (part_in blob_of m.old x.old) (Some (low_byte byte ∷ []))) m.old x.old) }
     ensures err { IfErr result (λ e. (x.new ≡ x.old) × (m.new ≡ m.old)) }
 {
     push_bytes(limits, m, x, &[byte.rem_euclid(256) as u8])
@@ -269,9 +268,9 @@ pub(crate) fn push_char(
     character: char,
 ) -> Result<Dynamic, EvalAltResult>
     requires { Holds blob_of m.old x.old }
-    ensures result { IsOutcome (Unit {0}) result (answered (assignment Keep stays) (both (appended limits.now) (part_in blob_of m.old x.old) (Some (encode_utf8 character)))) }
-    ensures first { IfOk result (λ d. x.new ≡ first_left (assignment Keep stays) (both (appended limits.now) (part_in blob_of m.old x.old) (Some (encode_utf8 character))) m.old x.old) }
-    ensures store { IfOk result (λ d. m.new ≡ store_left (assignment Keep stays) (both (appended limits.now) (part_in blob_of m.old x.old) (Some (encode_utf8 character))) m.old x.old) }
+    ensures result { IsOutcome (Unit {0}) result (answered (assignment stays) (both (appended limits.now) (part_in blob_of m.old x.old) (Some (encode_utf8 character)))) }
+    ensures first { IfOk result (λ d. x.new ≡ first_left (assignment stays) (both (appended limits.now) (part_in blob_of m.old x.old) (Some (encode_utf8 character))) m.old x.old) }
+    ensures store { IfOk result (λ d. m.new ≡ store_left (assignment stays) (both (appended limits.now) (part_in blob_of m.old x.old) (Some (encode_utf8 character))) m.old x.old) }
     ensures err { IfErr result (λ e. (x.new ≡ x.old) × (m.new ≡ m.old)) }
 {
     let mut buffer = [0; 4];
@@ -289,9 +288,9 @@ pub(crate) fn append_text(
 ) -> Result<Dynamic, EvalAltResult>
     requires first { Holds blob_of m.old x.old }
     requires second { Holds text_of m.old y.now }
-    ensures result { IsOutcome (Unit {0}) result (answered (assignment Keep stays) (both (blob_and_text limits.now) (part_in blob_of m.old x.old) (part_in text_of m.old y.now))) }
-    ensures first { IfOk result (λ d. x.new ≡ first_left (assignment Keep stays) (both (blob_and_text limits.now) (part_in blob_of m.old x.old) (part_in text_of m.old y.now)) m.old x.old) }
-    ensures store { IfOk result (λ d. m.new ≡ store_left (assignment Keep stays) (both (blob_and_text limits.now) (part_in blob_of m.old x.old) (part_in text_of m.old y.now)) m.old x.old) }
+    ensures result { IsOutcome (Unit {0}) result (answered (assignment stays) (both (blob_and_text limits.now) (part_in blob_of m.old x.old) (part_in text_of m.old y.now))) }
+    ensures first { IfOk result (λ d. x.new ≡ first_left (assignment stays) (both (blob_and_text limits.now) (part_in blob_of m.old x.old) (part_in text_of m.old y.now)) m.old x.old) }
+    ensures store { IfOk result (λ d. m.new ≡ store_left (assignment stays) (both (blob_and_text limits.now) (part_in blob_of m.old x.old) (part_in text_of m.old y.now)) m.old x.old) }
     ensures err { IfErr result (λ e. (x.new ≡ x.old) × (m.new ≡ m.old)) }
 {
     if let Some(own) = ImmutableString::own(y) {
@@ -317,9 +316,9 @@ fn push_text(
     text: &ImmutableString,
 ) -> Result<Dynamic, EvalAltResult>
     requires { Holds blob_of m.old x.old }
-    ensures result { IsOutcome (Unit {0}) result (answered (assignment Keep stays) (both (blob_and_text limits.now) (part_in blob_of m.old x.old) (Some text.now))) }
-    ensures first { IfOk result (λ d. x.new ≡ first_left (assignment Keep stays) (both (blob_and_text limits.now) (part_in blob_of m.old x.old) (Some text.now)) m.old x.old) }
-    ensures store { IfOk result (λ d. m.new ≡ store_left (assignment Keep stays) (both (blob_and_text limits.now) (part_in blob_of m.old x.old) (Some text.now)) m.old x.old) }
+    ensures result { IsOutcome (Unit {0}) result (answered (assignment stays) (both (blob_and_text limits.now) (part_in blob_of m.old x.old) (Some text.now))) }
+    ensures first { IfOk result (λ d. x.new ≡ first_left (assignment stays) (both (blob_and_text limits.now) (part_in blob_of m.old x.old) (Some text.now)) m.old x.old) }
+    ensures store { IfOk result (λ d. m.new ≡ store_left (assignment stays) (both (blob_and_text limits.now) (part_in blob_of m.old x.old) (Some text.now)) m.old x.old) }
     ensures err { IfErr result (λ e. (x.new ≡ x.old) × (m.new ≡ m.old)) }
 {
     if text.is_empty() {

@@ -5,28 +5,24 @@ ghost use Rattle.rhai_value.specs.Tree.{Tree, node, content_of};
 ghost use Rattle.rhai_value.specs.View.{tree_of};
 ghost use Rattle.rhai_ops.specs.Ways.{rewritten};
 
-use crate::word::Word;
 use rhai_value::{AccessMode, Dynamic, InStore, Store, Tag, Union};
 
-/// Writes a value by its word to the place where the chain ends; nothing changes where the chain is stuck or closed.
-pub(crate) fn write(new: Dynamic, word: Word, m: &mut Store, x: &mut Dynamic)
-    ensures value { x.new ≡ value_after (rewritten word new) (end m.old [] x.old) x.old }
-    ensures store { m.new ≡ store_after (rewritten word new) (end m.old [] x.old) m.old }
+/// Writes the content of a value to the place where the chain ends; nothing changes where the chain is stuck or closed.
+pub(crate) fn write(new: Dynamic, m: &mut Store, x: &mut Dynamic)
+    ensures value { x.new ≡ value_after (rewritten new) (end m.old [] x.old) x.old }
+    ensures store { m.new ≡ store_after (rewritten new) (end m.old [] x.old) m.old }
 {
     let mut place = InStore { value: x, store: m };
     if let Some(held) = place.held_mut() {
-        *held = under(word, held, new);
+        *held = under(held, new);
     }
 }
 
-/// The value as it stands in the place of another.
-pub(crate) fn under(word: Word, old: &Dynamic, new: Dynamic) -> Dynamic
-    ensures { result ≡ rewritten word new old.now }
+/// The value as it stands in the place of another, whose tag and mode it gets.
+fn under(old: &Dynamic, new: Dynamic) -> Dynamic
+    ensures { result ≡ rewritten new old.now }
 {
-    match word {
-        Word::Keep => Dynamic::from_parts(labelled(new.into_parts(), old.tag(), old.access_mode())),
-        Word::Whole => new,
-    }
+    Dynamic::from_parts(labelled(new.into_parts(), old.tag(), old.access_mode()))
 }
 
 /// A content under another tag and mode.

@@ -1,6 +1,5 @@
 -- An operator and its assignment come to the same content.
 use Rattle.std.proofs.Common.{◌≡◌, ℕ, ℤ, Bool, true, false, ◌||◌, ◌&&◌, List, [], ◌∷◌, ◌++◌, Option, Some, None, IsTrue, unwrap_or, if◌then◌else◌, refl, sym, ap, ◌∙◌, subst}
-use Rattle.std.specs.Char.{encode_utf8}
 use Rattle.std.proofs.lemmas.List.{append-nil}
 use Rattle.std.proofs.lemmas.Option.{same_Some}
 use Rattle.rhai_text.specs.declared.error.SizeKind.{SizeKind}
@@ -151,8 +150,7 @@ module _ (l : Limits) (s : List Cell) (g h : ℤ) (m n : AccessMode) (b a : FnBu
   char_texts _ c j e f k = cc
 
   blob_chars : (t : Token) (i : List ℕ) (d : ℕ) → Leaves t (blob i) (char d)
-  blob_chars op.PlusAssign i d e f k =
-      rows row.BlobChar row.BlobCharAssign (blob i) (char d) (rw (own_part blob_of s (blob i) g m, own_part char_of s (char d) h n) (λ v w. one_outcome (limited_blob l (i ++ encode_utf8 d)) v w)) e f
+  blob_chars op.PlusAssign i d e f k = rows row.BlobChar row.BlobCharAssign (blob i) (char d) (λ v w. one_outcome _ v w) e f
   blob_chars _ i d e f k = cc
 
   -- a blob and an int, and a blob and a text, have no `+`

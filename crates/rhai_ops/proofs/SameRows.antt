@@ -23,7 +23,7 @@ use Rattle.rhai_ops.specs.AssignTable.{assign_line, assign_row}
 use Rattle.rhai_ops.specs.Table.{own, row_of, own_pair, type_line, pair_row, pick}
 use Rattle.rhai_ops.specs.Outcome.{Outcome, answers, too_large, both, number_answer, bool_answer, is_allowed, limited_text, limited_blob, RelatedOutcomes}
 use Rattle.rhai_value.specs.Bytes.{low_byte}
-use Rattle.rhai_ops.specs.Results.{part, joined_blobs, joined_texts, joined_to_char, blob_and_text, pushed, joined_items, outcome, range_type, unless}
+use Rattle.rhai_ops.specs.Results.{blob_and_char, part, joined_blobs, joined_texts, joined_to_char, blob_and_text, pushed, joined_items, outcome, range_type, unless}
 use Rattle.rhai_ops.specs.Tokens.{without_assign}
 use Rattle.rhai_ops.proofs.SameItems.{both_alike, pushed_related, joined_related, same_items, same_moved}
 
@@ -100,6 +100,9 @@ module _ (r : Renaming) (s z : List Cell) (one : IsOneToOne r) (cells : RelatedC
     by_both : {A B : Type 0} (x : Leaf → Option A) (y : Leaf → Option B) (f : A → B → Outcome) → ((a : A) (b : B) → RelatedOutcomes r (f a b) (f a b)) → RelatedOutcomes r (both f (part (leaf_part x) s t) (part (leaf_part y) s v)) (both f (part (leaf_part x) z u) (part (leaf_part y) z w))
     by_both x y f same = rw (same_leaf x t u h, same_leaf y v w q) (both_self r f f same (part (leaf_part x) z u) (part (leaf_part y) z w))
 
+    blob_and_char_same : (l : Limits) → RelatedOutcomes r (blob_and_char.comes_to l s t v) (blob_and_char.comes_to l z u w)
+    blob_and_char_same l = rw (same_leaf leaf_blob t u h, same_leaf leaf_char v w q) (both_self r _ _ (λ a b. blob_self r l (a ++ b)) (part (leaf_part leaf_blob) z u) (option_map encode_utf8 (part (leaf_part leaf_char) z w)))
+
     pub same_assign_row : (k : Token) → assign_row k t v ≡ assign_row k u w
     same_assign_row k = ap₂ (λ a b. pick (assign_line k a b)) (same_own r t u h) (same_own r v w q)
 
@@ -128,7 +131,7 @@ module _ (r : Renaming) (s z : List Cell) (one : IsOneToOne r) (cells : RelatedC
     same_outcome (row.TextCharCompare k) l = by_both leaf_text leaf_char _ (λ a b. bool_self r _)
     same_outcome row.FirstCopy l = same_copy r t u h
     same_outcome row.SecondCopy l = same_copy r v w q
-    same_outcome row.BlobChar l = by_both leaf_blob leaf_char _ (λ a b. blob_self r l _)
+    same_outcome row.BlobChar l = blob_and_char_same l
     same_outcome (row.RangeEqual i n) l =
         rw (same_typed (range_type i) t u h, same_typed (range_type i) v w q) (both_self r _ _ (λ a b. bool_self r _) (part (typed_host_of (range_type i)) z u) (part (typed_host_of (range_type i)) z w))
     same_outcome (row.IntAssign k) l = by_both leaf_int leaf_int _ (λ m n. number_self r (number (without_assign k) m n))
@@ -146,6 +149,5 @@ module _ (r : Renaming) (s z : List Cell) (one : IsOneToOne r) (cells : RelatedC
         both_alike r (AllRelated r) (Related r) (pushed l) (pushed l) (pushed_related r l) _ _ _ _ (same_items r s z one cells t u h) q
     same_outcome row.BlobPush l =
         rw (same_leaf leaf_blob t u h, same_leaf leaf_int v w q) (both_self r _ _ (λ a b. blob_self r l (a ++ b)) (part (leaf_part leaf_blob) z u) (option_map (λ n. low_byte n ∷ []) (part (leaf_part leaf_int) z w)))
-    same_outcome row.BlobCharAssign l =
-        rw (same_leaf leaf_blob t u h, same_leaf leaf_char v w q) (both_self r _ _ (λ a b. blob_self r l (a ++ b)) (part (leaf_part leaf_blob) z u) (option_map encode_utf8 (part (leaf_part leaf_char) z w)))
+    same_outcome row.BlobCharAssign l = blob_and_char_same l
     same_outcome row.BlobTextAssign l = by_both leaf_blob leaf_text _ (blob_and_text_self r l)

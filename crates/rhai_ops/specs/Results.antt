@@ -9,6 +9,7 @@ use Rattle.std.specs.declared.cmp.Ordering.{Ordering}
 use Rattle.rhai_text.specs.Text.{minus, minus_char}
 use Rattle.rhai_text.specs.declared.error.SizeKind.TheVariants as size
 use Rattle.rhai_text.specs.declared.limits.Limits.{Limits}
+use Rattle.rhai_text.specs.declared.token.Token.{Token}
 use Rattle.rhai_value.specs.declared.host.Host.{Host}
 use Rattle.rhai_value.specs.declared.host.Host.TheVariants.{ExclusiveRange, InclusiveRange}
 use Rattle.rhai_value.specs.declared.store.Cell.{Cell}
@@ -106,174 +107,127 @@ joined_items l no_trees us = answers (made (branch array us))
 joined_items l (tree_then t ts) no_trees = answers (made (branch array (then_items (tree_then t ts) no_trees)))
 joined_items l (tree_then t ts) (tree_then u us) = limited_array l (then_items (tree_then t ts) (tree_then u us))
 
--- what a row comes to on x and y in the store s, under the limits l; both are read before anything is written
-abbrev pub outcome : FnBuiltin → Limits → List Cell → Tree → Tree → Outcome
-outcome (row.Int t) l s x y = both (λ m n. number_answer (number t m n)) (part int_of s x) (part int_of s y)
-outcome (row.IntCompare t) l s x y = both (λ m n. bool_answer (compared t (int_cmp m n))) (part int_of s x) (part int_of s y)
-outcome (row.IntRange i) l s x y = both (λ m n. answers (fresh (host (range i m n)))) (part int_of s x) (part int_of s y)
-outcome (row.BoolCompare t) l s x y = both (λ a b. bool_answer (compared t (bool_cmp a b))) (part bool_of s x) (part bool_of s y)
-outcome (row.Bool t) l s x y = both (λ a b. bool_answer (both_bits t a b)) (part bool_of s x) (part bool_of s y)
-outcome row.TextJoin l s x y = both (λ v w. limited_text l (v ++ w)) (part text_of s x) (part text_of s y)
-outcome row.TextMinus l s x y = both (λ v w. answers (fresh (text (minus v w)))) (part text_of s x) (part text_of s y)
-outcome (row.TextCompare t) l s x y = both (λ v w. bool_answer (compared t (text_order v w))) (part text_of s x) (part text_of s y)
-outcome row.CharJoin l s x y = both (λ c d. limited_text l (c ∷ d ∷ [])) (part char_of s x) (part char_of s y)
-outcome (row.CharCompare t) l s x y = both (λ c d. bool_answer (compared t (nat_cmp c d))) (part char_of s x) (part char_of s y)
-outcome row.BlobJoin l s x y = both (joined_blobs l (flat s x) (flat s y)) (part blob_of s x) (part blob_of s y)
-outcome (row.BlobEqual n) l s x y = both (λ v w. bool_answer (Some (unless n (pointwise nat_eq v w)))) (part blob_of s x) (part blob_of s y)
-outcome row.ConstTrue l s x y = answers (fresh (bool true))
-outcome row.ConstFalse l s x y = answers (fresh (bool false))
-outcome (row.RangeFrom i) l s x y = both (λ m u. answers (fresh (host (range i m int_max)))) (part int_of s x) (part unit_of s y)
-outcome (row.RangeTo i) l s x y = both (λ u n. answers (fresh (host (range i (pos 0) n)))) (part unit_of s x) (part int_of s y)
-outcome row.CharText l s x y = both (λ c w. limited_text l (c ∷ w)) (part char_of s x) (part text_of s y)
-outcome (row.CharTextCompare t) l s x y = both (λ c w. bool_answer (compared t (text_order (c ∷ []) w))) (part char_of s x) (part text_of s y)
-outcome row.TextChar l s x y = both (λ v d. limited_text l (v ++ (d ∷ []))) (part text_of s x) (part char_of s y)
-outcome row.TextMinusChar l s x y = both (λ v d. answers (fresh (text (minus_char v d)))) (part text_of s x) (part char_of s y)
-outcome (row.TextCharCompare t) l s x y = both (λ v d. bool_answer (compared t (text_order v (d ∷ [])))) (part text_of s x) (part char_of s y)
-outcome row.FirstCopy l s x y = answers (copy x)
-outcome row.SecondCopy l s x y = answers (copy y)
-outcome row.BlobChar l s x y = both (λ v d. limited_blob l (v ++ encode_utf8 d)) (part blob_of s x) (part char_of s y)
-outcome (row.RangeEqual i n) l s x y = both (λ a b. range_answer n (same_range a b)) (part (typed_host_of (range_type i)) s x) (part (typed_host_of (range_type i)) s y)
-outcome (row.IntAssign t) l s x y = both (λ m n. number_answer (number (without_assign t) m n)) (part int_of s x) (part int_of s y)
-outcome (row.BoolAssign t) l s x y = both (λ a b. bool_answer (both_bits (without_assign t) a b)) (part bool_of s x) (part bool_of s y)
-outcome row.CharJoinAssign l s x y = both (λ c d. answers (fresh (text (c ∷ d ∷ [])))) (part char_of s x) (part char_of s y)
-outcome row.TextJoinAssign l s x y = both (joined_texts l) (part text_of s x) (part text_of s y)
-outcome row.TextMinusAssign l s x y = both (λ v w. answers (fresh (text (minus v w)))) (part text_of s x) (part text_of s y)
-outcome row.ArrayAppend l s x y = both (joined_items l) (part array_of s x) (array_moved s y)
-outcome row.BlobAppend l s x y = both (appended l) (part blob_of s x) (part blob_of s y)
-outcome row.TextCharAssign l s x y = both (λ v d. limited_text l (v ++ (d ∷ []))) (part text_of s x) (part char_of s y)
-outcome row.TextMinusCharAssign l s x y = both (λ v d. answers (fresh (text (minus_char v d)))) (part text_of s x) (part char_of s y)
-outcome row.CharTextAssign l s x y = both (joined_to_char l) (part char_of s x) (part text_of s y)
-outcome row.ArrayPush l s x y = both (pushed l) (part array_of s x) (Some y)
-outcome row.BlobPush l s x y = both (appended l) (part blob_of s x) (option_map (λ n. low_byte n ∷ []) (part int_of s y))
-outcome row.BlobCharAssign l s x y = both (appended l) (part blob_of s x) (option_map encode_utf8 (part char_of s y))
-outcome row.BlobTextAssign l s x y = both (blob_and_text l) (part blob_of s x) (part text_of s y)
-
 -- what is held has such a part
 abbrev pub Holds : {A : Type 0} → (Tree → Option A) → List Cell → Tree → Type 0
 Holds of s t = IsSome (part of s t)
 
+-- What a row says: what it asks of its operator and of its operands, what it comes to on them, when memory may be wanted for that, and
+-- whether it looks at the limits. Both operands are read before anything is written.
+pub record Rule : Type 1 where
+  pub asks : List Cell → Tree → Tree → Type 0
+  pub comes_to : Limits → List Cell → Tree → Tree → Outcome
+  pub wants : Tree → Tree → Type 0
+  pub looks : Bool
+
+-- of any two operands; no memory is wanted, and no limit is looked at
+abbrev pub of_any : (Tree → Tree → Outcome) → Rule
+of_any f = record { asks = λ s x y. Unit {0}; comes_to = λ l s x y. f x y; wants = λ x y. ⊥; looks = false }
+
+-- the same of a first operand that holds such a part, and a second one that is as asked, of which this is read
+abbrev pub of_read : {A B : Type 0} → (Tree → Option A) → (List Cell → Tree → Type 0) → (List Cell → Tree → Option B) → (Limits → A → B → Outcome) → Rule
+of_read first asked second f = record {
+  asks = λ s x y. Holds first s x × asked s y;
+  comes_to = λ l s x y. both (f l) (part first s x) (second s y);
+  wants = λ x y. ⊥;
+  looks = false;
+}
+
+-- the same of two operands that hold such parts
+abbrev pub of_parts : {A B : Type 0} → (Tree → Option A) → (Tree → Option B) → (Limits → A → B → Outcome) → Rule
+of_parts first second f = of_read first (Holds second) (part second) f
+
+-- a rule of some operators alone; of one that makes a text, a blob or an array, for which memory may be wanted; the same where a limit is
+-- looked at
+abbrev pub only_if : Bool → Rule → Rule
+only_if b r = record r { asks = λ s x y. IsTrue b × r.asks s x y }
+
+abbrev pub making : Rule → Rule
+making r = record r { wants = λ x y. Unit {0} }
+
+abbrev pub limited : Rule → Rule
+limited r = record r { wants = λ x y. Unit {0}; looks = true }
+
+-- a comparison, by the order of such parts
+abbrev pub comparing : {A B : Type 0} → Token → (Tree → Option A) → (Tree → Option B) → (A → B → Ordering) → Rule
+comparing t first second order = only_if (is_cmp t) (of_parts first second (λ l a b. bool_answer (compared t (order a b))))
+
+-- two blobs as one
+abbrev pub blob_join : Rule
+blob_join = record (limited (of_parts blob_of blob_of appended)) { comes_to = λ l s x y. both (joined_blobs l (flat s x) (flat s y)) (part blob_of s x) (part blob_of s y) }
+
+-- what an operator and its assignment come to alike
+abbrev pub ints : Token → Rule
+ints t = of_parts int_of int_of (λ l m n. number_answer (number t m n))
+
+abbrev pub bools : Token → Rule
+bools t = of_parts bool_of bool_of (λ l a b. bool_answer (both_bits t a b))
+
+abbrev pub text_minus : Rule
+text_minus = making (of_parts text_of text_of (λ l v w. answers (fresh (text (minus v w)))))
+
+abbrev pub text_and_char : Rule
+text_and_char = limited (of_parts text_of char_of (λ l v d. limited_text l (v ++ (d ∷ []))))
+
+abbrev pub text_minus_char : Rule
+text_minus_char = making (of_parts text_of char_of (λ l v d. answers (fresh (text (minus_char v d)))))
+
+abbrev pub blob_and_char : Rule
+blob_and_char = limited (of_read blob_of (Holds char_of) (λ s y. option_map encode_utf8 (part char_of s y)) appended)
+
+-- each row's rule
+abbrev pub rule : FnBuiltin → Rule
+rule (row.Int t) = only_if (is_number t) (ints t)
+rule (row.IntCompare t) = comparing t int_of int_of int_cmp
+rule (row.IntRange i) = of_parts int_of int_of (λ l m n. answers (fresh (host (range i m n))))
+rule (row.BoolCompare t) = comparing t bool_of bool_of bool_cmp
+rule (row.Bool t) = only_if (is_bits t) (bools t)
+rule row.TextJoin = limited (of_parts text_of text_of (λ l v w. limited_text l (v ++ w)))
+rule row.TextMinus = text_minus
+rule (row.TextCompare t) = comparing t text_of text_of text_order
+rule row.CharJoin = limited (of_parts char_of char_of (λ l c d. limited_text l (c ∷ d ∷ [])))
+rule (row.CharCompare t) = comparing t char_of char_of nat_cmp
+rule row.BlobJoin = blob_join
+rule (row.BlobEqual n) = of_parts blob_of blob_of (λ l v w. bool_answer (Some (unless n (pointwise nat_eq v w))))
+rule row.ConstTrue = of_any (λ x y. answers (fresh (bool true)))
+rule row.ConstFalse = of_any (λ x y. answers (fresh (bool false)))
+rule (row.RangeFrom i) = of_parts int_of unit_of (λ l m u. answers (fresh (host (range i m int_max))))
+rule (row.RangeTo i) = of_parts unit_of int_of (λ l u n. answers (fresh (host (range i (pos 0) n))))
+rule row.CharText = limited (of_parts char_of text_of (λ l c w. limited_text l (c ∷ w)))
+rule (row.CharTextCompare t) = comparing t char_of text_of (λ c w. text_order (c ∷ []) w)
+rule row.TextChar = text_and_char
+rule row.TextMinusChar = text_minus_char
+rule (row.TextCharCompare t) = comparing t text_of char_of (λ v d. text_order v (d ∷ []))
+rule row.FirstCopy = record (of_any (λ x y. answers (copy x))) { wants = λ x y. TakesNoMemory x → ⊥ }
+rule row.SecondCopy = record (of_any (λ x y. answers (copy y))) { wants = λ x y. TakesNoMemory y → ⊥ }
+rule row.BlobChar = blob_and_char
+rule (row.RangeEqual i n) = of_parts (typed_host_of (range_type i)) (typed_host_of (range_type i)) (λ l a b. range_answer n (same_range a b))
+rule (row.IntAssign t) = only_if (is_assign t) (ints (without_assign t))
+rule (row.BoolAssign t) = only_if (is_bits_assign t) (bools (without_assign t))
+rule row.CharJoinAssign = making (of_parts char_of char_of (λ l c d. answers (fresh (text (c ∷ d ∷ [])))))
+rule row.TextJoinAssign = limited (of_parts text_of text_of joined_texts)
+rule row.TextMinusAssign = text_minus
+rule row.ArrayAppend = limited (of_read array_of (Holds array_of) array_moved joined_items)
+rule row.BlobAppend = limited (of_parts blob_of blob_of appended)
+rule row.TextCharAssign = text_and_char
+rule row.TextMinusCharAssign = text_minus_char
+rule row.CharTextAssign = limited (of_parts char_of text_of joined_to_char)
+rule row.ArrayPush = limited (of_read array_of (λ s y. Unit {0}) (λ s y. Some y) pushed)
+rule row.BlobPush = limited (of_read blob_of (Holds int_of) (λ s y. option_map (λ n. low_byte n ∷ []) (part int_of s y)) appended)
+rule row.BlobCharAssign = blob_and_char
+rule row.BlobTextAssign = limited (of_parts blob_of text_of blob_and_text)
+
+-- what a row comes to on x and y in the store s, under the limits l
+abbrev pub outcome : FnBuiltin → Limits → List Cell → Tree → Tree → Outcome
+outcome b l s x y = (rule b).comes_to l s x y
+
 -- what a row asks of its operator and of its operands
 abbrev pub Suits : FnBuiltin → List Cell → Tree → Tree → Type 0
-Suits (row.Int t) s x y = IsTrue (is_number t) × Holds int_of s x × Holds int_of s y
-Suits (row.IntCompare t) s x y = IsTrue (is_cmp t) × Holds int_of s x × Holds int_of s y
-Suits (row.IntRange i) s x y = Holds int_of s x × Holds int_of s y
-Suits (row.BoolCompare t) s x y = IsTrue (is_cmp t) × Holds bool_of s x × Holds bool_of s y
-Suits (row.Bool t) s x y = IsTrue (is_bits t) × Holds bool_of s x × Holds bool_of s y
-Suits row.TextJoin s x y = Holds text_of s x × Holds text_of s y
-Suits row.TextMinus s x y = Holds text_of s x × Holds text_of s y
-Suits (row.TextCompare t) s x y = IsTrue (is_cmp t) × Holds text_of s x × Holds text_of s y
-Suits row.CharJoin s x y = Holds char_of s x × Holds char_of s y
-Suits (row.CharCompare t) s x y = IsTrue (is_cmp t) × Holds char_of s x × Holds char_of s y
-Suits row.BlobJoin s x y = Holds blob_of s x × Holds blob_of s y
-Suits (row.BlobEqual n) s x y = Holds blob_of s x × Holds blob_of s y
-Suits row.ConstTrue s x y = Unit {0}
-Suits row.ConstFalse s x y = Unit {0}
-Suits (row.RangeFrom i) s x y = Holds int_of s x × Holds unit_of s y
-Suits (row.RangeTo i) s x y = Holds unit_of s x × Holds int_of s y
-Suits row.CharText s x y = Holds char_of s x × Holds text_of s y
-Suits (row.CharTextCompare t) s x y = IsTrue (is_cmp t) × Holds char_of s x × Holds text_of s y
-Suits row.TextChar s x y = Holds text_of s x × Holds char_of s y
-Suits row.TextMinusChar s x y = Holds text_of s x × Holds char_of s y
-Suits (row.TextCharCompare t) s x y = IsTrue (is_cmp t) × Holds text_of s x × Holds char_of s y
-Suits row.FirstCopy s x y = Unit {0}
-Suits row.SecondCopy s x y = Unit {0}
-Suits row.BlobChar s x y = Holds blob_of s x × Holds char_of s y
-Suits (row.RangeEqual i n) s x y = Holds (typed_host_of (range_type i)) s x × Holds (typed_host_of (range_type i)) s y
-Suits (row.IntAssign t) s x y = IsTrue (is_assign t) × Holds int_of s x × Holds int_of s y
-Suits (row.BoolAssign t) s x y = IsTrue (is_bits_assign t) × Holds bool_of s x × Holds bool_of s y
-Suits row.CharJoinAssign s x y = Holds char_of s x × Holds char_of s y
-Suits row.TextJoinAssign s x y = Holds text_of s x × Holds text_of s y
-Suits row.TextMinusAssign s x y = Holds text_of s x × Holds text_of s y
-Suits row.ArrayAppend s x y = Holds array_of s x × Holds array_of s y
-Suits row.BlobAppend s x y = Holds blob_of s x × Holds blob_of s y
-Suits row.TextCharAssign s x y = Holds text_of s x × Holds char_of s y
-Suits row.TextMinusCharAssign s x y = Holds text_of s x × Holds char_of s y
-Suits row.CharTextAssign s x y = Holds char_of s x × Holds text_of s y
-Suits row.ArrayPush s x y = Holds array_of s x
-Suits row.BlobPush s x y = Holds blob_of s x × Holds int_of s y
-Suits row.BlobCharAssign s x y = Holds blob_of s x × Holds char_of s y
-Suits row.BlobTextAssign s x y = Holds blob_of s x × Holds text_of s y
+Suits b s x y = (rule b).asks s x y
 
--- whether a row makes a text, a blob or a copy, for which memory may be wanted
+-- whether a row makes a text, a blob, an array or a copy, for which memory may be wanted
 abbrev pub MayWant : FnBuiltin → Tree → Tree → Type 0
-MayWant (row.Int t) x y = ⊥
-MayWant (row.IntCompare t) x y = ⊥
-MayWant (row.IntRange i) x y = ⊥
-MayWant (row.BoolCompare t) x y = ⊥
-MayWant (row.Bool t) x y = ⊥
-MayWant row.TextJoin x y = Unit {0}
-MayWant row.TextMinus x y = Unit {0}
-MayWant (row.TextCompare t) x y = ⊥
-MayWant row.CharJoin x y = Unit {0}
-MayWant (row.CharCompare t) x y = ⊥
-MayWant row.BlobJoin x y = Unit {0}
-MayWant (row.BlobEqual n) x y = ⊥
-MayWant row.ConstTrue x y = ⊥
-MayWant row.ConstFalse x y = ⊥
-MayWant (row.RangeFrom i) x y = ⊥
-MayWant (row.RangeTo i) x y = ⊥
-MayWant row.CharText x y = Unit {0}
-MayWant (row.CharTextCompare t) x y = ⊥
-MayWant row.TextChar x y = Unit {0}
-MayWant row.TextMinusChar x y = Unit {0}
-MayWant (row.TextCharCompare t) x y = ⊥
-MayWant row.FirstCopy x y = TakesNoMemory x → ⊥
-MayWant row.SecondCopy x y = TakesNoMemory y → ⊥
-MayWant row.BlobChar x y = Unit {0}
-MayWant (row.RangeEqual i n) x y = ⊥
-MayWant (row.IntAssign t) x y = ⊥
-MayWant (row.BoolAssign t) x y = ⊥
-MayWant row.CharJoinAssign x y = Unit {0}
-MayWant row.TextJoinAssign x y = Unit {0}
-MayWant row.TextMinusAssign x y = Unit {0}
-MayWant row.ArrayAppend x y = Unit {0}
-MayWant row.BlobAppend x y = Unit {0}
-MayWant row.TextCharAssign x y = Unit {0}
-MayWant row.TextMinusCharAssign x y = Unit {0}
-MayWant row.CharTextAssign x y = Unit {0}
-MayWant row.ArrayPush x y = Unit {0}
-MayWant row.BlobPush x y = Unit {0}
-MayWant row.BlobCharAssign x y = Unit {0}
-MayWant row.BlobTextAssign x y = Unit {0}
+MayWant b x y = (rule b).wants x y
 
 -- whether a row looks at the limits
 abbrev pub is_limited : FnBuiltin → Bool
-is_limited (row.Int t) = false
-is_limited (row.IntCompare t) = false
-is_limited (row.IntRange i) = false
-is_limited (row.BoolCompare t) = false
-is_limited (row.Bool t) = false
-is_limited row.TextJoin = true
-is_limited row.TextMinus = false
-is_limited (row.TextCompare t) = false
-is_limited row.CharJoin = true
-is_limited (row.CharCompare t) = false
-is_limited row.BlobJoin = true
-is_limited (row.BlobEqual n) = false
-is_limited row.ConstTrue = false
-is_limited row.ConstFalse = false
-is_limited (row.RangeFrom i) = false
-is_limited (row.RangeTo i) = false
-is_limited row.CharText = true
-is_limited (row.CharTextCompare t) = false
-is_limited row.TextChar = true
-is_limited row.TextMinusChar = false
-is_limited (row.TextCharCompare t) = false
-is_limited row.FirstCopy = false
-is_limited row.SecondCopy = false
-is_limited row.BlobChar = true
-is_limited (row.RangeEqual i n) = false
-is_limited (row.IntAssign t) = false
-is_limited (row.BoolAssign t) = false
-is_limited row.CharJoinAssign = false
-is_limited row.TextJoinAssign = true
-is_limited row.TextMinusAssign = false
-is_limited row.ArrayAppend = true
-is_limited row.BlobAppend = true
-is_limited row.TextCharAssign = true
-is_limited row.TextMinusCharAssign = false
-is_limited row.CharTextAssign = true
-is_limited row.ArrayPush = true
-is_limited row.BlobPush = true
-is_limited row.BlobCharAssign = true
-is_limited row.BlobTextAssign = true
+is_limited b = (rule b).looks

@@ -19,33 +19,8 @@ pub data Way : Type 0 where
   operator : Way
   assignment : Second → Way
 
--- each row's way
+-- each row's way: these write, all others answer
 abbrev pub way : FnBuiltin → Way
-way (row.Int t) = operator
-way (row.IntCompare t) = operator
-way (row.IntRange i) = operator
-way (row.BoolCompare t) = operator
-way (row.Bool t) = operator
-way row.TextJoin = operator
-way row.TextMinus = operator
-way (row.TextCompare t) = operator
-way row.CharJoin = operator
-way (row.CharCompare t) = operator
-way row.BlobJoin = operator
-way (row.BlobEqual n) = operator
-way row.ConstTrue = operator
-way row.ConstFalse = operator
-way (row.RangeFrom i) = operator
-way (row.RangeTo i) = operator
-way row.CharText = operator
-way (row.CharTextCompare t) = operator
-way row.TextChar = operator
-way row.TextMinusChar = operator
-way (row.TextCharCompare t) = operator
-way row.FirstCopy = operator
-way row.SecondCopy = operator
-way row.BlobChar = operator
-way (row.RangeEqual i n) = operator
 way (row.IntAssign t) = assignment stays
 way (row.BoolAssign t) = assignment stays
 way row.CharJoinAssign = assignment stays
@@ -60,6 +35,7 @@ way row.ArrayPush = assignment taken
 way row.BlobPush = assignment stays
 way row.BlobCharAssign = assignment stays
 way row.BlobTextAssign = assignment stays
+way _ = operator
 
 -- whether a row writes
 abbrev pub writes : Way → Bool

@@ -1,13 +1,12 @@
 //! Blobs under operators.
 ghost use Rattle.std.specs.Prelude.{◌++◌, Some, nat_eq};
 ghost use Rattle.std.specs.Cmp.Lexicographic.{pointwise};
-ghost use Rattle.std.specs.Char.{encode_utf8};
 ghost use Rattle.rhai_value.specs.End.{flat};
-ghost use Rattle.rhai_value.specs.Parts.{blob_of};
+ghost use Rattle.rhai_value.specs.Parts.{blob_of, char_of};
 ghost use Rattle.rhai_ops.specs.Outcome.{IsOutcome, both, bool_answer, limited_blob};
-ghost use Rattle.rhai_ops.specs.Results.{Holds, joined_blobs, part as part_in, unless as unless_it};
+ghost use Rattle.rhai_ops.specs.Results.{Holds, blob_and_char, joined_blobs, part as part_in, unless as unless_it};
 
-use crate::answer::{is_allowed, part, unless};
+use crate::answer::{is_allowed, part, unless, value};
 use rhai_text::{EvalAltResult, Limits, Position, SizeKind};
 use rhai_value::{Blob, Dynamic, Store};
 use std::alloc::Global;
@@ -49,21 +48,34 @@ fn appended(alloc: Global, limits: &Limits, a: &[u8], b: &[u8]) -> Result<Dynami
 }
 
 /// Whether two blobs have the same bytes, or the opposite.
-pub(crate) fn equal(negated: bool, a: &Blob, b: &Blob) -> Result<Dynamic, EvalAltResult>
-    ensures { IsOutcome ⊥ result (bool_answer (Some (unless_it negated (pointwise nat_eq a.now.items b.now.items)))) }
+pub(crate) fn equal(
+    negated: bool,
+    s: &Store,
+    x: &Dynamic,
+    y: &Dynamic,
+) -> Result<Dynamic, EvalAltResult>
+    requires first { Holds blob_of s.now x.now }
+    requires second { Holds blob_of s.now y.now }
+    ensures { IsOutcome ⊥ result (both (λ v w. bool_answer (Some (unless_it negated (pointwise nat_eq v w)))) (part_in blob_of s.now x.now) (part_in blob_of s.now y.now)) }
 {
-    Ok(Dynamic::from_bool(unless(negated, a == b)))
+    let same = part::<Blob>(x, s) == part::<Blob>(y, s);
+    Ok(Dynamic::from_bool(unless(negated, same)))
 }
 
 /// The UTF-8 bytes of a character behind a blob.
 pub(crate) fn join_char(
     alloc: Global,
     limits: &Limits,
-    a: &Blob,
-    b: char,
+    s: &Store,
+    x: &Dynamic,
+    y: &Dynamic,
 ) -> Result<Dynamic, EvalAltResult>
-    ensures { IsOutcome (Unit {0}) result (limited_blob limits.now (a.now.items ++ encode_utf8 b)) }
+    requires first { Holds blob_of s.now x.now }
+    requires second { Holds char_of s.now y.now }
+    ensures { IsOutcome (Unit {0}) result (blob_and_char.comes_to limits.now s.now x.now y.now) }
 {
+    let a = part::<Blob>(x, s);
     let mut buffer = [0; 4];
-    appended(alloc, limits, a, b.encode_utf8(&mut buffer).as_bytes())
+    let b = value::<char>(y, s).encode_utf8(&mut buffer).as_bytes();
+    appended(alloc, limits, a, b)
 }

@@ -1,7 +1,6 @@
 //! The rows of the tables.
 ghost use Rattle.std.specs.Prelude.{◌≡◌};
 ghost use Rattle.rhai_ops.specs.Results.{is_limited};
-ghost use Rattle.rhai_ops.specs.Ways.{way, writes};
 
 use rhai_text::Token;
 
@@ -135,53 +134,6 @@ impl FnBuiltin {
             | FnBuiltin::CharJoinAssign
             | FnBuiltin::TextMinusAssign
             | FnBuiltin::TextMinusCharAssign => false,
-        }
-    }
-
-    /// Whether the row is of an assignment.
-    pub(crate) fn is_assignment(&self) -> bool
-        ensures { result ≡ writes (way self.now) }
-    {
-        match self {
-            FnBuiltin::Int(_)
-            | FnBuiltin::IntCompare(_)
-            | FnBuiltin::IntRange(_)
-            | FnBuiltin::BoolCompare(_)
-            | FnBuiltin::Bool(_)
-            | FnBuiltin::TextJoin
-            | FnBuiltin::TextMinus
-            | FnBuiltin::TextCompare(_)
-            | FnBuiltin::CharJoin
-            | FnBuiltin::CharCompare(_)
-            | FnBuiltin::BlobJoin
-            | FnBuiltin::BlobEqual(_)
-            | FnBuiltin::ConstTrue
-            | FnBuiltin::ConstFalse
-            | FnBuiltin::RangeFrom(_)
-            | FnBuiltin::RangeTo(_)
-            | FnBuiltin::CharText
-            | FnBuiltin::CharTextCompare(_)
-            | FnBuiltin::TextChar
-            | FnBuiltin::TextMinusChar
-            | FnBuiltin::TextCharCompare(_)
-            | FnBuiltin::FirstCopy
-            | FnBuiltin::SecondCopy
-            | FnBuiltin::BlobChar
-            | FnBuiltin::RangeEqual(_, _) => false,
-            FnBuiltin::IntAssign(_)
-            | FnBuiltin::CharJoinAssign
-            | FnBuiltin::CharTextAssign
-            | FnBuiltin::BoolAssign(_)
-            | FnBuiltin::TextJoinAssign
-            | FnBuiltin::TextMinusAssign
-            | FnBuiltin::TextCharAssign
-            | FnBuiltin::TextMinusCharAssign
-            | FnBuiltin::ArrayAppend
-            | FnBuiltin::BlobAppend
-            | FnBuiltin::ArrayPush
-            | FnBuiltin::BlobPush
-            | FnBuiltin::BlobCharAssign
-            | FnBuiltin::BlobTextAssign => true,
         }
     }
 }

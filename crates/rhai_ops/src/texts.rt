@@ -17,8 +17,22 @@ use rhai_value::{Dynamic, Store};
 use std::alloc::Global;
 
 /// A text behind a text.
-#[tactic(auto, using(crate::proofs::Lengths::joined_length))]
 pub(crate) fn join(
+    alloc: Global,
+    limits: &Limits,
+    s: &Store,
+    x: &Dynamic,
+    y: &Dynamic,
+) -> Result<Dynamic, EvalAltResult>
+    requires first { Holds text_of s.now x.now }
+    requires second { Holds text_of s.now y.now }
+    ensures { IsOutcome (Unit {0}) result (both (λ v w. limited_text limits.now (v ++ w)) (part_in text_of s.now x.now) (part_in text_of s.now y.now)) }
+{
+    joined(alloc, limits, part(x, s), part(y, s))
+}
+
+#[tactic(auto, using(crate::proofs::Lengths::joined_length))]
+fn joined(
     alloc: Global,
     limits: &Limits,
     a: &ImmutableString,
@@ -52,7 +66,7 @@ pub(crate) fn append(
     if a.is_empty() {
         return Ok(Dynamic::from(b.copy(alloc)?));
     }
-    join(alloc, limits, a, b)
+    joined(alloc, limits, a, b)
 }
 
 /// A text without the occurrences of a text.
@@ -74,13 +88,17 @@ pub(crate) fn minus(
 /// A comparison of two texts.
 pub(crate) fn compare(
     op: Token,
-    a: &ImmutableString,
-    b: &ImmutableString,
+    s: &Store,
+    x: &Dynamic,
+    y: &Dynamic,
 ) -> Result<Dynamic, EvalAltResult>
-    requires { IsTrue (is_cmp op) }
-    ensures { IsOutcome ⊥ result (bool_answer (specs.compared op (text_order a.now b.now))) }
+    requires comparison { IsTrue (is_cmp op) }
+    requires first { Holds text_of s.now x.now }
+    requires second { Holds text_of s.now y.now }
+    ensures { IsOutcome ⊥ result (both (λ v w. bool_answer (specs.compared op (text_order v w))) (part_in text_of s.now x.now) (part_in text_of s.now y.now)) }
 {
-    Ok(Dynamic::from_bool(compared(op, a.cmp(b))))
+    let order = part::<ImmutableString>(x, s).cmp(part(y, s));
+    Ok(Dynamic::from_bool(compared(op, order)))
 }
 
 /// A character behind a text.
@@ -123,14 +141,18 @@ pub(crate) fn minus_char(
 /// A comparison of a text with a character, as the text of it alone.
 pub(crate) fn compare_char(
     op: Token,
-    a: &ImmutableString,
-    b: char,
+    s: &Store,
+    x: &Dynamic,
+    y: &Dynamic,
 ) -> Result<Dynamic, EvalAltResult>
-    requires { IsTrue (is_cmp op) }
-    ensures { IsOutcome ⊥ result (bool_answer (specs.compared op (text_order a.now (b ∷ [])))) }
+    requires comparison { IsTrue (is_cmp op) }
+    requires first { Holds text_of s.now x.now }
+    requires second { Holds char_of s.now y.now }
+    ensures { IsOutcome ⊥ result (both (λ v d. bool_answer (specs.compared op (text_order v (d ∷ [])))) (part_in text_of s.now x.now) (part_in char_of s.now y.now)) }
 {
+    let a = part::<ImmutableString>(x, s);
     let mut buffer = [0; 4];
-    let b = spelled(b, &mut buffer);
+    let b = spelled(value(y, s), &mut buffer);
     byte_order_is_character_order();
     Ok(Dynamic::from_bool(compared(op, a.as_str().cmp(b))))
 }

@@ -13,6 +13,7 @@ use Rattle.rhai_ops.specs.declared.builtin.FnBuiltin.TheVariants as row
 use Rattle.rhai_ops.specs.Numbers.{compared}
 use Rattle.rhai_ops.specs.Outcome.{bool_answer, both}
 use Rattle.rhai_ops.specs.Results.{part, outcome, text_order}
+use Rattle.rhai_ops.specs.Tokens.{role}
 use Rattle.rhai_ops.proofs.Suited.{own_part}
 
 -- no comparison looks at the limits
@@ -26,7 +27,7 @@ module _ (t : Token) (s : List Cell) where
   pub second_as_text : (x : Tree) (d : ℕ) (g : ℤ) (m : AccessMode) → outcome (row.TextCharCompare t) l s x (node (leaf (char d)) g m) ≡ outcome (row.TextCompare t) l s x (node (leaf (text (d ∷ []))) g m)
   second_as_text x d g m = rw (own_part char_of s (char d) g m, own_part text_of s (text (d ∷ [])) g m) (with_first (part text_of s x))
     where
-      with_first : (o : Option (List ℕ)) → both (λ v e. bool_answer (compared t (text_order v (e ∷ [])))) o (Some d) ≡ both (λ v w. bool_answer (compared t (text_order v w))) o (Some (d ∷ []))
+      with_first : (o : Option (List ℕ)) → both (λ v e. bool_answer (compared (role t) (text_order v (e ∷ [])))) o (Some d) ≡ both (λ v w. bool_answer (compared (role t) (text_order v w))) o (Some (d ∷ []))
       with_first (Some v) = refl
       with_first None = refl
 
@@ -38,4 +39,4 @@ module _ (t : Token) (s : List Cell) where
   pub both_as_texts : (c d : ℕ) (g h : ℤ) (m n : AccessMode) → outcome (row.CharCompare t) l s (node (leaf (char c)) g m) (node (leaf (char d)) h n) ≡ outcome (row.TextCompare t) l s (node (leaf (text (c ∷ []))) g m) (node (leaf (text (d ∷ []))) h n)
   both_as_texts c d g h m n =
       rw (own_part char_of s (char c) g m, own_part text_of s (text (c ∷ [])) g m, own_part char_of s (char d) h n, own_part text_of s (text (d ∷ [])) h n)
-      (ap (λ o. bool_answer (compared t o)) (one_order (nat_cmp c d)))
+      (ap (λ o. bool_answer (compared (role t) o)) (one_order (nat_cmp c d)))

@@ -10,8 +10,10 @@ use Rattle.rhai_value.specs.Types.{is_type}
 use Rattle.rhai_ops.specs.declared.builtin.FnBuiltin.{FnBuiltin}
 use Rattle.rhai_ops.specs.declared.own.Own.{Own}
 use Rattle.rhai_ops.specs.declared.own.Own.TheVariants as is
+use Rattle.rhai_ops.specs.declared.role.Role.{Role}
 use Rattle.rhai_ops.specs.AssignTable.{assign_line, assign_row}
 use Rattle.rhai_ops.specs.Table.{own, row_of, own_pair, type_line, is_numeric, is_range_type}
+use Rattle.rhai_ops.specs.Tokens.{role, done_by}
 use Rattle.rhai_ops.specs.Ways.{way, operator, writes}
 use Rattle.rhai_ops.proofs.Lines.{LineAll, PairAll, pick_all, pair_all, if_all}
 
@@ -21,45 +23,45 @@ Answers r = way r ≡ operator
 abbrev Writes : FnBuiltin → Type 0
 Writes r = IsTrue (writes (way r))
 
-own_answers : (t : Token) (a b : Own) → PairAll Answers (own_pair t a b)
-own_answers t is.Int is.Int = (λ e. refl, (λ e. refl, (λ e. refl, tt)))
-own_answers t is.Bool is.Bool = (λ e. refl, (λ e. refl, tt))
-own_answers t is.Str is.Str = (λ e. refl, (λ e. refl, (λ e. refl, tt)))
-own_answers t is.Char is.Char = (λ e. refl, (λ e. refl, tt))
-own_answers t is.Blob is.Blob = (λ e. refl, (λ e. refl, tt))
-own_answers t is.Unit is.Unit = (λ e. refl, (λ e. refl, tt))
-own_answers t is.Int is.Unit = (λ e. refl, tt)
-own_answers t is.Unit is.Int = (λ e. refl, tt)
-own_answers t is.Char is.Str = (λ e. refl, (λ e. refl, tt))
-own_answers t is.Str is.Char = (λ e. refl, (λ e. refl, (λ e. refl, tt)))
-own_answers t is.Unit is.Str = (λ e. refl, (λ e. refl, (λ e. refl, tt)))
-own_answers t is.Str is.Unit = (λ e. refl, (λ e. refl, (λ e. refl, tt)))
-own_answers t is.Blob is.Char = (λ e. refl, tt)
-own_answers t _ _ = tt
+own_answers : (t : Token) (k : Role) (a b : Own) → PairAll Answers (own_pair t k a b)
+own_answers t k is.Int is.Int = (λ e. refl, (λ e. refl, (λ e. refl, tt)))
+own_answers t k is.Bool is.Bool = (λ e. refl, (λ e. refl, tt))
+own_answers t k is.Str is.Str = (λ e. refl, (λ e. refl, (λ e. refl, tt)))
+own_answers t k is.Char is.Char = (λ e. refl, (λ e. refl, tt))
+own_answers t k is.Blob is.Blob = (λ e. refl, (λ e. refl, (λ e. refl, tt)))
+own_answers t k is.Unit is.Unit = (λ e. refl, (λ e. refl, tt))
+own_answers t k is.Int is.Unit = (λ e. refl, tt)
+own_answers t k is.Unit is.Int = (λ e. refl, tt)
+own_answers t k is.Char is.Str = (λ e. refl, (λ e. refl, tt))
+own_answers t k is.Str is.Char = (λ e. refl, (λ e. refl, (λ e. refl, tt)))
+own_answers t k is.Unit is.Str = (λ e. refl, (λ e. refl, (λ e. refl, tt)))
+own_answers t k is.Str is.Unit = (λ e. refl, (λ e. refl, (λ e. refl, tt)))
+own_answers t k is.Blob is.Char = (λ e. refl, tt)
+own_answers t k _ _ = tt
 
-types_answer : (t : Token) (a b : TypeId) → LineAll Answers (type_line t a b)
-types_answer t a b =
+types_answer : (k : Role) (a b : TypeId) → LineAll Answers (type_line k a b)
+types_answer k a b =
     if_all Answers (is_type a id.Shared || is_type b id.Shared) _ _ (λ e. tt) (λ e.
-    if_all Answers (is_range_type a && is_range_type b) _ _ (λ r. if_all Answers (is_type a b) _ _ (λ i. (λ d. refl, tt)) (λ i. (λ d. refl, (λ d. refl, tt))))
+    if_all Answers (is_range_type a && is_range_type b) _ _ (λ r. if_all Answers (is_type a b) _ _ (λ i. (λ d. refl, (λ d. refl, tt))) (λ i. (λ d. refl, (λ d. refl, tt))))
     (λ r. if_all Answers (is_type a b || (is_numeric a && is_numeric b)) _ _ (λ i. tt) (λ i. (λ d. refl, (λ d. refl, tt)))))
 
 pub operators : (t : Token) (s : List Cell) (x y : Tree) (r : FnBuiltin) → row_of t s x y ≡ Some r → way r ≡ operator
-operators t s x y r e = pair_all Answers (own_pair t (own x) (own y)) _ r (own_answers t (own x) (own y)) (types_answer t (end_type (end s [] x)) (end_type (end s [] y))) e
+operators t s x y r e = pair_all Answers (own_pair t (role t) (own x) (own y)) _ r (own_answers t (role t) (own x) (own y)) (types_answer (role t) (end_type (end s [] x)) (end_type (end s [] y))) e
 
-own_writes : (t : Token) (a b : Own) → LineAll Writes (assign_line t a b)
-own_writes t is.Int is.Int = (λ e. refl, tt)
-own_writes t is.Bool is.Bool = (λ e. refl, tt)
-own_writes t is.Char is.Char = (λ e. refl, tt)
-own_writes t is.Str is.Str = (λ e. refl, (λ e. refl, tt))
-own_writes t is.Array is.Array = (λ e. refl, tt)
-own_writes t is.Blob is.Blob = (λ e. refl, tt)
-own_writes t is.Str is.Char = (λ e. refl, (λ e. refl, tt))
-own_writes t is.Char is.Str = (λ e. refl, tt)
-own_writes t is.Array _ = (λ e. refl, tt)
-own_writes t is.Blob is.Int = (λ e. refl, tt)
-own_writes t is.Blob is.Char = (λ e. refl, tt)
-own_writes t is.Blob is.Str = (λ e. refl, tt)
-own_writes t _ _ = tt
+own_writes : (t : Token) (k : Role) (a b : Own) → LineAll Writes (assign_line t k a b)
+own_writes t k is.Int is.Int = (λ e. refl, tt)
+own_writes t k is.Bool is.Bool = (λ e. refl, tt)
+own_writes t k is.Char is.Char = (λ e. refl, tt)
+own_writes t k is.Str is.Str = (λ e. refl, (λ e. refl, tt))
+own_writes t k is.Array is.Array = (λ e. refl, tt)
+own_writes t k is.Blob is.Blob = (λ e. refl, tt)
+own_writes t k is.Str is.Char = (λ e. refl, (λ e. refl, tt))
+own_writes t k is.Char is.Str = (λ e. refl, tt)
+own_writes t k is.Array _ = (λ e. refl, tt)
+own_writes t k is.Blob is.Int = (λ e. refl, tt)
+own_writes t k is.Blob is.Char = (λ e. refl, tt)
+own_writes t k is.Blob is.Str = (λ e. refl, tt)
+own_writes t k _ _ = tt
 
 pub assignments : (t : Token) (x y : Tree) (r : FnBuiltin) → assign_row t x y ≡ Some r → IsTrue (writes (way r))
-assignments t x y r e = pick_all Writes (assign_line t (own x) (own y)) r (own_writes t (own x) (own y)) e
+assignments t x y r e = pick_all Writes (assign_line t (done_by (role t)) (own x) (own y)) r (own_writes t (done_by (role t)) (own x) (own y)) e

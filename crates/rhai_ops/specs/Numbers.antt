@@ -1,12 +1,17 @@
--- What the operators answer on two numbers, on two booleans, and on the order of two contents. Of another operator there is nothing.
+-- What the operators answer on two numbers, on two booleans, and on the order of two contents. Of an operator that does something else there is nothing.
 use Rattle.std.specs.Prelude.{Option, Some, None, ℕ, ℤ, pos, negsuc, zero, suc, ◌+ℤ◌, ◌-ℤ◌, ◌*ℤ◌, ◌^◌, Bool, Result, Ok, Err, nat_lt, not, ◌&&◌, ◌||◌, bit_and, bit_or, bit_xor, int_div, int_rem, if◌then◌else◌}
 use Rattle.std.specs.Int.{w64, int_pow, int_wrap, int_shr, cast_signed, cast_unsigned}
 use Rattle.std.specs.Ordering.{is_eq, is_ne, is_lt, is_gt, is_le, is_ge}
 use Rattle.std.specs.declared.cmp.Ordering.{Ordering}
 use Rattle.rhai_text.specs.declared.error.ArithmeticFault.{ArithmeticFault}
 use Rattle.rhai_text.specs.declared.error.ArithmeticFault.TheVariants.{Overflow, DivisionByZero, NegativePower, PowerTooLarge}
-use Rattle.rhai_text.specs.declared.token.Token.{Token}
-use Rattle.rhai_text.specs.declared.token.Token.TheVariants as op
+use Rattle.rhai_ops.specs.declared.role.Arithmetic.TheVariants.{Plus, Minus, Scale, Bits}
+use Rattle.rhai_ops.specs.declared.role.Bits.TheVariants as bits
+use Rattle.rhai_ops.specs.declared.role.Comparison.TheVariants.{Equal, Unequal, Order}
+use Rattle.rhai_ops.specs.declared.role.Order.TheVariants as order
+use Rattle.rhai_ops.specs.declared.role.Role.{Role}
+use Rattle.rhai_ops.specs.declared.role.Role.TheVariants.{Arithmetic, Compare}
+use Rattle.rhai_ops.specs.declared.role.Scale.TheVariants as scale
 
 -- a number, or why there is none
 abbrev pub Number : Type 0
@@ -50,33 +55,33 @@ abbrev pub by_bits : (ℕ → ℕ → ℕ) → ℤ → ℤ → ℤ
 by_bits f x y = cast_signed w64 (f (cast_unsigned w64 x) (cast_unsigned w64 y))
 
 -- whole numbers, and one test of the range at the end
-abbrev pub number : Token → ℤ → ℤ → Option Number
-number op.Plus x y = Some (ranged (x +ℤ y))
-number op.Minus x y = Some (ranged (x -ℤ y))
-number op.Multiply x y = Some (ranged (x *ℤ y))
-number op.Divide x y = Some (by_divisor y (ranged (int_div x y)))
-number op.Modulo x y = Some (by_divisor y (if in_range (int_div x y) then Ok (int_rem x y) else Err Overflow))
-number op.PowerOf x y = Some (powered x y)
-number op.RightShift x y = Some (Ok (shifted_right x y))
-number op.LeftShift x y = Some (Ok (shifted_left x y))
-number op.Ampersand x y = Some (Ok (by_bits bit_and x y))
-number op.Pipe x y = Some (Ok (by_bits bit_or x y))
-number op.XOr x y = Some (Ok (by_bits bit_xor x y))
+abbrev pub number : Role → ℤ → ℤ → Option Number
+number (Arithmetic Plus) x y = Some (ranged (x +ℤ y))
+number (Arithmetic Minus) x y = Some (ranged (x -ℤ y))
+number (Arithmetic (Scale scale.Multiply)) x y = Some (ranged (x *ℤ y))
+number (Arithmetic (Scale scale.Divide)) x y = Some (by_divisor y (ranged (int_div x y)))
+number (Arithmetic (Scale scale.Modulo)) x y = Some (by_divisor y (if in_range (int_div x y) then Ok (int_rem x y) else Err Overflow))
+number (Arithmetic (Scale scale.PowerOf)) x y = Some (powered x y)
+number (Arithmetic (Scale scale.RightShift)) x y = Some (Ok (shifted_right x y))
+number (Arithmetic (Scale scale.LeftShift)) x y = Some (Ok (shifted_left x y))
+number (Arithmetic (Bits bits.And)) x y = Some (Ok (by_bits bit_and x y))
+number (Arithmetic (Bits bits.Or)) x y = Some (Ok (by_bits bit_or x y))
+number (Arithmetic (Bits bits.XOr)) x y = Some (Ok (by_bits bit_xor x y))
 number _ x y = None
 
 -- of two booleans
-abbrev pub both_bits : Token → Bool → Bool → Option Bool
-both_bits op.Ampersand a b = Some (a && b)
-both_bits op.Pipe a b = Some (a || b)
-both_bits op.XOr a b = Some (if a then not b else b)
+abbrev pub both_bits : Role → Bool → Bool → Option Bool
+both_bits (Arithmetic (Bits bits.And)) a b = Some (a && b)
+both_bits (Arithmetic (Bits bits.Or)) a b = Some (a || b)
+both_bits (Arithmetic (Bits bits.XOr)) a b = Some (if a then not b else b)
 both_bits _ a b = None
 
 -- of the order of two contents
-abbrev pub compared : Token → Ordering → Option Bool
-compared op.EqualsTo o = Some (is_eq o)
-compared op.NotEqualsTo o = Some (is_ne o)
-compared op.GreaterThan o = Some (is_gt o)
-compared op.GreaterThanEqualsTo o = Some (is_ge o)
-compared op.LessThan o = Some (is_lt o)
-compared op.LessThanEqualsTo o = Some (is_le o)
+abbrev pub compared : Role → Ordering → Option Bool
+compared (Compare Equal) o = Some (is_eq o)
+compared (Compare Unequal) o = Some (is_ne o)
+compared (Compare (Order order.Greater)) o = Some (is_gt o)
+compared (Compare (Order order.GreaterOrEqual)) o = Some (is_ge o)
+compared (Compare (Order order.Less)) o = Some (is_lt o)
+compared (Compare (Order order.LessOrEqual)) o = Some (is_le o)
 compared _ o = None

@@ -1,11 +1,13 @@
 //! The lookup of assignments.
-ghost use Rattle.std.specs.Prelude.{◌≡◌};
+ghost use Rattle.std.specs.Prelude.{◌≡◌, ◌∷◌, []};
 ghost use Rattle.rhai_ops.specs.AssignTable.{assign_row, assign_line};
 ghost use Rattle.rhai_ops.specs.Table.{pick};
+ghost use Rattle.rhai_ops.specs.Tokens as asked;
 
 use crate::builtin::FnBuiltin;
+use crate::lookup::plus_row;
 use crate::own::{Own, own_of};
-use crate::token::{is_assign, is_bits_assign, is_minus_assign, is_plus_assign};
+use crate::role::{Arithmetic, Role, done_by, is_minus, is_plus, role_of};
 use rhai_text::Token;
 use rhai_value::Dynamic;
 
@@ -15,96 +17,73 @@ use rhai_value::Dynamic;
 pub fn get_builtin_op_assignment_fn(op: &Token, x: &Dynamic, y: &Dynamic) -> Option<FnBuiltin>
     ensures { result ≡ assign_row op.now x.now y.now }
 {
-    assigned_row(*op, own_of(x), own_of(y))
+    assigned_row(*op, done_by(role_of(*op)), own_of(x), own_of(y))
 }
 
-fn assigned_row(t: Token, a: Own, b: Own) -> Option<FnBuiltin>
-    ensures { result ≡ pick (assign_line t a b) }
+/// The row of `+=`, or that of `-=`.
+fn text_row(role: Role, plus: FnBuiltin, minus: FnBuiltin) -> Option<FnBuiltin>
+    ensures { result ≡ pick ((asked.is_plus role, plus) ∷ (asked.is_minus role, minus) ∷ []) }
+{
+    if is_plus(role) {
+        Some(plus)
+    } else if is_minus(role) {
+        Some(minus)
+    } else {
+        None
+    }
+}
+
+fn assigned_row(t: Token, role: Role, a: Own, b: Own) -> Option<FnBuiltin>
+    ensures { result ≡ pick (assign_line t role a b) }
 {
     match a {
         Own::Bool => match b {
-            Own::Bool => if is_bits_assign(t) {
-                Some(FnBuiltin::BoolAssign(t))
-            } else {
-                None
+            Own::Bool => match role {
+                Role::Arithmetic(Arithmetic::Bits(_)) => Some(FnBuiltin::BoolAssign(t)),
+                Role::Arithmetic(Arithmetic::Plus)
+                | Role::Arithmetic(Arithmetic::Minus)
+                | Role::Arithmetic(Arithmetic::Scale(_))
+                | Role::Compare(_)
+                | Role::Range(_)
+                | Role::Assign(_)
+                | Role::Nothing => None,
             },
             Own::Unit | Own::Int | Own::Str | Own::Char | Own::Blob | Own::Array | Own::Other =>
                 None,
         },
         Own::Int => match b {
-            Own::Int => if is_assign(t) {
-                Some(FnBuiltin::IntAssign(t))
-            } else {
-                None
+            Own::Int => match role {
+                Role::Arithmetic(_) => Some(FnBuiltin::IntAssign(t)),
+                Role::Compare(_) | Role::Range(_) | Role::Assign(_) | Role::Nothing => None,
             },
             Own::Unit | Own::Bool | Own::Str | Own::Char | Own::Blob | Own::Array | Own::Other =>
                 None,
         },
         Own::Str => match b {
-            Own::Str => if is_plus_assign(t) {
-                Some(FnBuiltin::TextJoinAssign)
-            } else if is_minus_assign(t) {
-                Some(FnBuiltin::TextMinusAssign)
-            } else {
-                None
-            },
-            Own::Char => if is_plus_assign(t) {
-                Some(FnBuiltin::TextCharAssign)
-            } else if is_minus_assign(t) {
-                Some(FnBuiltin::TextMinusCharAssign)
-            } else {
-                None
-            },
+            Own::Str => text_row(role, FnBuiltin::TextJoinAssign, FnBuiltin::TextMinusAssign),
+            Own::Char => text_row(
+                role,
+                FnBuiltin::TextCharAssign,
+                FnBuiltin::TextMinusCharAssign,
+            ),
             Own::Unit | Own::Bool | Own::Int | Own::Blob | Own::Array | Own::Other => None,
         },
         Own::Char => match b {
-            Own::Str => if is_plus_assign(t) {
-                Some(FnBuiltin::CharTextAssign)
-            } else {
-                None
-            },
-            Own::Char => if is_plus_assign(t) {
-                Some(FnBuiltin::CharJoinAssign)
-            } else {
-                None
-            },
+            Own::Str => plus_row(role, FnBuiltin::CharTextAssign),
+            Own::Char => plus_row(role, FnBuiltin::CharJoinAssign),
             Own::Unit | Own::Bool | Own::Int | Own::Blob | Own::Array | Own::Other => None,
         },
         Own::Blob => match b {
-            Own::Int => if is_plus_assign(t) {
-                Some(FnBuiltin::BlobPush)
-            } else {
-                None
-            },
-            Own::Str => if is_plus_assign(t) {
-                Some(FnBuiltin::BlobTextAssign)
-            } else {
-                None
-            },
-            Own::Char => if is_plus_assign(t) {
-                Some(FnBuiltin::BlobCharAssign)
-            } else {
-                None
-            },
-            Own::Blob => if is_plus_assign(t) {
-                Some(FnBuiltin::BlobAppend)
-            } else {
-                None
-            },
+            Own::Int => plus_row(role, FnBuiltin::BlobPush),
+            Own::Str => plus_row(role, FnBuiltin::BlobTextAssign),
+            Own::Char => plus_row(role, FnBuiltin::BlobCharAssign),
+            Own::Blob => plus_row(role, FnBuiltin::BlobAppend),
             Own::Unit | Own::Bool | Own::Array | Own::Other => None,
         },
         Own::Array => match b {
-            Own::Array => if is_plus_assign(t) {
-                Some(FnBuiltin::ArrayAppend)
-            } else {
-                None
-            },
+            Own::Array => plus_row(role, FnBuiltin::ArrayAppend),
             Own::Unit | Own::Bool | Own::Int | Own::Str | Own::Char | Own::Blob | Own::Other =>
-                if is_plus_assign(t) {
-                    Some(FnBuiltin::ArrayPush)
-                } else {
-                    None
-                },
+                plus_row(role, FnBuiltin::ArrayPush),
         },
         Own::Unit | Own::Other => None,
     }

@@ -6,54 +6,34 @@ ghost use Rattle.rhai_ops.specs.Outcome.{IsOutcome, bool_answer};
 ghost use Rattle.rhai_ops.specs.Tokens.{is_bits, is_cmp};
 
 use crate::compare::compared;
-use rhai_text::{EvalAltResult, Token};
+use crate::role::{Arithmetic, Bits, Role};
+use rhai_text::EvalAltResult;
 use rhai_value::Dynamic;
 
 /// `&`, `|` or `^` of two booleans.
-pub(crate) fn answer(op: Token, a: bool, b: bool) -> Result<Dynamic, EvalAltResult>
-    requires { IsTrue (is_bits op) }
-    ensures { IsOutcome ⊥ result (bool_answer (specs.both_bits op a b)) }
+pub(crate) fn answer(role: Role, a: bool, b: bool) -> Result<Dynamic, EvalAltResult>
+    requires { IsTrue (is_bits role) }
+    ensures { IsOutcome ⊥ result (bool_answer (specs.both_bits role a b)) }
 {
-    let answer = match op {
-        Token::Ampersand => a && b,
-        Token::Pipe => a || b,
-        Token::XOr => a != b,
-        Token::Plus
-        | Token::Minus
-        | Token::Multiply
-        | Token::Divide
-        | Token::Modulo
-        | Token::PowerOf
-        | Token::RightShift
-        | Token::LeftShift
-        | Token::EqualsTo
-        | Token::NotEqualsTo
-        | Token::GreaterThan
-        | Token::GreaterThanEqualsTo
-        | Token::LessThan
-        | Token::LessThanEqualsTo
-        | Token::ExclusiveRange
-        | Token::InclusiveRange
-        | Token::Equals
-        | Token::PlusAssign
-        | Token::MinusAssign
-        | Token::MultiplyAssign
-        | Token::DivideAssign
-        | Token::ModuloAssign
-        | Token::PowerOfAssign
-        | Token::RightShiftAssign
-        | Token::LeftShiftAssign
-        | Token::AndAssign
-        | Token::OrAssign
-        | Token::XOrAssign => unreachable!(),
+    let answer = match role {
+        Role::Arithmetic(Arithmetic::Bits(Bits::And)) => a && b,
+        Role::Arithmetic(Arithmetic::Bits(Bits::Or)) => a || b,
+        Role::Arithmetic(Arithmetic::Bits(Bits::XOr)) => a != b,
+        Role::Arithmetic(Arithmetic::Plus)
+        | Role::Arithmetic(Arithmetic::Minus)
+        | Role::Arithmetic(Arithmetic::Scale(_))
+        | Role::Compare(_)
+        | Role::Range(_)
+        | Role::Assign(_)
+        | Role::Nothing => unreachable!(),
     };
     Ok(Dynamic::from_bool(answer))
 }
 
 /// A comparison of two booleans, of which false is the lesser.
-pub(crate) fn compare(op: Token, a: bool, b: bool) -> Result<Dynamic, EvalAltResult>
-    requires { IsTrue (is_cmp op) }
-    ensures { IsOutcome ⊥ result (bool_answer (specs.compared op (bool_cmp a b))) }
+pub(crate) fn compare(role: Role, a: bool, b: bool) -> Result<Dynamic, EvalAltResult>
+    requires { IsTrue (is_cmp role) }
+    ensures { IsOutcome ⊥ result (bool_answer (specs.compared role (bool_cmp a b))) }
 {
-    Ok(Dynamic::from_bool(compared(op, a.cmp(&b))))
+    Ok(Dynamic::from_bool(compared(role, a.cmp(&b))))
 }

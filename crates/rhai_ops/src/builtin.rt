@@ -94,46 +94,23 @@ impl FnBuiltin {
     pub fn uses_limits(&self) -> bool
         ensures { result ≡ is_limited self.now }
     {
-        match self {
+        matches!(
+            self,
             FnBuiltin::TextJoin
-            | FnBuiltin::CharJoin
-            | FnBuiltin::BlobJoin
-            | FnBuiltin::CharText
-            | FnBuiltin::TextChar
-            | FnBuiltin::BlobChar
-            | FnBuiltin::TextJoinAssign
-            | FnBuiltin::ArrayAppend
-            | FnBuiltin::BlobAppend
-            | FnBuiltin::TextCharAssign
-            | FnBuiltin::CharTextAssign
-            | FnBuiltin::ArrayPush
-            | FnBuiltin::BlobPush
-            | FnBuiltin::BlobCharAssign
-            | FnBuiltin::BlobTextAssign => true,
-            FnBuiltin::Int(_)
-            | FnBuiltin::IntCompare(_)
-            | FnBuiltin::IntRange(_)
-            | FnBuiltin::BoolCompare(_)
-            | FnBuiltin::Bool(_)
-            | FnBuiltin::TextMinus
-            | FnBuiltin::TextCompare(_)
-            | FnBuiltin::CharCompare(_)
-            | FnBuiltin::BlobEqual(_)
-            | FnBuiltin::ConstTrue
-            | FnBuiltin::ConstFalse
-            | FnBuiltin::RangeFrom(_)
-            | FnBuiltin::RangeTo(_)
-            | FnBuiltin::CharTextCompare(_)
-            | FnBuiltin::TextMinusChar
-            | FnBuiltin::TextCharCompare(_)
-            | FnBuiltin::FirstCopy
-            | FnBuiltin::SecondCopy
-            | FnBuiltin::RangeEqual(_, _)
-            | FnBuiltin::IntAssign(_)
-            | FnBuiltin::BoolAssign(_)
-            | FnBuiltin::CharJoinAssign
-            | FnBuiltin::TextMinusAssign
-            | FnBuiltin::TextMinusCharAssign => false,
-        }
+                | FnBuiltin::CharJoin
+                | FnBuiltin::BlobJoin
+                | FnBuiltin::CharText
+                | FnBuiltin::TextChar
+                | FnBuiltin::BlobChar
+                | FnBuiltin::TextJoinAssign
+                | FnBuiltin::ArrayAppend
+                | FnBuiltin::BlobAppend
+                | FnBuiltin::TextCharAssign
+                | FnBuiltin::CharTextAssign
+                | FnBuiltin::ArrayPush
+                | FnBuiltin::BlobPush
+                | FnBuiltin::BlobCharAssign
+                | FnBuiltin::BlobTextAssign
+        )
     }
 }

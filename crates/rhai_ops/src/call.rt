@@ -8,7 +8,7 @@ ghost use Rattle.rhai_value.specs.Tree.{fresh, unit};
 
 use crate::answer::{part, value};
 use crate::builtin::FnBuiltin;
-use crate::token::without_assign;
+use crate::role::{done_by, role_of};
 use crate::write::write;
 use crate::{blobs, bools, chars, ints, push, ranges, texts};
 use rhai_text::{EvalAltResult, Limits};
@@ -42,16 +42,16 @@ impl FnBuiltin {
         ensures err { IfErr result (λ e. (x.new ≡ x.old) × (y.new ≡ y.old) × (m.new ≡ m.old)) }
     {
         match *self {
-            FnBuiltin::Int(t) => ints::answer(t, value(x, m), value(y, m)),
-            FnBuiltin::IntCompare(t) => ints::compare(t, value(x, m), value(y, m)),
+            FnBuiltin::Int(t) => ints::answer(role_of(t), value(x, m), value(y, m)),
+            FnBuiltin::IntCompare(t) => ints::compare(role_of(t), value(x, m), value(y, m)),
             FnBuiltin::IntRange(i) => ranges::between(i, value(x, m), value(y, m)),
-            FnBuiltin::BoolCompare(t) => bools::compare(t, value(x, m), value(y, m)),
-            FnBuiltin::Bool(t) => bools::answer(t, value(x, m), value(y, m)),
+            FnBuiltin::BoolCompare(t) => bools::compare(role_of(t), value(x, m), value(y, m)),
+            FnBuiltin::Bool(t) => bools::answer(role_of(t), value(x, m), value(y, m)),
             FnBuiltin::TextJoin => texts::join(alloc, limits, m, x, y),
             FnBuiltin::TextMinus => texts::minus(alloc, m, x, y),
-            FnBuiltin::TextCompare(t) => texts::compare(t, m, x, y),
+            FnBuiltin::TextCompare(t) => texts::compare(role_of(t), m, x, y),
             FnBuiltin::CharJoin => chars::join(alloc, limits, value(x, m), value(y, m)),
-            FnBuiltin::CharCompare(t) => chars::compare(t, value(x, m), value(y, m)),
+            FnBuiltin::CharCompare(t) => chars::compare(role_of(t), value(x, m), value(y, m)),
             FnBuiltin::BlobJoin => blobs::join(alloc, m, limits, x, y),
             FnBuiltin::BlobEqual(n) => blobs::equal(n, m, x, y),
             FnBuiltin::ConstTrue => Ok(Dynamic::TRUE),
@@ -59,10 +59,14 @@ impl FnBuiltin {
             FnBuiltin::RangeFrom(i) => ranges::between(i, value(x, m), INT::MAX),
             FnBuiltin::RangeTo(i) => ranges::between(i, 0, value(y, m)),
             FnBuiltin::CharText => chars::join_text(alloc, limits, value(x, m), part(y, m)),
-            FnBuiltin::CharTextCompare(t) => chars::compare_text(t, value(x, m), part(y, m)),
+            FnBuiltin::CharTextCompare(t) => chars::compare_text(
+                role_of(t),
+                value(x, m),
+                part(y, m),
+            ),
             FnBuiltin::TextChar => texts::join_char(alloc, limits, m, x, y),
             FnBuiltin::TextMinusChar => texts::minus_char(alloc, m, x, y),
-            FnBuiltin::TextCharCompare(t) => texts::compare_char(t, m, x, y),
+            FnBuiltin::TextCharCompare(t) => texts::compare_char(role_of(t), m, x, y),
             FnBuiltin::FirstCopy => Ok(x.copy(alloc)?),
             FnBuiltin::SecondCopy => Ok(y.copy(alloc)?),
             FnBuiltin::BlobChar => blobs::join_char(alloc, limits, m, x, y),
@@ -70,10 +74,10 @@ impl FnBuiltin {
             FnBuiltin::RangeEqual(true, n) => ranges::equal_inclusive(n, value(x, m), value(y, m)),
             FnBuiltin::IntAssign(t) => {
                 let number = value(y, m);
-                ints::assign(without_assign(t), m, x, number)
+                ints::assign(done_by(role_of(t)), m, x, number)
             }
             FnBuiltin::BoolAssign(t) => put(
-                bools::answer(without_assign(t), value(x, m), value(y, m))?,
+                bools::answer(done_by(role_of(t)), value(x, m), value(y, m))?,
                 m,
                 x,
             ),

@@ -10,8 +10,9 @@ ghost use Rattle.rhai_ops.specs.Tokens.{is_cmp};
 
 use crate::answer::is_allowed;
 use crate::compare::compared;
+use crate::role::Role;
 use rhai_text::laws::byte_order_is_character_order;
-use rhai_text::{EvalAltResult, ImmutableString, Limits, Position, SizeKind, Token};
+use rhai_text::{EvalAltResult, ImmutableString, Limits, Position, SizeKind};
 use rhai_value::Dynamic;
 use std::alloc::Global;
 
@@ -53,11 +54,11 @@ pub(crate) fn append(alloc: Global, a: char, b: char) -> Result<Dynamic, EvalAlt
 }
 
 /// A comparison of two characters.
-pub(crate) fn compare(op: Token, a: char, b: char) -> Result<Dynamic, EvalAltResult>
-    requires { IsTrue (is_cmp op) }
-    ensures { IsOutcome ⊥ result (bool_answer (specs.compared op (nat_cmp a b))) }
+pub(crate) fn compare(role: Role, a: char, b: char) -> Result<Dynamic, EvalAltResult>
+    requires { IsTrue (is_cmp role) }
+    ensures { IsOutcome ⊥ result (bool_answer (specs.compared role (nat_cmp a b))) }
 {
-    Ok(Dynamic::from_bool(compared(op, a.cmp(&b))))
+    Ok(Dynamic::from_bool(compared(role, a.cmp(&b))))
 }
 
 /// A text behind a character.
@@ -95,15 +96,15 @@ pub(crate) fn append_text(
 
 /// A comparison of a character, as the text of it alone, with a text.
 pub(crate) fn compare_text(
-    op: Token,
+    role: Role,
     a: char,
     b: &ImmutableString,
 ) -> Result<Dynamic, EvalAltResult>
-    requires { IsTrue (is_cmp op) }
-    ensures { IsOutcome ⊥ result (bool_answer (specs.compared op (text_order (a ∷ []) b.now))) }
+    requires { IsTrue (is_cmp role) }
+    ensures { IsOutcome ⊥ result (bool_answer (specs.compared role (text_order (a ∷ []) b.now))) }
 {
     let mut buffer = [0; 4];
     let a = spelled(a, &mut buffer);
     byte_order_is_character_order();
-    Ok(Dynamic::from_bool(compared(op, a.cmp(b.as_str()))))
+    Ok(Dynamic::from_bool(compared(role, a.cmp(b.as_str()))))
 }

@@ -3,45 +3,21 @@ ghost use Rattle.std.specs.Prelude.{◌≡◌, IsTrue, Some};
 ghost use Rattle.rhai_ops.specs.Numbers as specs;
 ghost use Rattle.rhai_ops.specs.Tokens.{is_cmp};
 
-use rhai_text::Token;
+use crate::role::{Comparison, Order, Role};
 use std::cmp::Ordering;
 
 /// Whether the comparison holds of contents in this order.
-pub(crate) fn compared(op: Token, order: Ordering) -> bool
-    requires { IsTrue (is_cmp op) }
-    ensures { specs.compared op order ≡ Some result }
+pub(crate) fn compared(role: Role, order: Ordering) -> bool
+    requires { IsTrue (is_cmp role) }
+    ensures { specs.compared role order ≡ Some result }
 {
-    match op {
-        Token::EqualsTo => order.is_eq(),
-        Token::NotEqualsTo => order.is_ne(),
-        Token::GreaterThan => order.is_gt(),
-        Token::GreaterThanEqualsTo => order.is_ge(),
-        Token::LessThan => order.is_lt(),
-        Token::LessThanEqualsTo => order.is_le(),
-        Token::Plus
-        | Token::Minus
-        | Token::Multiply
-        | Token::Divide
-        | Token::Modulo
-        | Token::PowerOf
-        | Token::RightShift
-        | Token::LeftShift
-        | Token::Ampersand
-        | Token::Pipe
-        | Token::XOr
-        | Token::ExclusiveRange
-        | Token::InclusiveRange
-        | Token::Equals
-        | Token::PlusAssign
-        | Token::MinusAssign
-        | Token::MultiplyAssign
-        | Token::DivideAssign
-        | Token::ModuloAssign
-        | Token::PowerOfAssign
-        | Token::RightShiftAssign
-        | Token::LeftShiftAssign
-        | Token::AndAssign
-        | Token::OrAssign
-        | Token::XOrAssign => unreachable!(),
+    match role {
+        Role::Compare(Comparison::Equal) => order.is_eq(),
+        Role::Compare(Comparison::Unequal) => order.is_ne(),
+        Role::Compare(Comparison::Order(Order::Greater)) => order.is_gt(),
+        Role::Compare(Comparison::Order(Order::GreaterOrEqual)) => order.is_ge(),
+        Role::Compare(Comparison::Order(Order::Less)) => order.is_lt(),
+        Role::Compare(Comparison::Order(Order::LessOrEqual)) => order.is_le(),
+        Role::Arithmetic(_) | Role::Range(_) | Role::Assign(_) | Role::Nothing => unreachable!(),
     }
 }

@@ -12,15 +12,16 @@ ghost use Rattle.rhai_ops.specs.Ways.{answered, assignment, first_left, stays, s
 ghost use Rattle.rhai_ops.specs.Tokens.{is_cmp, is_number};
 
 use crate::compare::compared;
-use rhai_text::{ArithmeticFault, EvalAltResult, Position, Token};
+use crate::role::{Arithmetic, Bits, Role, Scale};
+use rhai_text::{ArithmeticFault, EvalAltResult, Position};
 use rhai_value::{Dynamic, INT, InStore, Store};
 
 /// One of the first eleven operators on two ints.
-pub(crate) fn answer(op: Token, x: INT, y: INT) -> Result<Dynamic, EvalAltResult>
-    requires { IsTrue (is_number op) }
-    ensures { IsOutcome ⊥ result (number_answer (specs.number op x y)) }
+pub(crate) fn answer(role: Role, x: INT, y: INT) -> Result<Dynamic, EvalAltResult>
+    requires { IsTrue (is_number role) }
+    ensures { IsOutcome ⊥ result (number_answer (specs.number role x y)) }
 {
-    match number(op, x, y) {
+    match number(role, x, y) {
         Ok(n) => Ok(Dynamic::from_int(n)),
         Err(fault) => Err(EvalAltResult::ErrorArithmetic(fault, Position::NONE)),
     }
@@ -29,33 +30,33 @@ pub(crate) fn answer(op: Token, x: INT, y: INT) -> Result<Dynamic, EvalAltResult
 /// The same of the int at a place, where it is written: the place and the second operand are each looked up once.
 #[tactic(auto, using(crate::proofs::FromBelow::int_stays))]
 pub(crate) fn assign(
-    op: Token,
+    role: Role,
     m: &mut Store,
     x: &mut Dynamic,
     y: INT,
 ) -> Result<Dynamic, EvalAltResult>
-    requires number { IsTrue (is_number op) }
+    requires number { IsTrue (is_number role) }
     requires holds { Holds int_of m.old x.old }
-    ensures result { IsOutcome ⊥ result (answered (assignment stays) (both (λ i j. number_answer (specs.number op i j)) (part int_of m.old x.old) (Some y))) }
-    ensures first { IfOk result (λ d. x.new ≡ first_left (assignment stays) (both (λ i j. number_answer (specs.number op i j)) (part int_of m.old x.old) (Some y)) m.old x.old) }
-    ensures store { IfOk result (λ d. m.new ≡ store_left (assignment stays) (both (λ i j. number_answer (specs.number op i j)) (part int_of m.old x.old) (Some y)) m.old x.old) }
+    ensures result { IsOutcome ⊥ result (answered (assignment stays) (both (λ i j. number_answer (specs.number role i j)) (part int_of m.old x.old) (Some y))) }
+    ensures first { IfOk result (λ d. x.new ≡ first_left (assignment stays) (both (λ i j. number_answer (specs.number role i j)) (part int_of m.old x.old) (Some y)) m.old x.old) }
+    ensures store { IfOk result (λ d. m.new ≡ store_left (assignment stays) (both (λ i j. number_answer (specs.number role i j)) (part int_of m.old x.old) (Some y)) m.old x.old) }
     ensures err { IfErr result (λ e. (x.new ≡ x.old) × (m.new ≡ m.old)) }
 {
     let mut place = InStore { value: x, store: m };
     match place.part_mut::<INT>() {
-        Ok(held) => assign_held(op, held, y),
+        Ok(held) => assign_held(role, held, y),
         Err(_) => unreachable!(),
     }
 }
 
 /// The same of an int that is held.
-fn assign_held(op: Token, held: &mut INT, y: INT) -> Result<Dynamic, EvalAltResult>
-    requires { IsTrue (is_number op) }
-    ensures result { IsOutcome ⊥ result (answered (assignment stays) (number_answer (specs.number op held.old y))) }
-    ensures ok { OnOk result (number_answer (specs.number op held.old y) ≡ answers (fresh (int held.new))) }
+fn assign_held(role: Role, held: &mut INT, y: INT) -> Result<Dynamic, EvalAltResult>
+    requires { IsTrue (is_number role) }
+    ensures result { IsOutcome ⊥ result (answered (assignment stays) (number_answer (specs.number role held.old y))) }
+    ensures ok { OnOk result (number_answer (specs.number role held.old y) ≡ answers (fresh (int held.new))) }
     ensures err { OnErr result (held.new ≡ held.old) }
 {
-    match number(op, *held, y) {
+    match number(role, *held, y) {
         Ok(n) => {
             *held = n;
             Ok(Dynamic::UNIT)
@@ -65,50 +66,39 @@ fn assign_held(op: Token, held: &mut INT, y: INT) -> Result<Dynamic, EvalAltResu
 }
 
 /// A comparison of two ints.
-pub(crate) fn compare(op: Token, x: INT, y: INT) -> Result<Dynamic, EvalAltResult>
-    requires { IsTrue (is_cmp op) }
-    ensures { IsOutcome ⊥ result (bool_answer (specs.compared op (int_cmp x y))) }
+pub(crate) fn compare(role: Role, x: INT, y: INT) -> Result<Dynamic, EvalAltResult>
+    requires { IsTrue (is_cmp role) }
+    ensures { IsOutcome ⊥ result (bool_answer (specs.compared role (int_cmp x y))) }
 {
-    Ok(Dynamic::from_bool(compared(op, x.cmp(&y))))
+    Ok(Dynamic::from_bool(compared(role, x.cmp(&y))))
 }
 
 /// The number that the operator answers, or why there is none.
-pub(crate) fn number(op: Token, x: INT, y: INT) -> Result<INT, ArithmeticFault>
-    requires { IsTrue (is_number op) }
-    ensures { specs.number op x y ≡ Some result }
+fn number(role: Role, x: INT, y: INT) -> Result<INT, ArithmeticFault>
+    requires { IsTrue (is_number role) }
+    ensures { specs.number role x y ≡ Some result }
 {
-    match op {
-        Token::Plus => ranged(x.checked_add(y)),
-        Token::Minus => ranged(x.checked_sub(y)),
-        Token::Multiply => ranged(x.checked_mul(y)),
-        Token::Divide => quotient(x, y),
-        Token::Modulo => rest(x, y),
-        Token::PowerOf => power(x, y),
-        Token::RightShift => Ok(shifted_right(x, y)),
-        Token::LeftShift => Ok(shifted_left(x, y)),
-        Token::Ampersand => Ok(x & y),
-        Token::Pipe => Ok(x | y),
-        Token::XOr => Ok(x ^ y),
-        Token::EqualsTo
-        | Token::NotEqualsTo
-        | Token::GreaterThan
-        | Token::GreaterThanEqualsTo
-        | Token::LessThan
-        | Token::LessThanEqualsTo
-        | Token::ExclusiveRange
-        | Token::InclusiveRange
-        | Token::Equals
-        | Token::PlusAssign
-        | Token::MinusAssign
-        | Token::MultiplyAssign
-        | Token::DivideAssign
-        | Token::ModuloAssign
-        | Token::PowerOfAssign
-        | Token::RightShiftAssign
-        | Token::LeftShiftAssign
-        | Token::AndAssign
-        | Token::OrAssign
-        | Token::XOrAssign => unreachable!(),
+    match role {
+        Role::Arithmetic(Arithmetic::Plus) => ranged(x.checked_add(y)),
+        Role::Arithmetic(Arithmetic::Minus) => ranged(x.checked_sub(y)),
+        Role::Arithmetic(Arithmetic::Scale(scale)) => scaled(scale, x, y),
+        Role::Arithmetic(Arithmetic::Bits(Bits::And)) => Ok(x & y),
+        Role::Arithmetic(Arithmetic::Bits(Bits::Or)) => Ok(x | y),
+        Role::Arithmetic(Arithmetic::Bits(Bits::XOr)) => Ok(x ^ y),
+        Role::Compare(_) | Role::Range(_) | Role::Assign(_) | Role::Nothing => unreachable!(),
+    }
+}
+
+fn scaled(scale: Scale, x: INT, y: INT) -> Result<INT, ArithmeticFault>
+    ensures { specs.number (Role.Arithmetic (Arithmetic.Scale scale)) x y ≡ Some result }
+{
+    match scale {
+        Scale::Multiply => ranged(x.checked_mul(y)),
+        Scale::Divide => quotient(x, y),
+        Scale::Modulo => rest(x, y),
+        Scale::PowerOf => power(x, y),
+        Scale::RightShift => Ok(shifted_right(x, y)),
+        Scale::LeftShift => Ok(shifted_left(x, y)),
     }
 }
 
@@ -120,7 +110,7 @@ fn ranged(value: Option<INT>) -> Result<INT, ArithmeticFault>
 }
 
 fn quotient(x: INT, y: INT) -> Result<INT, ArithmeticFault>
-    ensures { specs.number Token.Divide x y ≡ Some result }
+    ensures { specs.number (Role.Arithmetic (Arithmetic.Scale Scale.Divide)) x y ≡ Some result }
 {
     if y == 0 {
         return Err(ArithmeticFault::DivisionByZero);
@@ -129,7 +119,7 @@ fn quotient(x: INT, y: INT) -> Result<INT, ArithmeticFault>
 }
 
 fn rest(x: INT, y: INT) -> Result<INT, ArithmeticFault>
-    ensures { specs.number Token.Modulo x y ≡ Some result }
+    ensures { specs.number (Role.Arithmetic (Arithmetic.Scale Scale.Modulo)) x y ≡ Some result }
 {
     if y == 0 {
         return Err(ArithmeticFault::DivisionByZero);

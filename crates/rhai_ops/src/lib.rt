@@ -15,8 +15,8 @@ mod lookup;
 mod own;
 mod push;
 mod ranges;
+mod role;
 mod texts;
-mod token;
 mod write;
 
 pub use assign_lookup::get_builtin_op_assignment_fn;

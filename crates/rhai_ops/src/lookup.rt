@@ -1,15 +1,13 @@
 //! The lookups.
-ghost use Rattle.std.specs.Prelude.{◌≡◌, [], Option, Some, None};
+ghost use Rattle.std.specs.Prelude.{◌≡◌, ◌∷◌, [], Option, Some, None};
 ghost use Rattle.rhai_value.specs.End.{end, end_type};
 ghost use Rattle.rhai_ops.specs.Table.{row_of, pick, type_line, own_pair, pair_row};
 ghost use Rattle.rhai_ops.specs.Table as table;
+ghost use Rattle.rhai_ops.specs.Tokens as asked;
 
 use crate::builtin::FnBuiltin;
 use crate::own::{Own, own_of};
-use crate::token::{
-    is_bits, is_cmp, is_equal, is_equality, is_inclusive, is_minus, is_number, is_plus, is_range,
-    is_unequal,
-};
+use crate::role::{Arithmetic, Role, is_cmp, is_equal, is_minus, is_plus, is_unequal, role_of};
 use rhai_text::Token;
 use rhai_value::{Dynamic, Store, TypeId};
 
@@ -22,177 +20,129 @@ pub fn get_builtin_binary_op_fn(
 ) -> Option<FnBuiltin>
     ensures { result ≡ row_of op.now s.now x.now y.now }
 {
-    own_row(*op, own_of(x), own_of(y), x, y, s)
+    own_row(*op, role_of(*op), own_of(x), own_of(y), x, y, s)
 }
 
-fn int_row(t: Token) -> Option<FnBuiltin>
-    ensures { result ≡ pair_row (own_pair t Own.Int Own.Int) [] }
+fn int_row(t: Token, role: Role) -> Option<FnBuiltin>
+    ensures { result ≡ pair_row (own_pair t role Own.Int Own.Int) [] }
 {
-    if is_number(t) {
-        Some(FnBuiltin::Int(t))
-    } else if is_cmp(t) {
-        Some(FnBuiltin::IntCompare(t))
-    } else if is_range(t) {
-        Some(FnBuiltin::IntRange(is_inclusive(t)))
+    match role {
+        Role::Arithmetic(_) => Some(FnBuiltin::Int(t)),
+        Role::Compare(_) => Some(FnBuiltin::IntCompare(t)),
+        Role::Range(inclusive) => Some(FnBuiltin::IntRange(inclusive)),
+        Role::Assign(_) | Role::Nothing => None,
+    }
+}
+
+fn bool_row(t: Token, role: Role) -> Option<FnBuiltin>
+    ensures { result ≡ pair_row (own_pair t role Own.Bool Own.Bool) [] }
+{
+    match role {
+        Role::Compare(_) => Some(FnBuiltin::BoolCompare(t)),
+        Role::Arithmetic(Arithmetic::Bits(_)) => Some(FnBuiltin::Bool(t)),
+        Role::Arithmetic(Arithmetic::Plus)
+        | Role::Arithmetic(Arithmetic::Minus)
+        | Role::Arithmetic(Arithmetic::Scale(_))
+        | Role::Range(_)
+        | Role::Assign(_)
+        | Role::Nothing => None,
+    }
+}
+
+/// The row of `+` alone.
+pub(crate) fn plus_row(role: Role, plus: FnBuiltin) -> Option<FnBuiltin>
+    ensures { result ≡ pick ((asked.is_plus role, plus) ∷ []) }
+{
+    if is_plus(role) { Some(plus) } else { None }
+}
+
+/// The row of `+`, of `-`, or that of the comparisons.
+fn text_row(role: Role, plus: FnBuiltin, minus: FnBuiltin, compare: FnBuiltin) -> Option<FnBuiltin>
+    ensures { result ≡ pick ((asked.is_plus role, plus) ∷ (asked.is_minus role, minus) ∷ (asked.is_cmp role, compare) ∷ []) }
+{
+    if is_plus(role) {
+        Some(plus)
+    } else if is_minus(role) {
+        Some(minus)
+    } else if is_cmp(role) {
+        Some(compare)
     } else {
         None
     }
 }
 
-fn bool_row(t: Token) -> Option<FnBuiltin>
-    ensures { result ≡ pair_row (own_pair t Own.Bool Own.Bool) [] }
+/// The row of `+`, or that of the comparisons.
+fn char_row(role: Role, plus: FnBuiltin, compare: FnBuiltin) -> Option<FnBuiltin>
+    ensures { result ≡ pick ((asked.is_plus role, plus) ∷ (asked.is_cmp role, compare) ∷ []) }
 {
-    if is_cmp(t) {
-        Some(FnBuiltin::BoolCompare(t))
-    } else if is_bits(t) {
-        Some(FnBuiltin::Bool(t))
+    if is_plus(role) {
+        Some(plus)
+    } else if is_cmp(role) {
+        Some(compare)
     } else {
         None
     }
 }
 
-fn text_row(t: Token) -> Option<FnBuiltin>
-    ensures { result ≡ pair_row (own_pair t Own.Str Own.Str) [] }
+/// The row of `==`, or that of `!=`.
+fn equality_row(role: Role, equal: FnBuiltin, unequal: FnBuiltin) -> Option<FnBuiltin>
+    ensures { result ≡ pick ((asked.is_equal role, equal) ∷ (asked.is_unequal role, unequal) ∷ []) }
 {
-    if is_plus(t) {
-        Some(FnBuiltin::TextJoin)
-    } else if is_minus(t) {
-        Some(FnBuiltin::TextMinus)
-    } else if is_cmp(t) {
-        Some(FnBuiltin::TextCompare(t))
+    if is_equal(role) {
+        Some(equal)
+    } else if is_unequal(role) {
+        Some(unequal)
     } else {
         None
     }
 }
 
-fn char_row(t: Token) -> Option<FnBuiltin>
-    ensures { result ≡ pair_row (own_pair t Own.Char Own.Char) [] }
+/// The row of operands that are never equal.
+fn unlike_row(role: Role) -> Option<FnBuiltin>
+    ensures { result ≡ pick ((asked.is_unequal role, FnBuiltin.ConstTrue) ∷ (asked.is_cmp role, FnBuiltin.ConstFalse) ∷ []) }
 {
-    if is_plus(t) {
-        Some(FnBuiltin::CharJoin)
-    } else if is_cmp(t) {
-        Some(FnBuiltin::CharCompare(t))
-    } else {
-        None
-    }
-}
-
-fn blob_row(t: Token) -> Option<FnBuiltin>
-    ensures { result ≡ pair_row (own_pair t Own.Blob Own.Blob) [] }
-{
-    if is_plus(t) {
-        Some(FnBuiltin::BlobJoin)
-    } else if is_equality(t) {
-        Some(FnBuiltin::BlobEqual(is_unequal(t)))
-    } else {
-        None
-    }
-}
-
-fn unit_row(t: Token) -> Option<FnBuiltin>
-    ensures { result ≡ pair_row (own_pair t Own.Unit Own.Unit) [] }
-{
-    if is_equal(t) {
+    if is_unequal(role) {
         Some(FnBuiltin::ConstTrue)
-    } else if is_cmp(t) {
+    } else if is_cmp(role) {
         Some(FnBuiltin::ConstFalse)
     } else {
         None
     }
 }
 
-fn char_text_row(t: Token) -> Option<FnBuiltin>
-    ensures { result ≡ pair_row (own_pair t Own.Char Own.Str) [] }
+fn unit_row(role: Role) -> Option<FnBuiltin>
+    ensures { result ≡ pick ((asked.is_equal role, FnBuiltin.ConstTrue) ∷ (asked.is_cmp role, FnBuiltin.ConstFalse) ∷ []) }
 {
-    if is_plus(t) {
-        Some(FnBuiltin::CharText)
-    } else if is_cmp(t) {
-        Some(FnBuiltin::CharTextCompare(t))
-    } else {
-        None
-    }
-}
-
-fn text_char_row(t: Token) -> Option<FnBuiltin>
-    ensures { result ≡ pair_row (own_pair t Own.Str Own.Char) [] }
-{
-    if is_plus(t) {
-        Some(FnBuiltin::TextChar)
-    } else if is_minus(t) {
-        Some(FnBuiltin::TextMinusChar)
-    } else if is_cmp(t) {
-        Some(FnBuiltin::TextCharCompare(t))
-    } else {
-        None
-    }
-}
-
-fn unit_text_row(t: Token) -> Option<FnBuiltin>
-    ensures { result ≡ pair_row (own_pair t Own.Unit Own.Str) [] }
-{
-    if is_plus(t) {
-        Some(FnBuiltin::SecondCopy)
-    } else if is_unequal(t) {
+    if is_equal(role) {
         Some(FnBuiltin::ConstTrue)
-    } else if is_cmp(t) {
+    } else if is_cmp(role) {
         Some(FnBuiltin::ConstFalse)
-    } else {
-        None
-    }
-}
-
-fn text_unit_row(t: Token) -> Option<FnBuiltin>
-    ensures { result ≡ pair_row (own_pair t Own.Str Own.Unit) [] }
-{
-    if is_plus(t) {
-        Some(FnBuiltin::FirstCopy)
-    } else if is_unequal(t) {
-        Some(FnBuiltin::ConstTrue)
-    } else if is_cmp(t) {
-        Some(FnBuiltin::ConstFalse)
-    } else {
-        None
-    }
-}
-
-fn blob_char_row(t: Token) -> Option<FnBuiltin>
-    ensures { result ≡ pair_row (own_pair t Own.Blob Own.Char) [] }
-{
-    if is_plus(t) {
-        Some(FnBuiltin::BlobChar)
     } else {
         None
     }
 }
 
 /// By the held types.
-fn type_row(t: Token, a: TypeId, b: TypeId) -> Option<FnBuiltin>
-    ensures { result ≡ pick (type_line t a b) }
+fn type_row(role: Role, a: TypeId, b: TypeId) -> Option<FnBuiltin>
+    ensures { result ≡ pick (type_line role a b) }
 {
     if a == TypeId::Shared || b == TypeId::Shared {
         None
     } else if is_range_type(a) && is_range_type(b) {
         if a == b {
-            if is_equality(t) {
-                Some(FnBuiltin::RangeEqual(a == TypeId::InclusiveRange, is_unequal(t)))
-            } else {
-                None
-            }
-        } else if is_unequal(t) {
-            Some(FnBuiltin::ConstTrue)
-        } else if is_equal(t) {
-            Some(FnBuiltin::ConstFalse)
+            let inclusive = a == TypeId::InclusiveRange;
+            equality_row(
+                role,
+                FnBuiltin::RangeEqual(inclusive, false),
+                FnBuiltin::RangeEqual(inclusive, true),
+            )
         } else {
-            None
+            equality_row(role, FnBuiltin::ConstFalse, FnBuiltin::ConstTrue)
         }
     } else if a == b || (is_numeric(a) && is_numeric(b)) {
         None
-    } else if is_unequal(t) {
-        Some(FnBuiltin::ConstTrue)
-    } else if is_cmp(t) {
-        Some(FnBuiltin::ConstFalse)
     } else {
-        None
+        unlike_row(role)
     }
 }
 
@@ -220,70 +170,104 @@ fn is_range_type(a: TypeId) -> bool
     matches!(a, TypeId::ExclusiveRange | TypeId::InclusiveRange)
 }
 
-fn own_row(t: Token, a: Own, b: Own, x: &Dynamic, y: &Dynamic, s: &Store) -> Option<FnBuiltin>
-    ensures { result ≡ pair_row (own_pair t a b) (type_line t (end_type (end s.now [] x.now)) (end_type (end s.now [] y.now))) }
+fn own_row(
+    t: Token,
+    role: Role,
+    a: Own,
+    b: Own,
+    x: &Dynamic,
+    y: &Dynamic,
+    s: &Store,
+) -> Option<FnBuiltin>
+    ensures { result ≡ pair_row (own_pair t role a b) (type_line role (end_type (end s.now [] x.now)) (end_type (end s.now [] y.now))) }
 {
     match a {
         Own::Unit => match b {
-            Own::Unit => unit_row(t),
-            Own::Int => if is_range(t) {
-                Some(FnBuiltin::RangeTo(is_inclusive(t)))
-            } else {
-                type_row(t, x.type_id(s), y.type_id(s))
+            Own::Unit => unit_row(role),
+            Own::Int => match role {
+                Role::Range(inclusive) => Some(FnBuiltin::RangeTo(inclusive)),
+                Role::Arithmetic(_) | Role::Compare(_) | Role::Assign(_) | Role::Nothing =>
+                    type_row(role, x.type_id(s), y.type_id(s)),
             },
-            Own::Str => unit_text_row(t),
+            Own::Str => if is_plus(role) {
+                Some(FnBuiltin::SecondCopy)
+            } else {
+                unlike_row(role)
+            },
             Own::Bool | Own::Char | Own::Blob | Own::Array | Own::Other => type_row(
-                t,
+                role,
                 x.type_id(s),
                 y.type_id(s),
             ),
         },
         Own::Bool => match b {
-            Own::Bool => bool_row(t),
+            Own::Bool => bool_row(t, role),
             Own::Unit | Own::Int | Own::Str | Own::Char | Own::Blob | Own::Array | Own::Other =>
-                type_row(t, x.type_id(s), y.type_id(s)),
+                type_row(role, x.type_id(s), y.type_id(s)),
         },
         Own::Int => match b {
-            Own::Unit => if is_range(t) {
-                Some(FnBuiltin::RangeFrom(is_inclusive(t)))
-            } else {
-                type_row(t, x.type_id(s), y.type_id(s))
+            Own::Unit => match role {
+                Role::Range(inclusive) => Some(FnBuiltin::RangeFrom(inclusive)),
+                Role::Arithmetic(_) | Role::Compare(_) | Role::Assign(_) | Role::Nothing =>
+                    type_row(role, x.type_id(s), y.type_id(s)),
             },
-            Own::Int => int_row(t),
+            Own::Int => int_row(t, role),
             Own::Bool | Own::Str | Own::Char | Own::Blob | Own::Array | Own::Other => type_row(
-                t,
+                role,
                 x.type_id(s),
                 y.type_id(s),
             ),
         },
         Own::Str => match b {
-            Own::Unit => text_unit_row(t),
-            Own::Str => text_row(t),
-            Own::Char => text_char_row(t),
+            Own::Unit => if is_plus(role) {
+                Some(FnBuiltin::FirstCopy)
+            } else {
+                unlike_row(role)
+            },
+            Own::Str => text_row(
+                role,
+                FnBuiltin::TextJoin,
+                FnBuiltin::TextMinus,
+                FnBuiltin::TextCompare(t),
+            ),
+            Own::Char => text_row(
+                role,
+                FnBuiltin::TextChar,
+                FnBuiltin::TextMinusChar,
+                FnBuiltin::TextCharCompare(t),
+            ),
             Own::Bool | Own::Int | Own::Blob | Own::Array | Own::Other => type_row(
-                t,
+                role,
                 x.type_id(s),
                 y.type_id(s),
             ),
         },
         Own::Char => match b {
-            Own::Str => char_text_row(t),
-            Own::Char => char_row(t),
+            Own::Str => char_row(role, FnBuiltin::CharText, FnBuiltin::CharTextCompare(t)),
+            Own::Char => char_row(role, FnBuiltin::CharJoin, FnBuiltin::CharCompare(t)),
             Own::Unit | Own::Bool | Own::Int | Own::Blob | Own::Array | Own::Other => type_row(
-                t,
+                role,
                 x.type_id(s),
                 y.type_id(s),
             ),
         },
         Own::Blob => match b {
-            Own::Char => blob_char_row(t),
-            Own::Blob => blob_row(t),
+            Own::Char => plus_row(role, FnBuiltin::BlobChar),
+            Own::Blob => if is_plus(role) {
+                Some(FnBuiltin::BlobJoin)
+            } else {
+                equality_row(
+                    role,
+                    FnBuiltin::BlobEqual(false),
+                    FnBuiltin::BlobEqual(true),
+                )
+            },
             Own::Unit | Own::Bool | Own::Int | Own::Str | Own::Array | Own::Other => type_row(
-                t,
+                role,
                 x.type_id(s),
                 y.type_id(s),
             ),
         },
-        Own::Array | Own::Other => type_row(t, x.type_id(s), y.type_id(s)),
+        Own::Array | Own::Other => type_row(role, x.type_id(s), y.type_id(s)),
     }
 }

@@ -11,8 +11,9 @@ ghost use Rattle.rhai_ops.specs.Tokens.{is_cmp};
 use crate::answer::{is_allowed, part, value};
 use crate::chars::spelled;
 use crate::compare::compared;
+use crate::role::Role;
 use rhai_text::laws::byte_order_is_character_order;
-use rhai_text::{EvalAltResult, ImmutableString, Limits, Position, SizeKind, Token};
+use rhai_text::{EvalAltResult, ImmutableString, Limits, Position, SizeKind};
 use rhai_value::{Dynamic, Store};
 use std::alloc::Global;
 
@@ -87,18 +88,18 @@ pub(crate) fn minus(
 
 /// A comparison of two texts.
 pub(crate) fn compare(
-    op: Token,
+    role: Role,
     s: &Store,
     x: &Dynamic,
     y: &Dynamic,
 ) -> Result<Dynamic, EvalAltResult>
-    requires comparison { IsTrue (is_cmp op) }
+    requires comparison { IsTrue (is_cmp role) }
     requires first { Holds text_of s.now x.now }
     requires second { Holds text_of s.now y.now }
-    ensures { IsOutcome ⊥ result (both (λ v w. bool_answer (specs.compared op (text_order v w))) (part_in text_of s.now x.now) (part_in text_of s.now y.now)) }
+    ensures { IsOutcome ⊥ result (both (λ v w. bool_answer (specs.compared role (text_order v w))) (part_in text_of s.now x.now) (part_in text_of s.now y.now)) }
 {
     let order = part::<ImmutableString>(x, s).cmp(part(y, s));
-    Ok(Dynamic::from_bool(compared(op, order)))
+    Ok(Dynamic::from_bool(compared(role, order)))
 }
 
 /// A character behind a text.
@@ -140,19 +141,19 @@ pub(crate) fn minus_char(
 
 /// A comparison of a text with a character, as the text of it alone.
 pub(crate) fn compare_char(
-    op: Token,
+    role: Role,
     s: &Store,
     x: &Dynamic,
     y: &Dynamic,
 ) -> Result<Dynamic, EvalAltResult>
-    requires comparison { IsTrue (is_cmp op) }
+    requires comparison { IsTrue (is_cmp role) }
     requires first { Holds text_of s.now x.now }
     requires second { Holds char_of s.now y.now }
-    ensures { IsOutcome ⊥ result (both (λ v d. bool_answer (specs.compared op (text_order v (d ∷ [])))) (part_in text_of s.now x.now) (part_in char_of s.now y.now)) }
+    ensures { IsOutcome ⊥ result (both (λ v d. bool_answer (specs.compared role (text_order v (d ∷ [])))) (part_in text_of s.now x.now) (part_in char_of s.now y.now)) }
 {
     let a = part::<ImmutableString>(x, s);
     let mut buffer = [0; 4];
     let b = spelled(value(y, s), &mut buffer);
     byte_order_is_character_order();
-    Ok(Dynamic::from_bool(compared(op, a.as_str().cmp(b))))
+    Ok(Dynamic::from_bool(compared(role, a.as_str().cmp(b))))
 }

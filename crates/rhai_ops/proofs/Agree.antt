@@ -117,7 +117,7 @@ module _ (l : Limits) (s : List Cell) (g h : ℤ) (m n : AccessMode) (b a : FnBu
       let p = one (is_number (done_by (role t))) (row.IntAssign t) a f in
       let same : role (without_assign t) ≡ done_by (role t) = same_role t p.0 in
       rows (row.Int (without_assign t)) (row.IntAssign t) (int i) (int j)
-      (λ v w p q. one_outcome _ v w (subst (λ k. (of_ints k).comes_to l s (node (leaf (int i)) g m) (node (leaf (int j)) h n) ≡ answers v) same p) q) (first_row _ _ b _ (ap is_number same ∙ p.0) e) p.1
+      (λ v w x y. one_outcome _ v w (subst (λ r. (of_ints r).comes_to l s (node (leaf (int i)) g m) (node (leaf (int j)) h n) ≡ answers v) same x) y) (first_row _ _ b _ (ap is_number same ∙ p.0) e) p.1
 
   bools : (t : Token) (i j : Bool) → Leaves t (bool i) (bool j)
   bools op.AndAssign i j e f k = rows (row.Bool op.Ampersand) (row.BoolAssign op.AndAssign) (bool i) (bool j) (λ v w. one_outcome _ v w) e f

@@ -23,21 +23,16 @@ Answers r = way r ≡ operator
 abbrev Writes : FnBuiltin → Type 0
 Writes r = IsTrue (writes (way r))
 
+-- pair by pair; a row more is found without a line more
 own_answers : (t : Token) (k : Role) (a b : Own) → PairAll Answers (own_pair t k a b)
-own_answers t k is.Int is.Int = (λ e. refl, (λ e. refl, (λ e. refl, tt)))
-own_answers t k is.Bool is.Bool = (λ e. refl, (λ e. refl, tt))
-own_answers t k is.Str is.Str = (λ e. refl, (λ e. refl, (λ e. refl, tt)))
-own_answers t k is.Char is.Char = (λ e. refl, (λ e. refl, tt))
-own_answers t k is.Blob is.Blob = (λ e. refl, (λ e. refl, (λ e. refl, tt)))
-own_answers t k is.Unit is.Unit = (λ e. refl, (λ e. refl, tt))
-own_answers t k is.Int is.Unit = (λ e. refl, tt)
-own_answers t k is.Unit is.Int = (λ e. refl, tt)
-own_answers t k is.Char is.Str = (λ e. refl, (λ e. refl, tt))
-own_answers t k is.Str is.Char = (λ e. refl, (λ e. refl, (λ e. refl, tt)))
-own_answers t k is.Unit is.Str = (λ e. refl, (λ e. refl, (λ e. refl, tt)))
-own_answers t k is.Str is.Unit = (λ e. refl, (λ e. refl, (λ e. refl, tt)))
-own_answers t k is.Blob is.Char = (λ e. refl, tt)
-own_answers t k _ _ = tt
+own_answers t k is.Unit is.Unit = search refl
+own_answers t k is.Bool is.Bool = search refl
+own_answers t k is.Int is.Int = search refl
+own_answers t k is.Str is.Str = search refl
+own_answers t k is.Char is.Char = search refl
+own_answers t k is.Blob is.Blob = search refl
+own_answers t k is.Array is.Array = search refl
+own_answers t k a b = search refl
 
 types_answer : (k : Role) (a b : TypeId) → LineAll Answers (type_line k a b)
 types_answer k a b =
@@ -49,19 +44,14 @@ pub operators : (t : Token) (s : List Cell) (x y : Tree) (r : FnBuiltin) → row
 operators t s x y r e = pair_all Answers (own_pair t (role t) (own x) (own y)) _ r (own_answers t (role t) (own x) (own y)) (types_answer (role t) (end_type (end s [] x)) (end_type (end s [] y))) e
 
 own_writes : (t : Token) (k : Role) (a b : Own) → LineAll Writes (assign_line t k a b)
-own_writes t k is.Int is.Int = (λ e. refl, tt)
-own_writes t k is.Bool is.Bool = (λ e. refl, tt)
-own_writes t k is.Char is.Char = (λ e. refl, tt)
-own_writes t k is.Str is.Str = (λ e. refl, (λ e. refl, tt))
-own_writes t k is.Array is.Array = (λ e. refl, tt)
-own_writes t k is.Blob is.Blob = (λ e. refl, tt)
-own_writes t k is.Str is.Char = (λ e. refl, (λ e. refl, tt))
-own_writes t k is.Char is.Str = (λ e. refl, tt)
-own_writes t k is.Array _ = (λ e. refl, tt)
-own_writes t k is.Blob is.Int = (λ e. refl, tt)
-own_writes t k is.Blob is.Char = (λ e. refl, tt)
-own_writes t k is.Blob is.Str = (λ e. refl, tt)
-own_writes t k _ _ = tt
+own_writes t k is.Unit is.Unit = search refl
+own_writes t k is.Bool is.Bool = search refl
+own_writes t k is.Int is.Int = search refl
+own_writes t k is.Str is.Str = search refl
+own_writes t k is.Char is.Char = search refl
+own_writes t k is.Blob is.Blob = search refl
+own_writes t k is.Array is.Array = search refl
+own_writes t k a b = search refl
 
 pub assignments : (t : Token) (x y : Tree) (r : FnBuiltin) → assign_row t x y ≡ Some r → IsTrue (writes (way r))
 assignments t x y r e = pick_all Writes (assign_line t (done_by (role t)) (own x) (own y)) r (own_writes t (done_by (role t)) (own x) (own y)) e

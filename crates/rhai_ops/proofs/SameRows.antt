@@ -1,7 +1,6 @@
 -- Rows and outcomes of values that are the same up to the numbers of their cells.
 use Rattle.std.proofs.Common.{◌≡◌, ℕ, ℤ, Bool, true, false, List, [], ◌∷◌, ◌++◌, length, Option, Some, None, refl, sym, ap, ap₂, ◌∙◌, option_and_then, option_map}
-use Rattle.std.specs.Prelude.{Ok, Err, nat_eq, if◌then◌else◌}
-use Rattle.std.specs.Cmp.Lexicographic.{pointwise}
+use Rattle.std.specs.Prelude.{Ok, Err, if◌then◌else◌}
 use Rattle.std.specs.Char.{encode_utf8}
 use Rattle.std.specs.Str.{encode_utf8_all}
 use Rattle.rhai_text.specs.declared.error.SizeKind.TheVariants as size
@@ -11,7 +10,7 @@ use Rattle.rhai_value.specs.declared.access_mode.AccessMode.{AccessMode}
 use Rattle.rhai_value.specs.declared.store.Cell.{Cell}
 use Rattle.rhai_value.specs.declared.type_id.TypeId.{TypeId}
 use Rattle.rhai_value.specs.Tree.{Tree, Trees, Kind, node, branch, array, function, Leaf, fresh, text, blob}
-use Rattle.rhai_value.specs.Parts.{leaf_part, leaf_unit, leaf_bool, leaf_int, leaf_char, leaf_text, leaf_blob, leaf_host, host_of, typed_host_of}
+use Rattle.rhai_value.specs.Parts.{leaf_part, leaf_int, leaf_char, leaf_blob, leaf_host, host_of, typed_host_of}
 use Rattle.rhai_value.specs.Types.{host_at}
 use Rattle.rhai_value.specs.End.{End, held, stuck, closed, end, end_type, held_part, flat}
 use Rattle.rhai_value.specs.Relation.{Renaming, Related, AllRelated, IsOneToOne, RelatedCells}
@@ -23,7 +22,7 @@ use Rattle.rhai_ops.specs.AssignTable.{assign_line, assign_row}
 use Rattle.rhai_ops.specs.Table.{own, row_of, own_pair, type_line, pair_row, pick}
 use Rattle.rhai_ops.specs.Outcome.{Outcome, answers, too_large, both, number_answer, bool_answer, is_allowed, limited_text, limited_blob, RelatedOutcomes}
 use Rattle.rhai_value.specs.Bytes.{low_byte}
-use Rattle.rhai_ops.specs.Results.{blob_and_char, part, joined_blobs, joined_texts, joined_to_char, blob_and_text, pushed, joined_items, outcome, range_type, unless}
+use Rattle.rhai_ops.specs.Results.{blob_and_char, part, joined_blobs, joined_texts, joined_to_char, blob_and_text, pushed, joined_items, outcome, range_type}
 use Rattle.rhai_ops.specs.Tokens.{role, done_by}
 use Rattle.rhai_ops.proofs.SameItems.{both_alike, pushed_related, joined_related, same_items, same_moved}
 
@@ -35,6 +34,9 @@ same_own r = by_trees r (λ t u. own t ≡ own u) (λ l g m. refl) same_branch (
     same_branch (function f) ts us g m h = refl
 
 -- outcomes in which no cell is named
+leaf_self : (r : Renaming) (l : Leaf) → RelatedOutcomes r (answers (fresh l)) (answers (fresh l))
+leaf_self r l = (refl, refl, refl)
+
 number_self : (r : Renaming) (o : Option Number) → RelatedOutcomes r (number_answer o) (number_answer o)
 number_self r (Some (Ok n)) = (refl, refl, refl)
 number_self r (Some (Err f)) = refl
@@ -108,46 +110,16 @@ module _ (r : Renaming) (s z : List Cell) (one : IsOneToOne r) (cells : RelatedC
 
     pub same_outcome : (b : FnBuiltin) (l : Limits) → RelatedOutcomes r (outcome b l s t v) (outcome b l z u w)
     same_outcome (row.Int k) l = by_both leaf_int leaf_int _ (λ m n. number_self r (number (role k) m n))
-    same_outcome (row.IntCompare k) l = by_both leaf_int leaf_int _ (λ m n. bool_self r _)
-    same_outcome (row.IntRange i) l = by_both leaf_int leaf_int _ (λ m n. (refl, refl, refl))
-    same_outcome (row.BoolCompare k) l = by_both leaf_bool leaf_bool _ (λ a b. bool_self r _)
-    same_outcome (row.Bool k) l = by_both leaf_bool leaf_bool _ (λ a b. bool_self r _)
-    same_outcome row.TextJoin l = by_both leaf_text leaf_text _ (λ a b. text_self r l _)
-    same_outcome row.TextMinus l = by_both leaf_text leaf_text _ (λ a b. (refl, refl, refl))
-    same_outcome (row.TextCompare k) l = by_both leaf_text leaf_text _ (λ a b. bool_self r _)
-    same_outcome row.CharJoin l = by_both leaf_char leaf_char _ (λ a b. text_self r l (a ∷ b ∷ []))
-    same_outcome (row.CharCompare k) l = by_both leaf_char leaf_char _ (λ a b. bool_self r _)
     same_outcome row.BlobJoin l =
         rw (same_leaf leaf_blob t u h, same_leaf leaf_blob v w q) (both_self r _ _ (joined_same r l (flat s t) (flat z u) (flat s v) (flat z w) (same_flat r s z t u one cells h) (same_flat r s z v w one cells q)) (part (leaf_part leaf_blob) z u) (part (leaf_part leaf_blob) z w))
-    same_outcome (row.BlobEqual n) l = by_both leaf_blob leaf_blob _ (λ a b. bool_self r (Some (unless n (pointwise nat_eq a b))))
-    same_outcome row.ConstTrue l = (refl, refl, refl)
-    same_outcome row.ConstFalse l = (refl, refl, refl)
-    same_outcome (row.RangeFrom i) l = by_both leaf_int leaf_unit _ (λ a b. (refl, refl, refl))
-    same_outcome (row.RangeTo i) l = by_both leaf_unit leaf_int _ (λ a b. (refl, refl, refl))
-    same_outcome row.CharText l = by_both leaf_char leaf_text _ (λ a b. text_self r l (a ∷ b))
-    same_outcome (row.CharTextCompare k) l = by_both leaf_char leaf_text _ (λ a b. bool_self r _)
-    same_outcome row.TextChar l = by_both leaf_text leaf_char _ (λ a b. text_self r l _)
-    same_outcome row.TextMinusChar l = by_both leaf_text leaf_char _ (λ a b. (refl, refl, refl))
-    same_outcome (row.TextCharCompare k) l = by_both leaf_text leaf_char _ (λ a b. bool_self r _)
-    same_outcome row.FirstCopy l = same_copy r t u h
-    same_outcome row.SecondCopy l = same_copy r v w q
     same_outcome row.BlobChar l = blob_and_char_same l
     same_outcome (row.RangeEqual i n) l =
         rw (same_typed (range_type i) t u h, same_typed (range_type i) v w q) (both_self r _ _ (λ a b. bool_self r _) (part (typed_host_of (range_type i)) z u) (part (typed_host_of (range_type i)) z w))
-    same_outcome (row.IntAssign k) l = by_both leaf_int leaf_int _ (λ m n. number_self r (number (done_by (role k)) m n))
-    same_outcome (row.BoolAssign k) l = by_both leaf_bool leaf_bool _ (λ a b. bool_self r _)
-    same_outcome row.CharJoinAssign l = by_both leaf_char leaf_char _ (λ a b. (refl, refl, refl))
-    same_outcome row.TextJoinAssign l = by_both leaf_text leaf_text _ (texts_self r l)
-    same_outcome row.TextMinusAssign l = by_both leaf_text leaf_text _ (λ a b. (refl, refl, refl))
     same_outcome row.ArrayAppend l =
         both_alike r (AllRelated r) (AllRelated r) (joined_items l) (joined_items l) (joined_related r l) _ _ _ _ (same_items r s z one cells t u h) (same_moved r s z one cells v w q)
-    same_outcome row.BlobAppend l = by_both leaf_blob leaf_blob _ (λ a b. blob_self r l _)
-    same_outcome row.TextCharAssign l = by_both leaf_text leaf_char _ (λ a b. text_self r l _)
-    same_outcome row.TextMinusCharAssign l = by_both leaf_text leaf_char _ (λ a b. (refl, refl, refl))
-    same_outcome row.CharTextAssign l = by_both leaf_char leaf_text _ (char_self r l)
     same_outcome row.ArrayPush l =
         both_alike r (AllRelated r) (Related r) (pushed l) (pushed l) (pushed_related r l) _ _ _ _ (same_items r s z one cells t u h) q
     same_outcome row.BlobPush l =
         rw (same_leaf leaf_blob t u h, same_leaf leaf_int v w q) (both_self r _ _ (λ a b. blob_self r l (a ++ b)) (part (leaf_part leaf_blob) z u) (option_map (λ n. low_byte n ∷ []) (part (leaf_part leaf_int) z w)))
     same_outcome row.BlobCharAssign l = blob_and_char_same l
-    same_outcome row.BlobTextAssign l = by_both leaf_blob leaf_text _ (blob_and_text_self r l)
+    same_outcome b l = search (by_both, leaf_self, number_self, bool_self, text_self, blob_self, texts_self, char_self, blob_and_text_self, same_copy, refl)

@@ -89,21 +89,16 @@ module _ (t : Token) (s : List Cell) (x y : Tree) where
   abbrev Fit : FnBuiltin → Type 0
   Fit r = Suits r s x y
 
+  -- pair by pair; a row more is found without a line more
   own_suits : (a b : Own) → HoldsOwn a (end s [] x) → HoldsOwn b (end s [] y) → PairAll Fit (own_pair t (role t) a b)
-  own_suits is.Int is.Int h k = (λ e. (e, (h, k)), (λ e. (e, (h, k)), (λ e. (h, k), tt)))
-  own_suits is.Bool is.Bool h k = (λ e. (e, (h, k)), (λ e. (e, (h, k)), tt))
-  own_suits is.Str is.Str h k = (λ e. (h, k), (λ e. (h, k), (λ e. (e, (h, k)), tt)))
-  own_suits is.Char is.Char h k = (λ e. (h, k), (λ e. (e, (h, k)), tt))
-  own_suits is.Blob is.Blob h k = (λ e. (h, k), (λ e. (h, k), (λ e. (h, k), tt)))
-  own_suits is.Unit is.Unit h k = (λ e. tt, (λ e. tt, tt))
-  own_suits is.Int is.Unit h k = (λ e. (h, k), tt)
-  own_suits is.Unit is.Int h k = (λ e. (h, k), tt)
-  own_suits is.Char is.Str h k = (λ e. (h, k), (λ e. (e, (h, k)), tt))
-  own_suits is.Str is.Char h k = (λ e. (h, k), (λ e. (h, k), (λ e. (e, (h, k)), tt)))
-  own_suits is.Unit is.Str h k = (λ e. tt, (λ e. tt, (λ e. tt, tt)))
-  own_suits is.Str is.Unit h k = (λ e. tt, (λ e. tt, (λ e. tt, tt)))
-  own_suits is.Blob is.Char h k = (λ e. (h, k), tt)
-  own_suits _ _ h k = tt
+  own_suits is.Unit is.Unit h k = search refl
+  own_suits is.Bool is.Bool h k = search refl
+  own_suits is.Int is.Int h k = search refl
+  own_suits is.Str is.Str h k = search refl
+  own_suits is.Char is.Char h k = search refl
+  own_suits is.Blob is.Blob h k = search refl
+  own_suits is.Array is.Array h k = search refl
+  own_suits a b h k = search refl
 
   both_true : (b c : Bool) → (b && c) ≡ true → (b ≡ true) × (c ≡ true)
   both_true true true e = (refl, refl)
@@ -135,19 +130,14 @@ module _ (t : Token) (s : List Cell) (x y : Tree) where
       (λ b. if_all Fit (is_type first_type second_type || (is_numeric first_type && is_numeric second_type)) _ _ (λ i. tt) (λ i. (λ d. tt, (λ d. tt, tt)))))
 
   assign_suits : (a b : Own) → HoldsOwn a (end s [] x) → HoldsOwn b (end s [] y) → LineAll Fit (assign_line t (done_by (role t)) a b)
-  assign_suits is.Int is.Int h k = (λ e. (e, (h, k)), tt)
-  assign_suits is.Bool is.Bool h k = (λ e. (e, (h, k)), tt)
-  assign_suits is.Char is.Char h k = (λ e. (h, k), tt)
-  assign_suits is.Str is.Str h k = (λ e. (h, k), (λ e. (h, k), tt))
-  assign_suits is.Array is.Array h k = (λ e. (h, k), tt)
-  assign_suits is.Blob is.Blob h k = (λ e. (h, k), tt)
-  assign_suits is.Str is.Char h k = (λ e. (h, k), (λ e. (h, k), tt))
-  assign_suits is.Char is.Str h k = (λ e. (h, k), tt)
-  assign_suits is.Array _ h k = (λ e. (h, tt), tt)
-  assign_suits is.Blob is.Int h k = (λ e. (h, k), tt)
-  assign_suits is.Blob is.Char h k = (λ e. (h, k), tt)
-  assign_suits is.Blob is.Str h k = (λ e. (h, k), tt)
-  assign_suits _ _ h k = tt
+  assign_suits is.Unit is.Unit h k = search refl
+  assign_suits is.Bool is.Bool h k = search refl
+  assign_suits is.Int is.Int h k = search refl
+  assign_suits is.Str is.Str h k = search refl
+  assign_suits is.Char is.Char h k = search refl
+  assign_suits is.Blob is.Blob h k = search refl
+  assign_suits is.Array is.Array h k = search refl
+  assign_suits a b h k = search refl
 
   -- the first operand holds what its first content is by its own constructor
   assign_row_suits : (a : Own) (r : FnBuiltin) → HoldsOwn a (end s [] x) → pick (assign_line t (done_by (role t)) a (own y)) ≡ Some r → Suits r s x y

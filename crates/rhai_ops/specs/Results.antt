@@ -9,7 +9,6 @@ use Rattle.std.specs.declared.cmp.Ordering.{Ordering}
 use Rattle.rhai_text.specs.Text.{minus, minus_char}
 use Rattle.rhai_text.specs.declared.error.SizeKind.TheVariants as size
 use Rattle.rhai_text.specs.declared.limits.Limits.{Limits}
-use Rattle.rhai_text.specs.declared.token.Token.{Token}
 use Rattle.rhai_value.specs.declared.host.Host.{Host}
 use Rattle.rhai_value.specs.declared.host.Host.TheVariants.{ExclusiveRange, InclusiveRange}
 use Rattle.rhai_value.specs.declared.store.Cell.{Cell}

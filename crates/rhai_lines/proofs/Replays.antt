@@ -35,7 +35,7 @@ replay (c ∷ cs) bytes w e = by (line_of c) (journal_of cs) refl refl (λ more 
         ap (output_from w) (sym is)
         ∙ ap (answers_to_lines w) (lines_of-at_feed line more 10 (All-from_recursion (λ b. (b == 10) ≡ false) line (without_feed line h.no_feed)) refl)
         ∙ ap (λ o. (answer_to w o ++ 10 ∷ []) ++ answers_to_lines (state_by w o) (lines_of more)) h.back
-        ∙ ap (λ bs. (printed (step w c).0 ++ 10 ∷ []) ++ bs) (k more (step w c).1 g)
+        ∙ ap (λ bs. (printed (step w c).reply ++ 10 ∷ []) ++ bs) (k more (step w c).after g)
 
 -- the same where no command is left to be written
 pub replayed : (cs left : List Command) (text : List ℕ) (w : State) → journal_of cs ≡ option_map (λ more. text ++ more) (journal_of left) → length left < 1 → output_from w text ≡ output_of_commands w cs

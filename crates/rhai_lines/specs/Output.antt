@@ -21,11 +21,11 @@ lines_of input = without_empty_rest (slice_split (λ b. b == 10) input)
 -- what is written for a command or a line without one, and the world after it
 abbrev pub answer_to : State → Option Command → List ℕ
 answer_to w None = codes "refused BadLine"
-answer_to w (Some c) = printed (step w c).0
+answer_to w (Some c) = printed (step w c).reply
 
 abbrev pub state_by : State → Option Command → State
 state_by w None = w
-state_by w (Some c) = (step w c).1
+state_by w (Some c) = (step w c).after
 
 -- the same for a line, whose answer a line feed ends
 abbrev pub line_answer : State → List ℕ → List ℕ

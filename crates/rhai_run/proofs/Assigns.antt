@@ -19,6 +19,7 @@ use Rattle.rhai_run.specs.declared.command.Place.{Place}
 use Rattle.rhai_run.specs.declared.command.Place.TheVariants as place
 use Rattle.rhai_run.specs.State.{State, with_hand}
 use Rattle.rhai_run.specs.Reply.{done}
+use Rattle.rhai_run.specs.Outcome.{growing}
 use Rattle.rhai_run.specs.Does.{Calls, IsError, not_done_of}
 use Rattle.rhai_run.specs.Operators.{assigned, assigned_at, called, called_at, step_assign, HasOperands}
 use Rattle.rhai_run.specs.Places.{source, is_at, is_beyond}
@@ -45,12 +46,12 @@ put_back w (place.Hand i) j how t d y o e = ap (λ ts. record w { store = store_
 put_back w (place.Entry name) j how t d y o e = ap (λ ts. (record (assigned_at w (place.Entry name) how t o) { hand = ts })) (set-set w.hand j d y)
 
 -- what a call that is done comes to
-answered_value : (w : State) (how : Way) (after : State) (d : Tree) (o : call.Outcome) → answered how o ≡ call.answers d → called w (λ _. after) o ≡ (done, after)
+answered_value : (w : State) (how : Way) (after : State) (d : Tree) (o : call.Outcome) → answered how o ≡ call.answers d → called w (λ _. after) o ≡ growing done after
 answered_value w operator after d o e = ap (called w (λ _. after)) e
-answered_value w (assignment k q) after d (call.answers t) e = refl
-answered_value w (assignment k q) after d (call.fault f) e = cc
-answered_value w (assignment k q) after d (call.too_large k2) e = cc
-answered_value w (assignment k q) after d call.unsuited e = cc
+answered_value w (assignment q) after d (call.answers t) e = refl
+answered_value w (assignment q) after d (call.fault f) e = cc
+answered_value w (assignment q) after d (call.too_large k2) e = cc
+answered_value w (assignment q) after d call.unsuited e = cc
 
 -- the step of a row that was looked up
 pub assign_is : (w : State) (op : Token) (p : Place) (j : ℕ) (t u x : Tree) (row : FnBuiltin) → is_beyond w.hand p ≡ false → slice_get w.hand j ≡ Some u → is_at p j ≡ false → source w.hand w.entries p ≡ Ok t
@@ -88,7 +89,7 @@ assign_called w v p j row t u d y ts r apart at other moved result written secon
         sym (of_found (λ x. assigned_at (with_hand w ts) p (way row) x (outcome row w.limits w.store x u) ≡ v) k) ∙ ap (λ us. assigned_at (with_hand w us) p (way row) t o) moved in
         let what : y ≡ second_left (way row) o u = of_found (λ x. y ≡ second_left (way row) (outcome row w.limits w.store x u) u) l in
         is ∙ answered_value w (way row) _ a o (of_found (λ x. IsOutcome (MayWant row x u) (Ok a) (answered (way row) (outcome row w.limits w.store x u))) h)
-        ∙ ap (λ z. (done, z)) (sym (ap (λ z. with_hand z (slice_set z.hand j y)) left ∙ put_back w p j (way row) t d y o apart ∙ ap (λ z. assigned_at (with_hand w (slice_set w.hand j z)) p (way row) t o) what))
+        ∙ ap (growing done) (sym (ap (λ z. with_hand z (slice_set z.hand j y)) left ∙ put_back w p j (way row) t d y o apart ∙ ap (λ z. assigned_at (with_hand w (slice_set w.hand j z)) p (way row) t o) what))
     by (Err e) h k l m =
         let back : with_hand v (slice_set v.hand j y) ≡ w =
         ap (λ z. with_hand z (slice_set z.hand j y)) m.0 ∙ ap (λ us. with_hand w (slice_set us j y)) moved ∙ ap (with_hand w) (set-set w.hand j d y ∙ ap (slice_set w.hand j) m.1 ∙ set_own w.hand j u other) in

@@ -18,7 +18,7 @@ use Rattle.rhai_ops.specs.declared.builtin.FnBuiltin.{FnBuiltin}
 use Rattle.rhai_run.specs.declared.not_done.NotDone.{NotDone}
 use Rattle.rhai_run.specs.State.{State, appended}
 use Rattle.rhai_run.specs.Reply.{done}
-use Rattle.rhai_run.specs.Cost.{may_make}
+use Rattle.rhai_run.specs.Outcome.{growing}
 use Rattle.rhai_run.specs.Does.{Gives, IsError, not_done_of}
 use Rattle.rhai_run.specs.Operators.{value_at, called, step_binary}
 use Rattle.rhai_run.proofs.Moves.{set_own}
@@ -57,25 +57,25 @@ pub binary_is : (w : State) (op : Token) (i j : ℕ) (x y : Tree) (row : FnBuilt
     → step_binary w op i j ≡ called w (appended w) (outcome row w.limits w.store x y)
 binary_is w op i j x y row ex ey e f = rw (ex, ey, e, f) refl
 
-pub gives_value : (MayWant : Type 0) (w : State) (d : Tree) (o : call.Outcome) → IsOutcome MayWant (Ok d) o → called w (appended w) o ≡ (done, appended w d)
+pub gives_value : (MayWant : Type 0) (w : State) (d : Tree) (o : call.Outcome) → IsOutcome MayWant (Ok d) o → called w (appended w) o ≡ growing done (appended w d)
 gives_value M w d o h = ap (called w (appended w)) h
 
 -- what a call that is not done comes to
 answered_fault : (how : Way) (o p : call.Outcome) → answered how o ≡ p → is_answer p ≡ false → o ≡ p
 answered_fault operator o p e h = e
-answered_fault (assignment k q) (call.answers t) p e h = let n = rw (sym e) at h in cc
-answered_fault (assignment k q) (call.fault f) p e h = e
-answered_fault (assignment k q) (call.too_large x) p e h = e
-answered_fault (assignment k q) call.unsuited p e h = e
+answered_fault (assignment q) (call.answers t) p e h = let n = rw (sym e) at h in cc
+answered_fault (assignment q) (call.fault f) p e h = e
+answered_fault (assignment q) (call.too_large x) p e h = e
+answered_fault (assignment q) call.unsuited p e h = e
 
-answered_granted : (w : State) (how : Way) (after : Tree → State) (o : call.Outcome) → is_answer (answered how o) ≡ true → may_make (called w after o).0 ≡ true
+answered_granted : (w : State) (how : Way) (after : Tree → State) (o : call.Outcome) → is_answer (answered how o) ≡ true → (called w after o).wants ≡ true
 answered_granted w how after (call.answers t) h = refl
 answered_granted w operator after (call.fault f) h = cc
 answered_granted w operator after (call.too_large k) h = cc
 answered_granted w operator after call.unsuited h = cc
-answered_granted w (assignment k q) after (call.fault f) h = cc
-answered_granted w (assignment k q) after (call.too_large x) h = cc
-answered_granted w (assignment k q) after call.unsuited h = cc
+answered_granted w (assignment q) after (call.fault f) h = cc
+answered_granted w (assignment q) after (call.too_large x) h = cc
+answered_granted w (assignment q) after call.unsuited h = cc
 
 pub refusal_of : (M : Type 0) (w : State) (how : Way) (after : Tree → State) (e : EvalAltResult) (o : call.Outcome) → IsOutcome M (Err e) (answered how o) → IsError (not_done_of e) w (called w after o)
 refusal_of M w how after (error.ErrorArithmetic f p) o h = rw (answered_fault how o (call.fault f) h.0 refl, h.1) refl
@@ -95,7 +95,7 @@ module _ (w v : State) (op : Token) (i j : ℕ) (x y : Tree) (row : FnBuiltin) (
       let b : value_at v.hand j ≡ y = ap (λ (z : State). value_at z.hand j) view ∙ sym (first_of w.hand j y ey) in
       subst (λ z. of_operands result z x y) view (rw (a, b) at h)
 
-  pub called_value : (d : Tree) → of_operands (Ok d) v (value_at v.hand i) (value_at v.hand j) → step_binary w op i j ≡ (done, appended w d)
+  pub called_value : (d : Tree) → of_operands (Ok d) v (value_at v.hand i) (value_at v.hand j) → step_binary w op i j ≡ growing done (appended w d)
   called_value d h = binary_is w op i j x y row ex ey differ found ∙ gives_value (MayWant row x y) w d (outcome row w.limits w.store x y) (seen (Ok d) h)
 
   pub called_refusal : (e : EvalAltResult) (why : NotDone) (r : Result Tree NotDone) → of_operands (Err e) v (value_at v.hand i) (value_at v.hand j) → r ≡ Err why → why ≡ not_done_of e → Gives r w (step_binary w op i j)

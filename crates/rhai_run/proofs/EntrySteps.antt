@@ -1,5 +1,5 @@
 -- Steps on the last entry of a name, on two states that are the same up to a renaming.
-use Rattle.std.proofs.Common.{◌≡◌, ℕ, ℤ, Bool, true, false, cond, List, [], ◌∷◌, Option, Some, None, option_map, is_some, refl, ap, subst}
+use Rattle.std.proofs.Common.{◌≡◌, ℕ, ℤ, List, [], ◌∷◌, Option, Some, None, option_map, is_some, refl, ap, subst}
 use Rattle.std.specs.List.{AllZip}
 use Rattle.rhai_value.specs.declared.type_id.TypeId.{TypeId}
 use Rattle.rhai_value.specs.declared.type_id.TypeId.TheVariants as id
@@ -18,11 +18,10 @@ use Rattle.rhai_run.specs.State.{State, with_entries}
 use Rattle.rhai_run.specs.Reply.{told, nothing, no_entry, constant_entry, shared_entry}
 use Rattle.rhai_run.specs.Entries.{step_set_entry, step_set_or_push, is_there_constant, step_set_value, step_get, appended_or_nothing, step_get_value, viewed_as, step_get_ref, step_set_ref, step_remove, step_set_alias, step_aliases}
 use Rattle.rhai_scope.specs.NamesText.{aliases_text}
-use Rattle.rhai_run.specs.Outcome.{Outcome}
 use Rattle.rhai_scope.specs.Relation.{RelatedEntry}
 use Rattle.rhai_run.specs.Correspondence.{RelatedStates}
 use Rattle.rhai_run.proofs.HandSteps.{unless_shared, same_flat_read}
-use Rattle.rhai_run.proofs.Outcome.{Matches, alike_same, no_cell, m_stays, m_unless, m_given, m_value, m_entries, m_scope, m_appended, moved_hand}
+use Rattle.rhai_run.proofs.Outcome.{Matches, alike_same, m_either, no_cell, m_stays, m_unless, m_given, m_value, m_entries, m_scope, m_appended, moved_hand}
 
 module _ (r : Renaming) (w v : State) (h : RelatedStates r w v) where
   pub same_set_entry : (name : List ℕ) (i : ℕ) → Matches r w v (step_set_entry w name i) (step_set_entry v name i)
@@ -33,13 +32,13 @@ module _ (r : Renaming) (w v : State) (h : RelatedStates r w v) where
       (m_scope r w v h _ _ _ _ (same_changed_named r (holding t) (holding u) name w.entries v.entries (same_with_value r t u e) h.entries) (moved_hand r w v h i))))
 
   -- an entry that is written over or pushed
-  set_at : (o p : Option ℕ) → o ≡ p → (name : List ℕ) (i : ℕ) (t u : Tree) → Related r t u → AllZip (RelatedEntry r) (set_or_pushed o name t w.entries) (set_or_pushed p name u v.entries)
-  set_at o p k name i t u e =
+  entries_set : (o p : Option ℕ) → o ≡ p → (name : List ℕ) (i : ℕ) (t u : Tree) → Related r t u → AllZip (RelatedEntry r) (set_or_pushed o name t w.entries) (set_or_pushed p name u v.entries)
+  entries_set o p k name i t u e =
       subst (λ q. AllZip (RelatedEntry r) (set_or_pushed o name t w.entries) (set_or_pushed q name u v.entries)) k (same_set_or_pushed r o name t u w.entries v.entries e h.entries)
 
   pub same_set_or_push : (name : List ℕ) (i : ℕ) → Matches r w v (step_set_or_push w name i) (step_set_or_push v name i)
   same_set_or_push name i =
-      m_value r w v h i _ _ (λ t u e. m_scope r w v h _ _ _ _ (set_at _ _ (same_writable r name w.entries v.entries h.entries) name i t u e) (moved_hand r w v h i))
+      m_value r w v h i _ _ (λ t u e. m_scope r w v h _ _ _ _ (entries_set _ _ (same_writable r name w.entries v.entries h.entries) name i t u e) (moved_hand r w v h i))
 
   same_there_constant : (o p : Option Entry) → Alike (RelatedEntry r) o p → is_there_constant o ≡ is_there_constant p
   same_there_constant None None k = refl
@@ -51,7 +50,7 @@ module _ (r : Renaming) (w v : State) (h : RelatedStates r w v) where
   same_set_value name i =
       m_value r w v h i _ _ (λ t u e.
       m_unless r w v h constant_entry _ _ _ _ (same_there_constant _ _ (same_last_entry r name w.entries v.entries h.entries))
-      (m_scope r w v h _ _ _ _ (set_at _ _ (same_position r name w.entries v.entries h.entries) name i t u e) (moved_hand r w v h i)))
+      (m_scope r w v h _ _ _ _ (entries_set _ _ (same_position r name w.entries v.entries h.entries) name i t u e) (moved_hand r w v h i)))
 
   pub same_get : (name : List ℕ) → Matches r w v (step_get w name) (step_get v name)
   same_get name =
@@ -95,17 +94,11 @@ module _ (r : Renaming) (w v : State) (h : RelatedStates r w v) where
   some_alike None (Some u) e = absurd e
   some_alike (Some t) None e = absurd e
 
-  m_either : (b d : Bool) (o p x y : Outcome) → b ≡ d → Matches r w v o p → Matches r w v x y → Matches r w v (cond b o x) (cond d p y)
-  m_either true true o p x y e m n = m
-  m_either false false o p x y e m n = n
-  m_either true false o p x y e m n = cc
-  m_either false true o p x y e m n = cc
-
   pub same_set_ref : (name : List ℕ) (n : ℤ) → Matches r w v (step_set_ref w name n) (step_set_ref v name n)
   same_set_ref name n =
       m_given r w v h (Related r) no_entry _ _ _ _ (same_named r name w.entries v.entries h.entries) (λ t u e.
       m_unless r w v h shared_entry _ _ _ _ (same_shared r t u e)
-      (m_either _ _ _ _ _ _ (some_alike _ _ (same_viewed r id.Int t u e))
+      (m_either r w v h _ _ (some_alike _ _ (same_viewed r id.Int t u e))
       (m_entries r w v h _ _ (same_changed_named r _ _ name w.entries v.entries (same_written_entry r id.Int (fresh (int n)) (fresh (int n)) (refl, refl, refl)) h.entries)) (m_stays r w v h nothing nothing refl)))
 
   removed_entries : (name : List ℕ) → AllZip (RelatedEntry r) (removed_at (last_position name w.entries) w.entries) (removed_at (last_position name v.entries) v.entries)
@@ -124,3 +117,6 @@ module _ (r : Renaming) (w v : State) (h : RelatedStates r w v) where
   same_remove name kind =
       m_given r w v h (Related r) no_entry _ _ _ _ (same_named r name w.entries v.entries h.entries) (λ t u e.
       m_taken _ _ _ _ (removed_entries name) (unless_shared r w v h (is_type kind id.Shared) _ _ (same_moved r kind w.store v.store t u h.one h.cells e)))
+
+-- the steps of this file
+pub ruleset entry_steps = (same_set_entry, same_set_or_push, same_set_value, same_get, same_get_value, same_get_ref, same_set_ref, same_remove, same_set_alias, same_aliases)

@@ -8,11 +8,11 @@ use Rattle.rhai_scope.specs.Entry.{Entry, is_constant_entry, with_value as holdi
 use Rattle.rhai_scope.specs.Typed.{set_or_pushed}
 use Rattle.rhai_scope.specs.Lookup.{later_or_here, last_position, last_entry, value_named, unless_constant, writable_position, value_at, changed_if, changed_named, with_value_at}
 use Rattle.rhai_run.specs.Entries.{viewed_as, appended_or_nothing, step_get_ref}
-use Rattle.rhai_run.specs.Cost.{may_make}
+use Rattle.rhai_run.specs.Outcome.{Outcome}
 use Rattle.rhai_run.specs.State.{State}
 
 -- something is made where a value is found
-pub appended_makes : (w : State) (o : Option Tree) → is_some o ≡ true → may_make (appended_or_nothing w o).0 ≡ true
+pub appended_makes : (w : State) (o : Option Tree) → is_some o ≡ true → (appended_or_nothing w o).wants ≡ true
 appended_makes w None h = cc
 appended_makes w (Some t) h = refl
 
@@ -101,6 +101,6 @@ pub get_ref_is : (w : State) (name : List ℕ) (kind : TypeId) (t : Tree) (o : O
 get_ref_is w name kind t o e f g = rw (e, f, g) refl
 
 pub get_ref_makes : (w : State) (name : List ℕ) (kind : TypeId) (t : Tree) → value_named name w.entries ≡ Some t → is_some (cell_of t) ≡ false → is_some (option_map copy (viewed_as kind t)) ≡ true
-    → may_make (step_get_ref w name kind).0 ≡ true
+    → (step_get_ref w name kind).wants ≡ true
 get_ref_makes w name kind t e h f =
-    ap (λ o. may_make o.0) (get_ref_is w name kind t (option_map copy (viewed_as kind t)) e h refl) ∙ appended_makes w (option_map copy (viewed_as kind t)) f
+    ap (λ (o : Outcome). o.wants) (get_ref_is w name kind t (option_map copy (viewed_as kind t)) e h refl) ∙ appended_makes w (option_map copy (viewed_as kind t)) f

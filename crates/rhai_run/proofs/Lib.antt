@@ -1,5 +1,6 @@
 pub mod FromBelow
 pub mod Outcome
+pub mod Free
 pub mod MarkLists
 pub mod WorkingValues
 pub mod PlaceValues
@@ -17,6 +18,7 @@ pub mod ScanSteps
 pub mod ScopeSteps
 pub mod EntrySteps
 pub mod AskSteps
+pub mod IndexSteps
 pub mod Step
 pub mod Fitting
 pub mod KeptWorlds

@@ -1,5 +1,5 @@
 -- Steps on the list of marks, on two states that are the same up to a renaming.
-use Rattle.std.proofs.Common.{◌≡◌, ℕ, zero, suc, true, false, List, [], ◌∷◌, length, slice_get, not, refl, ap}
+use Rattle.std.proofs.Common.{◌≡◌, ℕ, zero, suc, Bool, true, false, List, [], ◌∷◌, length, slice_get, not, refl, ap}
 use Rattle.std.specs.List.{AllZip}
 use Rattle.rhai_value.specs.declared.store.Cell.{Cell}
 use Rattle.rhai_value.specs.Tree.{Tree, copy}
@@ -12,6 +12,7 @@ use Rattle.rhai_run.specs.Change.{nowhere}
 use Rattle.rhai_run.specs.Correspondence.{RelatedStates}
 use Rattle.rhai_run.specs.Marks.{step_mark, step_unmark, step_write_marked, step_read_marked}
 use Rattle.rhai_run.specs.Reply.{done, no_mark, wrong_source, fault, data_race}
+use Rattle.rhai_run.specs.Outcome.{growing_if}
 use Rattle.rhai_run.specs.State.{State, with_marks}
 use Rattle.rhai_run.proofs.MarkLists.{first_is_free, mark_added, mark_taken}
 use Rattle.rhai_run.proofs.Outcome.{Keeps, Matches, m_appended, m_cells, m_given, m_there, m_unless, m_value, moved_hand, no_cell}
@@ -27,8 +28,8 @@ put_marks (x ∷ s) (suc c) (suc d) t = put_marks s c d t
 
 module _ (r : Renaming) (w v : State) (h : RelatedStates r w v) where
   -- other marks
-  m_marks : (s z : List Cell) (ms ns : List ℕ) → length s ≡ length w.store → length z ≡ length v.store → RelatedCells r s z → AllZip (Paired r) ms ns → Keeps w (with_marks w s ms)
-      → Matches r w v (done, with_marks w s ms) (done, with_marks v z ns)
+  m_marks : {a b : Bool} (s z : List Cell) (ms ns : List ℕ) → length s ≡ length w.store → length z ≡ length v.store → RelatedCells r s z → AllZip (Paired r) ms ns → Keeps w (with_marks w s ms)
+      → Matches r w v (growing_if a done (with_marks w s ms)) (growing_if b done (with_marks v z ns))
   m_marks s z ms ns f g c e k =
       no_cell r w v h _ _ done done refl f g (record { one = h.one; cells = c; entries = h.entries; marks = e; hand = h.hand; limits = h.limits }) k
 
@@ -63,3 +64,6 @@ module _ (r : Renaming) (w v : State) (h : RelatedStates r w v) where
   same_read_marked k =
       m_given r w v h (Paired r) no_mark (slice_get w.marks k) (slice_get v.marks k) _ _ (same_mark_at k) (λ c d same.
       m_given r w v h (Related r) no_mark (content_at w.store c) (content_at v.store d) _ _ (same_content_at c d same) (λ t u e. m_appended r w v h (copy t) (copy u) (same_copy r t u e)))
+
+-- the steps of this file
+pub ruleset mark_steps = (same_mark, same_unmark, same_write_marked, same_read_marked)

@@ -3,7 +3,7 @@ use Rattle.std.proofs.Common.{◌≡◌, ◌<◌, ℕ, ℤ, zero, suc, true, fal
 use Rattle.std.proofs.lemmas.List.{set-set}
 use Rattle.std.proofs.lemmas.Option.{same_Some, slice_get_within}
 use Rattle.rhai_value.specs.declared.store.Cell.{Cell}
-use Rattle.rhai_value.specs.Tree.{Tree, node, leaf, branch, fields, holder, cell_of}
+use Rattle.rhai_value.specs.Tree.{Tree, cell_of}
 use Rattle.rhai_value.specs.End.{end, end_name, flattened, held_part, store_after, value_after}
 use Rattle.rhai_value.specs.Parts.{int_of, with_int}
 use Rattle.rhai_value.specs.Store.{shared_value, shared_store}
@@ -11,10 +11,8 @@ use Rattle.rhai_value.specs.declared.access_mode.AccessMode.{AccessMode}
 use Rattle.rhai_scope.specs.Entry.{Entry}
 use Rattle.rhai_run.specs.State.{State, with_hand, with_scope, with_cells}
 use Rattle.rhai_run.specs.Scope.{moved_into_entry}
-use Rattle.rhai_run.specs.Reply.{Reply, done, mismatch, refused}
-use Rattle.rhai_run.specs.Cost.{may_make, may_want, share_cost, flatten_cost}
-use Rattle.rhai_run.specs.Outcome.{Outcome, with_value}
-use Rattle.rhai_run.specs.Change.{int_written, step_share, step_flatten, step_write_int}
+use Rattle.rhai_run.specs.Reply.{done, mismatch, refused}
+use Rattle.rhai_run.specs.Change.{step_share, step_flatten, step_write_int}
 
 -- what became of a value that was put back, by the answer of putting it back
 pub changed_ok : {X E : Type 0} (changed : Result Tree Tree) (back : Result X E) (x : X) {New Put : Tree → Type 0} → back ≡ Ok x → IfOk changed New → IfOk changed (λ d. IsOk back × Put d) → IfErr changed (λ d. IsErr back × Put d) → (d : Tree) × New d × Put d
@@ -25,24 +23,17 @@ pub changed_err : {X E : Type 0} (changed : Result Tree Tree) (back : Result X E
 changed_err (Ok d) back x e same ok err = let h = rw e at ok.0 in cc
 changed_err (Err d) back x e same ok err = (d, same, err.1)
 
--- an outcome of a value that is there
-at_value : (w : State) (i : ℕ) (go : Tree → Outcome) (t : Tree) (a : Reply) (v : State) → slice_get w.hand i ≡ Some t → (a ≡ (go t).0) × (v ≡ (go t).1) → (a ≡ (with_value w i go).0) × (v ≡ (with_value w i go).1)
-at_value w i go t a v e h = rw e h
-
 -- another value comes into a place that a value was taken from
 moved_in : (ts us : List Tree) (i : ℕ) (u d t : Tree) → d ≡ t → us ≡ slice_set (slice_set ts i u) i d → us ≡ slice_set ts i t
 moved_in ts us i u d t e h = h ∙ set-set ts i u d ∙ ap (slice_set ts i) e
 
-pub share_done : (w : State) (i : ℕ) (t u d : Tree) (s : List Cell) (ts : List Tree) → slice_get w.hand i ≡ Some t → (d ≡ shared_value w.store t) × (s ≡ shared_store w.store t) → ts ≡ slice_set (slice_set w.hand i u) i d
-    → (done ≡ (step_share w i).0) × (with_cells w s ts ≡ (step_share w i).1)
-share_done w i t u d s ts e h k =
-    at_value w i (λ x. (done, with_cells w (shared_store w.store x) (slice_set w.hand i (shared_value w.store x)))) t done (with_cells w s ts) e
-    (refl, ap₂ (with_cells w) h.1 (moved_in w.hand ts i u d (shared_value w.store t) h.0 k))
+pub share_done : (w : State) (i : ℕ) (t u d : Tree) (s : List Cell) (ts : List Tree) → slice_get w.hand i ≡ Some t → is_some (cell_of t) ≡ false → (d ≡ shared_value w.store t) × (s ≡ shared_store w.store t) → ts ≡ slice_set (slice_set w.hand i u) i d
+    → (done ≡ (step_share w i).reply) × (with_cells w s ts ≡ (step_share w i).after)
+share_done w i t u d s ts e f h k = rw e (rw f (refl, ap₂ (with_cells w) h.1 (moved_in w.hand ts i u d (shared_value w.store t) h.0 k)))
 
-pub flatten_done : (w : State) (i : ℕ) (t u d : Tree) (ts : List Tree) → slice_get w.hand i ≡ Some t → d ≡ flattened w.store t → ts ≡ slice_set (slice_set w.hand i u) i d
-    → (done ≡ (step_flatten w i).0) × (with_hand w ts ≡ (step_flatten w i).1)
-flatten_done w i t u d ts e h k =
-    at_value w i (λ x. (done, with_hand w (slice_set w.hand i (flattened w.store x)))) t done (with_hand w ts) e (refl, ap (with_hand w) (moved_in w.hand ts i u d (flattened w.store t) h k))
+pub flatten_done : (w : State) (i : ℕ) (t u d : Tree) (ts : List Tree) → slice_get w.hand i ≡ Some t → is_some (cell_of t) ≡ true → d ≡ flattened w.store t → ts ≡ slice_set (slice_set w.hand i u) i d
+    → (done ≡ (step_flatten w i).reply) × (with_hand w ts ≡ (step_flatten w i).after)
+flatten_done w i t u d ts e f h k = rw e (rw f (refl, ap (with_hand w) (moved_in w.hand ts i u d (flattened w.store t) h k)))
 
 -- a value written over itself
 pub set_own : (ts : List Tree) (i : ℕ) (t : Tree) → slice_get ts i ≡ Some t → slice_set ts i t ≡ ts
@@ -58,54 +49,31 @@ came_back w i t u d s ts e h k = ap₂ (with_cells w) h.1 (moved_in w.hand ts i 
 pub entry_came_back : (w : State) (i : ℕ) (t u d : Tree) (es : List Entry) (ts : List Tree) → slice_get w.hand i ≡ Some t → d ≡ t → es ≡ w.entries → ts ≡ slice_set (slice_set w.hand i u) i d → with_scope w es ts ≡ w
 entry_came_back w i t u d es ts e h k l = ap₂ (with_scope w) k (moved_in w.hand ts i u d t h l ∙ set_own w.hand i t e)
 
--- a value that is there refuses none of these
-pub push_wants : (mode : Tree → AccessMode) (w : State) (name : List ℕ) (i : ℕ) (t : Tree) → slice_get w.hand i ≡ Some t → may_make (moved_into_entry mode w name i).0 ≡ true
+-- where a value is there, these may want memory
+pub push_wants : (mode : Tree → AccessMode) (w : State) (name : List ℕ) (i : ℕ) (t : Tree) → slice_get w.hand i ≡ Some t → (moved_into_entry mode w name i).wants ≡ true
 push_wants mode w name i t e = rw e refl
 
-pub share_wants : (w : State) (i : ℕ) (t : Tree) → slice_get w.hand i ≡ Some t → is_some (cell_of t) ≡ false → may_want (share_cost (slice_get w.hand i)) (step_share w i).0 ≡ true
+pub share_wants : (w : State) (i : ℕ) (t : Tree) → slice_get w.hand i ≡ Some t → is_some (cell_of t) ≡ false → (step_share w i).wants ≡ true
 share_wants w i t e f = rw e (rw f refl)
 
-pub flatten_wants : (w : State) (i : ℕ) (t : Tree) → slice_get w.hand i ≡ Some t → is_some (cell_of t) ≡ true → may_want (flatten_cost (slice_get w.hand i)) (step_flatten w i).0 ≡ true
+pub flatten_wants : (w : State) (i : ℕ) (t : Tree) → slice_get w.hand i ≡ Some t → is_some (cell_of t) ≡ true → (step_flatten w i).wants ≡ true
 flatten_wants w i t e f = rw e (rw f refl)
-
--- a holder stays
-holder_stays : (s : List Cell) (t : Tree) → is_some (cell_of t) ≡ true → (shared_store s t ≡ s) × (shared_value s t ≡ t)
-holder_stays s (node (holder c) g m) f = (refl, refl)
-holder_stays s (node (leaf l) g m) f = cc
-holder_stays s (node (branch k ts) g m) f = cc
-holder_stays s (node (fields fs) g m) f = cc
-
-pub share_stays : (w : State) (i : ℕ) (t : Tree) → slice_get w.hand i ≡ Some t → is_some (cell_of t) ≡ true → (done ≡ (step_share w i).0) × (w ≡ (step_share w i).1)
-share_stays w i t e f =
-    at_value w i (λ x. (done, with_cells w (shared_store w.store x) (slice_set w.hand i (shared_value w.store x)))) t done w e
-    (refl, sym (ap₂ (with_cells w) (holder_stays w.store t f).0 (ap (slice_set w.hand i) (holder_stays w.store t f).1 ∙ set_own w.hand i t e)))
-
--- a value that is no holder stays
-own_stays : (s : List Cell) (t : Tree) → is_some (cell_of t) ≡ false → flattened s t ≡ t
-own_stays s (node (leaf l) g m) f = refl
-own_stays s (node (branch k ts) g m) f = refl
-own_stays s (node (fields fs) g m) f = refl
-own_stays s (node (holder c) g m) f = cc
-
-pub flatten_stays : (w : State) (i : ℕ) (t : Tree) → slice_get w.hand i ≡ Some t → is_some (cell_of t) ≡ false → (done ≡ (step_flatten w i).0) × (w ≡ (step_flatten w i).1)
-flatten_stays w i t e f =
-    at_value w i (λ x. (done, with_hand w (slice_set w.hand i (flattened w.store x)))) t done w e
-    (refl, sym (ap (with_hand w) (ap (slice_set w.hand i) (own_stays w.store t f) ∙ set_own w.hand i t e)))
 
 -- an int is written over the one that is held, or none is held
 pub int_done : (w : State) (i : ℕ) (n : ℤ) (t d : Tree) (s : List Cell) → slice_get w.hand i ≡ Some t → is_some (held_part int_of (end w.store [] t)) ≡ true
     → (d ≡ value_after (with_int n) (end w.store [] t) t) × (s ≡ store_after (with_int n) (end w.store [] t) w.store)
-    → (done ≡ (step_write_int w i n).0) × (with_cells w s (slice_set w.hand i d) ≡ (step_write_int w i n).1)
-int_done w i n t d s e f h =
-    at_value w i (λ x. int_written w i n x (end w.store [] x)) t done (with_cells w s (slice_set w.hand i d)) e
-    (rw f (refl, ap₂ (λ c x. with_cells w c (slice_set w.hand i x)) h.1 h.0))
+    → (done ≡ (step_write_int w i n).reply) × (with_cells w s (slice_set w.hand i d) ≡ (step_write_int w i n).after)
+int_done w i n t d s e f h = rw e (rw f (refl, ap₂ (λ c x. with_cells w c (slice_set w.hand i x)) h.1 h.0))
 
 pub int_refused : (w : State) (i : ℕ) (n : ℤ) (t d : Tree) (s : List Cell) (name : List ℕ) → slice_get w.hand i ≡ Some t → is_some (held_part int_of (end w.store [] t)) ≡ false
     → (d ≡ t) × (s ≡ w.store) → name ≡ end_name (end w.store [] t)
-    → (refused (mismatch name) ≡ (step_write_int w i n).0) × (with_cells w s (slice_set w.hand i d) ≡ (step_write_int w i n).1)
+    → (refused (mismatch name) ≡ (step_write_int w i n).reply) × (with_cells w s (slice_set w.hand i d) ≡ (step_write_int w i n).after)
 int_refused w i n t d s name e f h k =
-    at_value w i (λ x. int_written w i n x (end w.store [] x)) t (refused (mismatch name)) (with_cells w s (slice_set w.hand i d)) e
-    (rw f (ap (λ x. refused (mismatch x)) k, ap₂ (λ c x. with_cells w c (slice_set w.hand i x)) h.1 h.0 ∙ ap (with_cells w w.store) (set_own w.hand i t e)))
+    rw e (rw f (ap (λ x. refused (mismatch x)) k, ap₂ (λ c x. with_cells w c (slice_set w.hand i x)) h.1 h.0 ∙ ap (with_cells w w.store) (set_own w.hand i t e)))
+
+-- the value that was looked at in one of two equal states is the one that was taken from the other
+pub same_value : (w v : State) (i : ℕ) (t u : Tree) → w ≡ v → slice_get v.hand i ≡ Some t → slice_get w.hand i ≡ Some u → t ≡ u
+same_value w v i t u e f g = same_Some t u (sym f ∙ ap (λ (s : State). slice_get s.hand i) (sym e) ∙ g)
 
 -- a hand position with a value
 pub hand_within : (w v : State) (i : ℕ) (t : Tree) → w ≡ v → slice_get w.hand i ≡ Some t → i < length v.hand

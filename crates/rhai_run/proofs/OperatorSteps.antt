@@ -12,6 +12,7 @@ use Rattle.rhai_ops.proofs.ForCallers.{same_row, same_assign_row, same_outcome, 
 use Rattle.rhai_value.proofs.ForCallers.{same_first, zip_set}
 use Rattle.rhai_run.specs.declared.command.Place.{Place}
 use Rattle.rhai_run.specs.Change.{nowhere}
+use Rattle.rhai_run.specs.Outcome.{growing}
 use Rattle.rhai_run.specs.State.{State}
 use Rattle.rhai_run.specs.Reply.{done, refused, no_builtin, same_value, fault, arithmetic, data_race, too_large}
 use Rattle.rhai_run.specs.Operators.{assigned, called, step_assign, step_binary}
@@ -20,7 +21,7 @@ use Rattle.rhai_run.proofs.Outcome.{Matches, alike_same, m_stays, m_unless, m_gi
 use Rattle.rhai_run.proofs.PlaceSteps.{hand_states, m_place_and, m_put, m_with_hand}
 
 module _ (r : Renaming) (w v : State) (h : RelatedStates r w v) where
-  same_called : (f g : Tree → State) (o p : call.Outcome) → RelatedOutcomes r o p → ((t u : Tree) → o ≡ call.answers t → p ≡ call.answers u → Related r t u → Matches r w v (done, f t) (done, g u))
+  same_called : (f g : Tree → State) (o p : call.Outcome) → RelatedOutcomes r o p → ((t u : Tree) → o ≡ call.answers t → p ≡ call.answers u → Related r t u → Matches r w v (growing done (f t)) (growing done (g u)))
       → Matches r w v (called w f o) (called v g p)
   same_called f g (call.answers t) (call.answers u) e m = m t u refl refl e
   same_called f g (call.fault a) (call.fault b) e m = m_stays r w v h _ _ (ap (λ x. refused (fault (arithmetic x no_place))) e)
@@ -67,3 +68,6 @@ module _ (r : Renaming) (w v : State) (h : RelatedStates r w v) where
       m_unless r w v h same_value _ _ _ _ refl (m_given r w v h (Related r) (fault (data_race nowhere)) _ _ _ _ (same_first r w.store v.store h.cells t u e) (λ a b k.
       m_given r w v h (λ c c'. c ≡ c') no_builtin _ _ _ _ (alike_same _ _ (same_assign_row r w.store v.store h.one h.cells a b x y k d op)) (λ row row' same.
       same_assigned p j row row' _ _ t u x y same (same_comes t u x y e d row row' same) e d))))
+
+-- the steps of this file
+pub ruleset operator_steps = (same_binary, same_assign)

@@ -11,7 +11,7 @@ use Rattle.rhai_scope.specs.Entry.{Entry}
 use Rattle.rhai_run.specs.Fits.{MarksAre}
 use Rattle.rhai_run.specs.State.{State, with_hand, with_entries, with_scope, with_cells, appended, moved_from, last_values, values_before}
 use Rattle.rhai_run.specs.Reply.{Reply, done, refused, Reason, no_value, same_value}
-use Rattle.rhai_run.specs.Outcome.{Outcome, refuse, unless, given, with_value, with_two, answered, replaced, gathered, taken_off}
+use Rattle.rhai_run.specs.Outcome.{Outcome, growing_if, unless, given, with_value, with_two, replaced, gathered, taken_off}
 use Rattle.rhai_scope.specs.Relation.{RelatedEntry}
 use Rattle.rhai_run.specs.Correspondence.{RelatedStates, grown}
 
@@ -25,12 +25,12 @@ same_marked s z ms e h = λ c. h c ∙ ap (λ b. cond b 1 0) (sym (e c))
 
 -- Equal answers and as many new cells; the states after it are the same up to the grown renaming, and marks stay the marked cells.
 pub record Matches (r : Renaming) (w v : State) (o p : Outcome) : Type 0 where
-  pub reply : o.0 ≡ p.0
+  pub reply : o.reply ≡ p.reply
   pub made : ℕ
-  pub first : length o.1.store ≡ length w.store + made
-  pub second : length p.1.store ≡ length v.store + made
-  pub after : RelatedStates (grown r w v made) o.1 p.1
-  pub keeps : Keeps w o.1
+  pub first : length o.after.store ≡ length w.store + made
+  pub second : length p.after.store ≡ length v.store + made
+  pub after : RelatedStates (grown r w v made) o.after p.after
+  pub keeps : Keeps w o.after
 
 -- lists without their last items
 pub same_without_last : {X : Type 0} (R : X → X → Type 0) (xs ys : List X) → AllZip R xs ys → AllZip R (take (length xs - 1) xs) (take (length ys - 1) ys)
@@ -45,18 +45,22 @@ alike_same (Some a) None e = cc
 
 module _ (r : Renaming) (w v : State) (h : RelatedStates r w v) where
   -- no cell is made
-  pub no_cell : (x y : State) (a b : Reply) → a ≡ b → length x.store ≡ length w.store → length y.store ≡ length v.store → RelatedStates r x y → Keeps w x → Matches r w v (a, x) (b, y)
+  pub no_cell : {c d : Bool} (x y : State) (a b : Reply) → a ≡ b → length x.store ≡ length w.store → length y.store ≡ length v.store → RelatedStates r x y → Keeps w x → Matches r w v (growing_if c a x) (growing_if d b y)
   no_cell x y a b e f g s k = record { reply = e; made = 0; first = omega arith; second = omega arith; after = subst (λ q. RelatedStates q x y) (sym (append-nil r)) s; keeps = k }
 
   -- nothing changes
-  pub m_stays : (a b : Reply) → a ≡ b → Matches r w v (a, w) (b, v)
+  pub m_stays : {c d : Bool} (a b : Reply) → a ≡ b → Matches r w v (growing_if c a w) (growing_if d b v)
   m_stays a b e = no_cell w v a b e refl refl h (λ k. k)
 
+  -- two ways, by a test that has the same answer in both states
+  pub m_either : (b d : Bool) {o p q s : Outcome} → b ≡ d → Matches r w v o p → Matches r w v q s → Matches r w v (cond b o q) (cond d p s)
+  m_either true true e m n = m
+  m_either false false e m n = n
+  m_either true false e m n = cc
+  m_either false true e m n = cc
+
   pub m_unless : (why : Reason) (b d : Bool) (o p : Outcome) → b ≡ d → Matches r w v o p → Matches r w v (unless b why w o) (unless d why v p)
-  m_unless why true true o p e k = m_stays (refused why) (refused why) refl
-  m_unless why false false o p e k = k
-  m_unless why true false o p e k = cc
-  m_unless why false true o p e k = cc
+  m_unless why b d o p e k = m_either b d e (m_stays (refused why) (refused why) refl) k
 
   -- something that is there in both states
   pub m_there : {X : Type 0} (R : X → X → Type 0) (why : Reason) (o p : Option X) (f g : X → Outcome) → Alike R o p → ((t u : X) → o ≡ Some t → R t u → Matches r w v (f t) (g u)) → Matches r w v (given o why w f) (given p why v g)
@@ -74,22 +78,19 @@ module _ (r : Renaming) (w v : State) (h : RelatedStates r w v) where
   pub m_two : (i j : ℕ) (f g : Tree → Tree → Outcome) → ((t u x y : Tree) → Related r t u → Related r x y → Matches r w v (f t x) (g u y)) → Matches r w v (with_two w i j f) (with_two v i j g)
   m_two i j f g k = m_value i _ _ (λ t u e. m_value j _ _ (λ x y d. m_unless same_value (nat_eq i j) (nat_eq i j) _ _ refl (k t u x y e d)))
 
-  pub m_answered : (i : ℕ) (f g : Tree → Reply) → ((t u : Tree) → Related r t u → f t ≡ g u) → Matches r w v (answered w i f) (answered v i g)
-  m_answered i f g k = m_value i _ _ (λ t u e. m_stays (f t) (g u) (k t u e))
-
   -- another hand, other entries
-  pub m_hand : (ts us : List Tree) → AllZip (Related r) ts us → Matches r w v (done, with_hand w ts) (done, with_hand v us)
+  pub m_hand : {c d : Bool} (ts us : List Tree) → AllZip (Related r) ts us → Matches r w v (growing_if c done (with_hand w ts)) (growing_if d done (with_hand v us))
   m_hand ts us e = no_cell _ _ done done refl refl refl (record { one = h.one; cells = h.cells; entries = h.entries; marks = h.marks; hand = e; limits = h.limits }) (λ k. k)
 
-  pub m_entries : (es fs : List Entry) → AllZip (RelatedEntry r) es fs → Matches r w v (done, with_entries w es) (done, with_entries v fs)
+  pub m_entries : {c d : Bool} (es fs : List Entry) → AllZip (RelatedEntry r) es fs → Matches r w v (growing_if c done (with_entries w es)) (growing_if d done (with_entries v fs))
   m_entries es fs e = no_cell _ _ done done refl refl refl (record { one = h.one; cells = h.cells; entries = e; marks = h.marks; hand = h.hand; limits = h.limits }) (λ k. k)
 
-  pub m_scope : (es fs : List Entry) (ts us : List Tree) → AllZip (RelatedEntry r) es fs → AllZip (Related r) ts us → Matches r w v (done, with_scope w es ts) (done, with_scope v fs us)
+  pub m_scope : {c d : Bool} (es fs : List Entry) (ts us : List Tree) → AllZip (RelatedEntry r) es fs → AllZip (Related r) ts us → Matches r w v (growing_if c done (with_scope w es ts)) (growing_if d done (with_scope v fs us))
   m_scope es fs ts us e d = no_cell _ _ done done refl refl refl (record { one = h.one; cells = h.cells; entries = e; marks = h.marks; hand = d; limits = h.limits }) (λ k. k)
 
   -- another store of as many cells and the same marks, and another hand
-  pub m_cells : (s z : List Cell) (ts us : List Tree) → length s ≡ length w.store → length z ≡ length v.store → ((c : ℕ) → is_marked_at s c ≡ is_marked_at w.store c) → RelatedCells r s z → AllZip (Related r) ts us
-      → Matches r w v (done, with_cells w s ts) (done, with_cells v z us)
+  pub m_cells : {a b : Bool} (s z : List Cell) (ts us : List Tree) → length s ≡ length w.store → length z ≡ length v.store → ((c : ℕ) → is_marked_at s c ≡ is_marked_at w.store c) → RelatedCells r s z → AllZip (Related r) ts us
+      → Matches r w v (growing_if a done (with_cells w s ts)) (growing_if b done (with_cells v z us))
   m_cells s z ts us f g m c e =
       no_cell _ _ done done refl f g (record { one = h.one; cells = c; entries = h.entries; marks = h.marks; hand = e; limits = h.limits }) (same_marked w.store s w.marks m)
 
@@ -100,7 +101,7 @@ module _ (r : Renaming) (w v : State) (h : RelatedStates r w v) where
   pub moved_hand : (i : ℕ) → AllZip (Related r) (moved_from w.hand i) (moved_from v.hand i)
   moved_hand i = set_hand i (fresh unit) (fresh unit) (refl, refl, refl)
 
-  pub m_appended : (t u : Tree) → Related r t u → Matches r w v (done, appended w t) (done, appended v u)
+  pub m_appended : {c d : Bool} (t u : Tree) → Related r t u → Matches r w v (growing_if c done (appended w t)) (growing_if d done (appended v u))
   m_appended t u e = m_hand _ _ (zip_append (Related r) w.hand (t ∷ []) v.hand (u ∷ []) h.hand (e, tt))
 
   pub m_replaced : (i : ℕ) (f g : Tree → Tree) → ((t u : Tree) → Related r t u → Related r (f t) (g u)) → Matches r w v (replaced w i f) (replaced v i g)
@@ -114,13 +115,7 @@ module _ (r : Renaming) (w v : State) (h : RelatedStates r w v) where
       subst (λ m. AllZip (Related r) (last_values n w.hand) (drop (m - n) v.hand)) long (zip_drop (Related r) (length w.hand - n) w.hand v.hand h.hand) in
       let before : AllZip (Related r) (values_before n w.hand) (values_before n v.hand) =
       subst (λ m. AllZip (Related r) (values_before n w.hand) (take (m - n) v.hand)) long (zip_take (Related r) (length w.hand - n) w.hand v.hand h.hand) in
-      by (nat_le n (length w.hand)) (nat_le n (length v.hand)) (ap (nat_le n) long) (k _ _ _ _ before last)
-    where
-      by : (b d : Bool) {o p : Outcome} → b ≡ d → Matches r w v o p → Matches r w v (cond b o (refuse no_value w)) (cond d p (refuse no_value v))
-      by true true e m = m
-      by false false e m = m_stays (refused no_value) (refused no_value) refl
-      by true false e m = cc
-      by false true e m = cc
+      m_either (nat_le n (length w.hand)) (nat_le n (length v.hand)) (ap (nat_le n) long) (k _ _ _ _ before last) (m_stays (refused no_value) (refused no_value) refl)
 
   pub m_gathered : (n : ℕ) (make : List Tree → Tree) → ((ts us : List Tree) → AllZip (Related r) ts us → Related r (make ts) (make us)) → Matches r w v (gathered w n make) (gathered v n make)
-  m_gathered n make k = m_taken_off n _ _ (λ ts us xs ys before last. m_hand _ _ (zip_append (Related r) ts (make xs ∷ []) us (make ys ∷ []) before (k xs ys last, tt)))
+  m_gathered n make k = m_taken_off n _ _ (λ ts us xs ys before last. m_hand {c = true} {d = true} _ _ (zip_append (Related r) ts (make xs ∷ []) us (make ys ∷ []) before (k xs ys last, tt)))

@@ -12,7 +12,7 @@ use Rattle.rhai_scope.proofs.ForCallers.{same_last_entry, same_constant, same_ch
 use Rattle.rhai_run.specs.declared.command.Place.{Place}
 use Rattle.rhai_run.specs.declared.command.Place.TheVariants as place
 use Rattle.rhai_run.specs.Correspondence.{RelatedStates}
-use Rattle.rhai_run.specs.Outcome.{Outcome}
+use Rattle.rhai_run.specs.Outcome.{Outcome, growing_if}
 use Rattle.rhai_run.specs.Places.{value_found, entry_found, source, found, with_place, is_beyond, with_place_and, put_at}
 use Rattle.rhai_run.specs.Reply.{Reason, done, refused, no_value, constant_entry}
 use Rattle.rhai_run.specs.State.{State, with_hand}
@@ -67,8 +67,8 @@ module _ (r : Renaming) (w v : State) (h : RelatedStates r w v) where
       m_unless r w v h no_value _ _ _ _ (same_beyond p) (m_value r w v h j _ _ (λ x y d. m_place p _ _ (λ t u e. k t u x y e d)))
 
   -- another store of as many cells and the same marks, and another value at a place
-  pub m_put : (p : Place) (s z : List Cell) (t u : Tree) → length s ≡ length w.store → length z ≡ length v.store → ((c : ℕ) → is_marked_at s c ≡ is_marked_at w.store c)
-      → RelatedCells r s z → Related r t u → Matches r w v (done, put_at w s p t) (done, put_at v z p u)
+  pub m_put : {a b : Bool} (p : Place) (s z : List Cell) (t u : Tree) → length s ≡ length w.store → length z ≡ length v.store → ((c : ℕ) → is_marked_at s c ≡ is_marked_at w.store c)
+      → RelatedCells r s z → Related r t u → Matches r w v (growing_if a done (put_at w s p t)) (growing_if b done (put_at v z p u))
   m_put (place.Hand i) s z t u f g m c e = m_cells r w v h s z _ _ f g m c (set_hand r w v h i t u e)
   m_put (place.Entry name) s z t u f g m c e =
       no_cell r w v h _ _ done done refl f g

@@ -6,7 +6,7 @@ use Rattle.rhai_scope.specs.Entry.{Entry, is_constant_entry, with_value as holdi
 use Rattle.rhai_scope.specs.Lookup.{changed_if, last_position, unless_constant, value_at, with_value_at, writable_position}
 use Rattle.rhai_run.specs.declared.command.Place.{Place}
 use Rattle.rhai_run.specs.declared.command.Place.TheVariants as place
-use Rattle.rhai_run.specs.declared.places.Places.{Places}
+use Rattle.rhai_run.specs.declared.lent.Places.{Places}
 use Rattle.rhai_run.specs.Lent.{lent, placed}
 use Rattle.rhai_run.specs.Places.{value_found, entry_found, source}
 use Rattle.rhai_run.proofs.Moves.{set_own}

@@ -55,3 +55,6 @@ module _ (r : Renaming) (w v : State) (h : RelatedStates r w v) where
       no_cell r w v h _ _ _ _ (ap (λ x. number (pos x.visits)) o.0) refl refl
       (record { one = h.one; cells = h.cells; entries = h.entries; marks = h.marks; hand = set_hand r w v h i _ _ o.1; limits = h.limits })
       (λ m. m))
+
+-- the steps of this file
+pub ruleset scan_steps = (same_scan_step)

@@ -42,19 +42,22 @@ module _ (r : Renaming) (w v : State) (h : RelatedStates r w v) where
   m_lacking None (Some other) o p e m = cc
   m_lacking (Some why) None o p e m = cc
 
-  m_changed : (p : Place) (c d : Change) (t u : Tree) (wants held held' : List ℕ) → Alike (Respect r) c d → Related r t u → held ≡ held'
-      → Matches r w v (changed_or_refused w p c t wants held) (changed_or_refused v p d u wants held')
-  m_changed p None None t u wants held held' a e k = m_stays r w v h _ _ (ap (λ x. refused (fault (wrong_type wants x nowhere))) k)
-  m_changed p (Some f) (Some g) t u wants held held' a e k =
+  m_changed : (p : Place) (q : Piece) (c d : Change) (t u : Tree) (held held' : List ℕ) → Alike (Respect r) c d → Related r t u → held ≡ held'
+      → Matches r w v (changed_or_refused w p q c t held) (changed_or_refused v p q d u held')
+  m_changed p q None None t u held held' a e k = m_stays r w v h _ _ (ap (λ x. refused (fault (wrong_type (wanted q) x nowhere))) k)
+  m_changed p q (Some f) (Some g) t u held held' a e k =
       let ends = same_end r w.store v.store t u h.one h.cells e in
       m_put r w v h p _ _ _ _ (length_changed (Some f) (end w.store [] t) w.store) (length_changed (Some g) (end v.store [] u) v.store) (marked_changed (Some f) (end w.store [] t) w.store)
       (same_store_changed r (Some f) (Some g) w.store v.store (end w.store [] t) (end v.store [] u) a h.one h.cells ends)
       (same_value_changed r (Some f) (Some g) t u (end w.store [] t) (end v.store [] u) a e ends)
-  m_changed p None (Some g) t u wants held held' a e k = absurd a
-  m_changed p (Some f) None t u wants held held' a e k = absurd a
+  m_changed p q None (Some g) t u held held' a e k = absurd a
+  m_changed p q (Some f) None t u held held' a e k = absurd a
 
   pub same_write_back : (p : Place) (k : Piece) (j : ℕ) → Matches r w v (step_write_back w p k j) (step_write_back v p k j)
   same_write_back p k j =
       m_place_and r w v h p j _ _ (λ t u x y e d.
       m_lacking _ _ _ _ (same_lack k (end w.store [] t) (end v.store [] u) (same_end r w.store v.store t u h.one h.cells e))
-      (m_changed p _ _ t u (wanted k) _ _ (same_change k t u x y e d) e (ap type_name (same_end_type r (end w.store [] x) (end v.store [] y) (same_end r w.store v.store x y h.one h.cells d)))))
+      (m_changed p k _ _ t u _ _ (same_change k t u x y e d) e (ap type_name (same_end_type r (end w.store [] x) (end v.store [] y) (same_end r w.store v.store x y h.one h.cells d)))))
+
+-- the steps of this file
+pub ruleset write_back_steps = (same_write_back)

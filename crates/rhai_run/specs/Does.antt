@@ -8,31 +8,24 @@ use Rattle.rhai_text.specs.declared.error.EvalAltResult.TheVariants as error
 use Rattle.rhai_value.specs.Tree.{Tree}
 use Rattle.rhai_run.specs.declared.answer.Refusal.TheVariants.{Fault}
 use Rattle.rhai_run.specs.State.{State, appended}
-use Rattle.rhai_run.specs.Reply.{Reason, Reply, done, refused, reason_of, reply_of}
-use Rattle.rhai_run.specs.Outcome.{Outcome}
+use Rattle.rhai_run.specs.Reply.{Reason, done, refused, reason_of, reply_of}
+use Rattle.rhai_run.specs.Outcome.{Outcome, growing, refuse}
 use Rattle.rhai_run.specs.Entries.{appended_or_nothing}
-use Rattle.rhai_run.specs.Cost.{Cost, may_make, may_want}
 
--- The answer or the refusal is this reply; or memory was refused where it may be wanted.
-abbrev pub Tells : Cost → Result Answer NotDone → Reply → Type 0
-Tells k (Ok a) reply = reply_of a ≡ reply
-Tells k (Err (Refused why)) reply = refused (reason_of why) ≡ reply
-Tells k (Err Memory) reply = may_want k reply ≡ true
-
--- Not done: that is the refusal, and nothing has changed; or memory was refused, and the outcome is that something is made.
+-- Not done: that is the refusal, and nothing has changed; or memory was refused where it may be wanted.
 abbrev pub IsError : NotDone → State → Outcome → Type 0
-IsError (Refused why) w o = o ≡ (refused (reason_of why), w)
-IsError Memory w o = may_make o.0 ≡ true
+IsError (Refused why) w o = o ≡ refuse (reason_of why) w
+IsError Memory w o = o.wants ≡ true
 
 -- A value is made, and the outcome is that it stands at the end of the hand; or it isn't.
 abbrev pub Gives : Result Tree NotDone → State → Outcome → Type 0
-Gives (Ok t) w o = o ≡ (done, appended w t)
+Gives (Ok t) w o = o ≡ growing done (appended w t)
 Gives (Err e) w o = IsError e w o
 
 -- The same where a value may be found: the outcome is that it stands at the end of the hand, if there is one.
-abbrev pub Finds : Result (Option Tree) NotDone → State → Outcome → Type 0
-Finds (Ok o) w x = x ≡ appended_or_nothing w o
-Finds (Err e) w x = IsError e w x
+abbrev pub GivesIfAny : Result (Option Tree) NotDone → State → Outcome → Type 0
+GivesIfAny (Ok o) w x = x ≡ appended_or_nothing w o
+GivesIfAny (Err e) w x = IsError e w x
 
 -- a test that refuses for this reason, if there is one, and takes no memory
 abbrev pub Tests : {X : Type 0} → Result X NotDone → Option Reason → Type 0
@@ -55,15 +48,11 @@ not_done_of (error.ErrorMemory e) = Memory
 
 -- A call is done, and this is the outcome; or its error is that of the outcome, and nothing has changed.
 abbrev pub Calls : Result Tree EvalAltResult → State → State → Outcome → Type 0
-Calls (Ok t) w v o = o ≡ (done, v)
+Calls (Ok t) w v o = o ≡ growing done v
 Calls (Err e) w v o = IsError (not_done_of e) w o × (v ≡ w)
 
--- the state after it is this one; where memory was refused it is as before
-abbrev pub Leaves : Result Answer NotDone → State → State → State → Type 0
-Leaves (Ok a) old new after = new ≡ after
-Leaves (Err (Refused why)) old new after = new ≡ after
-Leaves (Err Memory) old new after = new ≡ old
-
--- a command of this cost has this outcome, or has wanted memory and changed nothing
-abbrev pub Does : Cost → Result Answer NotDone → State → State → Outcome → Type 0
-Does k result old new o = Tells k result o.0 × Leaves result old new o.1
+-- The answer or the refusal is that of the outcome, and so is the state; or memory was refused where it may be wanted, and nothing has changed.
+abbrev pub Does : Result Answer NotDone → State → State → Outcome → Type 0
+Does (Ok a) old new o = (reply_of a ≡ o.reply) × (new ≡ o.after)
+Does (Err (Refused why)) old new o = (refused (reason_of why) ≡ o.reply) × (new ≡ o.after)
+Does (Err Memory) old new o = (o.wants ≡ true) × (new ≡ old)

@@ -5,10 +5,10 @@ use mir.Syntax.{named}
 use denote.RattleType.{RattleType}
 use Rattle.rhai_value.specs.Tree.{Tree}
 use Rattle.rhai_scope.specs.Lookup.{value_at, with_value_at, writable_position}
-use Rattle.rhai_run.specs.contracts.places.Places as places
+use Rattle.rhai_run.specs.contracts.lent.Places as places
 use Rattle.rhai_run.specs.declared.command.Place.{Place}
 use Rattle.rhai_run.specs.declared.command.Place.TheVariants as place
-use Rattle.rhai_run.specs.declared.places.Places.{Places}
+use Rattle.rhai_run.specs.declared.lent.Places.{Places}
 
 -- the value at a place
 abbrev pub lent : Places → Place → Option Tree

@@ -21,7 +21,6 @@ pub mod Scope
 pub mod Entries
 pub mod Ask
 pub mod Step
-pub mod Cost
 pub mod Machine
 pub mod Operators
 pub mod Fits

@@ -12,7 +12,7 @@ use Rattle.rhai_value.specs.End.{first}
 use Rattle.rhai_value.specs.Tree.{Tree, fresh, unit}
 use Rattle.rhai_run.specs.State.{State, with_hand, appended}
 use Rattle.rhai_run.specs.Reply.{reason_of, done, same_value, no_builtin, fault, data_race, arithmetic, too_large}
-use Rattle.rhai_run.specs.Outcome.{Outcome, refuse, unless, given, with_value, with_two}
+use Rattle.rhai_run.specs.Outcome.{Outcome, growing, refuse, unless, given, with_value, with_two}
 use Rattle.rhai_run.specs.declared.command.Place.{Place}
 use Rattle.rhai_run.specs.declared.not_done.NotDone.{NotDone}
 use Rattle.rhai_run.specs.declared.not_done.NotDone.TheVariants.{Refused, Memory}
@@ -25,7 +25,7 @@ value_at ts i = slice_index_or ts i (fresh unit)
 
 -- what a row comes to: its value, of which a state is made, or its fault; a row that was looked up suits its operands
 abbrev pub called : State → (Tree → State) → call.Outcome → Outcome
-called w after (call.answers t) = (done, after t)
+called w after (call.answers t) = growing done (after t)
 called w after (call.fault f) = refuse (fault (arithmetic f no_place)) w
 called w after (call.too_large k) = refuse (fault (too_large k no_place)) w
 called w after call.unsuited = refuse no_builtin w

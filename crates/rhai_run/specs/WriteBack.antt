@@ -1,4 +1,4 @@
--- Steps that write back one part of a value, and what it costs.
+-- Steps that write back one part of a value.
 use Rattle.std.specs.Prelude.{◌≡◌, ℕ, ℤ, Bool, true, false, nat_lt, if◌then◌else◌, List, [], length, codes, Option, Some, None, is_some, Result, Ok, Err}
 use Rattle.rhai_value.specs.declared.store.Cell.{Cell}
 use Rattle.rhai_value.specs.Tree.{Tree}
@@ -12,7 +12,7 @@ use Rattle.rhai_run.specs.declared.pieces.Piece.{Piece}
 use Rattle.rhai_run.specs.declared.pieces.Piece.TheVariants as piece
 use Rattle.rhai_run.specs.State.{State}
 use Rattle.rhai_run.specs.Reply.{Reason, reason_of, done, wrong_source, bit_place, byte_place, fault, wrong_type}
-use Rattle.rhai_run.specs.Outcome.{Outcome, refuse}
+use Rattle.rhai_run.specs.Outcome.{Outcome, growing_if, refuse}
 use Rattle.rhai_run.specs.Change.{nowhere}
 use Rattle.rhai_run.specs.Places.{with_place_and, put_at}
 
@@ -77,9 +77,9 @@ abbrev pub changed_by : State → Place → Change → Tree → State
 changed_by w place c t = put_at w (store_changed c (end w.store [] t) w.store) place (value_changed c (end w.store [] t) t)
 
 -- the same, or the refusal of a working value of another type
-abbrev pub changed_or_refused : State → Place → Change → Tree → List ℕ → List ℕ → Outcome
-changed_or_refused w place None t type held = refuse (fault (wrong_type type held nowhere)) w
-changed_or_refused w place (Some f) t type held = (done, changed_by w place (Some f) t)
+abbrev pub changed_or_refused : State → Place → Piece → Change → Tree → List ℕ → Outcome
+changed_or_refused w place p None t held = refuse (fault (wrong_type (wanted p) held nowhere)) w
+changed_or_refused w place p (Some f) t held = growing_if (makes_text p) done (changed_by w place (Some f) t)
 
 -- what is done where nothing is lacking
 abbrev pub lacking : Option Reason → State → Outcome → Outcome
@@ -89,7 +89,7 @@ lacking (Some why) w o = refuse why w
 -- the working value u is written to a piece of the value t
 abbrev pub written_back : State → Place → Piece → Tree → Tree → Outcome
 written_back w place p t u =
-    lacking (lack p (end w.store [] t)) w (changed_or_refused w place (change p w.store t u) t (wanted p) (end_name (end w.store [] u)))
+    lacking (lack p (end w.store [] t)) w (changed_or_refused w place p (change p w.store t u) t (end_name (end w.store [] u)))
 
 abbrev pub step_write_back : State → Place → Piece → ℕ → Outcome
 step_write_back w place p j = with_place_and w place j (λ t u. written_back w place p t u)

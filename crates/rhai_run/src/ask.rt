@@ -1,11 +1,10 @@
 //! Commands that tell of a value.
-ghost use Rattle.std.specs.Prelude.{◌≡◌, IfOk, slice_get};
+ghost use Rattle.std.specs.Prelude.{◌≡◌, IfOk};
 ghost use Rattle.std.specs.Str.{chars};
 ghost use Rattle.rhai_show.specs.declared.form.Form.TheVariants.{Display, Debug};
 ghost use Rattle.rhai_run.specs.Ask.{asked, step_ask, step_show, step_hash};
-ghost use Rattle.rhai_run.specs.Cost.{keeps_all, hash_cost, question_cost};
 ghost use Rattle.rhai_run.specs.Reply.{reply_of, told as a_text};
-ghost use Rattle.rhai_run.specs.Does.{Does, Tells};
+ghost use Rattle.rhai_run.specs.Does.{Does};
 
 use crate::answer::{Answer, Refusal};
 use crate::cast::is_value_of;
@@ -13,26 +12,26 @@ use crate::command::Question;
 use crate::desk::Desk;
 use crate::not_done::NotDone;
 use rhai_show::{debug_text, display_text, hashed, is_hashable};
-use rhai_value::{Dynamic, Store};
+use rhai_value::Dynamic;
 use std::alloc::{AllocError, Global};
 
 impl Desk {
     pub(crate) fn show(&self, i: usize) -> Result<Answer, NotDone>
-        ensures { Does keeps_all result self.now self.now (step_show Display self.now i) }
+        ensures { Does result self.now self.now (step_show Display self.now i) }
     {
         let text = display_text(self.alloc, self.value(i)?, &self.store)?;
         Ok(Answer::Text(text))
     }
 
     pub(crate) fn debug(&self, i: usize) -> Result<Answer, NotDone>
-        ensures { Does keeps_all result self.now self.now (step_show Debug self.now i) }
+        ensures { Does result self.now self.now (step_show Debug self.now i) }
     {
         let text = debug_text(self.alloc, self.value(i)?, &self.store)?;
         Ok(Answer::Text(text))
     }
 
     pub(crate) fn hash(&self, i: usize) -> Result<Answer, NotDone>
-        ensures { Does (hash_cost (slice_get self.now.hand i)) result self.now self.now (step_hash self.now i) }
+        ensures { Does result self.now self.now (step_hash self.now i) }
     {
         match hashed(self.alloc, self.value(i)?, &self.store)? {
             None => Err(NotDone::Refused(Refusal::NotHashable)),
@@ -41,45 +40,41 @@ impl Desk {
     }
 
     pub(crate) fn ask(&self, i: usize, question: &Question) -> Result<Answer, NotDone>
-        ensures { Does (question_cost question.now) result self.now self.now (step_ask self.now i question.now) }
+        ensures { Does result self.now self.now (step_ask self.now i question.now) }
     {
-        answer_to(self.alloc, self.value(i)?, &self.store, question)
+        self.answer_to(self.value(i)?, question)
     }
-}
 
-fn answer_to(
-    alloc: Global,
-    value: &Dynamic,
-    s: &Store,
-    question: &Question,
-) -> Result<Answer, NotDone>
-    ensures { Tells (question_cost question.now) result (asked s.now value.now question.now) }
-{
-    match question {
-        Question::Tag => Ok(Answer::Int(i128::from(value.tag()))),
-        Question::Variant => Ok(Answer::Bool(value.is_variant())),
-        Question::Shared => Ok(Answer::Bool(value.is_shared())),
-        Question::ReadOnly => Ok(Answer::Bool(value.is_read_only(s))),
-        Question::Locked => Ok(Answer::Bool(value.is_locked(s))),
-        Question::TypeName => Ok(told(alloc, value.type_name(s))?),
-        Question::Held(kind) => Ok(Answer::Bool(value.type_id(s) == *kind)),
-        Question::Hashable => Ok(Answer::Bool(is_hashable(alloc, value, s)?)),
-        Question::Is(kind) => Ok(Answer::Bool(is_value_of(value, s, *kind))),
-        Question::Unit => {
-            value.as_unit(s).map_err(Refusal::Mismatch)?;
-            Ok(Answer::Done)
-        }
-        Question::Int => {
-            let int = value.as_int(s).map_err(Refusal::Mismatch)?;
-            Ok(Answer::Int(i128::from(int)))
-        }
-        Question::Bool => {
-            let truth = value.as_bool(s).map_err(Refusal::Mismatch)?;
-            Ok(Answer::Bool(truth))
-        }
-        Question::Char => {
-            let character = value.as_char(s).map_err(Refusal::Mismatch)?;
-            Ok(told(alloc, character.encode_utf8(&mut [0; 4]))?)
+    fn answer_to(&self, value: &Dynamic, question: &Question) -> Result<Answer, NotDone>
+        ensures { Does result self.now self.now (asked self.now value.now question.now) }
+    {
+        let s = &self.store;
+        match question {
+            Question::Tag => Ok(Answer::Int(i128::from(value.tag()))),
+            Question::Variant => Ok(Answer::Bool(value.is_variant())),
+            Question::Shared => Ok(Answer::Bool(value.is_shared())),
+            Question::ReadOnly => Ok(Answer::Bool(value.is_read_only(s))),
+            Question::Locked => Ok(Answer::Bool(value.is_locked(s))),
+            Question::TypeName => Ok(told(self.alloc, value.type_name(s))?),
+            Question::Held(kind) => Ok(Answer::Bool(value.type_id(s) == *kind)),
+            Question::Hashable => Ok(Answer::Bool(is_hashable(self.alloc, value, s)?)),
+            Question::Is(kind) => Ok(Answer::Bool(is_value_of(value, s, *kind))),
+            Question::Unit => {
+                value.as_unit(s).map_err(Refusal::Mismatch)?;
+                Ok(Answer::Done)
+            }
+            Question::Int => {
+                let int = value.as_int(s).map_err(Refusal::Mismatch)?;
+                Ok(Answer::Int(i128::from(int)))
+            }
+            Question::Bool => {
+                let truth = value.as_bool(s).map_err(Refusal::Mismatch)?;
+                Ok(Answer::Bool(truth))
+            }
+            Question::Char => {
+                let character = value.as_char(s).map_err(Refusal::Mismatch)?;
+                Ok(told(self.alloc, character.encode_utf8(&mut [0; 4]))?)
+            }
         }
     }
 }

@@ -1,21 +1,21 @@
 //! Commands that change values, in the hand and in cells.
-ghost use Rattle.std.specs.Prelude.{slice_get};
-ghost use Rattle.rhai_run.specs.Cost.{free, share_cost, flatten_cost};
 ghost use Rattle.rhai_run.specs.Change.{step_share, step_flatten, step_make_read_only, step_set_tag, step_write_int, step_write, step_scan};
 ghost use Rattle.rhai_run.specs.Does.{Does};
 
 use crate::answer::{Answer, Refusal};
 use crate::command::Scanner;
 use crate::desk::Desk;
+use crate::lent::write_over;
 use crate::not_done::NotDone;
-use crate::places::{differ, put_back, replace_at, write_over};
+use crate::place::differ;
 use crate::scanners::Visits;
+use crate::vectors::{put_back, replace_at};
 use rhai_text::{EvalAltResult, Position};
 use rhai_value::{AccessMode, Dynamic, INT, Tag};
 
 impl Desk {
     pub(crate) fn share(&mut self, i: usize) -> Result<Answer, NotDone>
-        ensures { Does (share_cost (slice_get self.old.hand i)) result self.old self.new (step_share self.old i) }
+        ensures { Does result self.old self.new (step_share self.old i) }
     {
         if self.value(i)?.is_shared() {
             return Ok(Answer::Done);
@@ -27,7 +27,7 @@ impl Desk {
     }
 
     pub(crate) fn flatten(&mut self, i: usize) -> Result<Answer, NotDone>
-        ensures { Does (flatten_cost (slice_get self.old.hand i)) result self.old self.new (step_flatten self.old i) }
+        ensures { Does result self.old self.new (step_flatten self.old i) }
     {
         if !self.value(i)?.is_shared() {
             return Ok(Answer::Done);
@@ -39,7 +39,7 @@ impl Desk {
     }
 
     pub(crate) fn make_read_only(&mut self, i: usize) -> Result<Answer, NotDone>
-        ensures { Does free result self.old self.new (step_make_read_only self.old i) }
+        ensures { Does result self.old self.new (step_make_read_only self.old i) }
     {
         self.value(i)?;
         self.hand[i].set_access_mode(AccessMode::ReadOnly);
@@ -47,7 +47,7 @@ impl Desk {
     }
 
     pub(crate) fn set_tag(&mut self, i: usize, tag: Tag) -> Result<Answer, NotDone>
-        ensures { Does free result self.old self.new (step_set_tag self.old i tag) }
+        ensures { Does result self.old self.new (step_set_tag self.old i tag) }
     {
         self.value(i)?;
         self.hand[i].set_tag(tag);
@@ -55,7 +55,7 @@ impl Desk {
     }
 
     pub(crate) fn scan(&mut self, i: usize, scanner: Scanner) -> Result<Answer, NotDone>
-        ensures { Does free result self.old self.new (step_scan self.old i scanner) }
+        ensures { Does result self.old self.new (step_scan self.old i scanner) }
     {
         self.value(i)?;
         let mut visits = Visits { scanner, visits: 0 };
@@ -64,7 +64,7 @@ impl Desk {
     }
 
     pub(crate) fn write_int(&mut self, i: usize, value: INT) -> Result<Answer, NotDone>
-        ensures { Does free result self.old self.new (step_write_int self.old i value) }
+        ensures { Does result self.old self.new (step_write_int self.old i value) }
     {
         self.value(i)?;
         let target = &mut self.hand[i];
@@ -76,7 +76,7 @@ impl Desk {
     }
 
     pub(crate) fn write(&mut self, i: usize, j: usize) -> Result<Answer, NotDone>
-        ensures { Does free result self.old self.new (step_write self.old i j) }
+        ensures { Does result self.old self.new (step_write self.old i j) }
     {
         let target = self.value(i)?;
         self.value(j)?;

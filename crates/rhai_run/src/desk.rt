@@ -4,7 +4,6 @@ ghost use Rattle.rhai_run.specs.declared.answer.Refusal.TheVariants.{NoValue};
 ghost use Rattle.rhai_run.specs.declared.not_done.NotDone.TheVariants.{Refused};
 ghost use Rattle.rhai_run.specs.State.{empty_state};
 ghost use Rattle.rhai_run.specs.Step.{step};
-ghost use Rattle.rhai_run.specs.Cost.{cost};
 ghost use Rattle.rhai_run.specs.Fits.{Fits};
 ghost use Rattle.rhai_run.specs.Does.{Does};
 
@@ -95,7 +94,7 @@ impl Desk {
     /// Does one command.
     pub(crate) fn apply(&mut self, command: &Command) -> Result<Answer, NotDone>
         requires { Fits self.old }
-        ensures { Does (cost self.old command.now) result self.old self.new (step self.old command.now) }
+        ensures { Does result self.old self.new (step self.old command.now) }
     {
         match command {
             Command::Put(literal) => self.put(literal),

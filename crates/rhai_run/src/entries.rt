@@ -1,21 +1,20 @@
 //! Commands on the last entry of a name.
-ghost use Rattle.rhai_scope.specs.Lookup.{last_position, writable_position};
-ghost use Rattle.rhai_run.specs.Cost.{free, keeps_all, alias_cost, place_cost};
 ghost use Rattle.rhai_run.specs.Entries.{step_set_entry, step_set_or_push, step_set_value, step_get, step_get_value, step_get_ref, step_set_ref, step_remove, step_set_alias, step_aliases};
-ghost use Rattle.rhai_run.specs.Does.{Does, Finds};
+ghost use Rattle.rhai_run.specs.Does.{Does, GivesIfAny};
 
 use crate::answer::{Answer, Refusal};
 use crate::cast::{can_cast, can_move, cast_to, moved_as};
 use crate::desk::Desk;
+use crate::lent::write_entry;
 use crate::not_done::NotDone;
-use crate::places::{push_in_room, replace_at, write_entry};
+use crate::vectors::{push_in_room, replace_at};
 use rhai_scope::aliases_shown;
 use rhai_text::ImmutableString;
 use rhai_value::{Dynamic, INT, TypeId};
 
 impl Desk {
     pub(crate) fn set_entry(&mut self, name: &ImmutableString, i: usize) -> Result<Answer, NotDone>
-        ensures { Does free result self.old self.new (step_set_entry self.old name.now i) }
+        ensures { Does result self.old self.new (step_set_entry self.old name.now i) }
     {
         self.value(i)?;
         if self
@@ -36,7 +35,7 @@ impl Desk {
         name: &ImmutableString,
         i: usize,
     ) -> Result<Answer, NotDone>
-        ensures { Does (place_cost (writable_position name.now self.old.entries)) result self.old self.new (step_set_or_push self.old name.now i) }
+        ensures { Does result self.old self.new (step_set_or_push self.old name.now i) }
     {
         self.value(i)?;
         match self.scope.is_constant(name.as_str()) {
@@ -51,7 +50,7 @@ impl Desk {
 
     #[tactic(auto, using(crate::proofs::LastEntry::set_there, crate::proofs::LastEntry::no_position))]
     pub(crate) fn set_value(&mut self, name: &ImmutableString, i: usize) -> Result<Answer, NotDone>
-        ensures { Does (place_cost (last_position name.now self.old.entries)) result self.old self.new (step_set_value self.old name.now i) }
+        ensures { Does result self.old self.new (step_set_value self.old name.now i) }
     {
         self.value(i)?;
         match self.scope.is_constant(name.as_str()) {
@@ -66,7 +65,7 @@ impl Desk {
     }
 
     pub(crate) fn get(&mut self, name: &ImmutableString) -> Result<Answer, NotDone>
-        ensures { Does keeps_all result self.old self.new (step_get self.old name.now) }
+        ensures { Does result self.old self.new (step_get self.old name.now) }
     {
         let value = self
             .scope
@@ -82,7 +81,7 @@ impl Desk {
         name: &ImmutableString,
         kind: TypeId,
     ) -> Result<Answer, NotDone>
-        ensures { Does keeps_all result self.old self.new (step_get_value self.old name.now kind) }
+        ensures { Does result self.old self.new (step_get_value self.old name.now kind) }
     {
         let value = self.scope.get(name.as_str()).ok_or(Refusal::NoEntry)?;
         if !can_cast(value, &self.store, kind) {
@@ -96,7 +95,7 @@ impl Desk {
     /// A copy of what the last entry of a name itself is as a type, by reference, if it is of the type.
     #[tactic(auto, using(crate::proofs::Casts::viewed_some, crate::proofs::Casts::viewed_none, crate::proofs::Casts::unviewed_string))]
     fn viewed(&self, name: &ImmutableString, kind: TypeId) -> Result<Option<Dynamic>, NotDone>
-        ensures { Finds result self.now (step_get_ref self.now name.now kind) }
+        ensures { GivesIfAny result self.now (step_get_ref self.now name.now kind) }
     {
         let value = self.scope.get(name.as_str()).ok_or(Refusal::NoEntry)?;
         if value.is_shared() {
@@ -114,7 +113,7 @@ impl Desk {
         name: &ImmutableString,
         kind: TypeId,
     ) -> Result<Answer, NotDone>
-        ensures { Does keeps_all result self.old self.new (step_get_ref self.old name.now kind) }
+        ensures { Does result self.old self.new (step_get_ref self.old name.now kind) }
     {
         match self.viewed(name, kind)? {
             None => Ok(Answer::Nothing),
@@ -126,7 +125,7 @@ impl Desk {
     }
 
     pub(crate) fn set_ref(&mut self, name: &ImmutableString, value: INT) -> Result<Answer, NotDone>
-        ensures { Does free result self.old self.new (step_set_ref self.old name.now value) }
+        ensures { Does result self.old self.new (step_set_ref self.old name.now value) }
     {
         let entry = self.scope.get(name.as_str()).ok_or(Refusal::NoEntry)?;
         if entry.is_shared() {
@@ -142,7 +141,7 @@ impl Desk {
     }
 
     pub(crate) fn remove(&mut self, name: &ImmutableString, kind: TypeId) -> Result<Answer, NotDone>
-        ensures { Does keeps_all result self.old self.new (step_remove self.old name.now kind) }
+        ensures { Does result self.old self.new (step_remove self.old name.now kind) }
     {
         let value = self.scope.get(name.as_str()).ok_or(Refusal::NoEntry)?;
         if !can_move(value, &self.store, kind) {
@@ -162,14 +161,14 @@ impl Desk {
         name: &ImmutableString,
         alias: &ImmutableString,
     ) -> Result<Answer, NotDone>
-        ensures { Does (alias_cost (last_position name.now self.old.entries)) result self.old self.new (step_set_alias self.old name.now alias.now) }
+        ensures { Does result self.old self.new (step_set_alias self.old name.now alias.now) }
     {
         self.scope.set_alias(name.as_str(), alias.as_str())?;
         Ok(Answer::Done)
     }
 
     pub(crate) fn aliases(&self, name: &ImmutableString) -> Result<Answer, NotDone>
-        ensures { Does keeps_all result self.now self.now (step_aliases self.now name.now) }
+        ensures { Does result self.now self.now (step_aliases self.now name.now) }
     {
         let aliases = self.scope.aliases(name.as_str()).ok_or(Refusal::NoEntry)?;
         let text = aliases_shown(self.alloc, aliases)?.into_text();

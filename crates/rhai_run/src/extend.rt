@@ -1,6 +1,5 @@
 //! Commands that add entries for names in a list, and those that list the entries.
 ghost use Rattle.std.specs.Prelude.{◌≡◌, IfOk};
-ghost use Rattle.rhai_run.specs.Cost.{keeps_all};
 ghost use Rattle.rhai_run.specs.Scope.{step_entries, step_names, step_extend, step_extend_flagged};
 ghost use Rattle.rhai_run.specs.Does.{Does};
 
@@ -8,7 +7,7 @@ use crate::answer::Answer;
 use crate::desk::Desk;
 use crate::lists::{FlaggedNames, Names};
 use crate::not_done::NotDone;
-use crate::places::{append_in_room, split_last};
+use crate::vectors::{append_in_room, split_last};
 use rhai_text::ImmutableString;
 use std::alloc::{AllocError, Global};
 
@@ -40,7 +39,7 @@ fn flagged_copies_of(
 
 impl Desk {
     pub(crate) fn entries(&mut self) -> Result<Answer, NotDone>
-        ensures { Does keeps_all result self.old self.new (step_entries self.old) }
+        ensures { Does result self.old self.new (step_entries self.old) }
     {
         let mut values = self.scope.flat_values(&self.store)?;
         self.hand.append(&mut values)?;
@@ -48,14 +47,14 @@ impl Desk {
     }
 
     pub(crate) fn names(&self) -> Result<Answer, NotDone>
-        ensures { Does keeps_all result self.now self.now (step_names self.now) }
+        ensures { Does result self.now self.now (step_names self.now) }
     {
         let text = self.scope.names_shown(&self.store)?.into_text();
         Ok(Answer::Text(text))
     }
 
     pub(crate) fn extend(&mut self, names: &Names) -> Result<Answer, NotDone>
-        ensures { Does keeps_all result self.old self.new (step_extend self.old names.now) }
+        ensures { Does result self.old self.new (step_extend self.old names.now) }
     {
         let names = names.as_slice();
         let count = names.len();
@@ -70,7 +69,7 @@ impl Desk {
     }
 
     pub(crate) fn extend_flagged(&mut self, names: &FlaggedNames) -> Result<Answer, NotDone>
-        ensures { Does keeps_all result self.old self.new (step_extend_flagged self.old names.now) }
+        ensures { Does result self.old self.new (step_extend_flagged self.old names.now) }
     {
         let names = names.as_slice();
         let count = names.len();

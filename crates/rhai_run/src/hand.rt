@@ -1,5 +1,4 @@
 //! Commands that put values into the hand, and move them there.
-ghost use Rattle.rhai_run.specs.Cost.{free, keeps_all};
 ghost use Rattle.rhai_run.specs.Hand.{step_put, step_make_array, step_make_map, step_make_fn, step_copy, step_flatten_clone, step_cast, step_take, step_drop};
 ghost use Rattle.rhai_run.specs.Does.{Does};
 
@@ -10,13 +9,13 @@ use crate::desk::Desk;
 use crate::lists::Names;
 use crate::maps::{map_of_keys, move_to_keys};
 use crate::not_done::NotDone;
-use crate::places::{push_in_room, replace_at, take_last};
+use crate::vectors::{push_in_room, replace_at, take_last};
 use rhai_text::ImmutableString;
 use rhai_value::{Dynamic, FnPtr, TypeId};
 
 impl Desk {
     pub(crate) fn put(&mut self, literal: &Literal) -> Result<Answer, NotDone>
-        ensures { Does keeps_all result self.old self.new (step_put self.old literal.now) }
+        ensures { Does result self.old self.new (step_put self.old literal.now) }
     {
         let value = match literal {
             Literal::Unit => Dynamic::UNIT,
@@ -37,7 +36,7 @@ impl Desk {
     }
 
     pub(crate) fn make_array(&mut self, n: usize) -> Result<Answer, NotDone>
-        ensures { Does keeps_all result self.old self.new (step_make_array self.old n) }
+        ensures { Does result self.old self.new (step_make_array self.old n) }
     {
         self.has_values(n)?;
         let items = take_last(&mut self.hand, n)?;
@@ -46,7 +45,7 @@ impl Desk {
     }
 
     pub(crate) fn make_map(&mut self, keys: &Names) -> Result<Answer, NotDone>
-        ensures { Does keeps_all result self.old self.new (step_make_map self.old keys.now) }
+        ensures { Does result self.old self.new (step_make_map self.old keys.now) }
     {
         let keys = keys.as_slice();
         self.has_values(keys.len())?;
@@ -58,7 +57,7 @@ impl Desk {
     }
 
     pub(crate) fn make_fn(&mut self, name: &ImmutableString, n: usize) -> Result<Answer, NotDone>
-        ensures { Does keeps_all result self.old self.new (step_make_fn self.old name.now n) }
+        ensures { Does result self.old self.new (step_make_fn self.old name.now n) }
     {
         self.has_values(n)?;
         let name = name.copy(self.alloc)?;
@@ -68,7 +67,7 @@ impl Desk {
     }
 
     pub(crate) fn copy(&mut self, i: usize) -> Result<Answer, NotDone>
-        ensures { Does keeps_all result self.old self.new (step_copy self.old i) }
+        ensures { Does result self.old self.new (step_copy self.old i) }
     {
         let value = self.value(i)?.copy(self.alloc)?;
         self.hand.push(value)?;
@@ -76,7 +75,7 @@ impl Desk {
     }
 
     pub(crate) fn flatten_clone(&mut self, i: usize) -> Result<Answer, NotDone>
-        ensures { Does keeps_all result self.old self.new (step_flatten_clone self.old i) }
+        ensures { Does result self.old self.new (step_flatten_clone self.old i) }
     {
         let value = self.value(i)?.flatten_clone(self.alloc, &self.store)?;
         self.hand.push(value)?;
@@ -84,7 +83,7 @@ impl Desk {
     }
 
     pub(crate) fn cast(&mut self, i: usize, kind: TypeId) -> Result<Answer, NotDone>
-        ensures { Does keeps_all result self.old self.new (step_cast self.old i kind) }
+        ensures { Does result self.old self.new (step_cast self.old i kind) }
     {
         let value = self.value(i)?;
         if !can_cast(value, &self.store, kind) {
@@ -97,7 +96,7 @@ impl Desk {
     }
 
     pub(crate) fn take(&mut self, i: usize) -> Result<Answer, NotDone>
-        ensures { Does keeps_all result self.old self.new (step_take self.old i) }
+        ensures { Does result self.old self.new (step_take self.old i) }
     {
         self.value(i)?;
         self.hand.reserve(1)?;
@@ -107,7 +106,7 @@ impl Desk {
     }
 
     pub(crate) fn drop_last(&mut self) -> Result<Answer, NotDone>
-        ensures { Does free result self.old self.new (step_drop self.old) }
+        ensures { Does result self.old self.new (step_drop self.old) }
     {
         self.hand.pop().ok_or(Refusal::NoValue)?;
         Ok(Answer::Done)

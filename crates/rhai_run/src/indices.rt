@@ -1,5 +1,4 @@
 //! Questions about places in lists.
-ghost use Rattle.rhai_run.specs.Cost.{free};
 ghost use Rattle.rhai_run.specs.Indices.{step_offset, step_index};
 ghost use Rattle.rhai_run.specs.Does.{Does};
 
@@ -11,14 +10,14 @@ use rhai_value::INT;
 
 impl Desk {
     pub(crate) fn offset(&self, length: usize, start: INT, len: INT) -> Result<Answer, NotDone>
-        ensures { Does free result self.now self.now (step_offset self.now length start len) }
+        ensures { Does result self.now self.now (step_offset self.now length start len) }
     {
         let (start, len) = calc_offset_len(length, start, len);
         Ok(Answer::Pair(start, len))
     }
 
     pub(crate) fn index(&self, length: usize, index: INT, from_end: bool) -> Result<Answer, NotDone>
-        ensures { Does free result self.now self.now (step_index self.now length index from_end) }
+        ensures { Does result self.now self.now (step_index self.now length index from_end) }
     {
         match calc_index(length, index, from_end) {
             Some(place) => Ok(Answer::Int(place as i128)),

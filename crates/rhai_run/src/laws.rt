@@ -27,7 +27,7 @@ pub fn empty_state_fits()
 
 /// Each command keeps a state fitting.
 pub fn steps_fit()
-    ensures { (w : State) (c : Command) → Fits w → Fits (step w c).1 }
+    ensures { (w : State) (c : Command) → Fits w → Fits (step w c).after }
 {}
 
 /// A state that fits corresponds to itself, each cell being paired with itself.
@@ -63,7 +63,7 @@ pub fn scanners_are_renamed()
     ensures scan { (r : Renaming) → SameVisits r (scan visited) }
 {}
 
-/// The commands that never want memory, whatever the state is. (There are others that want none in some states: `cost` tells.)
+/// The commands that never want memory, whatever the state is. (There are others that want none in some states: `step` tells.)
 pub fn free_commands_are_granted()
     ensures drop_last { NeverWants command.Drop }
     ensures set_tag { (i : ℕ) (tag : ℤ) → NeverWants (command.SetTag i tag) }

@@ -13,15 +13,17 @@ mod extend;
 mod hand;
 mod indices;
 pub mod laws;
+mod lent;
 pub mod lists;
 mod maps;
 mod marks;
 mod not_done;
 mod operators;
 mod pieces;
-mod places;
+mod place;
 mod scanners;
 mod scope;
+mod vectors;
 pub mod world;
 mod write_back;
 

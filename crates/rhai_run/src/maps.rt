@@ -5,7 +5,7 @@ ghost use Rattle.std.specs.Map.{lookup, set_value};
 ghost use Rattle.rhai_value.specs.Rows.{bytes_cmp};
 ghost use Rattle.rhai_run.specs.Made.{rows_with, rows_of_keys};
 
-use crate::places::replace_at;
+use crate::vectors::replace_at;
 use rhai_text::ImmutableString;
 use rhai_value::{Dynamic, Map};
 use std::alloc::{AllocError, Global};

@@ -4,7 +4,6 @@ ghost use Rattle.std.specs.List.{remove};
 ghost use Rattle.rhai_value.specs.Store.{is_marked_at, put, set_mark};
 ghost use Rattle.rhai_run.specs.declared.answer.Refusal.TheVariants.{NoMark};
 ghost use Rattle.rhai_run.specs.declared.not_done.NotDone.TheVariants.{Refused};
-ghost use Rattle.rhai_run.specs.Cost.{free, keeps_all};
 ghost use Rattle.rhai_run.specs.Fits.{Fits, MarksAre};
 ghost use Rattle.rhai_run.specs.Marks.{step_mark, step_unmark, step_write_marked, step_read_marked};
 ghost use Rattle.rhai_run.specs.Does.{Does};
@@ -13,7 +12,8 @@ use crate::answer::{Answer, Refusal};
 use crate::command::Place;
 use crate::desk::Desk;
 use crate::not_done::NotDone;
-use crate::places::{replace_at, source};
+use crate::place::source;
+use crate::vectors::replace_at;
 use rhai_text::{EvalAltResult, Position};
 use rhai_value::laws::mark_is_cleared;
 use rhai_value::{Dynamic, Store, WriteToken};
@@ -66,7 +66,7 @@ fn token(marks: &[WriteToken], k: usize) -> Result<&WriteToken, NotDone>
 impl Desk {
     #[tactic(auto, using(crate::proofs::MarkLists::first_is_free))]
     pub(crate) fn mark(&mut self, place: &Place) -> Result<Answer, NotDone>
-        ensures { Does keeps_all result self.old self.new (step_mark self.old place.now) }
+        ensures { Does result self.old self.new (step_mark self.old place.now) }
     {
         let holder = source(&self.hand, &self.scope, place)?;
         if !holder.is_shared() {
@@ -87,7 +87,7 @@ impl Desk {
 
     pub(crate) fn unmark(&mut self, k: usize) -> Result<Answer, NotDone>
         requires { Fits self.old }
-        ensures { Does free result self.old self.new (step_unmark self.old k) }
+        ensures { Does result self.old self.new (step_unmark self.old k) }
     {
         token(&self.marks, k)?;
         release_at(&mut self.store, &mut self.marks, k);
@@ -97,7 +97,7 @@ impl Desk {
     #[tactic(auto, using(crate::proofs::MarkLists::mark_is_set))]
     pub(crate) fn write_marked(&mut self, k: usize, i: usize) -> Result<Answer, NotDone>
         requires { Fits self.old }
-        ensures { Does free result self.old self.new (step_write_marked self.old k i) }
+        ensures { Does result self.old self.new (step_write_marked self.old k i) }
     {
         self.value(i)?;
         let token = token(&self.marks, k)?;
@@ -109,7 +109,7 @@ impl Desk {
     #[tactic(auto, using(crate::proofs::MarkLists::mark_is_set))]
     pub(crate) fn read_marked(&mut self, k: usize) -> Result<Answer, NotDone>
         requires { Fits self.old }
-        ensures { Does keeps_all result self.old self.new (step_read_marked self.old k) }
+        ensures { Does result self.old self.new (step_read_marked self.old k) }
     {
         let token = token(&self.marks, k)?;
         let value = self.store.through(token).copy(self.alloc)?;

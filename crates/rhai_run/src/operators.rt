@@ -3,7 +3,6 @@ ghost use Rattle.std.specs.Prelude.{◌≡◌, ◌<◌, false, nat_eq, length, v
 ghost use Rattle.rhai_ops.specs.Outcome.{IsOutcome};
 ghost use Rattle.rhai_ops.specs.Results.{MayWant, Suits, outcome};
 ghost use Rattle.rhai_ops.specs.Ways.{answered, operator, second_left, way};
-ghost use Rattle.rhai_run.specs.Cost.{keeps_all};
 ghost use Rattle.rhai_run.specs.Operators.{assigned_at, called_at, value_at, step_assign, step_binary, HasOperands, Looks};
 ghost use Rattle.rhai_run.specs.Places.{source};
 ghost use Rattle.rhai_run.specs.Does.{Calls, Does, Gives};
@@ -11,8 +10,10 @@ ghost use Rattle.rhai_run.specs.Does.{Calls, Does, Gives};
 use crate::answer::{Answer, Refusal};
 use crate::command::Place;
 use crate::desk::Desk;
+use crate::lent::Places;
 use crate::not_done::NotDone;
-use crate::places::{Places, differ, is_apart, is_within, replace_at, source};
+use crate::place::{differ, is_apart, is_within, source};
+use crate::vectors::replace_at;
 use rhai_ops::laws::{operators_write_nothing, rows_suit};
 use rhai_ops::{FnBuiltin, get_builtin_binary_op_fn, get_builtin_op_assignment_fn};
 use rhai_text::{EvalAltResult, Limits, Position, Token};
@@ -90,7 +91,7 @@ impl Desk {
     }
 
     pub(crate) fn binary(&mut self, op: Token, i: usize, j: usize) -> Result<Answer, NotDone>
-        ensures { Does keeps_all result self.old self.new (step_binary self.old op i j) }
+        ensures { Does result self.old self.new (step_binary self.old op i j) }
     {
         let value = self.operate(op, i, j)?;
         self.hand.push(value)?;
@@ -158,7 +159,7 @@ impl Desk {
     }
 
     pub(crate) fn assign(&mut self, op: Token, place: &Place, j: usize) -> Result<Answer, NotDone>
-        ensures { Does keeps_all result self.old self.new (step_assign self.old op place.now j) }
+        ensures { Does result self.old self.new (step_assign self.old op place.now j) }
     {
         let row = self.assignment(op, place, j)?;
         self.assign_by(row, place, j)?;

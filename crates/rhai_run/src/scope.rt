@@ -1,14 +1,13 @@
 //! Commands on the scope as a whole, and pushes.
 ghost use Rattle.rhai_value.specs.Tree.{mode_of};
 ghost use Rattle.rhai_value.specs.declared.access_mode.AccessMode.TheVariants.{ReadWrite, ReadOnly};
-ghost use Rattle.rhai_run.specs.Cost.{free, keeps_all, looks_first};
 ghost use Rattle.rhai_run.specs.Scope.{step_push, step_push_dynamic, step_push_constant, step_pop, step_rewind, step_clear, step_len, step_is_empty, step_contains, step_search, step_is_constant, step_keep_visible, step_copy_scope, step_show_scope, step_hash_scope, moved_into_entry};
 ghost use Rattle.rhai_run.specs.Does.{Does};
 
 use crate::answer::{Answer, Refusal};
 use crate::desk::Desk;
 use crate::not_done::NotDone;
-use crate::places::replace_at;
+use crate::vectors::replace_at;
 use rhai_text::ImmutableString;
 use rhai_value::{AccessMode, Dynamic};
 
@@ -20,7 +19,7 @@ impl Desk {
         access: AccessMode,
         i: usize,
     ) -> Result<Answer, NotDone>
-        ensures { Does keeps_all result self.old self.new (moved_into_entry (λ t. access) self.old name.now i) }
+        ensures { Does result self.old self.new (moved_into_entry (λ t. access) self.old name.now i) }
     {
         self.value(i)?;
         let name = name.copy(self.alloc)?;
@@ -33,7 +32,7 @@ impl Desk {
     }
 
     pub(crate) fn push(&mut self, name: &ImmutableString, i: usize) -> Result<Answer, NotDone>
-        ensures { Does keeps_all result self.old self.new (step_push self.old name.now i) }
+        ensures { Does result self.old self.new (step_push self.old name.now i) }
     {
         self.push_as(name, AccessMode::ReadWrite, i)
     }
@@ -43,7 +42,7 @@ impl Desk {
         name: &ImmutableString,
         i: usize,
     ) -> Result<Answer, NotDone>
-        ensures { Does keeps_all result self.old self.new (step_push_dynamic self.old name.now i) }
+        ensures { Does result self.old self.new (step_push_dynamic self.old name.now i) }
     {
         let access = self.value(i)?.access_mode();
         self.push_as(name, access, i)
@@ -54,13 +53,13 @@ impl Desk {
         name: &ImmutableString,
         i: usize,
     ) -> Result<Answer, NotDone>
-        ensures { Does keeps_all result self.old self.new (step_push_constant self.old name.now i) }
+        ensures { Does result self.old self.new (step_push_constant self.old name.now i) }
     {
         self.push_as(name, AccessMode::ReadOnly, i)
     }
 
     pub(crate) fn pop(&mut self) -> Result<Answer, NotDone>
-        ensures { Does free result self.old self.new (step_pop self.old) }
+        ensures { Does result self.old self.new (step_pop self.old) }
     {
         if self.scope.is_empty() {
             return Err(NotDone::Refused(Refusal::EmptyScope));
@@ -70,39 +69,39 @@ impl Desk {
     }
 
     pub(crate) fn rewind(&mut self, n: usize) -> Result<Answer, NotDone>
-        ensures { Does free result self.old self.new (step_rewind self.old n) }
+        ensures { Does result self.old self.new (step_rewind self.old n) }
     {
         self.scope.rewind(n);
         Ok(Answer::Done)
     }
 
     pub(crate) fn clear(&mut self) -> Result<Answer, NotDone>
-        ensures { Does free result self.old self.new (step_clear self.old) }
+        ensures { Does result self.old self.new (step_clear self.old) }
     {
         self.scope.clear();
         Ok(Answer::Done)
     }
 
     pub(crate) fn len(&self) -> Result<Answer, NotDone>
-        ensures { Does free result self.now self.now (step_len self.now) }
+        ensures { Does result self.now self.now (step_len self.now) }
     {
         Ok(Answer::Int(self.scope.len() as i128))
     }
 
     pub(crate) fn is_empty(&self) -> Result<Answer, NotDone>
-        ensures { Does free result self.now self.now (step_is_empty self.now) }
+        ensures { Does result self.now self.now (step_is_empty self.now) }
     {
         Ok(Answer::Bool(self.scope.is_empty()))
     }
 
     pub(crate) fn contains(&self, name: &ImmutableString) -> Result<Answer, NotDone>
-        ensures { Does free result self.now self.now (step_contains self.now name.now) }
+        ensures { Does result self.now self.now (step_contains self.now name.now) }
     {
         Ok(Answer::Bool(self.scope.contains(name.as_str())))
     }
 
     pub(crate) fn search(&self, name: &ImmutableString) -> Result<Answer, NotDone>
-        ensures { Does free result self.now self.now (step_search self.now name.now) }
+        ensures { Does result self.now self.now (step_search self.now name.now) }
     {
         match self.scope.search(name.as_str()) {
             Some(position) => Ok(Answer::Int(position as i128)),
@@ -111,7 +110,7 @@ impl Desk {
     }
 
     pub(crate) fn is_constant(&self, name: &ImmutableString) -> Result<Answer, NotDone>
-        ensures { Does free result self.now self.now (step_is_constant self.now name.now) }
+        ensures { Does result self.now self.now (step_is_constant self.now name.now) }
     {
         match self.scope.is_constant(name.as_str()) {
             Some(is_constant) => Ok(Answer::Bool(is_constant)),
@@ -120,28 +119,28 @@ impl Desk {
     }
 
     pub(crate) fn keep_visible(&mut self) -> Result<Answer, NotDone>
-        ensures { Does keeps_all result self.old self.new (step_keep_visible self.old) }
+        ensures { Does result self.old self.new (step_keep_visible self.old) }
     {
         self.scope = self.scope.clone_visible()?;
         Ok(Answer::Done)
     }
 
     pub(crate) fn copy_scope(&mut self) -> Result<Answer, NotDone>
-        ensures { Does keeps_all result self.old self.new (step_copy_scope self.old) }
+        ensures { Does result self.old self.new (step_copy_scope self.old) }
     {
         self.scope = self.scope.copy()?;
         Ok(Answer::Done)
     }
 
     pub(crate) fn show_scope(&self) -> Result<Answer, NotDone>
-        ensures { Does keeps_all result self.now self.now (step_show_scope self.now) }
+        ensures { Does result self.now self.now (step_show_scope self.now) }
     {
         let text = self.scope.shown(&self.store)?.into_text();
         Ok(Answer::Text(text))
     }
 
     pub(crate) fn hash_scope(&self) -> Result<Answer, NotDone>
-        ensures { Does looks_first result self.now self.now (step_hash_scope self.now) }
+        ensures { Does result self.now self.now (step_hash_scope self.now) }
     {
         match self.scope.hashed(&self.store)? {
             None => Err(NotDone::Refused(Refusal::NotHashable)),

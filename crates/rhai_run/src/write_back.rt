@@ -2,7 +2,6 @@
 ghost use Rattle.std.specs.Prelude.{◌≡◌, [], true, is_some, None, IfOk, IsOkAnd, OnOk, OnErr};
 ghost use Rattle.rhai_value.specs.End.{end};
 ghost use Rattle.rhai_run.specs.declared.pieces.Piece.TheVariants.{Bit, Field, Byte, Character};
-ghost use Rattle.rhai_run.specs.Cost.{piece_cost};
 ghost use Rattle.rhai_run.specs.Places.{source};
 ghost use Rattle.rhai_run.specs.WriteBack.{lack, change, makes_text, changed_by, slice_from, step_write_back};
 ghost use Rattle.rhai_run.specs.Does.{Does};
@@ -10,9 +9,10 @@ ghost use Rattle.rhai_run.specs.Does.{Does};
 use crate::answer::Answer;
 use crate::command::Place;
 use crate::desk::Desk;
+use crate::lent::Places;
 use crate::not_done::NotDone;
 use crate::pieces::Piece;
-use crate::places::{Places, is_within, source};
+use crate::place::{is_within, source};
 use rhai_target::Slice;
 use rhai_value::{Dynamic, INT};
 use std::alloc::AllocError;
@@ -39,7 +39,7 @@ impl Desk {
 
     /// Writes the value at a hand position to a piece of the one at a place.
     fn write_back(&mut self, place: &Place, piece: Piece, j: usize) -> Result<Answer, NotDone>
-        ensures { Does (piece_cost piece) result self.old self.new (step_write_back self.old place.now piece j) }
+        ensures { Does result self.old self.new (step_write_back self.old place.now piece j) }
     {
         is_within(&self.hand, place)?;
         let value = self.value(j)?;
@@ -51,7 +51,7 @@ impl Desk {
     }
 
     pub(crate) fn write_bit(&mut self, place: &Place, bit: u8, j: usize) -> Result<Answer, NotDone>
-        ensures { Does (piece_cost (Bit bit)) result self.old self.new (step_write_back self.old place.now (Bit bit) j) }
+        ensures { Does result self.old self.new (step_write_back self.old place.now (Bit bit) j) }
     {
         self.write_back(place, Piece::Bit(bit), j)
     }
@@ -63,7 +63,7 @@ impl Desk {
         shift: u8,
         j: usize,
     ) -> Result<Answer, NotDone>
-        ensures { Does (piece_cost (Field mask shift)) result self.old self.new (step_write_back self.old place.now (Field mask shift) j) }
+        ensures { Does result self.old self.new (step_write_back self.old place.now (Field mask shift) j) }
     {
         self.write_back(place, Piece::Field(mask, shift), j)
     }
@@ -74,7 +74,7 @@ impl Desk {
         index: usize,
         j: usize,
     ) -> Result<Answer, NotDone>
-        ensures { Does (piece_cost (Byte index)) result self.old self.new (step_write_back self.old place.now (Byte index) j) }
+        ensures { Does result self.old self.new (step_write_back self.old place.now (Byte index) j) }
     {
         self.write_back(place, Piece::Byte(index), j)
     }
@@ -85,7 +85,7 @@ impl Desk {
         index: usize,
         j: usize,
     ) -> Result<Answer, NotDone>
-        ensures { Does (piece_cost (Character index)) result self.old self.new (step_write_back self.old place.now (Character index) j) }
+        ensures { Does result self.old self.new (step_write_back self.old place.now (Character index) j) }
     {
         self.write_back(place, Piece::Character(index), j)
     }
@@ -98,7 +98,7 @@ impl Desk {
         exclusive: bool,
         j: usize,
     ) -> Result<Answer, NotDone>
-        ensures { Does (piece_cost (slice_from start end exclusive)) result self.old self.new (step_write_back self.old place.now (slice_from start end exclusive) j) }
+        ensures { Does result self.old self.new (step_write_back self.old place.now (slice_from start end exclusive) j) }
     {
         let slice = Slice {
             start,

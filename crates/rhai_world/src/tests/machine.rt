@@ -13,7 +13,7 @@ const UNLIMITED: Limits = Limits { text: 0, items: 0 };
 
 /// The caller that the README of `rhai_run` shows.
 fn leave_scope(world: &mut World) -> Result<Answer, AllocError>
-    ensures { IfOk result (λ a. (reply_of a ≡ (step_pop world.old).0) × (world.new ≡ (step_pop world.old).1)) }
+    ensures { IfOk result (λ a. (reply_of a ≡ (step_pop world.old).reply) × (world.new ≡ (step_pop world.old).after)) }
 {
     apply(world, &Command::Pop)
 }

@@ -1,16 +1,13 @@
-use Rattle.std.proofs.Common.{◌≡◌, sym, ◌∙◌, subst, arith}
+use Rattle.std.proofs.Common.{◌≡◌, is_some, sym, ap, ◌∙◌, subst, arith}
 use Rattle.std.proofs.lemmas.Option.{slice_get_within}
 use Rattle.std.proofs.lemmas.Result.{err_from_is_err_and}
-use Rattle.rhai_value.specs.Tree.{fresh, unit}
+use Rattle.rhai_value.specs.Tree.{cell_of, fresh, unit}
 use Rattle.rhai_run.specs.State.{State, with_cells}
 use Rattle.rhai_run.specs.StateCode.{state_of}
 use Rattle.rhai_run.specs.Reply.{done}
 use Rattle.rhai_run.specs.Change.{step_share}
-use Rattle.rhai_run.proofs.Moves.{changed_ok, changed_err, share_done, came_back, share_wants, share_stays, hand_within}
+use Rattle.rhai_run.proofs.Moves.{changed_ok, changed_err, share_done, came_back, share_wants, same_value, hand_within}
 use Rattle.rhai_run.proofs.desk.Desk.share.Goals as goal
-
-pub returns-then-is_shared : goal.returns-then-is_shared
-returns-then-is_shared c = share_stays c.args.self.now c.args.i c.in_ok-value.field-0.now c.in_ok-value.ensures.ok (sym c.is_shared.ensures ∙ c.if-is_shared.true)
 
 pub replace_at-value-requires : goal.replace_at-value-requires
 replace_at-value-requires c =
@@ -35,5 +32,7 @@ pub returns : goal.returns
 returns c =
     let w : State = state_of c.self.inside.store c.self.inside.scope c.self.inside.marks.items c.self.inside.hand.items c.self.inside.limits in
     let m = changed_ok c.into_shared-holder.result c.put_back.result c.in_ok-put_back.field-0 c.in_ok-put_back.was c.into_shared-holder.ensures.ok c.put_back.ensures.ok c.put_back.ensures.err in
-    subst (λ v. (done ≡ (step_share v c.args.i).0) × (with_cells w c.into_shared-holder.new.m c.put_back.new.values.items ≡ (step_share v c.args.i).1)) c.self.view_is
-    (share_done w c.args.i c.replace_at-value.result (fresh unit) m.0 c.into_shared-holder.new.m c.put_back.new.values.items c.replace_at-value.ensures.value m.1 (rw (← c.replace_at-value.ensures.after) m.2))
+    let same = same_value w c.args.self.now c.args.i c.in_ok-value.field-0.now c.replace_at-value.result c.self.view_is c.in_ok-value.ensures.ok c.replace_at-value.ensures.value in
+    let kind = ap (λ t. is_some (cell_of t)) (sym same) ∙ sym c.is_shared.ensures ∙ c.if-is_shared.false in
+    subst (λ v. (done ≡ (step_share v c.args.i).reply) × (with_cells w c.into_shared-holder.new.m c.put_back.new.values.items ≡ (step_share v c.args.i).after)) c.self.view_is
+    (share_done w c.args.i c.replace_at-value.result (fresh unit) m.0 c.into_shared-holder.new.m c.put_back.new.values.items c.replace_at-value.ensures.value kind m.1 (rw (← c.replace_at-value.ensures.after) m.2))

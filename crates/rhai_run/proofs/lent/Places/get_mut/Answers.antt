@@ -3,7 +3,7 @@ use Rattle.std.specs.Prelude.{slice_get}
 use Rattle.std.proofs.lemmas.Option.{slice_get_read, slice_get_past}
 use Rattle.rhai_run.specs.declared.command.Place.TheVariants as place
 use Rattle.rhai_run.specs.Lent.{lent, placed}
-use Rattle.rhai_run.proofs.places.Places.get_mut.Goals as goal
+use Rattle.rhai_run.proofs.lent.Places.get_mut.Goals as goal
 
 same_hand : {i j : ℕ} → place.Hand i ≡ place.Hand j → i ≡ j
 same_hand e = cc

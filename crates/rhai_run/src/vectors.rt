@@ -1,0 +1,86 @@
+//! Values that are moved in, out of and between vectors.
+ghost use Rattle.std.specs.Prelude.{◌≡◌, ◌<◌, ◌++◌, ◌∷◌, [], ◌+◌, ◌≤◌, slice_get, slice_set, vec_len, vec_capacity, Some, IfOk, IfErr, OnOk, OnErr, IsOk, IsErr};
+ghost use Rattle.rhai_run.specs.State.{last_values, values_before};
+
+use rhai_value::Dynamic;
+use std::alloc::AllocError;
+use std::mem;
+
+/// Adds an item where there is room for it.
+pub(crate) fn push_in_room<T: Drop>(items: &mut Vec<T>, item: T)
+    requires { vec_len items.old < vec_capacity items.old }
+    ensures items { items.new.items ≡ items.old.items ++ item ∷ [] }
+    ensures len { vec_len items.new ≡ vec_len items.old + 1 }
+    ensures capacity { vec_capacity items.old ≤ vec_capacity items.new }
+{
+    if items.push(item).is_err() {
+        unreachable!();
+    }
+}
+
+/// Takes a value out of its place, and leaves another there.
+pub(crate) fn replace_at(values: &mut Vec<Dynamic>, i: usize, left: Dynamic) -> Dynamic
+    requires { i < vec_len values.old }
+    ensures value { slice_get values.old.items i ≡ Some result }
+    ensures after { values.new.items ≡ slice_set values.old.items i left }
+    ensures len { vec_len values.new ≡ vec_len values.old }
+    ensures capacity { vec_capacity values.new ≡ vec_capacity values.old }
+{
+    mem::replace(&mut values[i], left)
+}
+
+/// Puts what became of a value into the place that it was taken from: another value, or itself where memory was refused.
+pub(crate) fn put_back(
+    values: &mut Vec<Dynamic>,
+    i: usize,
+    changed: Result<Dynamic, Dynamic>,
+) -> Result<(), AllocError>
+    requires { i < vec_len values.old }
+    ensures ok { IfOk changed (λ value. IsOk result × (values.new.items ≡ slice_set values.old.items i value)) }
+    ensures err { IfErr changed (λ value. IsErr result × (values.new.items ≡ slice_set values.old.items i value)) }
+{
+    match changed {
+        Ok(value) => {
+            values[i] = value;
+            Ok(())
+        }
+        Err(value) => {
+            values[i] = value;
+            Err(AllocError)
+        }
+    }
+}
+
+/// Takes the last values off, and leaves room for one.
+pub(crate) fn take_last(values: &mut Vec<Dynamic>, n: usize) -> Result<Vec<Dynamic>, AllocError>
+    requires { n ≤ vec_len values.old }
+    ensures taken { IfOk result (λ v. v.items ≡ last_values n values.old.items) }
+    ensures left { OnOk result ((values.new.items ≡ values_before n values.old.items) × (vec_len values.new < vec_capacity values.new)) }
+    ensures err { OnErr result (values.new.items ≡ values.old.items) }
+{
+    values.reserve(1)?;
+    let before = values.len() - n;
+    Ok(values.split_off(before)?)
+}
+
+/// Takes the last values off; there is room for them to come back.
+pub(crate) fn split_last(values: &mut Vec<Dynamic>, n: usize) -> Result<Vec<Dynamic>, AllocError>
+    requires { n ≤ vec_len values.old }
+    ensures taken { IfOk result (λ v. v.items ≡ last_values n values.old.items) }
+    ensures left { OnOk result (values.new.items ≡ values_before n values.old.items) }
+    ensures room { IfOk result (λ v. vec_len values.new + vec_len v ≤ vec_capacity values.new) }
+    ensures err { OnErr result (values.new.items ≡ values.old.items) }
+{
+    let before = values.len() - n;
+    Ok(values.split_off(before)?)
+}
+
+/// Puts values at the end, where there is room for them.
+pub(crate) fn append_in_room(values: &mut Vec<Dynamic>, mut last: Vec<Dynamic>)
+    requires { vec_len values.old + vec_len last ≤ vec_capacity values.old }
+    ensures { values.new.items ≡ values.old.items ++ last.items }
+{
+    if values.append(&mut last).is_err() {
+        unreachable!();
+    }
+}

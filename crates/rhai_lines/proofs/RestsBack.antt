@@ -9,7 +9,7 @@ use Rattle.std.proofs.lemmas.Bool.Decides.{nat_tests}
 use Rattle.std.proofs.lemmas.Str.{IsUtf8-append, IsUtf8-nil, chars-encodes}
 use Rattle.rhai_lines.specs.Words.{Left, Word, behind, told, words_of, is_name, name_of, a_name}
 use Rattle.rhai_lines.specs.Printed.{byte_text}
-use Rattle.rhai_lines.specs.Rests.{Rest, last, one, two, three, four, before, joined, each_of, words_for, list_of, names, flagged_of, flagged_word, flagged_names, an_alias, a_name_and_alias, rest_of, text_words, has_feed, a_text, only, a_char, bytes_of_pairs, is_hex, a_blob}
+use Rattle.rhai_lines.specs.Rests.{Rest, last, nothing, one, two, three, four, before, joined, each_of, words_for, list_of, names, flagged_of, flagged_word, flagged_names, an_alias, a_name_and_alias, rest_of, text_words, has_feed, a_text, only, a_char, bytes_of_pairs, is_hex, a_blob}
 use Rattle.rhai_lines.proofs.SaysBack.{the_same, both, graphic, is_graphic, Back, has_feed_append, utf8_behind, word_is, left_is, graphic_no_feed, graphic_utf8}
 use Rattle.rhai_lines.proofs.WordsBack.{named_back, name_back}
 use Rattle.rhai_lines.proofs.Names.{no_name}
@@ -25,6 +25,9 @@ RestBack {A} rest = (a : A) (left : Left) → rest.spells a ≡ Some left → Sa
 
 pub utf8_space : (w : List ℕ) → IsUtf8 w → IsUtf8 (32 ∷ w)
 utf8_space w h = utf8_behind [] w IsUtf8-nil h
+
+pub nothing_rest : RestBack nothing
+nothing_rest u left e = subst (SaysRest nothing u) (the_same e) (record { back = refl; fits = (refl, IsUtf8-nil) })
 
 pub one_rest : {A : Type 0} (p : Word A) → Back p → RestBack (one p)
 unfolding one

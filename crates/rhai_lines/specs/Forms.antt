@@ -8,7 +8,7 @@ use Rattle.rhai_run.specs.declared.command.Literal.TheVariants.{Unit, Bool as Tr
 use Rattle.rhai_lines.specs.Words.{behind, Left, Word, word_of, left_of, named, a_name, a_truth}
 use Rattle.rhai_lines.specs.Numbers.{a_position, a_bit, an_int, a_tag}
 use Rattle.rhai_lines.specs.Vocabulary.{a_kind, a_token, a_question, a_scanner, a_host, a_place}
-use Rattle.rhai_lines.specs.Rests.{Rest, last, one, two, three, four, names, flagged_names, a_name_and_alias, a_char, a_text, a_blob}
+use Rattle.rhai_lines.specs.Rests.{Rest, nothing, one, two, three, four, names, flagged_names, a_name_and_alias, a_char, a_text, a_blob}
 
 -- The form of a line behind its verb: the command that is said, and whether memory is taken; and tables of verbs and forms.
 pub record Form : Type 0 where
@@ -23,7 +23,7 @@ abbrev pub of_all : {A : Type 0} → Rest A → (A → Command) → Form
 of_all rest make = record { says = λ left. option_map make (rest.says left); takes = rest.takes }
 
 abbrev pub of_none : Command → Form
-of_none c = record { says = last c; takes = λ left. false }
+of_none c = of_all nothing (λ u. c)
 
 abbrev pub of_one : {A : Type 0} → Word A → (A → Command) → Form
 of_one first make = of_all (one first) make
@@ -197,7 +197,7 @@ spoken verb rest a = option_map (λ left. verb ++ behind left) (rest.spells a)
 
 -- the line of a literal: none where a text has a line feed, or the host's value is a range
 abbrev pub literal_line : Literal → Option (List ℕ)
-literal_line Unit = Some (codes "unit")
+literal_line Unit = spoken (codes "unit") nothing tt
 literal_line (Truth b) = spoken (codes "bool") (one a_truth) b
 literal_line (Int n) = spoken (codes "int") (one an_int) n
 literal_line (Char c) = spoken (codes "char") a_char c
@@ -215,7 +215,7 @@ line_of (MakeMap keys) = spoken (codes "map") names keys
 line_of (MakeFn name n) = spoken (codes "fn") (two a_name a_position) (name, n)
 line_of (Copy i) = spoken (codes "copy") (one a_position) i
 line_of (Take i) = spoken (codes "take") (one a_position) i
-line_of Drop = Some (codes "drop")
+line_of Drop = spoken (codes "drop") nothing tt
 line_of (Share i) = spoken (codes "share") (one a_position) i
 line_of (Flatten i) = spoken (codes "flatten") (one a_position) i
 line_of (FlattenClone i) = spoken (codes "flatclone") (one a_position) i
@@ -234,11 +234,11 @@ line_of (PushConstant name i) = spoken (codes "pushconst") (two a_name a_positio
 line_of (SetEntry name i) = spoken (codes "set") (two a_name a_position) (name, i)
 line_of (SetOrPush name i) = spoken (codes "setorpush") (two a_name a_position) (name, i)
 line_of (SetValue name i) = spoken (codes "setvalue") (two a_name a_position) (name, i)
-line_of Pop = Some (codes "pop")
+line_of Pop = spoken (codes "pop") nothing tt
 line_of (Rewind n) = spoken (codes "rewind") (one a_position) n
-line_of Clear = Some (codes "clear")
-line_of Len = Some (codes "len")
-line_of IsEmpty = Some (codes "empty")
+line_of Clear = spoken (codes "clear") nothing tt
+line_of Len = spoken (codes "len") nothing tt
+line_of IsEmpty = spoken (codes "empty") nothing tt
 line_of (Contains name) = spoken (codes "contains") (one a_name) name
 line_of (Search name) = spoken (codes "search") (one a_name) name
 line_of (IsConstant name) = spoken (codes "constant") (one a_name) name
@@ -249,14 +249,14 @@ line_of (SetRef name n) = spoken (codes "refint") (two a_name an_int) (name, n)
 line_of (Remove name kind) = spoken (codes "remove") (two a_name a_kind) (name, kind)
 line_of (SetAlias name alias) = spoken (codes "alias") a_name_and_alias (name, alias)
 line_of (Aliases name) = spoken (codes "aliases") (one a_name) name
-line_of KeepVisible = Some (codes "visible")
-line_of CopyScope = Some (codes "copyscope")
-line_of Entries = Some (codes "iter")
-line_of Listed = Some (codes "names")
+line_of KeepVisible = spoken (codes "visible") nothing tt
+line_of CopyScope = spoken (codes "copyscope") nothing tt
+line_of Entries = spoken (codes "iter") nothing tt
+line_of Listed = spoken (codes "names") nothing tt
 line_of (Extend entries) = spoken (codes "extend") names entries
 line_of (ExtendFlagged entries) = spoken (codes "extendflagged") flagged_names entries
-line_of ShowScope = Some (codes "showscope")
-line_of HashScope = Some (codes "hashscope")
+line_of ShowScope = spoken (codes "showscope") nothing tt
+line_of HashScope = spoken (codes "hashscope") nothing tt
 line_of (Mark place) = spoken (codes "mark") (one a_place) place
 line_of (Unmark k) = spoken (codes "unmark") (one a_position) k
 line_of (WriteMarked k i) = spoken (codes "writemarked") (two a_position a_position) (k, i)

@@ -18,6 +18,10 @@ abbrev pub last : {A : Type 0} → A → Left → Option A
 last a None = Some a
 last a (Some text) = None
 
+-- nothing is said
+abbrev pub nothing : Rest (Unit {0})
+nothing = record { says = last tt; takes = λ left. false; spells = λ u. Some None }
+
 -- one word, two, three and four, and then the end
 unfoldable pub one : {A : Type 0} → Word A → Rest A
 one first = record { says = λ left. told (first.reads left) last; takes = λ left. holds (first.reads left) (λ a rest. first.takes a); spells = λ a. option_map Some (first.spells a) }

@@ -4,7 +4,7 @@ ghost use Rattle.rhai_lines.specs.Forms.{form_of, from_hand, from_changes, from_
 ghost use Rattle.rhai_lines.specs.Cursor.{left_in, Says, Adds};
 
 use crate::rests::{
-    alone, blob, character, flagged_names, four, name_and_alias, names, one, text, three, two,
+    bare, blob, character, flagged_names, four, name_and_alias, names, one, text, three, two,
 };
 use crate::spell;
 use crate::words::{NoCommand, add, first_word};
@@ -18,7 +18,7 @@ fn value_line(alloc: Global, verb: &str, left: Option<&str>) -> Result<Command, 
     ensures { Says result (form_of verb.now) (left_in left.entry) }
 {
     match verb {
-        "unit" => alone(Command::Put(Literal::Unit), left),
+        "unit" => bare(Command::Put(Literal::Unit), left),
         "bool" => Ok(Command::Put(Literal::Bool(one(alloc, left)?))),
         "int" => Ok(Command::Put(Literal::Int(one(alloc, left)?))),
         "host" => Ok(Command::Put(Literal::Host(one(alloc, left)?))),
@@ -49,7 +49,7 @@ fn hand_line(alloc: Global, verb: &str, left: Option<&str>) -> Result<Command, N
         "flatclone" => Ok(Command::FlattenClone(one(alloc, left)?)),
         "cast" => two(alloc, left).map(|(i, kind)| Command::Cast(i, kind)),
         "take" => Ok(Command::Take(one(alloc, left)?)),
-        "drop" => alone(Command::Drop, left),
+        "drop" => bare(Command::Drop, left),
         "share" => Ok(Command::Share(one(alloc, left)?)),
         _ => change_line(alloc, verb, left),
     }
@@ -88,11 +88,11 @@ fn entry_line(alloc: Global, verb: &str, left: Option<&str>) -> Result<Command, 
         "set" => two(alloc, left).map(|(name, i)| Command::SetEntry(name, i)),
         "setorpush" => two(alloc, left).map(|(name, i)| Command::SetOrPush(name, i)),
         "setvalue" => two(alloc, left).map(|(name, i)| Command::SetValue(name, i)),
-        "pop" => alone(Command::Pop, left),
+        "pop" => bare(Command::Pop, left),
         "rewind" => Ok(Command::Rewind(one(alloc, left)?)),
-        "clear" => alone(Command::Clear, left),
-        "visible" => alone(Command::KeepVisible, left),
-        "copyscope" => alone(Command::CopyScope, left),
+        "clear" => bare(Command::Clear, left),
+        "visible" => bare(Command::KeepVisible, left),
+        "copyscope" => bare(Command::CopyScope, left),
         _ => scope_line(alloc, verb, left),
     }
 }
@@ -103,12 +103,12 @@ fn scope_line(alloc: Global, verb: &str, left: Option<&str>) -> Result<Command, 
     ensures { Says result (from_scope verb.now) (left_in left.entry) }
 {
     match verb {
-        "len" => alone(Command::Len, left),
-        "empty" => alone(Command::IsEmpty, left),
-        "iter" => alone(Command::Entries, left),
-        "names" => alone(Command::Names, left),
-        "showscope" => alone(Command::ShowScope, left),
-        "hashscope" => alone(Command::HashScope, left),
+        "len" => bare(Command::Len, left),
+        "empty" => bare(Command::IsEmpty, left),
+        "iter" => bare(Command::Entries, left),
+        "names" => bare(Command::Names, left),
+        "showscope" => bare(Command::ShowScope, left),
+        "hashscope" => bare(Command::HashScope, left),
         "contains" => Ok(Command::Contains(one(alloc, left)?)),
         "search" => Ok(Command::Search(one(alloc, left)?)),
         "constant" => Ok(Command::IsConstant(one(alloc, left)?)),
@@ -201,7 +201,7 @@ fn add_literal(line: &mut String, literal: &Literal) -> Result<bool, AllocError>
     ensures { Adds result (literal_line literal.now) (string_bytes line.old) (string_bytes line.new) }
 {
     match literal {
-        Literal::Unit => add(line, "unit"),
+        Literal::Unit => spell::bare(line, "unit"),
         Literal::Bool(b) => spell::one(line, "bool", b),
         Literal::Int(n) => spell::one(line, "int", n),
         Literal::Char(c) => spell::character(line, "char", *c),
@@ -225,7 +225,7 @@ pub(crate) fn add_line(line: &mut String, command: &Command) -> Result<bool, All
         Command::MakeFn(name, n) => spell::two(line, "fn", name, n),
         Command::Copy(i) => spell::one(line, "copy", i),
         Command::Take(i) => spell::one(line, "take", i),
-        Command::Drop => add(line, "drop"),
+        Command::Drop => spell::bare(line, "drop"),
         Command::Share(i) => spell::one(line, "share", i),
         Command::Flatten(i) => spell::one(line, "flatten", i),
         Command::FlattenClone(i) => spell::one(line, "flatclone", i),
@@ -244,11 +244,11 @@ pub(crate) fn add_line(line: &mut String, command: &Command) -> Result<bool, All
         Command::SetEntry(name, i) => spell::two(line, "set", name, i),
         Command::SetOrPush(name, i) => spell::two(line, "setorpush", name, i),
         Command::SetValue(name, i) => spell::two(line, "setvalue", name, i),
-        Command::Pop => add(line, "pop"),
+        Command::Pop => spell::bare(line, "pop"),
         Command::Rewind(n) => spell::one(line, "rewind", n),
-        Command::Clear => add(line, "clear"),
-        Command::Len => add(line, "len"),
-        Command::IsEmpty => add(line, "empty"),
+        Command::Clear => spell::bare(line, "clear"),
+        Command::Len => spell::bare(line, "len"),
+        Command::IsEmpty => spell::bare(line, "empty"),
         Command::Contains(name) => spell::one(line, "contains", name),
         Command::Search(name) => spell::one(line, "search", name),
         Command::IsConstant(name) => spell::one(line, "constant", name),
@@ -259,14 +259,14 @@ pub(crate) fn add_line(line: &mut String, command: &Command) -> Result<bool, All
         Command::Remove(name, kind) => spell::two(line, "remove", name, kind),
         Command::SetAlias(name, alias) => spell::name_and_alias(line, "alias", name, alias),
         Command::Aliases(name) => spell::one(line, "aliases", name),
-        Command::KeepVisible => add(line, "visible"),
-        Command::CopyScope => add(line, "copyscope"),
-        Command::Entries => add(line, "iter"),
-        Command::Names => add(line, "names"),
+        Command::KeepVisible => spell::bare(line, "visible"),
+        Command::CopyScope => spell::bare(line, "copyscope"),
+        Command::Entries => spell::bare(line, "iter"),
+        Command::Names => spell::bare(line, "names"),
         Command::Extend(names) => spell::list(line, "extend", names.as_slice()),
         Command::ExtendFlagged(names) => spell::list(line, "extendflagged", names.as_slice()),
-        Command::ShowScope => add(line, "showscope"),
-        Command::HashScope => add(line, "hashscope"),
+        Command::ShowScope => spell::bare(line, "showscope"),
+        Command::HashScope => spell::bare(line, "hashscope"),
         Command::Mark(place) => spell::one(line, "mark", place),
         Command::Unmark(k) => spell::one(line, "unmark", k),
         Command::WriteMarked(k, i) => spell::two(line, "writemarked", k, i),

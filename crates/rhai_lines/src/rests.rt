@@ -1,14 +1,14 @@
 //! All that is left of a line, to its end.
-ghost use Rattle.std.specs.Prelude.{◌≡◌, ◌<◌, ℕ, List, Option, Some, true, false, string_bytes, IfOk, IfErr};
+ghost use Rattle.std.specs.Prelude.{◌≡◌, ◌<◌, ℕ, List, Option, Some, option_map, true, false, string_bytes, IfOk, IfErr};
 ghost use Rattle.std.specs.Char.{is_ascii_hexdigit, digit_value};
 ghost use Rattle.std.specs.List.{list_all};
 ghost use Rattle.std.specs.Str.{chars};
 ghost use Rattle.rhai_lines.specs.Words.{name_of};
-ghost use Rattle.rhai_lines.specs.Rests.{last, one as one_word, two as two_words, three as three_words, four as four_words, list_of, names, flagged_of, flagged_word, flagged_names, an_alias, a_name_and_alias, rest_of, a_text, only, a_char, is_hex, bytes_of_pairs, a_blob};
+ghost use Rattle.rhai_lines.specs.Rests.{last, nothing, one as one_word, two as two_words, three as three_words, four as four_words, list_of, names, flagged_of, flagged_word, flagged_names, an_alias, a_name_and_alias, rest_of, a_text, only, a_char, is_hex, bytes_of_pairs, a_blob};
 ghost use Rattle.rhai_lines.specs.Cursor.{left_in, Yields, Finds, Lacks, Adds};
 
 use crate::words::{NoCommand, Word, add_name, behind, first_word, name};
-use rhai_run::{Bytes, FlaggedNames, Names};
+use rhai_run::{Bytes, Command, FlaggedNames, Names};
 use rhai_text::ImmutableString;
 use std::alloc::{AllocError, Global};
 
@@ -18,6 +18,16 @@ pub(crate) fn alone<A: Drop>(a: A, left: Option<&str>) -> Result<A, NoCommand>
 {
     match left {
         None => Ok(a),
+        Some(_) => Err(NoCommand::BadLine),
+    }
+}
+
+/// Nothing is left, and the command is this one.
+pub(crate) fn bare(command: Command, left: Option<&str>) -> Result<Command, NoCommand>
+    ensures { Yields result (option_map (λ u. command) (nothing.says (left_in left.entry))) (λ c. false) }
+{
+    match left {
+        None => Ok(command),
         Some(_) => Err(NoCommand::BadLine),
     }
 }

@@ -1,7 +1,7 @@
 //! Commands as their lines: a verb, and the words of values behind it. Without a verb these calls add words behind others.
 ghost use Rattle.std.specs.Prelude.{◌≡◌, ◌∷◌, ◌++◌, OnOk, option_map, string_bytes};
 ghost use Rattle.std.specs.Str.{chars};
-ghost use Rattle.rhai_lines.specs.Rests.{one as one_word, two as two_words, three as three_words, four as four_words, list_of, an_alias, a_name_and_alias, a_text, has_feed, a_char, a_blob};
+ghost use Rattle.rhai_lines.specs.Rests.{nothing, one as one_word, two as two_words, three as three_words, four as four_words, list_of, an_alias, a_name_and_alias, a_text, has_feed, a_char, a_blob};
 ghost use Rattle.rhai_lines.specs.Printed.{byte_text};
 ghost use Rattle.rhai_lines.specs.Forms.{spoken};
 ghost use Rattle.rhai_lines.specs.Cursor.{Adds};
@@ -17,6 +17,14 @@ fn word<A: Word>(line: &mut String, a: &A) -> Result<bool, AllocError>
 {
     line.push_str(" ")?;
     a.spell(line)
+}
+
+/// Adds a verb alone.
+#[tactic(auto, unfolding(crate::specs::Forms::spoken))]
+pub(crate) fn bare(line: &mut String, verb: &str) -> Result<bool, AllocError>
+    ensures { Adds result (spoken verb.now nothing tt) (string_bytes line.old) (string_bytes line.new) }
+{
+    add(line, verb)
 }
 
 /// Adds a verb and one word.

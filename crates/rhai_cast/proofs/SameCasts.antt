@@ -1,13 +1,13 @@
 -- Casts, questions and what is lent don't depend on the numbers of cells.
-use Rattle.std.proofs.Common.{◌≡◌, cond, List, [], option_and_then, refl, ap, ap₂}
+use Rattle.std.proofs.Common.{◌≡◌, cond, List, [], refl, ap, ap₂}
 use Rattle.rhai_value.specs.declared.store.Cell.{Cell}
 use Rattle.rhai_value.specs.declared.type_id.TypeId.{TypeId}
 use Rattle.rhai_value.specs.declared.type_id.TypeId.TheVariants as id
-use Rattle.rhai_value.specs.End.{End, held, stuck, closed, end, held_in, flat, flattened}
-use Rattle.rhai_value.specs.Relation.{Renaming, Related, Alike, IsOneToOne, RelatedCells, RelatedEnds}
+use Rattle.rhai_value.specs.End.{end, flat, flattened}
+use Rattle.rhai_value.specs.Relation.{Renaming, Related, Alike, IsOneToOne, RelatedCells}
 use Rattle.rhai_value.specs.Tree.{Tree}
 use Rattle.rhai_value.specs.Types.{is_type}
-use Rattle.rhai_value.proofs.ForCallers.{same_end, same_end_type, same_first, same_flat, same_flattened, same_shared}
+use Rattle.rhai_value.proofs.ForCallers.{same_end, same_end_type, same_first, same_flat, same_flattened, same_held_part, same_shared}
 use Rattle.rhai_variant.specs.Reads.{held_type, read, viewed}
 use Rattle.rhai_variant.proofs.ForCallers.{same_read, same_viewed}
 use Rattle.rhai_cast.specs.Casts.{is_of, is_castable, locked}
@@ -26,17 +26,6 @@ pub same_castable : (r : Renaming) (k : TypeId) (s z : List Cell) (t u : Tree) �
 same_castable r id.Dynamic s z t u one cells h = refl
 same_castable r k s z t u one cells h = ap (is_type (held_type k)) (same_end_type r (end s [] t) (end z [] u) (same_end r s z t u one cells h))
 
-same_held_view : (r : Renaming) (k : TypeId) (e f : End) → RelatedEnds r e f → Alike (Related r) (option_and_then (viewed k) (held_in e)) (option_and_then (viewed k) (held_in f))
-same_held_view r k (held p t) (held q u) h = same_viewed r k t u h.1
-same_held_view r k (stuck t) (stuck u) h = tt
-same_held_view r k closed closed h = tt
-same_held_view r k (held p t) (stuck u) h = absurd h
-same_held_view r k (held p t) closed h = absurd h
-same_held_view r k (stuck t) (held q u) h = absurd h
-same_held_view r k (stuck t) closed h = absurd h
-same_held_view r k closed (held q u) h = absurd h
-same_held_view r k closed (stuck u) h = absurd h
-
 pub same_locked : (r : Renaming) (k : TypeId) (s z : List Cell) (t u : Tree) → IsOneToOne r → RelatedCells r s z → Related r t u → Alike (Related r) (locked k s t) (locked k z u)
 same_locked r id.Dynamic s z t u one cells h = same_first r s z cells t u h
-same_locked r k s z t u one cells h = same_held_view r k (end s [] t) (end z [] u) (same_end r s z t u one cells h)
+same_locked r k s z t u one cells h = same_held_part r (Related r) (viewed k) (same_viewed r k) (end s [] t) (end z [] u) (same_end r s z t u one cells h)

@@ -3,8 +3,7 @@ use Rattle.std.proofs.Common.{◌≡◌, ◌≤◌, ◌<◌, ℕ, zero, suc, ◌
 use Rattle.std.proofs.lemmas.Bool.{cases_Bool}
 use Rattle.std.proofs.lemmas.Cmp.{nat_list_cmp_total, tied_itself, eq_by_cmp_equiv}
 use Rattle.std.proofs.lemmas.List.{take_more, length-take-le, length-map}
-use Rattle.std.proofs.lemmas.Map.Lookups.{exact_bytes}
-use Rattle.std.proofs.lemmas.Map.{lookup-none}
+use Rattle.std.proofs.lemmas.Map.{keys-set_value, lookup-none, lookup-set_value}
 use Rattle.std.proofs.lemmas.Map.Entries.{lookup_head, lookup_tail, none_past_head}
 use Rattle.std.proofs.lemmas.Map.Keys.{IsDistinct-from_sorted, sorted_tail}
 use Rattle.std.proofs.lemmas.Option.{same_Some}
@@ -14,7 +13,7 @@ use Rattle.std.specs.List.Sorted.{IsStrictlySortedBy}
 use Rattle.std.specs.Map.{keys_of, lookup, set_value}
 use Rattle.std.specs.Ordering.{is_eq, match_ordering, ordering_reverse}
 use Rattle.std.specs.Str.{encode_utf8_all}
-use Rattle.rhai_value.proofs.ForCallers.{get_set_other, or_false}
+use Rattle.rhai_value.proofs.ForCallers.{found_inserted, get_set_other, or_false}
 use Rattle.rhai_value.specs.Rows.{Rows, bytes_cmp}
 use Rattle.rhai_value.specs.Tree.{Tree, fresh, unit}
 use Rattle.rhai_run.specs.Made.{rows_with, rows_of_keys}
@@ -47,77 +46,21 @@ found q rs = lookup (is_at (bytes_cmp q)) rs
 is_itself : (k : List ℕ) → is_eq (bytes_cmp k k) ≡ true
 is_itself k = ap is_eq (tied_itself nat_list_cmp_total k)
 
-is_equal : (o : Ordering) → is_eq o ≡ true → o ≡ Equal
-is_equal Less e = cc
-is_equal Equal e = refl
-is_equal Greater e = cc
-
--- equal keys are the same
-same_key : (q k : List ℕ) → is_eq (bytes_cmp q k) ≡ true → q ≡ k
-same_key q k e = exact_bytes q k (is_equal (bytes_cmp q k) e)
-
--- what is found after an insertion
-found_inserted : (q k : List ℕ) (t : Tree) (rs : Rows) → found q (insert_entry bytes_cmp rs k t) ≡ cond (is_eq (bytes_cmp q k)) (Some t) (found q rs)
-found_inserted q k t [] = refl
-found_inserted q k t (e ∷ rs) = here (bytes_cmp k e.0) refl (found_inserted q k t rs)
-  where
-    same : (b : Bool) → cond b (Some t) (found q rs) ≡ cond b (Some t) (cond b (Some e.1) (found q rs))
-    same true = refl
-    same false = refl
-
-    swapped : (b d : Bool) → is_eq (bytes_cmp q e.0) ≡ b → is_eq (bytes_cmp q k) ≡ d → bytes_cmp k e.0 ≡ Greater → cond b (Some e.1) (cond d (Some t) (found q rs)) ≡ cond d (Some t) (cond b (Some e.1) (found q rs))
-    swapped true true b d g =
-        let apart : bytes_cmp k k ≡ Greater = ap (bytes_cmp k) (sym (same_key q k d) ∙ same_key q e.0 b) ∙ g in
-        let itself = is_itself k in
-        let no : is_eq Greater ≡ true = ap is_eq (sym apart) ∙ itself in
-        cc
-    swapped true false b d g = refl
-    swapped false true b d g = refl
-    swapped false false b d g = refl
-
-    here : (o : Ordering) → bytes_cmp k e.0 ≡ o → found q (insert_entry bytes_cmp rs k t) ≡ cond (is_eq (bytes_cmp q k)) (Some t) (found q rs)
-        → found q (match_ordering o ((k, t) ∷ e ∷ rs) ((e.0, t) ∷ rs) (e ∷ insert_entry bytes_cmp rs k t)) ≡ cond (is_eq (bytes_cmp q k)) (Some t) (cond (is_eq (bytes_cmp q e.0)) (Some e.1) (found q rs))
-    here Less o again = refl
-    here Equal o again = rw (exact_bytes k e.0 o) (same (is_eq (bytes_cmp q e.0)))
-    here Greater o again = rw again (swapped (is_eq (bytes_cmp q e.0)) (is_eq (bytes_cmp q k)) refl refl o)
-
 -- what is found after a write at a key that is there
 pub found_set : (q k : List ℕ) (t : Tree) (rs : Rows) → is_some (found k rs) ≡ true → found q (set_value (is_at (bytes_cmp k)) rs t) ≡ cond (is_eq (bytes_cmp q k)) (Some t) (found q rs)
-found_set q k t [] h = cc
-found_set q k t (e ∷ rs) h = here (is_eq (bytes_cmp k e.0)) refl h (found_set q k t rs)
-  where
-    same : (b : Bool) → cond b (Some t) (found q rs) ≡ cond b (Some t) (cond b (Some e.1) (found q rs))
-    same true = refl
-    same false = refl
-
-    swapped : (b d : Bool) → is_eq (bytes_cmp q e.0) ≡ b → is_eq (bytes_cmp q k) ≡ d → is_eq (bytes_cmp k e.0) ≡ false → cond b (Some e.1) (cond d (Some t) (found q rs)) ≡ cond d (Some t) (cond b (Some e.1) (found q rs))
-    swapped true true b d f =
-        let itself : is_eq (bytes_cmp k k) ≡ false = ap (λ x. is_eq (bytes_cmp k x)) (sym (same_key q k d) ∙ same_key q e.0 b) ∙ f in
-        let yes = is_itself k in
-        cc
-    swapped true false b d f = refl
-    swapped false true b d f = refl
-    swapped false false b d f = refl
-
-    here : (o : Bool) → is_eq (bytes_cmp k e.0) ≡ o → is_some (cond o (Some e.1) (found k rs)) ≡ true → (is_some (found k rs) ≡ true → found q (set_value (is_at (bytes_cmp k)) rs t) ≡ cond (is_eq (bytes_cmp q k)) (Some t) (found q rs))
-        → found q (cond o ((e.0, t) ∷ rs) (e ∷ set_value (is_at (bytes_cmp k)) rs t)) ≡ cond (is_eq (bytes_cmp q k)) (Some t) (cond (is_eq (bytes_cmp q e.0)) (Some e.1) (found q rs))
-    here true o h again = rw (same_key k e.0 o) (same (is_eq (bytes_cmp q e.0)))
-    here false o h again = rw (again h) (swapped (is_eq (bytes_cmp q e.0)) (is_eq (bytes_cmp q k)) refl refl o)
+found_set q k t rs h =
+    let laws = eq_by_cmp_equiv nat_list_cmp_total in
+    lookup-set_value laws (is_at (bytes_cmp k)) (laws.congr k) q t rs h ∙ ap (λ b. cond b (Some t) (found q rs)) (laws.symm k q)
 
 -- a write keeps the keys
 pub keys_set : (k : List ℕ) (t : Tree) (rs : Rows) → keys_of (set_value (is_at (bytes_cmp k)) rs t) ≡ keys_of rs
-keys_set k t [] = refl
-keys_set k t (e ∷ rs) = here (is_eq (bytes_cmp k e.0)) (keys_set k t rs)
-  where
-    here : (o : Bool) → keys_of (set_value (is_at (bytes_cmp k)) rs t) ≡ keys_of rs → keys_of (cond o ((e.0, t) ∷ rs) (e ∷ set_value (is_at (bytes_cmp k)) rs t)) ≡ keys_of (e ∷ rs)
-    here true again = refl
-    here false again = ap (λ ks. e.0 ∷ ks) again
+keys_set k t rs = keys-set_value (is_at (bytes_cmp k)) rs t
 
 -- a key that is there stays
 stays_found : (q : List ℕ) (ks : List (List ℕ)) (ts : List Tree) (rs : Rows) → is_some (found q rs) ≡ true → is_some (found q (rows_with rs ks ts)) ≡ true
 stays_found q [] ts rs h = h
 stays_found q (k ∷ ks) [] rs h = h
-stays_found q (k ∷ ks) (t ∷ ts) rs h = stays_found q ks ts _ (rw (found_inserted q (encode_utf8_all k) t rs) (here (is_eq (bytes_cmp q (encode_utf8_all k)))))
+stays_found q (k ∷ ks) (t ∷ ts) rs h = stays_found q ks ts _ (rw (found_inserted nat_list_cmp_total q (encode_utf8_all k) t rs) (here (is_eq (bytes_cmp q (encode_utf8_all k)))))
   where
     here : (b : Bool) → is_some (cond b (Some t) (found q rs)) ≡ true
     here true = refl
@@ -128,7 +71,7 @@ key_found : (ks : List (List ℕ)) (ts : List Tree) (rs : Rows) (i : ℕ) (k : L
 key_found [] ts rs i k l n e = absurd (omega arith)
 key_found (j ∷ ks) [] rs i k l n e = absurd (omega arith)
 key_found (j ∷ ks) (t ∷ ts) rs zero k l n e =
-    stays_found (encode_utf8_all k) ks ts _ (rw (e, found_inserted (encode_utf8_all j) (encode_utf8_all j) t rs, is_itself (encode_utf8_all j)) refl)
+    stays_found (encode_utf8_all k) ks ts _ (rw (e, found_inserted nat_list_cmp_total (encode_utf8_all j) (encode_utf8_all j) t rs, is_itself (encode_utf8_all j)) refl)
 key_found (j ∷ ks) (t ∷ ts) rs (suc i) k l n e = key_found ks ts _ i k (omega arith) (omega arith) e
 
 pub key_stays : (ks js : List (List ℕ)) (ts : List Tree) (i : ℕ) (k : List ℕ) → i < length ks → k ≡ get_or ks i k → is_some (found (encode_utf8_all k) (rows_with (rows_of_keys ks) js ts)) ≡ true
@@ -139,7 +82,7 @@ pub found_more : (q : List ℕ) (rs us : Rows) (ks : List (List ℕ)) (ts : List
     → found q us ≡ found q (rows_with rs (take i ks) ts) → found q (set_value (is_at (bytes_cmp (encode_utf8_all k))) us t) ≡ found q (rows_with rs (take (i + 1) ks) ts)
 found_more q rs us ks ts i k t l e h there same =
     found_set q (encode_utf8_all k) t us there ∙ ap (cond (is_eq (bytes_cmp q (encode_utf8_all k))) (Some t)) same
-    ∙ sym (ap (found q) (rows_more rs ks ts i k t l e h) ∙ found_inserted q (encode_utf8_all k) t (rows_with rs (take i ks) ts))
+    ∙ sym (ap (found q) (rows_more rs ks ts i k t l e h) ∙ found_inserted nat_list_cmp_total q (encode_utf8_all k) t (rows_with rs (take i ks) ts))
 
 -- ---- the keys alone, and then the values
 
@@ -148,7 +91,7 @@ found_over : (q : List ℕ) (ks : List (List ℕ)) (ts : List Tree) (rs us : Row
 found_over q [] ts rs us n h = h refl
 found_over q (k ∷ ks) [] rs us n h = absurd (omega arith)
 found_over q (k ∷ ks) (t ∷ ts) rs us n h =
-    found_over q ks ts _ _ (omega arith) (λ none. rw (found_inserted q (encode_utf8_all k) t rs, found_inserted q (encode_utf8_all k) t us) (here (is_eq (bytes_cmp q (encode_utf8_all k))) (λ e. h (rw e none))))
+    found_over q ks ts _ _ (omega arith) (λ none. rw (found_inserted nat_list_cmp_total q (encode_utf8_all k) t rs, found_inserted nat_list_cmp_total q (encode_utf8_all k) t us) (here (is_eq (bytes_cmp q (encode_utf8_all k))) (λ e. h (rw e none))))
   where
     here : (b : Bool) → (b ≡ false → found q rs ≡ found q us) → cond b (Some t) (found q rs) ≡ cond b (Some t) (found q us)
     here true g = refl
@@ -160,7 +103,7 @@ found_none q [] ts rs h = refl
 found_none q (k ∷ ks) [] rs h = refl
 found_none q (k ∷ ks) (t ∷ ts) rs h =
     let p = or_false (is_eq (bytes_cmp q (encode_utf8_all k))) _ h in
-    found_none q ks ts _ p.1 ∙ found_inserted q (encode_utf8_all k) t rs ∙ ap (λ b. cond b (Some t) (found q rs)) p.0
+    found_none q ks ts _ p.1 ∙ found_inserted nat_list_cmp_total q (encode_utf8_all k) t rs ∙ ap (λ b. cond b (Some t) (found q rs)) p.0
 
 pub found_given : (q : List ℕ) (ks : List (List ℕ)) (ts : List Tree) → length ts ≡ length ks → found q (rows_with (rows_of_keys ks) ks ts) ≡ found q (rows_with [] ks ts)
 found_given q ks ts n = found_over q ks ts (rows_of_keys ks) [] n (found_none q ks (map (λ k. fresh unit) ks) [])

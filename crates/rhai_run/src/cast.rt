@@ -13,7 +13,7 @@ use rhai_cast::DynamicCast;
 use rhai_text::ImmutableString;
 use rhai_value::{
     AccessMode, Array, Blob, Dynamic, ExclusiveRange, FnPtr, INT, InclusiveRange, Map, Store,
-    TypeId, Union,
+    TypeId,
 };
 use rhai_variant::Variant;
 use std::alloc::{AllocError, Global};
@@ -124,19 +124,7 @@ pub(crate) fn can_move(value: &Dynamic, s: &Store, kind: TypeId) -> bool
 fn made_anew(value: Dynamic) -> Dynamic
     ensures { result ≡ made (content_of value) }
 {
-    Dynamic::from_parts(match value.into_parts() {
-        Union::Unit(_, _, value) => Union::Unit(0, AccessMode::ReadWrite, value),
-        Union::Bool(_, _, value) => Union::Bool(0, AccessMode::ReadWrite, value),
-        Union::Str(_, _, value) => Union::Str(0, AccessMode::ReadWrite, value),
-        Union::Char(_, _, value) => Union::Char(0, AccessMode::ReadWrite, value),
-        Union::Int(_, _, value) => Union::Int(0, AccessMode::ReadWrite, value),
-        Union::Array(_, _, value) => Union::Array(0, AccessMode::ReadWrite, value),
-        Union::Blob(_, _, value) => Union::Blob(0, AccessMode::ReadWrite, value),
-        Union::Map(_, _, value) => Union::Map(0, AccessMode::ReadWrite, value),
-        Union::FnPtr(_, _, value) => Union::FnPtr(0, AccessMode::ReadWrite, value),
-        Union::Variant(_, _, value) => Union::Variant(0, AccessMode::ReadWrite, value),
-        Union::Shared(_, _, value) => Union::Shared(0, AccessMode::ReadWrite, value),
-    })
+    value.labelled(0, AccessMode::ReadWrite)
 }
 
 /// What is read of a value as a type, where something is.

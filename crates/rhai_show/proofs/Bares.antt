@@ -3,30 +3,18 @@ use Rattle.std.proofs.Common.{◌≡◌, ℕ, zero, suc, Bool, true, false, List
 use Rattle.std.proofs.lemmas.List.{length-map}
 use mathlib.Core.Path.{fun_ext}
 use Rattle.rhai_value.specs.declared.store.Cell.{Cell}
-use Rattle.rhai_value.specs.Tree.{Tree, node, Content, leaf, branch, fields, holder, Trees, no_trees, tree_then, Fields, no_fields, field_then}
+use Rattle.rhai_value.specs.Tree.{Tree}
 use Rattle.rhai_value.specs.Store.{at, unmarked}
 use Rattle.rhai_value.specs.Walk.{Visit, entered, is_open, visit_of, visit_map, unentered, walk_in}
-use Rattle.rhai_show.specs.Bare.{bare, bare_content, bare_trees, bare_fields, bare_cell}
-use Rattle.rhai_show.specs.Plain.{Plain, plain_branch, plain_map, plain_more, plain_field_more, plain_of, content_plain, all_plain, fields_plain, plain}
+use Rattle.rhai_value.proofs.ForCallers.{by_value}
+use Rattle.rhai_show.specs.Bare.{bare, bare_trees, bare_fields, bare_cell}
+use Rattle.rhai_show.specs.Plain.{Plain, plain_branch, plain_map, plain_more, plain_field_more, plain_of, all_plain, fields_plain, plain}
 
-module _ (path : List ℕ) (go : ℕ → Visit (Option Plain)) where
-  mutual
-    bare_tree : (t : Tree) → plain_of path go (bare t) ≡ plain_of path go t
-    bare_tree (node c g m) = bare_in c
-
-    bare_in : (c : Content) → content_plain path go (bare_content c) ≡ content_plain path go c
-    bare_in (leaf l) = refl
-    bare_in (branch k ts) = ap (option_map (plain_branch k)) (bare_all ts)
-    bare_in (fields fs) = ap (option_map plain_map) (bare_each fs)
-    bare_in (holder c) = refl
-
-    bare_all : (ts : Trees) → all_plain path go (bare_trees ts) ≡ all_plain path go ts
-    bare_all no_trees = refl
-    bare_all (tree_then t ts) = ap₂ plain_more (bare_tree t) (bare_all ts)
-
-    bare_each : (fs : Fields) → fields_plain path go (bare_fields fs) ≡ fields_plain path go fs
-    bare_each no_fields = refl
-    bare_each (field_then k t fs) = ap₂ (plain_field_more k) (bare_tree t) (bare_each fs)
+bare_tree : (path : List ℕ) (go : ℕ → Visit (Option Plain)) (t : Tree) → plain_of path go (bare t) ≡ plain_of path go t
+bare_tree path go =
+    by_value (λ t. plain_of path go (bare t) ≡ plain_of path go t) (λ ts. all_plain path go (bare_trees ts) ≡ all_plain path go ts) (λ fs. fields_plain path go (bare_fields fs) ≡ fields_plain path go fs)
+    (λ l g m. refl) (λ k ts g m h. ap (option_map (plain_branch k)) h) (λ fs g m h. ap (option_map plain_map) h) (λ c g m. refl)
+    refl (λ t ts p q. ap₂ plain_more p q) refl (λ k t fs p q. ap₂ (plain_field_more k) p q)
 
 -- what is read of a cell
 bare_unmarked : (m : Bool) (t : Tree) → unmarked (bare_cell (record { content = t; is_marked = m })) ≡ option_map bare (unmarked (record { content = t; is_marked = m }))

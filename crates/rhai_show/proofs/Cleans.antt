@@ -1,43 +1,29 @@
 -- Cells that a search has left, and found clean.
-use Rattle.std.proofs.Common.{◌≡◌, ℕ, ℤ, pos, ◌&&◌, ◌||◌, ◌⊎◌, nat_eq, Bool, true, false, List, ◌∷◌, Some, is_some, refl, sym, ap, ap₂, ◌∙◌, inl, inr, eqb-true}
-use Rattle.std.proofs.lemmas.Bool.{cases_eq}
+use Rattle.std.proofs.Common.{◌≡◌, ℕ, ℤ, pos, ◌||◌, ◌⊎◌, nat_eq, Bool, true, false, List, ◌∷◌, Some, is_some, refl, sym, ap, ap₂, ◌∙◌, inl, inr, eqb-true}
+use Rattle.std.proofs.lemmas.Bool.{and_from, cases_eq}
 use Rattle.rhai_value.specs.declared.access_mode.AccessMode.{AccessMode}
 use Rattle.rhai_value.specs.declared.access_mode.AccessMode.TheVariants.{ReadWrite}
 use Rattle.rhai_value.specs.declared.store.Cell.{Cell}
-use Rattle.rhai_value.specs.Tree.{Tree, node, Content, leaf, branch, fields, holder, Trees, no_trees, tree_then, Fields, no_fields, field_then, made}
+use Rattle.rhai_value.specs.Tree.{Tree, node, leaf, branch, fields, holder, made}
 use Rattle.rhai_value.specs.Store.{at}
 use Rattle.rhai_value.specs.Walk.{is_open, opened, visit_of, entry}
+use Rattle.rhai_value.proofs.ForCallers.{by_value}
 use Rattle.rhai_show.specs.Plain.{plain}
-use Rattle.rhai_show.specs.Clean.{are_plain, values_in, Apart, Names, ContentNames, AllName, FieldsName, Clean}
+use Rattle.rhai_show.specs.Clean.{are_plain, values_in, Apart, Names, AllName, FieldsName, Clean}
 use Rattle.rhai_show.proofs.Plains.{plain-leaf, plain-branch, plain-map, plain-holders, plain-opened}
-
-both_true : (a b : Bool) → a ≡ true → b ≡ true → (a && b) ≡ true
-both_true true b p q = q
-both_true false b p q = cc
 
 pub either : (b : Bool) → (b ≡ true) ⊎ (b ≡ false)
 either true = inl refl
 either false = inr refl
 
--- What names clean cells alone is plain on every path that has none of these open
-module _ (s : List Cell) (d : ℕ → Bool) (clean : Clean s d) (path : List ℕ) (apart : Apart path d) where
-  mutual
-    pub named_plain : (t : Tree) → Names d t → is_some (plain s path t) ≡ true
-    named_plain (node c g m) n = content_named c g m n
-
-    content_named : (c : Content) (g : ℤ) (m : AccessMode) → ContentNames d c → is_some (plain s path (node c g m)) ≡ true
-    content_named (leaf l) g m n = sym (plain-leaf s path (node (leaf l) g m) l g m refl)
-    content_named (branch k ts) g m n = plain-branch s path (node (branch k ts) g m) k ts g m refl ∙ all_named ts n
-    content_named (fields fs) g m n = plain-map s path (node (fields fs) g m) fs g m refl ∙ fields_named fs n
-    content_named (holder c) g m n = ap is_some (plain-holders s path c g (pos 0) m ReadWrite) ∙ clean.held c n path apart
-
-    pub all_named : (ts : Trees) → AllName d ts → are_plain s path ts ≡ true
-    all_named no_trees n = refl
-    all_named (tree_then t ts) n = both_true _ _ (named_plain t n.0) (all_named ts n.1)
-
-    fields_named : (fs : Fields) → FieldsName d fs → are_plain s path (values_in fs) ≡ true
-    fields_named no_fields n = refl
-    fields_named (field_then k t fs) n = both_true _ _ (named_plain t n.0) (fields_named fs n.1)
+-- What names clean cells alone is plain on every path that has none of these open.
+pub named_plain : (s : List Cell) (d : ℕ → Bool) → Clean s d → (path : List ℕ) → Apart path d → (t : Tree) → Names d t → is_some (plain s path t) ≡ true
+named_plain s d clean path apart = by_value (λ t. Names d t → is_some (plain s path t) ≡ true) (λ ts. AllName d ts → are_plain s path ts ≡ true) (λ fs. FieldsName d fs → are_plain s path (values_in fs) ≡ true)
+    (λ l g m n. sym (plain-leaf s path (node (leaf l) g m) l g m refl))
+    (λ k ts g m all n. plain-branch s path (node (branch k ts) g m) k ts g m refl ∙ all n)
+    (λ fs g m all n. plain-map s path (node (fields fs) g m) fs g m refl ∙ all n)
+    (λ c g m n. ap is_some (plain-holders s path c g (pos 0) m ReadWrite) ∙ clean.held c n path apart)
+    (λ n. refl) (λ t ts p q n. and_from _ _ (p n.0) (q n.1)) (λ n. refl) (λ k t fs p q n. and_from _ _ (p n.0) (q n.1))
 
 -- no cell is found clean yet
 pub clean_none : (s : List Cell) (d : ℕ → Bool) → ((c : ℕ) → d c ≡ false) → Clean s d

@@ -3,11 +3,12 @@ use Rattle.std.proofs.Common.{◌≡◌, ℕ, ℤ, ◌&&◌, ◌||◌, ◌⊎◌
 use Rattle.std.proofs.lemmas.Bool.{cases_eq}
 use Rattle.rhai_value.specs.declared.access_mode.AccessMode.{AccessMode}
 use Rattle.rhai_value.specs.declared.store.Cell.{Cell}
-use Rattle.rhai_value.specs.Tree.{Tree, node, Leaf, Kind, Content, leaf, branch, fields, holder, Trees, no_trees, tree_then, Fields, no_fields, field_then, cell_of}
+use Rattle.rhai_value.specs.Tree.{Tree, node, Leaf, Kind, leaf, branch, fields, holder, Trees, no_trees, tree_then, Fields, no_fields, field_then, cell_of}
 use Rattle.rhai_value.specs.Store.{at}
 use Rattle.rhai_value.specs.Walk.{is_open, opened, visit_of, entry}
+use Rattle.rhai_value.proofs.ForCallers.{each_weaker}
 use Rattle.rhai_show.specs.Plain.{plain}
-use Rattle.rhai_show.specs.Clean.{are_plain, values_in, has_left, Apart, Names, ContentNames, AllName, FieldsName, Clean, Searched}
+use Rattle.rhai_show.specs.Clean.{are_plain, values_in, has_left, Apart, Names, AllName, FieldsName, Clean, Searched}
 use Rattle.rhai_show.proofs.Plains.{plain-opened}
 use Rattle.rhai_show.proofs.Cleans.{named_plain, clean_same, clean_more, unequal}
 
@@ -45,25 +46,6 @@ left_apart seen path c o = not_left (is_open c seen) (is_open c path) o
 left_more : (seen later path : List ℕ) → ((c : ℕ) → is_open c seen ≡ true → is_open c later ≡ true) → (c : ℕ) → has_left seen path c ≡ true → has_left later path c ≡ true
 left_more seen later path more c h = left_is _ _ (more c (first_of_both _ _ h)) (not_open _ (second_of_both _ _ h))
 
-module _ (d e : ℕ → Bool) (grows : (c : ℕ) → d c ≡ true → e c ≡ true) where
-  mutual
-    names_more : (t : Tree) → Names d t → Names e t
-    names_more (node c g m) n = content_more c n
-
-    content_more : (c : Content) → ContentNames d c → ContentNames e c
-    content_more (leaf l) n = tt
-    content_more (branch k ts) n = all_more ts n
-    content_more (fields fs) n = fields_more fs n
-    content_more (holder c) n = grows c n
-
-    all_more : (ts : Trees) → AllName d ts → AllName e ts
-    all_more no_trees n = tt
-    all_more (tree_then t ts) n = (names_more t n.0, all_more ts n.1)
-
-    fields_more : (fs : Fields) → FieldsName d fs → FieldsName e fs
-    fields_more no_fields n = tt
-    fields_more (field_then k t fs) n = (names_more t n.0, fields_more fs n.1)
-
 -- no value is left
 pub searched_none : (s : List Cell) (path seen : List ℕ) → Clean s (has_left seen path) → Searched s path seen seen no_trees
 searched_none s path seen clean = record { clean = clean; more = λ c h. h; named = tt }
@@ -80,7 +62,7 @@ searched_more : (s : List Cell) (path seen mid later : List ℕ) (t : Tree) (ts 
 searched_more s path seen mid later t ts h k = record {
   clean = k.clean;
   more = λ c o. k.more c (h.more c o);
-  named = (names_more (has_left mid path) (has_left later path) (left_more mid later path k.more) t h.named.0, k.named);
+  named = (each_weaker (λ c. has_left mid path c ≡ true) (λ c. has_left later path c ≡ true) (left_more mid later path k.more) t h.named.0, k.named);
 }
 
 -- A search through children has come to these: nothing is wrong so far.

@@ -4,10 +4,11 @@ use Rattle.std.proofs.lemmas.Bool.{cases_eq}
 use mathlib.Core.Path.{fun_ext}
 use Rattle.rhai_value.specs.declared.access_mode.AccessMode.{AccessMode}
 use Rattle.rhai_value.specs.declared.store.Cell.{Cell}
-use Rattle.rhai_value.specs.Tree.{Tree, node, Content, leaf, branch, fields, holder, Trees, no_trees, tree_then, Fields, no_fields, field_then}
+use Rattle.rhai_value.specs.Tree.{Tree, node, holder}
 use Rattle.rhai_value.specs.Store.{at}
 use Rattle.rhai_value.specs.Walk.{Visit, entered, barred, revisited, is_open, visit, visit_of, visit_map, unentered, walk_in}
-use Rattle.rhai_show.specs.Plain.{Plain, Plains, PlainFields, plain_branch, plain_map, plain_then, plain_field_then, plain_more, plain_field_more, plain_held, plain_of, content_plain, all_plain, fields_plain, plain}
+use Rattle.rhai_value.proofs.ForCallers.{by_value}
+use Rattle.rhai_show.specs.Plain.{Plain, Plains, PlainFields, plain_branch, plain_map, plain_then, plain_field_then, plain_more, plain_field_more, plain_held, plain_of, all_plain, fields_plain, plain}
 use Rattle.rhai_show.proofs.Cleans.{unequal}
 use Rattle.rhai_show.proofs.Plains.{plain_opens}
 
@@ -34,23 +35,18 @@ one_field E n (Some p) q os qs ps e h k =
     ]
 
 module _ (E : Type 0) (road path : List ℕ) (go to : ℕ → Visit (Option Plain)) (each : (d : ℕ) (q : Plain) → plain_held (go d) ≡ Some q → (plain_held (to d) ≡ Some q) ⊎ E) where
-  mutual
-    pub tree_stays : (t : Tree) (p : Plain) → plain_of road go t ≡ Some p → (plain_of path to t ≡ Some p) ⊎ E
-    tree_stays (node c g m) p e = content_stays c p e
-
-    content_stays : (c : Content) (p : Plain) → content_plain road go c ≡ Some p → (content_plain path to c ≡ Some p) ⊎ E
-    content_stays (leaf l) p e = inl e
-    content_stays (branch k ts) p e = mapped E (plain_branch k) (all_plain road go ts) (all_plain path to ts) p e (all_stay ts)
-    content_stays (fields fs) p e = mapped E plain_map (fields_plain road go fs) (fields_plain path to fs) p e (fields_stay fs)
-    content_stays (holder c) p e = each c p e
-
-    all_stay : (ts : Trees) (ps : Plains) → all_plain road go ts ≡ Some ps → (all_plain path to ts ≡ Some ps) ⊎ E
-    all_stay no_trees ps e = inl e
-    all_stay (tree_then t ts) ps e = one_more E (plain_of road go t) (plain_of path to t) (all_plain road go ts) (all_plain path to ts) ps e (tree_stays t) (all_stay ts)
-
-    fields_stay : (fs : Fields) (ps : PlainFields) → fields_plain road go fs ≡ Some ps → (fields_plain path to fs ≡ Some ps) ⊎ E
-    fields_stay no_fields ps e = inl e
-    fields_stay (field_then k t fs) ps e = one_field E k (plain_of road go t) (plain_of path to t) (fields_plain road go fs) (fields_plain path to fs) ps e (tree_stays t) (fields_stay fs)
+  tree_stays : (t : Tree) (p : Plain) → plain_of road go t ≡ Some p → (plain_of path to t ≡ Some p) ⊎ E
+  tree_stays =
+      by_value (λ t. (p : Plain) → plain_of road go t ≡ Some p → (plain_of path to t ≡ Some p) ⊎ E) (λ ts. (ps : Plains) → all_plain road go ts ≡ Some ps → (all_plain path to ts ≡ Some ps) ⊎ E)
+      (λ fs. (ps : PlainFields) → fields_plain road go fs ≡ Some ps → (fields_plain path to fs ≡ Some ps) ⊎ E)
+      (λ l g m p e. inl e)
+      (λ k ts g m all p e. mapped E (plain_branch k) (all_plain road go ts) (all_plain path to ts) p e all)
+      (λ fs g m all p e. mapped E plain_map (fields_plain road go fs) (fields_plain path to fs) p e all)
+      (λ c g m p e. each c p e)
+      (λ ps e. inl e)
+      (λ t ts one all ps e. one_more E (plain_of road go t) (plain_of path to t) (all_plain road go ts) (all_plain path to ts) ps e one all)
+      (λ ps e. inl e)
+      (λ k t fs one all ps e. one_field E k (plain_of road go t) (plain_of path to t) (fields_plain road go fs) (fields_plain path to fs) ps e one all)
 
 -- ---- fewer open cells
 

@@ -1,7 +1,8 @@
 -- What a search for plain values knows of the cells that it has left.
 use Rattle.std.specs.Prelude.{◌≡◌, ℕ, Bool, true, false, not, ◌&&◌, List, is_some}
 use Rattle.rhai_value.specs.declared.store.Cell.{Cell}
-use Rattle.rhai_value.specs.Tree.{Tree, node, Content, leaf, branch, fields, holder, Trees, no_trees, tree_then, Fields, no_fields, field_then, made}
+use Rattle.rhai_value.specs.Cells.{EachCell, EachInAll, EachInFields}
+use Rattle.rhai_value.specs.Tree.{Tree, holder, Trees, no_trees, tree_then, Fields, no_fields, field_then, made}
 use Rattle.rhai_value.specs.Walk.{is_open}
 use Rattle.rhai_show.specs.Plain.{plain}
 
@@ -23,24 +24,15 @@ has_left seen path c = is_open c seen && not (is_open c path)
 abbrev pub Apart : List ℕ → (ℕ → Bool) → Type 0
 Apart path d = (c : ℕ) → is_open c path ≡ true → d c ≡ false
 
--- each holder in a value names a cell of d; cells aren't looked into
-abbrev mutual
-  pub Names : (ℕ → Bool) → Tree → Type 0
-  Names d (node c g m) = ContentNames d c
+-- each holder in a value, in these, and in the values of a map names a cell of d
+abbrev pub Names : (ℕ → Bool) → Tree → Type 0
+Names d t = EachCell (λ c. d c ≡ true) t
 
-  pub ContentNames : (ℕ → Bool) → Content → Type 0
-  ContentNames d (leaf l) = Unit {0}
-  ContentNames d (branch k ts) = AllName d ts
-  ContentNames d (fields fs) = FieldsName d fs
-  ContentNames d (holder c) = d c ≡ true
+abbrev pub AllName : (ℕ → Bool) → Trees → Type 0
+AllName d ts = EachInAll (λ c. d c ≡ true) ts
 
-  pub AllName : (ℕ → Bool) → Trees → Type 0
-  AllName d no_trees = Unit {0}
-  AllName d (tree_then t ts) = Names d t × AllName d ts
-
-  pub FieldsName : (ℕ → Bool) → Fields → Type 0
-  FieldsName d no_fields = Unit {0}
-  FieldsName d (field_then k t fs) = Names d t × FieldsName d fs
+abbrev pub FieldsName : (ℕ → Bool) → Fields → Type 0
+FieldsName d fs = EachInFields (λ c. d c ≡ true) fs
 
 -- no holder stands in the value, at any depth
 abbrev pub HasNoHolder : Tree → Type 0

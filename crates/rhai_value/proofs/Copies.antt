@@ -12,6 +12,7 @@ use Rattle.rhai_value.specs.Slots.{KeySlot, rows, row_in, tree_in, slot_at, is_n
 use Rattle.rhai_value.specs.Tree.{Tree, tree_then, copy, copy_trees, copy_fields}
 use Rattle.rhai_value.specs.declared.map.Slot.{Slot}
 use Rattle.rhai_value.specs.declared.map.Slot.TheVariants.{Vacant, Taken}
+use Rattle.rhai_value.proofs.Zips.{by_zip}
 
 pub copied_trees : (ts : List Tree) → trees_of (map copy ts) ≡ copy_trees (trees_of ts)
 copied_trees [] = refl
@@ -64,38 +65,29 @@ taken_copied : (s : Slot) → is_taken (copied_slot s) ≡ is_taken s
 taken_copied (Vacant next) = refl
 taken_copied (Taken t) = refl
 
+row_cloned : (ts : List Slot) (e f : KeySlot) → SameKeySlot e f → row_in (map copied_slot ts) f ≡ (string_bytes e.0, copy (tree_in (slot_at ts e.1)))
+row_cloned ts e f same =
+    let value = ap (λ n. tree_in (slot_at (map copied_slot ts) n)) same.1 ∙ ap tree_in (slot_copied ts e.1) ∙ tree_copied (slot_at ts e.1) in
+    ap₂ (λ k t. (k, t)) same.0 value
+
 pub rows_cloned : (es fs : List KeySlot) (ts : List Slot) → AllZip SameKeySlot es fs → rows fs (map copied_slot ts) ≡ copied_rows (rows es ts)
-rows_cloned [] [] ts h = refl
-rows_cloned (e ∷ es) (f ∷ fs) ts h =
-    let value = ap (λ n. tree_in (slot_at (map copied_slot ts) n)) h.0.1 ∙ ap tree_in (slot_copied ts e.1) ∙ tree_copied (slot_at ts e.1) in
-    ap₂ (λ r rs. r ∷ rs) (ap₂ (λ k t. (k, t)) h.0.0 value) (rows_cloned es fs ts h.1)
-rows_cloned [] (f ∷ fs) ts h = absurd h
-rows_cloned (e ∷ es) [] ts h = absurd h
+rows_cloned es fs ts = by_zip SameKeySlot (λ es fs. rows fs (map copied_slot ts) ≡ copied_rows (rows es ts)) refl (λ e f es fs same z more. ap₂ (λ r rs. r ∷ rs) (row_cloned ts e f same) more) es fs
 
 named_cloned : (es fs : List KeySlot) (p : ℕ) → AllZip SameKeySlot es fs → is_named p fs ≡ is_named p es
-named_cloned [] [] p h = refl
-named_cloned (e ∷ es) (f ∷ fs) p h = ap₂ (λ a b. a || b) (ap (nat_eq p) h.0.1) (named_cloned es fs p h.1)
-named_cloned [] (f ∷ fs) p h = absurd h
-named_cloned (e ∷ es) [] p h = absurd h
+named_cloned es fs p = by_zip SameKeySlot (λ es fs. is_named p fs ≡ is_named p es) refl (λ e f es fs same z more. ap₂ (λ a b. a || b) (ap (nat_eq p) same.1) more) es fs
 
 apart_cloned : (es fs : List KeySlot) → AllZip SameKeySlot es fs → AreApart es → AreApart fs
-apart_cloned [] [] h apart = tt
-apart_cloned (e ∷ es) (f ∷ fs) h apart = (ap (λ n. is_named n fs) h.0.1 ∙ named_cloned es fs e.1 h.1 ∙ apart.0, apart_cloned es fs h.1 apart.1)
-apart_cloned [] (f ∷ fs) h apart = absurd h
-apart_cloned (e ∷ es) [] h apart = absurd h
+apart_cloned = by_zip SameKeySlot (λ es fs. AreApart es → AreApart fs) (λ apart. tt)
+    (λ e f es fs same z more apart. (ap (λ n. is_named n fs) same.1 ∙ named_cloned es fs e.1 z ∙ apart.0, more apart.1))
 
 below_cloned : (e f : KeySlot) (es fs : List KeySlot) → SameKeySlot e f → AllZip SameKeySlot es fs → AllByRecursion (λ y. string_cmp e.0 y ≡ Less) (keys_of es) → AllByRecursion (λ y. string_cmp f.0 y ≡ Less) (keys_of fs)
-below_cloned e f [] [] same h all = tt
-below_cloned e f (x ∷ es) (y ∷ fs) same h all = (ap₂ bytes_cmp same.0 h.0.0 ∙ all.0, below_cloned e f es fs same h.1 all.1)
-below_cloned e f [] (y ∷ fs) same h all = absurd h
-below_cloned e f (x ∷ es) [] same h all = absurd h
+below_cloned e f es fs same = by_zip SameKeySlot (λ es fs. AllByRecursion (λ y. string_cmp e.0 y ≡ Less) (keys_of es) → AllByRecursion (λ y. string_cmp f.0 y ≡ Less) (keys_of fs)) (λ all. tt)
+    (λ x y xs ys other z more all. (ap₂ bytes_cmp same.0 other.0 ∙ all.0, more all.1)) es fs
 
 rising_cloned : (es fs : List KeySlot) → AllZip SameKeySlot es fs → IsStrictlySortedBy string_cmp (keys_of es) → IsStrictlySortedBy string_cmp (keys_of fs)
 unfolding IsStrictlySortedBy
-rising_cloned [] [] h rising = tt
-rising_cloned (e ∷ es) (f ∷ fs) h rising = (below_cloned e f es fs h.0 h.1 rising.0, rising_cloned es fs h.1 rising.1)
-rising_cloned [] (f ∷ fs) h rising = absurd h
-rising_cloned (e ∷ es) [] h rising = absurd h
+rising_cloned = by_zip SameKeySlot (λ es fs. IsStrictlySortedBy string_cmp (keys_of es) → IsStrictlySortedBy string_cmp (keys_of fs)) (λ rising. tt)
+    (λ e f es fs same z more rising. (below_cloned e f es fs same z rising.0, more rising.1))
 
 pub whole_cloned : (es fs : List KeySlot) (ts : List Slot) → AllZip SameKeySlot es fs → AreWhole es ts → AreWhole fs (map copied_slot ts)
 whole_cloned es fs ts h whole = record {

@@ -1,8 +1,11 @@
 -- What the proofs of crates above may cite, besides the laws: everything else in this folder is private.
+-- the one induction over values, and what the numbers of cells in a value satisfy
+pub use Rattle.rhai_value.proofs.Trees.{by_value}
+pub use Rattle.rhai_value.proofs.Cells.{each_paired, each_renumbered, each_weaker, related_renumbered, related_self}
 -- related values
 pub use Rattle.rhai_value.proofs.SameTrees.{by_related, by_trees, same_copy, same_host, same_mode, same_paint, same_shared, same_tag, same_with_int, same_with_tag}
 -- related ends and stores, and what is written there
-pub use Rattle.rhai_value.proofs.RelatedCells.{length_changed, length_store_after, marked_added, marked_store_after, same_end_type, same_held_leaf, same_put, same_set_mark, same_store_after, same_value_after}
+pub use Rattle.rhai_value.proofs.RelatedCells.{by_ends, length_changed, length_store_after, marked_added, marked_store_after, same_end_type, same_held_leaf, same_held_part, same_put, same_set_mark, same_store_after, same_value_after}
 -- the end of a chain without holders, and what stands where a chain ends
 pub use Rattle.rhai_value.proofs.Ends.{end_own, stands}
 -- a cell's own value put into it, and cells that a write leaves
@@ -12,6 +15,8 @@ pub use Rattle.rhai_value.proofs.RelatedCells.{get_unchanged}
 pub use Rattle.rhai_value.proofs.SameFlat.{length_with_first, same_first, same_first_cell, same_flat, same_flattened, same_held_cell, same_locked, same_store_with_first, same_value_with_first}
 -- a held value that is written over itself
 pub use Rattle.rhai_value.proofs.InStores.{kept_written}
+-- what is found after an insertion
+pub use Rattle.rhai_value.proofs.Inserted.{found_inserted}
 -- renamings that grow
 pub use Rattle.rhai_value.proofs.Grow.{new_last, one_more, one_pair, paired_more, pairs_join, related_more, same_added}
 -- marks
@@ -22,7 +27,7 @@ pub use Rattle.rhai_value.proofs.Walks.{unopened, unopened-entry, walk_opens}
 pub use Rattle.rhai_value.proofs.SameWalks.{AlikeVisit, Keeps, Paired, by_visits, same_end, same_walk}
 -- scans of related values
 pub use Rattle.rhai_value.proofs.SameScans.{RelatedVisits, same_nodes, same_scan, same_visits}
--- lists that are related place by place
-pub use Rattle.rhai_value.proofs.Zips.{get_set_other, zip_append, zip_drop, zip_get, zip_length, zip_set, zip_take, zip_weaker}
+-- options that are alike, and lists that are related place by place
+pub use Rattle.rhai_value.proofs.Zips.{by_alike, by_zip, get_append, get_set_other, zip_append, zip_drop, zip_get, zip_length, zip_set, zip_take, zip_weaker}
 -- booleans
 pub use Rattle.rhai_value.proofs.Slots.{or_false}

@@ -1,3 +1,4 @@
+pub mod Cells
 pub mod Chains
 pub mod Copied
 pub mod Copies
@@ -6,6 +7,8 @@ pub mod Ends
 pub mod ForCallers
 pub mod Grow
 pub mod InStores
+pub mod Inserted
+pub mod Labels
 pub mod MarkedCells
 pub mod Paints
 pub mod Paths
@@ -17,5 +20,6 @@ pub mod SameWalks
 pub mod Scans
 pub mod Slots
 pub mod Stores
+pub mod Trees
 pub mod Walks
 pub mod Zips

@@ -1,8 +1,7 @@
 -- Changes that keep values and stores the same up to the numbers of cells.
-use Rattle.std.proofs.Common.{◌≡◌, ℕ, zero, suc, Bool, true, List, [], ◌∷◌, length, slice_get, Option, Some, None, refl, sym, ap, ◌∙◌, eqb-true, eq-eqb, inl, inr}
+use Rattle.std.proofs.Common.{◌≡◌, ℕ, zero, suc, Bool, true, List, [], ◌∷◌, length, slice_get, Option, Some, refl, sym, ap, ◌∙◌, eqb-true, eq-eqb, inl, inr}
 use Rattle.std.proofs.lemmas.Bool.{cases_eq}
 use Rattle.std.proofs.lemmas.Option.{none-some, same_Some}
-use Rattle.rhai_value.specs.declared.chain.Site.{Site}
 use Rattle.rhai_value.specs.declared.chain.Site.TheVariants.{Own, InCell}
 use Rattle.rhai_value.specs.declared.store.Cell.{Cell}
 use Rattle.rhai_value.specs.Tree.{Tree, Leaf}
@@ -63,14 +62,8 @@ by_ends r P own cell bars loops (held Own t) (held Own u) h = own t u h.1
 by_ends r P own cell bars loops (held (InCell c) t) (held (InCell d) u) h = cell c d t u h.0 h.1
 by_ends r P own cell bars loops (stuck t) (stuck u) h = bars t u h
 by_ends r P own cell bars loops closed closed h = loops
-by_ends r P own cell bars loops (held Own t) (held (InCell d) u) h = absurd h.0
-by_ends r P own cell bars loops (held (InCell c) t) (held Own u) h = absurd h.0
-by_ends r P own cell bars loops (held p t) (stuck u) h = absurd h
-by_ends r P own cell bars loops (held p t) closed h = absurd h
-by_ends r P own cell bars loops (stuck t) (held q u) h = absurd h
-by_ends r P own cell bars loops (stuck t) closed h = absurd h
-by_ends r P own cell bars loops closed (held q u) h = absurd h
-by_ends r P own cell bars loops closed (stuck u) h = absurd h
+by_ends r P own cell bars loops (held p t) (held q u) h = absurd h.0
+by_ends r P own cell bars loops _ _ h = absurd h
 
 -- what is told of the same ends, and what becomes of values and stores that are written at them
 pub same_held_leaf : {A : Type 0} (r : Renaming) (part : Leaf → Option A) (e f : End) → RelatedEnds r e f → held_part (leaf_part part) e ≡ held_part (leaf_part part) f

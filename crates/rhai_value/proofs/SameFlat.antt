@@ -11,16 +11,14 @@ use Rattle.rhai_value.specs.Relation.{Renaming, paired, Related, Alike, IsOneToO
 use Rattle.rhai_value.proofs.RelatedCells.{by_ends, get_unchanged, same_put, length_changed}
 use Rattle.rhai_value.proofs.SameTrees.{by_related, by_trees, same_copy}
 use Rattle.rhai_value.proofs.SameWalks.{same_at, same_end}
+use Rattle.rhai_value.proofs.Zips.{by_alike}
 
 pub same_first : (r : Renaming) (s z : List Cell) → RelatedCells r s z → (t u : Tree) → Related r t u → Alike (Related r) (first s t) (first z u)
 same_first r s z cells = by_trees r (λ t u. Alike (Related r) (first s t) (first z u)) (λ l g m. (refl, refl, refl)) (λ k ts us g m e. ((refl, e), refl, refl)) (λ fs hs g m e. (e, refl, refl)) (λ c d g m p. same_at r s z c d cells p)
 
 -- where values are locked, related values are too
 same_none : {A B : Type 0} (R : A → B → Type 0) (o : Option A) (q : Option B) → Alike R o q → is_none o ≡ is_none q
-same_none R None None h = refl
-same_none R (Some a) (Some b) h = refl
-same_none R None (Some b) h = absurd h
-same_none R (Some a) None h = absurd h
+same_none R = by_alike R (λ o q. is_none o ≡ is_none q) refl (λ a b h. refl)
 
 pub same_locked : (r : Renaming) (s z : List Cell) → RelatedCells r s z → (t u : Tree) → Related r t u → is_locked s t ≡ is_locked z u
 same_locked r s z cells = by_related r (λ t u. is_locked s t ≡ is_locked z u) (λ ts us. is_one_locked s ts ≡ is_one_locked z us) (λ fs hs. is_field_locked s fs ≡ is_field_locked z hs)
@@ -30,10 +28,7 @@ same_value_ahead : (r : Renaming) (e f : End) → RelatedEnds r e f → Alike (R
 same_value_ahead r = by_ends r (λ e f. Alike (Related r) (value_ahead e) (value_ahead f)) (λ x y k. k) (λ c d x y p k. k) (λ x y k. k) tt
 
 same_or : (r : Renaming) (t u : Tree) (o q : Option Tree) → Related r t u → Alike (Related r) o q → Related r (unwrap_or o t) (unwrap_or q u)
-same_or r t u None None h k = h
-same_or r t u (Some x) (Some y) h k = k
-same_or r t u None (Some y) h k = absurd k
-same_or r t u (Some x) None h k = absurd k
+same_or r t u o q h = by_alike (Related r) (λ o q. Related r (unwrap_or o t) (unwrap_or q u)) h (λ x y k. k) o q
 
 pub same_flat : (r : Renaming) (s z : List Cell) (t u : Tree) → IsOneToOne r → RelatedCells r s z → Related r t u → Related r (flat s t) (flat z u)
 same_flat r s z t u one cells h =
@@ -41,10 +36,8 @@ same_flat r s z t u one cells h =
 
 same_flattened_holder : (r : Renaming) (o q : Option Tree) (t u : Tree) → Alike (Related r) o q → Related r t u → (e f : End) → RelatedEnds r e f
     → Related r (flattened_holder o e t) (flattened_holder q f u)
-same_flattened_holder r None None t u h k e f same = k
-same_flattened_holder r (Some x) (Some y) t u h k e f same = by_ends r (λ e f. Related r (flattened_holder (Some x) e t) (flattened_holder (Some y) f u)) (λ v w p. same_copy r v w p) (λ c d v w q p. same_copy r v w p) (λ v w p. same_copy r v w p) k e f same
-same_flattened_holder r None (Some y) t u h k e f same = absurd h
-same_flattened_holder r (Some x) None t u h k e f same = absurd h
+same_flattened_holder r o q t u h k e f same = by_alike (Related r) (λ o q. Related r (flattened_holder o e t) (flattened_holder q f u)) k
+    (λ x y p. by_ends r (λ e f. Related r (flattened_holder (Some x) e t) (flattened_holder (Some y) f u)) (λ v w p. same_copy r v w p) (λ c d v w q p. same_copy r v w p) (λ v w p. same_copy r v w p) k e f same) o q h
 
 pub same_flattened : (r : Renaming) (s z : List Cell) (t u : Tree) → IsOneToOne r → RelatedCells r s z → Related r t u → Related r (flattened s t) (flattened z u)
 same_flattened r s z t u one cells = by_trees r (λ t u. Related r (flattened s t) (flattened z u)) (λ l g m. (refl, refl, refl)) (λ k ts us g m e. ((refl, e), refl, refl)) (λ fs hs g m e. (e, refl, refl))

@@ -1,6 +1,6 @@
 -- Scans by visitors that take related values to such.
-use Rattle.std.proofs.Common.{◌≡◌, ℕ, zero, suc, ◌+◌, List, refl, sym, ap, ap₂, ◌∙◌, subst}
-use Rattle.rhai_value.specs.Tree.{Tree, node, Content, leaf, branch, fields, holder, Trees, no_trees, tree_then, Fields, no_fields, field_then, nodes, nodes_trees, nodes_fields}
+use Rattle.std.proofs.Common.{◌≡◌, ℕ, zero, suc, ◌+◌, refl, sym, ap, ap₂, ◌∙◌, subst}
+use Rattle.rhai_value.specs.Tree.{Tree, Trees, no_trees, tree_then, Fields, no_fields, field_then, nodes, nodes_trees, nodes_fields}
 use Rattle.rhai_value.specs.Relation.{Renaming, Related, AllRelated, RelatedFields}
 use Rattle.rhai_value.specs.Scan.{Visiting, SameVisits, each_scanned, fields_scanned, children_scanned, scan_in, scan}
 use Rattle.rhai_value.proofs.SameTrees.{by_related, by_trees}
@@ -22,8 +22,7 @@ module _ {S Z : Type 0} (r : Renaming) (R : S → Z → Type 0) where
         let one = same v w t u p e.0 in
         let others = each (f v t).0 (h w u).0 ts us one.0 e.1 in
         (others.0, (one.1, others.1))
-    each v w no_trees (tree_then u us) p e = absurd e
-    each v w (tree_then t ts) no_trees p e = absurd e
+    each v w _ _ p e = absurd e
 
     each_field : (v : S) (w : Z) (fs hs : Fields) → R v w → RelatedFields r fs hs → R (fields_scanned f v fs).0 (fields_scanned h w hs).0 × RelatedFields r (fields_scanned f v fs).1 (fields_scanned h w hs).1
     each_field v w no_fields no_fields p e = (p, tt)
@@ -31,8 +30,7 @@ module _ {S Z : Type 0} (r : Renaming) (R : S → Z → Type 0) where
         let one = same v w t u p e.1 in
         let others = each_field (f v t).0 (h w u).0 fs hs one.0 e.2 in
         (others.0, (e.0, one.1, others.1))
-    each_field v w no_fields (field_then j u hs) p e = absurd e
-    each_field v w (field_then k t fs) no_fields p e = absurd e
+    each_field v w _ _ p e = absurd e
 
     children : (v : S) (w : Z) (t u : Tree) → R v w → Related r t u → R (children_scanned f v t).0 (children_scanned h w u).0 × Related r (children_scanned f v t).1 (children_scanned h w u).1
     children v w t u p =

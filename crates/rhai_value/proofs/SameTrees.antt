@@ -26,30 +26,17 @@ module _ (r : Renaming) (P : Tree → Tree → Type 0) (Q : Trees → Trees → 
     by_content (branch k ts) (branch l us) g m e = rw (← e.0) (branches k ts us g m e.1 (by_all ts us e.1))
     by_content (fields fs) (fields hs) g m e = maps fs hs g m e (by_fields fs hs e)
     by_content (holder c) (holder d) g m e = holders c d g m e
-    by_content (leaf l) (branch k us) g m e = absurd e
-    by_content (leaf l) (fields hs) g m e = absurd e
-    by_content (leaf l) (holder d) g m e = absurd e
-    by_content (branch k ts) (leaf l) g m e = absurd e
-    by_content (branch k ts) (fields hs) g m e = absurd e
-    by_content (branch k ts) (holder d) g m e = absurd e
-    by_content (fields fs) (leaf l) g m e = absurd e
-    by_content (fields fs) (branch k us) g m e = absurd e
-    by_content (fields fs) (holder d) g m e = absurd e
-    by_content (holder c) (leaf l) g m e = absurd e
-    by_content (holder c) (branch k us) g m e = absurd e
-    by_content (holder c) (fields hs) g m e = absurd e
+    by_content _ _ g m e = absurd e
 
     pub by_all : (ts us : Trees) → AllRelated r ts us → Q ts us
     by_all no_trees no_trees e = none
     by_all (tree_then t ts) (tree_then u us) e = then t u ts us (by_related t u e.0) (by_all ts us e.1)
-    by_all no_trees (tree_then u us) e = absurd e
-    by_all (tree_then t ts) no_trees e = absurd e
+    by_all _ _ e = absurd e
 
     by_fields : (fs hs : Fields) → RelatedFields r fs hs → S fs hs
     by_fields no_fields no_fields e = no_field
     by_fields (field_then k t fs) (field_then j u hs) e = rw (← e.0) (then_field k t u fs hs (by_related t u e.1) (by_fields fs hs e.2))
-    by_fields no_fields (field_then j u hs) e = absurd e
-    by_fields (field_then k t fs) no_fields e = absurd e
+    by_fields _ _ e = absurd e
 
 -- the same where nothing is asked of the children and the fields
 pub by_trees : (r : Renaming) (P : Tree → Tree → Type 0) → ((l : Leaf) (g : ℤ) (m : AccessMode) → P (node (leaf l) g m) (node (leaf l) g m))

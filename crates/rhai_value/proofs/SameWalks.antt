@@ -1,5 +1,5 @@
 -- Walks over stores that are the same up to the numbers of their cells.
-use Rattle.std.proofs.Common.{◌≡◌, ℕ, zero, suc, ◌+◌, Bool, true, false, ◌||◌, List, [], ◌∷◌, length, Option, Some, None, option_and_then, refl, sym, ap, ap₂, ◌∙◌, subst₂, arith}
+use Rattle.std.proofs.Common.{◌≡◌, ℕ, zero, suc, ◌+◌, Bool, true, false, ◌||◌, List, [], ◌∷◌, length, Option, Some, option_and_then, refl, sym, ap, ap₂, ◌∙◌, subst, subst₂, arith}
 use Rattle.std.specs.List.{AllZip}
 use Rattle.rhai_value.specs.declared.store.Cell.{Cell}
 use Rattle.rhai_value.specs.Tree.{Tree, node, holder}
@@ -8,7 +8,7 @@ use Rattle.rhai_value.specs.Walk.{Visit, entered, barred, revisited, is_open, vi
 use Rattle.rhai_value.specs.End.{End, end_at, site_after, end_of, end}
 use Rattle.rhai_value.specs.Relation.{Renaming, paired, Related, Alike, IsOneToOne, RelatedSite, RelatedCells, RelatedEnds}
 use Rattle.rhai_value.proofs.SameTrees.{by_trees}
-use Rattle.rhai_value.proofs.Zips.{zip_get}
+use Rattle.rhai_value.proofs.Zips.{by_alike, by_zip, zip_get}
 use Rattle.rhai_value.proofs.Walks.{more_room_by}
 
 -- the cells of a renaming
@@ -20,18 +20,12 @@ abbrev pub AlikeVisit : {A B : Type 0} → (A → B → Type 0) → Visit A → 
 AlikeVisit R (entered a) (entered b) = R a b
 AlikeVisit R barred barred = Unit {0}
 AlikeVisit R revisited revisited = Unit {0}
-AlikeVisit R (entered a) barred = ⊥
-AlikeVisit R (entered a) revisited = ⊥
-AlikeVisit R barred (entered b) = ⊥
-AlikeVisit R barred revisited = ⊥
-AlikeVisit R revisited (entered b) = ⊥
-AlikeVisit R revisited barred = ⊥
+AlikeVisit R _ _ = ⊥
 
 unmarked_alike : (r : Renaming) (a b : Bool) (t u : Tree) → a ≡ b → Related r t u → Alike (Related r) (unmarked (record { content = t; is_marked = a })) (unmarked (record { content = u; is_marked = b }))
 unmarked_alike r true true t u e h = tt
 unmarked_alike r false false t u e h = h
-unmarked_alike r true false t u e h = cc
-unmarked_alike r false true t u e h = cc
+unmarked_alike r _ _ t u e h = cc
 
 -- what is read of paired cells
 pub same_at : (r : Renaming) (s z : List Cell) (c d : ℕ) → RelatedCells r s z → Paired r c d → Alike (Related r) (at s c) (at z d)
@@ -40,31 +34,21 @@ same_at r s z c d cells p =
     subst₂ (λ o q. Alike (Related r) (option_and_then unmarked o) (option_and_then unmarked q)) (sym h.2) (sym h.3) (unmarked_alike r h.0.is_marked h.1.is_marked h.0.content h.1.content h.4.0 h.4.1)
 
 same_open : (r : Renaming) (c d : ℕ) (path road : List ℕ) → IsOneToOne r → Paired r c d → AllZip (Paired r) path road → is_open c path ≡ is_open d road
-same_open r c d [] [] one p h = refl
-same_open r c d (a ∷ path) (b ∷ road) one p h = ap₂ (λ v w. v || w) (one c d a b p h.0) (same_open r c d path road one p h.1)
-same_open r c d [] (b ∷ road) one p h = absurd h
-same_open r c d (a ∷ path) [] one p h = absurd h
+same_open r c d path road one p = by_zip (Paired r) (λ path road. is_open c path ≡ is_open d road) refl (λ a b path road q z more. ap₂ (λ v w. v || w) (one c d a b p q) more) path road
 
 visit_of_alike : (r : Renaming) (o q : Option Tree) (a b : Bool) → a ≡ b → Alike (Related r) o q → AlikeVisit (Related r) (visit_of o a) (visit_of q b)
-visit_of_alike r None None a b e h = tt
-visit_of_alike r (Some t) (Some u) true true e h = tt
-visit_of_alike r (Some t) (Some u) false false e h = h
-visit_of_alike r (Some t) (Some u) true false e h = cc
-visit_of_alike r (Some t) (Some u) false true e h = cc
-visit_of_alike r None (Some u) a b e h = absurd h
-visit_of_alike r (Some t) None a b e h = absurd h
+visit_of_alike r o q a b e h = subst (λ x. AlikeVisit (Related r) (visit_of o a) (visit_of q x)) e (by_alike (Related r) (λ o q. AlikeVisit (Related r) (visit_of o a) (visit_of q a)) tt (either a) o q h)
+  where
+    either : (b : Bool) (t u : Tree) → Related r t u → AlikeVisit (Related r) (visit_of (Some t) b) (visit_of (Some u) b)
+    either true t u k = tt
+    either false t u k = k
 
 -- visits that are alike are of one kind
 pub by_visits : {A B : Type 0} (R : A → B → Type 0) (P : Visit A → Visit B → Type 0) → ((a : A) (b : B) → R a b → P (entered a) (entered b)) → P barred barred → P revisited revisited → (o : Visit A) (q : Visit B) → AlikeVisit R o q → P o q
 by_visits R P opens bars loops (entered a) (entered b) h = opens a b h
 by_visits R P opens bars loops barred barred h = bars
 by_visits R P opens bars loops revisited revisited h = loops
-by_visits R P opens bars loops (entered a) barred h = absurd h
-by_visits R P opens bars loops (entered a) revisited h = absurd h
-by_visits R P opens bars loops barred (entered b) h = absurd h
-by_visits R P opens bars loops barred revisited h = absurd h
-by_visits R P opens bars loops revisited (entered b) h = absurd h
-by_visits R P opens bars loops revisited barred h = absurd h
+by_visits R P opens bars loops _ _ h = absurd h
 
 map_alike : {A B : Type 0} (r : Renaming) (R : A → B → Type 0) (f : Tree → A) (g : Tree → B) (o q : Visit Tree) → ((x y : Tree) → Related r x y → R (f x) (g y)) → AlikeVisit (Related r) o q → AlikeVisit R (visit_map f o) (visit_map g q)
 map_alike r R f g o q k h = by_visits (Related r) (λ o q. AlikeVisit R (visit_map f o) (visit_map g q)) k tt tt o q h
@@ -100,10 +84,7 @@ end_at_alike : (r : Renaming) (t u : Tree) (o q : Visit End) → Related r t u �
 end_at_alike r t u o q h k = by_visits (RelatedEnds r) (λ o q. RelatedEnds r (end_at t o) (end_at u q)) (λ e f same. same) h tt o q k
 
 site_alike : (r : Renaming) (o q : Option ℕ) → Alike (Paired r) o q → RelatedSite r (site_after o) (site_after q)
-site_alike r None None h = tt
-site_alike r (Some c) (Some d) h = h
-site_alike r None (Some d) h = absurd h
-site_alike r (Some c) None h = absurd h
+site_alike r = by_alike (Paired r) (λ o q. RelatedSite r (site_after o) (site_after q)) tt (λ c d h. h)
 
 end_kept : (r : Renaming) → Keeps r end_of end_of (RelatedEnds r)
 end_kept r path road h k t u same to = by_trees r (λ t u. RelatedEnds r (end_of path h t) (end_of road k u))

@@ -1,55 +1,56 @@
--- Two lists that are related place by place, and a list at its places.
-use Rattle.std.proofs.Common.{◌≡◌, ℕ, zero, suc, List, [], ◌∷◌, ◌++◌, length, slice_get, slice_set, take, drop, Some, refl, ap}
+-- Two options that are alike, two lists that are related place by place, and a list at its places.
+use Rattle.std.proofs.Common.{◌≡◌, ℕ, zero, suc, List, [], ◌∷◌, ◌++◌, length, slice_get, slice_set, take, drop, Option, Some, None, refl, ap}
 use Rattle.std.proofs.lemmas.Option.{none-some}
 use Rattle.std.specs.List.{AllZip}
 use Rattle.rhai_value.specs.Relation.{Alike}
+
+-- What holds of no value with none, and of each two values that are related, holds of options that are alike.
+pub by_alike : {A B : Type 0} (R : A → B → Type 0) (P : Option A → Option B → Type 0) → P None None → ((a : A) (b : B) → R a b → P (Some a) (Some b)) → (o : Option A) (q : Option B) → Alike R o q → P o q
+by_alike R P none some None None h = none
+by_alike R P none some (Some a) (Some b) h = some a b h
+by_alike R P none some _ _ h = absurd h
+
+-- What holds of two empty lists, and of two longer ones where it holds of what is behind their first items, holds of lists that are
+-- related place by place.
+pub by_zip : {A B : Type 0} (R : A → B → Type 0) (P : List A → List B → Type 0) → P [] []
+    → ((x : A) (y : B) (xs : List A) (ys : List B) → R x y → AllZip R xs ys → P xs ys → P (x ∷ xs) (y ∷ ys)) → (xs : List A) (ys : List B) → AllZip R xs ys → P xs ys
+by_zip R P none more [] [] h = none
+by_zip R P none more (x ∷ xs) (y ∷ ys) h = more x y xs ys h.0 h.1 (by_zip R P none more xs ys h.1)
+by_zip R P none more _ _ h = absurd h
 
 module _ {A B : Type 0} (R : A → B → Type 0) where
   pub zip_get : (xs : List A) (ys : List B) (i : ℕ) → AllZip R xs ys → Alike R (slice_get xs i) (slice_get ys i)
   zip_get [] [] i h = tt
   zip_get (x ∷ xs) (y ∷ ys) zero h = h.0
   zip_get (x ∷ xs) (y ∷ ys) (suc i) h = zip_get xs ys i h.1
-  zip_get [] (y ∷ ys) i h = absurd h
-  zip_get (x ∷ xs) [] i h = absurd h
+  zip_get _ _ i h = absurd h
 
   pub zip_append : (xs us : List A) (ys vs : List B) → AllZip R xs ys → AllZip R us vs → AllZip R (xs ++ us) (ys ++ vs)
-  zip_append [] us [] vs h k = k
-  zip_append (x ∷ xs) us (y ∷ ys) vs h k = (h.0, zip_append xs us ys vs h.1 k)
-  zip_append [] us (y ∷ ys) vs h k = absurd h
-  zip_append (x ∷ xs) us [] vs h k = absurd h
+  zip_append xs us ys vs h k = by_zip R (λ xs ys. AllZip R (xs ++ us) (ys ++ vs)) k (λ x y xs ys r z more. (r, more)) xs ys h
 
   pub zip_set : (xs : List A) (ys : List B) (i : ℕ) (a : A) (b : B) → AllZip R xs ys → R a b → AllZip R (slice_set xs i a) (slice_set ys i b)
   zip_set [] [] i a b h r = tt
   zip_set (x ∷ xs) (y ∷ ys) zero a b h r = (r, h.1)
   zip_set (x ∷ xs) (y ∷ ys) (suc i) a b h r = (h.0, zip_set xs ys i a b h.1 r)
-  zip_set [] (y ∷ ys) i a b h r = absurd h
-  zip_set (x ∷ xs) [] i a b h r = absurd h
+  zip_set _ _ i a b h r = absurd h
 
   pub zip_take : (n : ℕ) (xs : List A) (ys : List B) → AllZip R xs ys → AllZip R (take n xs) (take n ys)
   zip_take zero xs ys h = tt
   zip_take (suc n) [] [] h = tt
   zip_take (suc n) (x ∷ xs) (y ∷ ys) h = (h.0, zip_take n xs ys h.1)
-  zip_take (suc n) [] (y ∷ ys) h = absurd h
-  zip_take (suc n) (x ∷ xs) [] h = absurd h
+  zip_take (suc n) _ _ h = absurd h
 
   pub zip_drop : (n : ℕ) (xs : List A) (ys : List B) → AllZip R xs ys → AllZip R (drop n xs) (drop n ys)
   zip_drop zero xs ys h = h
   zip_drop (suc n) [] [] h = tt
   zip_drop (suc n) (x ∷ xs) (y ∷ ys) h = zip_drop n xs ys h.1
-  zip_drop (suc n) [] (y ∷ ys) h = absurd h
-  zip_drop (suc n) (x ∷ xs) [] h = absurd h
+  zip_drop (suc n) _ _ h = absurd h
 
   pub zip_length : (xs : List A) (ys : List B) → AllZip R xs ys → length xs ≡ length ys
-  zip_length [] [] h = refl
-  zip_length (x ∷ xs) (y ∷ ys) h = ap suc (zip_length xs ys h.1)
-  zip_length [] (y ∷ ys) h = absurd h
-  zip_length (x ∷ xs) [] h = absurd h
+  zip_length = by_zip R (λ xs ys. length xs ≡ length ys) refl (λ x y xs ys r z more. ap suc more)
 
 pub zip_weaker : {A B : Type 0} (R S : A → B → Type 0) → ((x : A) (y : B) → R x y → S x y) → (xs : List A) (ys : List B) → AllZip R xs ys → AllZip S xs ys
-zip_weaker R S w [] [] h = tt
-zip_weaker R S w (x ∷ xs) (y ∷ ys) h = (w x y h.0, zip_weaker R S w xs ys h.1)
-zip_weaker R S w [] (y ∷ ys) h = absurd h
-zip_weaker R S w (x ∷ xs) [] h = absurd h
+zip_weaker R S weaker = by_zip R (λ xs ys. AllZip S xs ys) tt (λ x y xs ys r z more. (weaker x y r, more))
 
 module _ {A : Type 0} where
   pub get_append : (xs ys : List A) (i : ℕ) (x : A) → slice_get xs i ≡ Some x → slice_get (xs ++ ys) i ≡ Some x

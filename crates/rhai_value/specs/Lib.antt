@@ -15,6 +15,7 @@ pub mod Kinds
 pub mod Opened
 pub mod Seen
 pub mod Relation
+pub mod Cells
 pub mod Writes
 pub mod Locked
 pub mod Scan

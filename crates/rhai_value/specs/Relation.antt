@@ -1,5 +1,5 @@
 -- Values and stores that are equal up to the numbers of their cells.
-use Rattle.std.specs.Prelude.{◌≡◌, ◌<◌, ℕ, zero, suc, ◌+◌, Bool, true, false, nat_eq, ◌||◌, ◌&&◌, List, [], ◌∷◌, length, slice_get, Option, Some, None}
+use Rattle.std.specs.Prelude.{◌≡◌, ℕ, zero, suc, ◌+◌, Bool, true, false, nat_eq, ◌||◌, ◌&&◌, List, [], ◌∷◌, length, slice_get, Option, Some, None}
 use Rattle.rhai_value.specs.declared.chain.Site.{Site}
 use Rattle.rhai_value.specs.declared.chain.Site.TheVariants.{Own, InCell}
 use Rattle.rhai_value.specs.declared.store.Cell.{Cell}
@@ -72,28 +72,6 @@ new_pairs a b (suc k) = (a, b) ∷ new_pairs (a + 1) (b + 1) k
 abbrev pub shared_pairs : List Cell → List Cell → Tree → Renaming
 shared_pairs s z (node (holder c) g m) = []
 shared_pairs s z t = new_pairs (length s) (length z) 1
-
--- each cell number in a value is below n
-abbrev mutual
-  pub Below : ℕ → Tree → Type 0
-  Below n (node c g m) = ContentBelow n c
-
-  pub ContentBelow : ℕ → Content → Type 0
-  ContentBelow n (leaf l) = Unit {0}
-  ContentBelow n (branch k ts) = AllBelow n ts
-  ContentBelow n (fields fs) = FieldsBelow n fs
-  ContentBelow n (holder c) = c < n
-
-  pub AllBelow : ℕ → Trees → Type 0
-  AllBelow n no_trees = Unit {0}
-  AllBelow n (tree_then t ts) = Below n t × AllBelow n ts
-
-  pub FieldsBelow : ℕ → Fields → Type 0
-  FieldsBelow n no_fields = Unit {0}
-  FieldsBelow n (field_then k t fs) = Below n t × FieldsBelow n fs
-
-abbrev pub CellBelow : ℕ → Cell → Type 0
-CellBelow n x = Below n x.content
 
 -- both are the value itself, or paired cells
 abbrev pub RelatedSite : Renaming → Site → Site → Type 0

@@ -1,5 +1,5 @@
 -- What the private functions answer.
-use Rattle.std.specs.Prelude.{List, [], Option, Some, None, option_and_then}
+use Rattle.std.specs.Prelude.{List, [], Option, option_and_then}
 use Rattle.rhai_value.specs.declared.store.Cell.{Cell}
 use Rattle.rhai_value.specs.End.{End, held, stuck, closed, end, value_ahead}
 use Rattle.rhai_value.specs.Store.{at}

@@ -3,6 +3,7 @@
 use crate::access_mode::AccessMode;
 use crate::cell_ref::CellRef;
 use crate::map::Map;
+use crate::mode::set_own_mode;
 use crate::union::{Array, Blob, INT, Tag, Union};
 use rhai_text::ImmutableString;
 use std::alloc::{AllocError, Global};
@@ -118,6 +119,7 @@ impl Dynamic {
     ghost use Rattle.std.specs.Borrow.{Lends, sem};
     ghost use Rattle.rhai_value.specs.contracts.dynamic.Dynamic as dynamic_type;
     ghost use Rattle.rhai_value.specs.contracts.union.Union as union_type;
+    ghost use Rattle.rhai_value.specs.Tree.{node, content_of};
     ghost use Rattle.rhai_value.specs.View.{tree_of};
 
     /// The constructor with its content, for a crate that reads values by cases.
@@ -147,6 +149,16 @@ impl Dynamic {
         ensures { result ≡ tree_of union }
     {
         Dynamic { union }
+    }
+
+    /// The value's content under this tag and mode; what stands in it keeps its own. Takes no memory.
+    #[tactic(auto, using(crate::proofs::Labels::under_label))]
+    pub fn labelled(mut self, tag: Tag, mode: AccessMode) -> Dynamic
+        ensures { result ≡ node (content_of self) tag mode }
+    {
+        self.set_tag(tag);
+        set_own_mode(&mut self, mode);
+        self
     }
 }
 

@@ -30,8 +30,8 @@ impl Dynamic {
     }
 }
 
-// Sets the mode of the value alone.
-fn set_own_mode(value: &mut Dynamic, mode: AccessMode)
+/// Sets the mode of the value alone.
+pub(crate) fn set_own_mode(value: &mut Dynamic, mode: AccessMode)
     ensures { value.new ≡ with_mode mode value.old }
 {
     match &mut value.union {

@@ -1,8 +1,8 @@
-use Rattle.std.proofs.Common.{◌≡◌, ◌+◌, drop, set, length-set, ap, ap₂, sym, refl, ◌∙◌, arith, rules}
+use Rattle.std.proofs.Common.{◌≡◌, ◌+◌, drop, set, length-set, ap, sym, refl, ◌∙◌, arith, rules}
 use Rattle.rhai_value.specs.Rows.{trees_of, fields_of}
 use Rattle.rhai_value.specs.Slots.{KeySlot, rows}
 use Rattle.rhai_value.specs.Scan.{scan, children_scanned}
-use Rattle.rhai_value.specs.Tree.{nodes, nodes_trees, nodes_fields}
+use Rattle.rhai_value.specs.Tree.{nodes_trees, nodes_fields}
 use Rattle.rhai_value.proofs.Slots.{matched_taken}
 use Rattle.rhai_value.proofs.Scans.{nodes_drop, scan_opens, items_on, items_rest, items_end, rows_start, rows_on, rows_kept, rows_taken, rows_apart, rows_fewer, rows_end}
 use Rattle.rhai_value.proofs.scan.+scan.Goals as goal

@@ -1,8 +1,10 @@
--- Comparisons of characters are those of their texts.
-use Rattle.std.proofs.Common.{◌≡◌, ℕ, ℤ, List, [], ◌∷◌, Option, Some, None, refl, ap}
+-- Comparisons of texts, and those of characters, which are those of their texts.
+use Rattle.std.proofs.Common.{◌≡◌, ℕ, ℤ, true, nat_eq, List, [], ◌∷◌, Option, Some, None, refl, ap}
+use Rattle.std.proofs.lemmas.Map.Text.{is_eq-slice_cmp}
+use Rattle.std.specs.Cmp.Lexicographic.{pointwise}
 use Rattle.std.specs.Ordering.{nat_cmp, ordering_then}
 use Rattle.std.specs.declared.cmp.Ordering.{Ordering}
-use Rattle.std.specs.declared.cmp.Ordering.TheVariants.{Less, Equal, Greater}
+use Rattle.std.specs.declared.cmp.Ordering.TheVariants as order
 use Rattle.rhai_text.specs.declared.limits.Limits.{Limits}
 use Rattle.rhai_text.specs.declared.token.Token.{Token}
 use Rattle.rhai_value.specs.declared.access_mode.AccessMode.{AccessMode}
@@ -13,8 +15,16 @@ use Rattle.rhai_ops.specs.declared.builtin.FnBuiltin.TheVariants as row
 use Rattle.rhai_ops.specs.Numbers.{compared}
 use Rattle.rhai_ops.specs.Outcome.{bool_answer, both}
 use Rattle.rhai_ops.specs.Results.{part, outcome, text_order}
-use Rattle.rhai_ops.specs.Tokens.{role}
+use Rattle.rhai_ops.specs.declared.role.Comparison.TheVariants.{Equal}
+use Rattle.rhai_ops.specs.declared.role.Role.{Role}
+use Rattle.rhai_ops.specs.declared.role.Role.TheVariants.{Compare}
+use Rattle.rhai_ops.specs.Tokens.{role, is_equal}
 use Rattle.rhai_ops.proofs.Suited.{own_part}
+
+-- texts are equal where the order says so
+pub equal_by_order : (r : Role) (v w : List ℕ) → is_equal r ≡ true → compared r (text_order v w) ≡ Some (pointwise nat_eq v w)
+equal_by_order (Compare Equal) v w e = ap Some (is_eq-slice_cmp v w)
+equal_by_order _ v w e = cc
 
 -- no comparison looks at the limits
 abbrev l : Limits
@@ -31,10 +41,10 @@ module _ (t : Token) (s : List Cell) where
       with_first (Some v) = refl
       with_first None = refl
 
-  one_order : (o : Ordering) → o ≡ ordering_then o Equal
-  one_order Less = refl
-  one_order Equal = refl
-  one_order Greater = refl
+  one_order : (o : Ordering) → o ≡ ordering_then o order.Equal
+  one_order order.Less = refl
+  one_order order.Equal = refl
+  one_order order.Greater = refl
 
   pub both_as_texts : (c d : ℕ) (g h : ℤ) (m n : AccessMode) → outcome (row.CharCompare t) l s (node (leaf (char c)) g m) (node (leaf (char d)) h n) ≡ outcome (row.TextCompare t) l s (node (leaf (text (c ∷ []))) g m) (node (leaf (text (d ∷ []))) h n)
   both_as_texts c d g h m n =

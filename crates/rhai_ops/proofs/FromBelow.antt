@@ -37,11 +37,11 @@ there part a (stuck w) v h p = cc
 there part a closed v h p = cc
 
 -- a content that is written over itself
-same_int : (n : ℤ) (t : Tree) → int_of t ≡ Some n → with_content (leaf (int n)) t ≡ t
+pub same_int : (n : ℤ) (t : Tree) → int_of t ≡ Some n → with_content (leaf (int n)) t ≡ t
 same_int n (node (leaf (int i)) g m) e = let same : i ≡ n = cc in rw same refl
 same_int n _ e = cc
 
-same_blob : (bs : List ℕ) (t : Tree) → blob_of t ≡ Some bs → with_content (leaf (blob bs)) t ≡ t
+pub same_blob : (bs : List ℕ) (t : Tree) → blob_of t ≡ Some bs → with_content (leaf (blob bs)) t ≡ t
 same_blob bs (node (leaf (blob cs)) g m) e = let same : cs ≡ bs = cc in rw same refl
 same_blob bs _ e = cc
 

@@ -3,6 +3,7 @@ pub mod Agree
 pub mod FromBelow
 pub mod Items
 pub mod Characters
+pub mod Alone
 pub mod Roles
 pub mod Lengths
 pub mod Lines

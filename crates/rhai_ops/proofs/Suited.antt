@@ -30,7 +30,7 @@ pub leaf_end : (s : List Cell) (p : List ℕ) (l : Leaf) (g : ℤ) (m : AccessMo
 unfolding end
 leaf_end s p l g m = walk_opens end_of s p (node (leaf l) g m)
 
-branch_end : (s : List Cell) (p : List ℕ) (k : Kind) (ts : Trees) (g : ℤ) (m : AccessMode) → end s p (node (branch k ts) g m) ≡ held (site_after (slice_get p 0)) (node (branch k ts) g m)
+pub branch_end : (s : List Cell) (p : List ℕ) (k : Kind) (ts : Trees) (g : ℤ) (m : AccessMode) → end s p (node (branch k ts) g m) ≡ held (site_after (slice_get p 0)) (node (branch k ts) g m)
 unfolding end
 branch_end s p k ts g m = walk_opens end_of s p (node (branch k ts) g m)
 

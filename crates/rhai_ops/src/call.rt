@@ -1,16 +1,13 @@
 //! Calls of rows.
-ghost use Rattle.std.specs.Prelude.{◌≡◌, [], Ok, IfOk, IfErr};
-ghost use Rattle.rhai_ops.specs.Outcome.{IsOutcome};
+ghost use Rattle.std.specs.Prelude.{◌≡◌, IfOk, IfErr};
+ghost use Rattle.rhai_ops.specs.Outcome.{IsOutcome, answers};
 ghost use Rattle.rhai_ops.specs.Results.{MayWant, Suits, outcome};
-ghost use Rattle.rhai_ops.specs.Ways.{answered, first_left, rewritten, second_left, store_left, way};
-ghost use Rattle.rhai_value.specs.End.{end, value_after, store_after};
-ghost use Rattle.rhai_value.specs.Tree.{fresh, unit};
+ghost use Rattle.rhai_ops.specs.Ways.{answered, first_left, second_left, store_left, way};
+ghost use Rattle.rhai_value.specs.Tree.{TakesNoMemory, copy};
 
 use crate::answer::{part, value};
 use crate::builtin::FnBuiltin;
-use crate::role::{done_by, role_of};
-use crate::write::write;
-use crate::{blobs, bools, chars, ints, push, ranges, texts};
+use crate::{assign, blobs, bools, chars, ints, push, ranges, texts};
 use rhai_text::{EvalAltResult, Limits};
 use rhai_value::{Dynamic, INT, Store};
 use std::alloc::Global;
@@ -25,7 +22,7 @@ impl FnBuiltin {
     /// `ErrorArithmetic` where an int has no answer, `ErrorDataTooLarge` where the new length is above its limit, each at
     /// `Position::NONE`; `ErrorMemory` where a growth was refused, which is of the rows that make a text, a blob, an array or a copy
     /// alone. Operands and store are then as they were.
-    #[tactic(auto, using(crate::proofs::Ways::still_answer))]
+    #[inline(always)]
     pub fn call(
         &self,
         alloc: Global,
@@ -42,16 +39,16 @@ impl FnBuiltin {
         ensures err { IfErr result (λ e. (x.new ≡ x.old) × (y.new ≡ y.old) × (m.new ≡ m.old)) }
     {
         match *self {
-            FnBuiltin::Int(t) => ints::answer(role_of(t), value(x, m), value(y, m)),
-            FnBuiltin::IntCompare(t) => ints::compare(role_of(t), value(x, m), value(y, m)),
+            FnBuiltin::Int(t) => ints::answer(t, m, x, y),
+            FnBuiltin::IntCompare(t) => ints::compare(t, m, x, y),
             FnBuiltin::IntRange(i) => ranges::between(i, value(x, m), value(y, m)),
-            FnBuiltin::BoolCompare(t) => bools::compare(role_of(t), value(x, m), value(y, m)),
-            FnBuiltin::Bool(t) => bools::answer(role_of(t), value(x, m), value(y, m)),
+            FnBuiltin::BoolCompare(t) => bools::compare(t, value(x, m), value(y, m)),
+            FnBuiltin::Bool(t) => bools::answer(t, value(x, m), value(y, m)),
             FnBuiltin::TextJoin => texts::join(alloc, limits, m, x, y),
             FnBuiltin::TextMinus => texts::minus(alloc, m, x, y),
-            FnBuiltin::TextCompare(t) => texts::compare(role_of(t), m, x, y),
+            FnBuiltin::TextCompare(t) => texts::compare(t, m, x, y),
             FnBuiltin::CharJoin => chars::join(alloc, limits, value(x, m), value(y, m)),
-            FnBuiltin::CharCompare(t) => chars::compare(role_of(t), value(x, m), value(y, m)),
+            FnBuiltin::CharCompare(t) => chars::compare(t, value(x, m), value(y, m)),
             FnBuiltin::BlobJoin => blobs::join(alloc, m, limits, x, y),
             FnBuiltin::BlobEqual(n) => blobs::equal(n, m, x, y),
             FnBuiltin::ConstTrue => Ok(Dynamic::TRUE),
@@ -59,45 +56,27 @@ impl FnBuiltin {
             FnBuiltin::RangeFrom(i) => ranges::between(i, value(x, m), INT::MAX),
             FnBuiltin::RangeTo(i) => ranges::between(i, 0, value(y, m)),
             FnBuiltin::CharText => chars::join_text(alloc, limits, value(x, m), part(y, m)),
-            FnBuiltin::CharTextCompare(t) => chars::compare_text(
-                role_of(t),
-                value(x, m),
-                part(y, m),
-            ),
+            FnBuiltin::CharTextCompare(t) => chars::compare_text(t, value(x, m), part(y, m)),
             FnBuiltin::TextChar => texts::join_char(alloc, limits, m, x, y),
             FnBuiltin::TextMinusChar => texts::minus_char(alloc, m, x, y),
-            FnBuiltin::TextCharCompare(t) => texts::compare_char(role_of(t), m, x, y),
-            FnBuiltin::FirstCopy => Ok(x.copy(alloc)?),
-            FnBuiltin::SecondCopy => Ok(y.copy(alloc)?),
+            FnBuiltin::TextCharCompare(t) => texts::compare_char(t, m, x, y),
+            FnBuiltin::FirstCopy => copied(alloc, x),
+            FnBuiltin::SecondCopy => copied(alloc, y),
             FnBuiltin::BlobChar => blobs::join_char(alloc, limits, m, x, y),
-            FnBuiltin::RangeEqual(false, n) => ranges::equal_exclusive(n, value(x, m), value(y, m)),
-            FnBuiltin::RangeEqual(true, n) => ranges::equal_inclusive(n, value(x, m), value(y, m)),
-            FnBuiltin::IntAssign(t) => {
-                let number = value(y, m);
-                ints::assign(done_by(role_of(t)), m, x, number)
-            }
-            FnBuiltin::BoolAssign(t) => put(
-                bools::answer(done_by(role_of(t)), value(x, m), value(y, m))?,
-                m,
-                x,
-            ),
-            FnBuiltin::CharJoinAssign => put(chars::append(alloc, value(x, m), value(y, m))?, m, x),
-            FnBuiltin::TextJoinAssign => put(texts::append(alloc, limits, m, x, y)?, m, x),
-            FnBuiltin::TextMinusAssign => put(texts::minus(alloc, m, x, y)?, m, x),
+            FnBuiltin::RangeEqual(false, n) => ranges::equal_exclusive(n, m, x, y),
+            FnBuiltin::RangeEqual(true, n) => ranges::equal_inclusive(n, m, x, y),
+            FnBuiltin::IntAssign(t) => ints::assign(t, m, x, y),
+            FnBuiltin::BoolAssign(t) => assign::bits(t, m, x, y),
+            FnBuiltin::CharJoinAssign => assign::two_chars(alloc, m, x, y),
+            FnBuiltin::TextJoinAssign => assign::text_and_text(alloc, m, limits, x, y),
+            FnBuiltin::TextMinusAssign => assign::text_minus_text(alloc, m, x, y),
             FnBuiltin::ArrayAppend => push::append_items(alloc, limits, m, x, y),
             FnBuiltin::BlobAppend => push::append_blob(alloc, limits, m, x, y),
-            FnBuiltin::TextCharAssign => put(texts::join_char(alloc, limits, m, x, y)?, m, x),
-            FnBuiltin::TextMinusCharAssign => put(texts::minus_char(alloc, m, x, y)?, m, x),
-            FnBuiltin::CharTextAssign => put(
-                chars::append_text(alloc, limits, value(x, m), part(y, m))?,
-                m,
-                x,
-            ),
+            FnBuiltin::TextCharAssign => assign::text_and_char(alloc, m, limits, x, y),
+            FnBuiltin::TextMinusCharAssign => assign::text_minus_char(alloc, m, x, y),
+            FnBuiltin::CharTextAssign => assign::char_and_text(alloc, m, limits, x, y),
             FnBuiltin::ArrayPush => push::push_item(limits, m, x, y),
-            FnBuiltin::BlobPush => {
-                let byte = value(y, m);
-                push::push_byte(limits, m, x, byte)
-            }
+            FnBuiltin::BlobPush => push::push_byte(limits, m, x, y),
             FnBuiltin::BlobCharAssign => {
                 let character = value(y, m);
                 push::push_char(limits, m, x, character)
@@ -107,12 +86,10 @@ impl FnBuiltin {
     }
 }
 
-/// Writes a value to the place, and answers unit.
-fn put(new: Dynamic, m: &mut Store, x: &mut Dynamic) -> Result<Dynamic, EvalAltResult>
-    ensures result { result ≡ Ok (fresh unit) }
-    ensures value { x.new ≡ value_after (rewritten new) (end m.old [] x.old) x.old }
-    ensures store { m.new ≡ store_after (rewritten new) (end m.old [] x.old) m.old }
+/// A copy of an operand.
+#[inline(never)]
+fn copied(alloc: Global, value: &Dynamic) -> Result<Dynamic, EvalAltResult>
+    ensures { IsOutcome (TakesNoMemory value.now → ⊥) result (answers (copy value.now)) }
 {
-    write(new, m, x);
-    Ok(Dynamic::UNIT)
+    Ok(value.copy(alloc)?)
 }

@@ -6,13 +6,14 @@ ghost use Rattle.rhai_ops.specs.Numbers as specs;
 ghost use Rattle.rhai_value.specs.Tree.{fresh, text as a_text};
 ghost use Rattle.rhai_ops.specs.Outcome.{IsOutcome, answers, bool_answer, limited_text};
 ghost use Rattle.rhai_ops.specs.Results.{joined_to_char, text_order};
+ghost use Rattle.rhai_ops.specs.Tokens as asked;
 ghost use Rattle.rhai_ops.specs.Tokens.{is_cmp};
 
 use crate::answer::is_allowed;
 use crate::compare::compared;
-use crate::role::Role;
+use crate::role::role_of;
 use rhai_text::laws::byte_order_is_character_order;
-use rhai_text::{EvalAltResult, ImmutableString, Limits, Position, SizeKind};
+use rhai_text::{EvalAltResult, ImmutableString, Limits, Position, SizeKind, Token};
 use rhai_value::Dynamic;
 use std::alloc::Global;
 
@@ -54,11 +55,11 @@ pub(crate) fn append(alloc: Global, a: char, b: char) -> Result<Dynamic, EvalAlt
 }
 
 /// A comparison of two characters.
-pub(crate) fn compare(role: Role, a: char, b: char) -> Result<Dynamic, EvalAltResult>
-    requires { IsTrue (is_cmp role) }
-    ensures { IsOutcome ⊥ result (bool_answer (specs.compared role (nat_cmp a b))) }
+pub(crate) fn compare(op: Token, a: char, b: char) -> Result<Dynamic, EvalAltResult>
+    requires { IsTrue (is_cmp (asked.role op)) }
+    ensures { IsOutcome ⊥ result (bool_answer (specs.compared (asked.role op) (nat_cmp a b))) }
 {
-    Ok(Dynamic::from_bool(compared(role, a.cmp(&b))))
+    Ok(Dynamic::from_bool(compared(role_of(op), a.cmp(&b))))
 }
 
 /// A text behind a character.
@@ -96,15 +97,15 @@ pub(crate) fn append_text(
 
 /// A comparison of a character, as the text of it alone, with a text.
 pub(crate) fn compare_text(
-    role: Role,
+    op: Token,
     a: char,
     b: &ImmutableString,
 ) -> Result<Dynamic, EvalAltResult>
-    requires { IsTrue (is_cmp role) }
-    ensures { IsOutcome ⊥ result (bool_answer (specs.compared role (text_order (a ∷ []) b.now))) }
+    requires { IsTrue (is_cmp (asked.role op)) }
+    ensures { IsOutcome ⊥ result (bool_answer (specs.compared (asked.role op) (text_order (a ∷ []) b.now))) }
 {
     let mut buffer = [0; 4];
     let a = spelled(a, &mut buffer);
     byte_order_is_character_order();
-    Ok(Dynamic::from_bool(compared(role, a.cmp(b.as_str()))))
+    Ok(Dynamic::from_bool(compared(role_of(op), a.cmp(b.as_str()))))
 }

@@ -9,27 +9,126 @@ ghost use Rattle.rhai_value.specs.Tree.{fresh, int};
 ghost use Rattle.rhai_ops.specs.Outcome.{IsOutcome, answers, bool_answer, both, number_answer};
 ghost use Rattle.rhai_ops.specs.Results.{Holds, part};
 ghost use Rattle.rhai_ops.specs.Ways.{answered, assignment, first_left, stays, store_left};
+ghost use Rattle.rhai_ops.specs.Tokens as asked;
 ghost use Rattle.rhai_ops.specs.Tokens.{is_cmp, is_number};
 
+use crate::answer::value;
 use crate::compare::compared;
-use crate::role::{Arithmetic, Bits, Role, Scale};
-use rhai_text::{ArithmeticFault, EvalAltResult, Position};
-use rhai_value::{Dynamic, INT, InStore, Store};
+use crate::role::{Arithmetic, Bits, Role, Scale, done_by, role_of};
+use rhai_text::{ArithmeticFault, EvalAltResult, Position, Token};
+use rhai_value::{Dynamic, INT, InStore, Part, Store};
 
 /// One of the first eleven operators on two ints.
-pub(crate) fn answer(role: Role, x: INT, y: INT) -> Result<Dynamic, EvalAltResult>
-    requires { IsTrue (is_number role) }
-    ensures { IsOutcome ⊥ result (number_answer (specs.number role x y)) }
+#[inline(never)]
+pub(crate) fn answer(
+    op: Token,
+    s: &Store,
+    x: &Dynamic,
+    y: &Dynamic,
+) -> Result<Dynamic, EvalAltResult>
+    requires number { IsTrue (is_number (asked.role op)) }
+    requires first { Holds int_of s.now x.now }
+    requires second { Holds int_of s.now y.now }
+    ensures { IsOutcome ⊥ result (both (λ i j. number_answer (specs.number (asked.role op) i j)) (part int_of s.now x.now) (part int_of s.now y.now)) }
 {
-    match number(role, x, y) {
+    let (a, b) = both_held(s, x, y);
+    match number(role_of(op), a, b) {
         Ok(n) => Ok(Dynamic::from_int(n)),
         Err(fault) => Err(EvalAltResult::ErrorArithmetic(fault, Position::NONE)),
     }
 }
 
-/// The same of the int at a place, where it is written: the place and the second operand are each looked up once.
-#[tactic(auto, using(crate::proofs::FromBelow::int_stays))]
+/// A comparison of two ints.
+#[inline(never)]
+pub(crate) fn compare(
+    op: Token,
+    s: &Store,
+    x: &Dynamic,
+    y: &Dynamic,
+) -> Result<Dynamic, EvalAltResult>
+    requires comparison { IsTrue (is_cmp (asked.role op)) }
+    requires first { Holds int_of s.now x.now }
+    requires second { Holds int_of s.now y.now }
+    ensures { IsOutcome ⊥ result (both (λ i j. bool_answer (specs.compared (asked.role op) (int_cmp i j))) (part int_of s.now x.now) (part int_of s.now y.now)) }
+{
+    let (a, b) = both_held(s, x, y);
+    Ok(Dynamic::from_bool(compared(role_of(op), a.cmp(&b))))
+}
+
+/// Two held ints. Where both values have their own, that is seen before any holder is asked.
+#[inline(always)]
+#[tactic(auto, using(crate::proofs::Alone::own_int))]
+fn both_held(s: &Store, x: &Dynamic, y: &Dynamic) -> (INT, INT)
+    requires first { Holds int_of s.now x.now }
+    requires second { Holds int_of s.now y.now }
+    ensures first { part int_of s.now x.now ≡ Some result.0 }
+    ensures second { part int_of s.now y.now ≡ Some result.1 }
+{
+    if let Some(a) = INT::own(x) {
+        if let Some(b) = INT::own(y) {
+            return (*a, *b);
+        }
+    }
+    both_behind(s, x, y)
+}
+
+/// The same of any values, in a function of its own, so that what is asked of a value itself stays short.
+#[inline(never)]
+fn both_behind(s: &Store, x: &Dynamic, y: &Dynamic) -> (INT, INT)
+    requires first { Holds int_of s.now x.now }
+    requires second { Holds int_of s.now y.now }
+    ensures first { part int_of s.now x.now ≡ Some result.0 }
+    ensures second { part int_of s.now y.now ≡ Some result.1 }
+{
+    (value(x, s), value(y, s))
+}
+
+/// An assignment of one of these operators to the int at a place. The place and the second operand are each looked up once.
+#[inline(never)]
 pub(crate) fn assign(
+    op: Token,
+    m: &mut Store,
+    x: &mut Dynamic,
+    y: &Dynamic,
+) -> Result<Dynamic, EvalAltResult>
+    requires number { IsTrue (is_number (asked.done_by (asked.role op))) }
+    requires first { Holds int_of m.old x.old }
+    requires second { Holds int_of m.old y.now }
+    ensures result { IsOutcome ⊥ result (answered (assignment stays) (both (λ i j. number_answer (specs.number (asked.done_by (asked.role op)) i j)) (part int_of m.old x.old) (part int_of m.old y.now))) }
+    ensures first { IfOk result (λ d. x.new ≡ first_left (assignment stays) (both (λ i j. number_answer (specs.number (asked.done_by (asked.role op)) i j)) (part int_of m.old x.old) (part int_of m.old y.now)) m.old x.old) }
+    ensures store { IfOk result (λ d. m.new ≡ store_left (assignment stays) (both (λ i j. number_answer (specs.number (asked.done_by (asked.role op)) i j)) (part int_of m.old x.old) (part int_of m.old y.now)) m.old x.old) }
+    ensures err { IfErr result (λ e. (x.new ≡ x.old) × (m.new ≡ m.old)) }
+{
+    let number = value(y, m);
+    assign_number(done_by(role_of(op)), m, x, number)
+}
+
+/// The same by a number. Where the place has its own int, that is seen before any holder is asked.
+#[inline(always)]
+#[tactic(auto, using(crate::proofs::FromBelow::same_int))]
+fn assign_number(
+    role: Role,
+    m: &mut Store,
+    x: &mut Dynamic,
+    y: INT,
+) -> Result<Dynamic, EvalAltResult>
+    requires number { IsTrue (is_number role) }
+    requires holds { Holds int_of m.old x.old }
+    ensures result { IsOutcome ⊥ result (answered (assignment stays) (both (λ i j. number_answer (specs.number role i j)) (part int_of m.old x.old) (Some y))) }
+    ensures first { IfOk result (λ d. x.new ≡ first_left (assignment stays) (both (λ i j. number_answer (specs.number role i j)) (part int_of m.old x.old) (Some y)) m.old x.old) }
+    ensures store { IfOk result (λ d. m.new ≡ store_left (assignment stays) (both (λ i j. number_answer (specs.number role i j)) (part int_of m.old x.old) (Some y)) m.old x.old) }
+    ensures err { IfErr result (λ e. (x.new ≡ x.old) × (m.new ≡ m.old)) }
+{
+    if let Some(held) = INT::own_mut(x) {
+        return assign_held(role, held, y);
+    }
+    assign_behind(role, m, x, y)
+}
+
+/// The same of the int where a chain of holders ends.
+#[inline(never)]
+#[tactic(auto, using(crate::proofs::FromBelow::int_stays))]
+fn assign_behind(
     role: Role,
     m: &mut Store,
     x: &mut Dynamic,
@@ -50,6 +149,7 @@ pub(crate) fn assign(
 }
 
 /// The same of an int that is held.
+#[inline(always)]
 fn assign_held(role: Role, held: &mut INT, y: INT) -> Result<Dynamic, EvalAltResult>
     requires { IsTrue (is_number role) }
     ensures result { IsOutcome ⊥ result (answered (assignment stays) (number_answer (specs.number role held.old y))) }
@@ -65,15 +165,8 @@ fn assign_held(role: Role, held: &mut INT, y: INT) -> Result<Dynamic, EvalAltRes
     }
 }
 
-/// A comparison of two ints.
-pub(crate) fn compare(role: Role, x: INT, y: INT) -> Result<Dynamic, EvalAltResult>
-    requires { IsTrue (is_cmp role) }
-    ensures { IsOutcome ⊥ result (bool_answer (specs.compared role (int_cmp x y))) }
-{
-    Ok(Dynamic::from_bool(compared(role, x.cmp(&y))))
-}
-
 /// The number that the operator answers, or why there is none.
+#[inline(always)]
 fn number(role: Role, x: INT, y: INT) -> Result<INT, ArithmeticFault>
     requires { IsTrue (is_number role) }
     ensures { specs.number role x y ≡ Some result }
@@ -89,6 +182,7 @@ fn number(role: Role, x: INT, y: INT) -> Result<INT, ArithmeticFault>
     }
 }
 
+#[inline(always)]
 fn scaled(scale: Scale, x: INT, y: INT) -> Result<INT, ArithmeticFault>
     ensures { specs.number (Role.Arithmetic (Arithmetic.Scale scale)) x y ≡ Some result }
 {
@@ -127,6 +221,7 @@ fn rest(x: INT, y: INT) -> Result<INT, ArithmeticFault>
     ranged(x.checked_rem(y))
 }
 
+#[inline(never)]
 fn power(x: INT, y: INT) -> Result<INT, ArithmeticFault>
     ensures { result ≡ specs.powered x y }
 {

@@ -2,6 +2,7 @@
 #![tactic(auto)]
 
 mod answer;
+mod assign;
 mod assign_lookup;
 mod blobs;
 mod bools;

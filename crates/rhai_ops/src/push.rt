@@ -3,7 +3,7 @@ ghost use Rattle.std.specs.Prelude.{◌≡◌, ◌++◌, ◌∷◌, [], Some, Er
 ghost use Rattle.std.specs.Char.{encode_utf8};
 ghost use Rattle.rhai_text.specs.declared.error.SizeKind.TheVariants as size;
 ghost use Rattle.rhai_value.specs.End.{array_moved};
-ghost use Rattle.rhai_value.specs.Parts.{array_of, blob_of, text_of};
+ghost use Rattle.rhai_value.specs.Parts.{array_of, blob_of, int_of, text_of};
 ghost use Rattle.rhai_value.specs.Rows.{trees_of};
 ghost use Rattle.rhai_value.specs.Tree.{array, blob, branch, copy_trees, fresh, made, unit};
 ghost use Rattle.rhai_ops.specs.Outcome.{IsOutcome, answers, both, too_large};
@@ -11,7 +11,7 @@ ghost use Rattle.rhai_value.specs.Bytes.{low_byte};
 ghost use Rattle.rhai_ops.specs.Results.{Holds, appended, blob_and_text, joined_items, part as part_in, pushed};
 ghost use Rattle.rhai_ops.specs.Ways.{answered, assignment, first_left, stays, store_left};
 
-use crate::answer::{is_allowed, part};
+use crate::answer::{is_allowed, part, value};
 use rhai_text::{EvalAltResult, ImmutableString, Limits, Position, SizeKind};
 use rhai_value::{Array, Blob, Dynamic, INT, InStore, Part, Store};
 use std::alloc::Global;
@@ -62,15 +62,36 @@ fn push(limits: &Limits, items: &mut Array, y: &mut Dynamic) -> Result<Dynamic, 
         return Err(EvalAltResult::ErrorDataTooLarge(SizeKind::Items, Position::NONE));
     }
     items.reserve(1)?;
-    if items.push(y.take()).is_err() {
-        unreachable!();
-    }
+    items.push_reserved(y.take());
     Ok(Dynamic::UNIT)
 }
 
 /// An item behind the array at the place, and unit where the item was.
-#[tactic(auto, using(crate::proofs::FromBelow::array_stays))]
+#[inline(never)]
+#[tactic(auto, using(crate::proofs::Alone::array_end, crate::proofs::FromBelow::same_array))]
 pub(crate) fn push_item(
+    limits: &Limits,
+    m: &mut Store,
+    x: &mut Dynamic,
+    y: &mut Dynamic,
+) -> Result<Dynamic, EvalAltResult>
+    requires { Holds array_of m.old x.old }
+    ensures result { IsOutcome (Unit {0}) result (answered (assignment stays) (both (pushed limits.now) (part_in array_of m.old x.old) (Some y.old))) }
+    ensures first { IfOk result (λ d. x.new ≡ first_left (assignment stays) (both (pushed limits.now) (part_in array_of m.old x.old) (Some y.old)) m.old x.old) }
+    ensures second { IfOk result (λ d. y.new ≡ fresh unit) }
+    ensures store { IfOk result (λ d. m.new ≡ store_left (assignment stays) (both (pushed limits.now) (part_in array_of m.old x.old) (Some y.old)) m.old x.old) }
+    ensures err { IfErr result (λ e. (x.new ≡ x.old) × (y.new ≡ y.old) × (m.new ≡ m.old)) }
+{
+    if let Some(items) = Array::own_mut(x) {
+        return push(limits, items, y);
+    }
+    push_item_behind(limits, m, x, y)
+}
+
+/// The same where the array stands at the end of a chain of holders.
+#[inline(never)]
+#[tactic(auto, using(crate::proofs::FromBelow::array_stays))]
+fn push_item_behind(
     limits: &Limits,
     m: &mut Store,
     x: &mut Dynamic,
@@ -245,19 +266,57 @@ pub(crate) fn append_blob(
 }
 
 /// The low byte of an int behind the blob at the place.
+#[inline(never)]
 pub(crate) fn push_byte(
     limits: &Limits,
     m: &mut Store,
     x: &mut Dynamic,
-    byte: INT,
+    y: &Dynamic,
 ) -> Result<Dynamic, EvalAltResult>
-    requires { Holds blob_of m.old x.old }
-    ensures result { IsOutcome (Unit {0}) result (answered (assignment stays) (both (appended limits.now) (part_in blob_of m.old x.old) (Some (low_byte byte ∷ [])))) }
-    ensures first { IfOk result (λ d. x.new ≡ first_left (assignment stays) (both (appended limits.now) (part_in blob_of m.old x.old) (Some (low_byte byte ∷ []))) m.old x.old) }
-    ensures store { IfOk result (λ d. m.new ≡ store_left (assignment stays) (both (appended limits.now) (part_in blob_of m.old x.old) (Some (low_byte byte ∷ []))) m.old x.old) }
+    requires first { Holds blob_of m.old x.old }
+    requires second { Holds int_of m.old y.now }
+    ensures result { IsOutcome (Unit {0}) result (answered (assignment stays) (both (appended limits.now) (part_in blob_of m.old x.old) (option_map (λ n. low_byte n ∷ []) (part_in int_of m.old y.now)))) }
+    ensures first { IfOk result (λ d. x.new ≡ first_left (assignment stays) (both (appended limits.now) (part_in blob_of m.old x.old) (option_map (λ n. low_byte n ∷ []) (part_in int_of m.old y.now))) m.old x.old) }
+    ensures store { IfOk result (λ d. m.new ≡ store_left (assignment stays) (both (appended limits.now) (part_in blob_of m.old x.old) (option_map (λ n. low_byte n ∷ []) (part_in int_of m.old y.now))) m.old x.old) }
     ensures err { IfErr result (λ e. (x.new ≡ x.old) × (m.new ≡ m.old)) }
 {
-    push_bytes(limits, m, x, &[byte.rem_euclid(256) as u8])
+    let number = value::<INT>(y, m);
+    push_one(limits, m, x, number.rem_euclid(256) as u8)
+}
+
+/// A byte behind the blob at the place. Where the place has its own blob, that is seen before any holder is asked.
+#[inline(always)]
+#[tactic(auto, using(crate::proofs::Alone::blob_end, crate::proofs::FromBelow::same_blob))]
+fn push_one(
+    limits: &Limits,
+    m: &mut Store,
+    x: &mut Dynamic,
+    byte: u8,
+) -> Result<Dynamic, EvalAltResult>
+    requires { Holds blob_of m.old x.old }
+    ensures result { IsOutcome (Unit {0}) result (answered (assignment stays) (both (appended limits.now) (part_in blob_of m.old x.old) (Some (byte ∷ [])))) }
+    ensures first { IfOk result (λ d. x.new ≡ first_left (assignment stays) (both (appended limits.now) (part_in blob_of m.old x.old) (Some (byte ∷ []))) m.old x.old) }
+    ensures store { IfOk result (λ d. m.new ≡ store_left (assignment stays) (both (appended limits.now) (part_in blob_of m.old x.old) (Some (byte ∷ []))) m.old x.old) }
+    ensures err { IfErr result (λ e. (x.new ≡ x.old) × (m.new ≡ m.old)) }
+{
+    if let Some(bytes) = Blob::own_mut(x) {
+        return extend_by_one(limits, bytes, byte);
+    }
+    push_bytes(limits, m, x, &[byte])
+}
+
+/// A byte behind a blob, or the blob as it was.
+fn extend_by_one(limits: &Limits, bytes: &mut Blob, byte: u8) -> Result<Dynamic, EvalAltResult>
+    ensures result { IsOutcome (Unit {0}) result (answered (assignment stays) (appended limits.now bytes.old.items (byte ∷ []))) }
+    ensures ok { OnOk result (appended limits.now bytes.old.items (byte ∷ []) ≡ answers (fresh (blob bytes.new.items))) }
+    ensures err { OnErr result (bytes.new.items ≡ bytes.old.items) }
+{
+    if !is_allowed(limits.items, bytes.len(), 1) {
+        return Err(EvalAltResult::ErrorDataTooLarge(SizeKind::Items, Position::NONE));
+    }
+    bytes.reserve(1)?;
+    bytes.push_reserved(byte);
+    Ok(Dynamic::UNIT)
 }
 
 /// The UTF-8 bytes of a character behind the blob at the place.

@@ -1,14 +1,14 @@
 //! Ranges under operators.
-ghost use Rattle.std.specs.Prelude.{◌≡◌, ◌&&◌};
+ghost use Rattle.std.specs.Prelude.{◌≡◌, ◌&&◌, true, false};
 ghost use Rattle.std.specs.Ordering.{int_eq};
 ghost use Rattle.rhai_value.specs.Tree.{fresh, host};
-ghost use Rattle.rhai_value.specs.declared.host.Host.TheVariants as kind;
-ghost use Rattle.rhai_ops.specs.Outcome.{IsOutcome, answers};
-ghost use Rattle.rhai_ops.specs.Results.{range, range_answer, same_range};
+ghost use Rattle.rhai_value.specs.Parts.{typed_host_of};
+ghost use Rattle.rhai_ops.specs.Outcome.{IsOutcome, answers, both};
+ghost use Rattle.rhai_ops.specs.Results.{Holds, part as part_in, range, range_answer, range_type, same_range};
 
-use crate::answer::unless;
+use crate::answer::{unless, value};
 use rhai_text::EvalAltResult;
-use rhai_value::{Dynamic, ExclusiveRange, INT, InclusiveRange};
+use rhai_value::{Dynamic, ExclusiveRange, INT, InclusiveRange, Store};
 
 /// The range between two integers, with its end or without it.
 pub(crate) fn between(inclusive: bool, start: INT, end: INT) -> Result<Dynamic, EvalAltResult>
@@ -24,11 +24,16 @@ pub(crate) fn between(inclusive: bool, start: INT, end: INT) -> Result<Dynamic, 
 /// Whether two ranges without their ends are the same, or the opposite.
 pub(crate) fn equal_exclusive(
     negated: bool,
-    a: ExclusiveRange,
-    b: ExclusiveRange,
+    s: &Store,
+    x: &Dynamic,
+    y: &Dynamic,
 ) -> Result<Dynamic, EvalAltResult>
-    ensures { IsOutcome ⊥ result (range_answer negated (same_range (kind.ExclusiveRange a) (kind.ExclusiveRange b))) }
+    requires first { Holds (typed_host_of (range_type false)) s.now x.now }
+    requires second { Holds (typed_host_of (range_type false)) s.now y.now }
+    ensures { IsOutcome ⊥ result (both (λ a b. range_answer negated (same_range a b)) (part_in (typed_host_of (range_type false)) s.now x.now) (part_in (typed_host_of (range_type false)) s.now y.now)) }
 {
+    let a = value::<ExclusiveRange>(x, s);
+    let b = value::<ExclusiveRange>(y, s);
     let same = same_ends((a.start, a.end), (b.start, b.end));
     Ok(Dynamic::from_bool(unless(negated, same)))
 }
@@ -36,11 +41,16 @@ pub(crate) fn equal_exclusive(
 /// The same of two ranges with their ends.
 pub(crate) fn equal_inclusive(
     negated: bool,
-    a: InclusiveRange,
-    b: InclusiveRange,
+    s: &Store,
+    x: &Dynamic,
+    y: &Dynamic,
 ) -> Result<Dynamic, EvalAltResult>
-    ensures { IsOutcome ⊥ result (range_answer negated (same_range (kind.InclusiveRange a) (kind.InclusiveRange b))) }
+    requires first { Holds (typed_host_of (range_type true)) s.now x.now }
+    requires second { Holds (typed_host_of (range_type true)) s.now y.now }
+    ensures { IsOutcome ⊥ result (both (λ a b. range_answer negated (same_range a b)) (part_in (typed_host_of (range_type true)) s.now x.now) (part_in (typed_host_of (range_type true)) s.now y.now)) }
 {
+    let a = value::<InclusiveRange>(x, s);
+    let b = value::<InclusiveRange>(y, s);
     let same = same_ends((a.start, a.end), (b.start, b.end));
     Ok(Dynamic::from_bool(unless(negated, same)))
 }

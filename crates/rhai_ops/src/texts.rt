@@ -1,19 +1,20 @@
 //! Texts under operators.
-ghost use Rattle.std.specs.Prelude.{IsTrue, ◌∷◌, [], ◌++◌};
+ghost use Rattle.std.specs.Prelude.{◌≡◌, IsTrue, Some, ◌∷◌, [], ◌++◌};
 ghost use Rattle.rhai_text.specs.Text as edits;
 ghost use Rattle.rhai_value.specs.Parts.{char_of, text_of};
 ghost use Rattle.rhai_value.specs.Tree.{fresh, text as a_text};
 ghost use Rattle.rhai_ops.specs.Numbers as specs;
 ghost use Rattle.rhai_ops.specs.Outcome.{IsOutcome, answers, bool_answer, both, limited_text};
 ghost use Rattle.rhai_ops.specs.Results.{Holds, joined_texts, part as part_in, text_order};
+ghost use Rattle.rhai_ops.specs.Tokens as asked;
 ghost use Rattle.rhai_ops.specs.Tokens.{is_cmp};
 
 use crate::answer::{is_allowed, part, value};
 use crate::chars::spelled;
 use crate::compare::compared;
-use crate::role::Role;
+use crate::role::{Role, is_equal, role_of};
 use rhai_text::laws::byte_order_is_character_order;
-use rhai_text::{EvalAltResult, ImmutableString, Limits, Position, SizeKind};
+use rhai_text::{EvalAltResult, ImmutableString, Limits, Position, SizeKind, Token};
 use rhai_value::{Dynamic, Store};
 use std::alloc::Global;
 
@@ -87,19 +88,31 @@ pub(crate) fn minus(
 }
 
 /// A comparison of two texts.
+#[inline(never)]
 pub(crate) fn compare(
-    role: Role,
+    op: Token,
     s: &Store,
     x: &Dynamic,
     y: &Dynamic,
 ) -> Result<Dynamic, EvalAltResult>
-    requires comparison { IsTrue (is_cmp role) }
+    requires comparison { IsTrue (is_cmp (asked.role op)) }
     requires first { Holds text_of s.now x.now }
     requires second { Holds text_of s.now y.now }
-    ensures { IsOutcome ⊥ result (both (λ v w. bool_answer (specs.compared role (text_order v w))) (part_in text_of s.now x.now) (part_in text_of s.now y.now)) }
+    ensures { IsOutcome ⊥ result (both (λ v w. bool_answer (specs.compared (asked.role op) (text_order v w))) (part_in text_of s.now x.now) (part_in text_of s.now y.now)) }
 {
-    let order = part::<ImmutableString>(x, s).cmp(part(y, s));
-    Ok(Dynamic::from_bool(compared(role, order)))
+    Ok(Dynamic::from_bool(compared_texts(role_of(op), part(x, s), part(y, s))))
+}
+
+/// Whether the comparison holds of two texts. Whether they are equal is told by their lengths first.
+#[tactic(auto, using(crate::proofs::Characters::equal_by_order))]
+fn compared_texts(role: Role, a: &ImmutableString, b: &ImmutableString) -> bool
+    requires { IsTrue (is_cmp role) }
+    ensures { specs.compared role (text_order a.now b.now) ≡ Some result }
+{
+    if is_equal(role) {
+        return a == b;
+    }
+    compared(role, a.cmp(b))
 }
 
 /// A character behind a text.
@@ -141,19 +154,19 @@ pub(crate) fn minus_char(
 
 /// A comparison of a text with a character, as the text of it alone.
 pub(crate) fn compare_char(
-    role: Role,
+    op: Token,
     s: &Store,
     x: &Dynamic,
     y: &Dynamic,
 ) -> Result<Dynamic, EvalAltResult>
-    requires comparison { IsTrue (is_cmp role) }
+    requires comparison { IsTrue (is_cmp (asked.role op)) }
     requires first { Holds text_of s.now x.now }
     requires second { Holds char_of s.now y.now }
-    ensures { IsOutcome ⊥ result (both (λ v d. bool_answer (specs.compared role (text_order v (d ∷ [])))) (part_in text_of s.now x.now) (part_in char_of s.now y.now)) }
+    ensures { IsOutcome ⊥ result (both (λ v d. bool_answer (specs.compared (asked.role op) (text_order v (d ∷ [])))) (part_in text_of s.now x.now) (part_in char_of s.now y.now)) }
 {
     let a = part::<ImmutableString>(x, s);
     let mut buffer = [0; 4];
     let b = spelled(value(y, s), &mut buffer);
     byte_order_is_character_order();
-    Ok(Dynamic::from_bool(compared(role, a.as_str().cmp(b))))
+    Ok(Dynamic::from_bool(compared(role_of(op), a.as_str().cmp(b))))
 }

@@ -1,12 +1,15 @@
 -- Entries that come from elsewhere, one by one.
-use Rattle.std.proofs.Common.{◌≡◌, ℕ, Bool, List, [], ◌∷◌, ◌++◌, length, map, take, append_assoc, sym, ap, ap₂, ◌∙◌}
+use Rattle.std.proofs.Common.{◌≡◌, ℕ, Bool, List, [], ◌∷◌, ◌++◌, length, map, take, append_assoc, refl, sym, ap, ap₂, ◌∙◌, arith}
+use Rattle.std.proofs.lemmas.Simd.{map-map}
 use Rattle.std.specs.List.{zip}
 use Rattle.std.proofs.lemmas.List.{map-append}
 use Rattle.std.proofs.Math.Seq.{take-append_seam}
+use Rattle.rhai_value.specs.declared.access_mode.AccessMode.{AccessMode}
 use Rattle.rhai_value.specs.declared.access_mode.AccessMode.TheVariants.{ReadWrite}
 use Rattle.rhai_value.specs.Tree.{Tree, paint}
 use Rattle.rhai_scope.specs.Entry.{Entry, new_entry, pushed}
-use Rattle.rhai_scope.specs.Extended.{flagged_mode, extended, extended_flagged, flagged_values}
+use Rattle.rhai_scope.specs.Index.{names_of}
+use Rattle.rhai_scope.specs.Extended.{flagged_mode, extended, extended_flagged, flagged_values, headed}
 
 one_more : {A : Type 0} (f : A → Entry) (es : List Entry) (xs : List A) (x : A) → es ++ map f (xs ++ x ∷ []) ≡ (es ++ map f xs) ++ f x ∷ []
 one_more f es xs x = ap (λ ys. es ++ ys) (map-append f xs (x ∷ [])) ∙ sym (append_assoc es (map f xs) (f x ∷ []))
@@ -23,17 +26,21 @@ taken_back es xs = rw take-append_seam
 pub flagged_back : (es : List Entry) (xs : List (List ℕ × Bool × Tree)) → take (length es) (extended_flagged es xs) ≡ es
 flagged_back es xs = rw take-append_seam
 
--- the first of them
-pub extended_first : (es : List Entry) (n : List ℕ) (t : Tree) (xs : List (List ℕ × Tree)) → extended es ((n, t) ∷ xs) ≡ extended (pushed ReadWrite n t es) xs
-extended_first es n t xs = sym (append_assoc es (new_entry n (paint ReadWrite t) ∷ []) (map (λ y. new_entry y.0 (paint ReadWrite y.1)) xs))
+-- one heading and one value less to come, and one entry more
+module _ {H : Type 0} (name_of : H → List ℕ) (mode_of : H → AccessMode) (es fs gs : List Entry) (h : H) (t u : Tree) (e : Entry) (p : List ℕ × AccessMode) (hs ks : List H) (ts us : List Tree) where
+  pub headed_step : hs ≡ h ∷ ks → ts ≡ t ∷ us → p ≡ (name_of h, mode_of h) → u ≡ paint p.1 t → e ≡ new_entry p.0 u → fs ≡ es ++ e ∷ []
+      → es ++ headed name_of mode_of hs ts ≡ gs → fs ++ headed name_of mode_of ks us ≡ gs
+  headed_step heading value parts painted new more is =
+      let entry : e ≡ new_entry (name_of h) (paint (mode_of h) t) = new ∙ ap (new_entry p.0) painted ∙ ap (λ q. new_entry q.0 (paint q.1 t)) parts in
+      ap (λ xs. xs ++ headed name_of mode_of ks us) (more ∙ ap (λ x. es ++ x ∷ []) entry)
+      ∙ append_assoc es (new_entry (name_of h) (paint (mode_of h) t) ∷ []) (headed name_of mode_of ks us)
+      ∙ ap₂ (λ xs ys. es ++ headed name_of mode_of xs ys) (sym heading) (sym value) ∙ is
 
-pub flagged_first : (es : List Entry) (n : List ℕ) (b : Bool) (t : Tree) (xs : List (List ℕ × Bool × Tree)) → extended_flagged es ((n, b, t) ∷ xs) ≡ extended_flagged (pushed (flagged_mode b) n t es) xs
-flagged_first es n b t xs = sym (append_assoc es (new_entry n (paint (flagged_mode b) t) ∷ []) (map (λ y. new_entry y.0 (paint (flagged_mode y.1) y.2)) xs))
+pub names_headed : {H : Type 0} (name_of : H → List ℕ) (mode_of : H → AccessMode) (hs : List H) (ts : List Tree) → length ts ≡ length hs → names_of (headed name_of mode_of hs ts) ≡ map name_of hs
+names_headed name_of mode_of [] ts h = refl
+names_headed name_of mode_of (x ∷ hs) [] h = absurd (omega (arith, h))
+names_headed name_of mode_of (x ∷ hs) (t ∷ ts) h = ap (λ ns. name_of x ∷ ns) (names_headed name_of mode_of hs ts (omega (arith, h)))
 
--- one name and one value less to come, and one entry more
-pub extended_step : (es fs gs : List Entry) (n : List ℕ) (t : Tree) (ns ms : List (List ℕ)) (ts us : List Tree) → ns ≡ n ∷ ms → ts ≡ t ∷ us → fs ≡ pushed ReadWrite n t es → extended es (zip ns ts) ≡ gs → extended fs (zip ms us) ≡ gs
-extended_step es fs gs n t ns ms ts us e f g h = ap (λ x. extended x (zip ms us)) g ∙ (sym (extended_first es n t (zip ms us)) ∙ (ap₂ (λ x y. extended es (zip x y)) (sym e) (sym f) ∙ h))
-
-pub flagged_step : (es fs gs : List Entry) (n : List ℕ) (b : Bool) (t : Tree) (ns ms : List (List ℕ × Bool)) (ts us : List Tree) → ns ≡ (n, b) ∷ ms → ts ≡ t ∷ us → fs ≡ pushed (flagged_mode b) n t es
-    → extended_flagged es (flagged_values ns ts) ≡ gs → extended_flagged fs (flagged_values ms us) ≡ gs
-flagged_step es fs gs n b t ns ms ts us e f g h = ap (λ x. extended_flagged x (flagged_values ms us)) g ∙ (sym (flagged_first es n b t (flagged_values ms us)) ∙ (ap₂ (λ x y. extended_flagged es (flagged_values x y)) (sym e) (sym f) ∙ h))
+-- headings that are names with flags
+pub headed_flags : (es : List Entry) (ns : List (List ℕ × Bool)) (ts : List Tree) → es ++ headed (λ p. p.0) (λ p. flagged_mode p.1) ns ts ≡ extended_flagged es (flagged_values ns ts)
+headed_flags es ns ts = ap (λ xs. es ++ xs) (sym (map-map (λ x. new_entry x.0 (paint (flagged_mode x.1) x.2)) (λ p. (p.0.0, p.0.1, p.1)) (zip ns ts)))

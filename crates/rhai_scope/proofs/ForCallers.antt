@@ -8,6 +8,6 @@ pub use Rattle.rhai_scope.proofs.SameEntries.{same_copied, same_copies, same_ext
 -- texts, bytes and items
 pub use Rattle.rhai_scope.proofs.SamePrints.{same_bytes, same_flat_values, same_names_text, same_shown_flat, same_shown_raw, same_text}
 -- an entry that is found
-pub use Rattle.rhai_scope.proofs.Parallel.{position_within}
+pub use Rattle.rhai_scope.proofs.Found.{position_within}
 -- what calls of `next` of an iterator gave
 pub use Rattle.rhai_scope.proofs.FlatItems.{flat_gone}

@@ -1,5 +1,6 @@
 -- Which entry a name means.
-use Rattle.std.proofs.Common.{◌≡◌, ℕ, Bool, true, false, nat_eq, if◌then◌else◌, List, [], ◌∷◌, ◌++◌, length, map, slice_get, Option, Some, None, option_map, option_and_then, is_some, refl, sym, ap, ap₂, ◌∙◌}
+use Rattle.std.proofs.Common.{◌≡◌, ℕ, zero, suc, ◌<◌, Bool, true, false, nat_eq, if◌then◌else◌, List, [], ◌∷◌, ◌++◌, length, map, drop, get_or, slice_get, Option, Some, None, option_map, option_and_then, is_some, refl, sym, ap, ap₂, ◌∙◌, subst, arith}
+use Rattle.std.proofs.lemmas.Option.{slice_get_read}
 use Rattle.std.specs.Prelude.{◌≢◌}
 use Rattle.std.specs.List.{AllByRecursion}
 use Rattle.std.specs.Cmp.Lexicographic.{pointwise, bytes_decides}
@@ -118,3 +119,45 @@ copied_last name (e ∷ es) = ap (λ o. or o (if pointwise nat_eq e.name name th
 pub visible_means : (name : List ℕ) (es : List Entry) → last_entry name (map copied_entry (visible es)) ≡ option_map copied_entry (last_entry name es)
 visible_means name es =
     last_is name (map copied_entry (visible es)) ∙ (copied_last name (visible es) ∙ ap (option_map copied_entry) (visible_last name es ∙ sym (last_is name es)))
+
+-- ---- an entry that is found is one of the entries, and has the name
+
+within_step : (o : Option ℕ) (here : Bool) (n i : ℕ) → ((k : ℕ) → o ≡ Some k → k < n) → later_or_here o here ≡ Some i → i < suc n
+within_step (Some k) here n i before e = let same : suc k ≡ i = cc in omega (arith, before k refl)
+within_step None true n i before e = let same : 0 ≡ i = cc in omega arith
+within_step None false n i before e = cc
+
+pub position_within : (name : List ℕ) (es : List Entry) (i : ℕ) → last_position name es ≡ Some i → i < length es
+position_within name [] i e = cc
+position_within name (x ∷ es) i e = within_step (last_position name es) (pointwise nat_eq x.name name) (length es) i (λ k. position_within name es k) e
+
+abbrev name_at : List Entry → ℕ → Option (List ℕ)
+name_at es i = option_map (λ e. e.name) (slice_get es i)
+
+named_step : (name : List ℕ) (e : Entry) (es : List Entry) (o : Option ℕ) (here : Bool) (i : ℕ) → ((k : ℕ) → o ≡ Some k → name_at es k ≡ Some name) → pointwise nat_eq e.name name ≡ here → later_or_here o here ≡ Some i
+    → name_at (e ∷ es) i ≡ Some name
+named_step name e es (Some k) here i before h is = let same : suc k ≡ i = cc in subst (λ j. name_at (e ∷ es) j ≡ Some name) same (before k refl)
+named_step name e es None true i before h is = let same : 0 ≡ i = cc in subst (λ j. name_at (e ∷ es) j ≡ Some name) same (ap Some ((bytes_decides e.name name).0 h))
+named_step name e es None false i before h is = cc
+
+named_at : (name : List ℕ) (es : List Entry) (i : ℕ) → last_position name es ≡ Some i → name_at es i ≡ Some name
+named_at name [] i is = cc
+named_at name (e ∷ es) i is = named_step name e es (last_position name es) (pointwise nat_eq e.name name) i (λ k. named_at name es k) refl is
+
+pub found_name : (name : List ℕ) (es : List Entry) (i : ℕ) (e : Entry) → last_position name es ≡ Some i → e ≡ get_or es i e → e.name ≡ name
+found_name name es i e is read =
+    let there : slice_get es i ≡ Some e = slice_get_read es (length es) i e refl (position_within name es i is) read in
+    let names : Some e.name ≡ Some name = sym (ap (option_map (λ (x : Entry). x.name)) there) ∙ named_at name es i is in
+    cc
+
+-- ---- a walk from the last entry on
+
+pub found_here : (name : List ℕ) (es : List Entry) (i : ℕ) (e : Entry) → i < length es → e ≡ get_or es i e → pointwise nat_eq e.name name ≡ true → last_position name (drop (suc i) es) ≡ None → last_position name es ≡ Some i
+found_here name [] i e l is same none = absurd (omega (arith, l))
+found_here name (x ∷ es) zero e l is same none = ap₂ later_or_here none (ap (λ y. pointwise nat_eq y.name name) (sym is) ∙ same)
+found_here name (x ∷ es) (suc i) e l is same none = ap (λ o. later_or_here o (pointwise nat_eq x.name name)) (found_here name es i e (omega (arith, l)) is same none)
+
+pub not_here : (name : List ℕ) (es : List Entry) (i : ℕ) (e : Entry) → i < length es → e ≡ get_or es i e → pointwise nat_eq e.name name ≡ false → last_position name (drop (suc i) es) ≡ None → last_position name (drop i es) ≡ None
+not_here name [] i e l is other none = absurd (omega (arith, l))
+not_here name (x ∷ es) zero e l is other none = ap₂ later_or_here none (ap (λ y. pointwise nat_eq y.name name) (sym is) ∙ other)
+not_here name (x ∷ es) (suc i) e l is other none = not_here name es i e (omega (arith, l)) is other none

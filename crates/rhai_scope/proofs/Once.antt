@@ -5,7 +5,7 @@ use Rattle.std.specs.List.{AllByRecursion, IsDistinct}
 use Rattle.std.specs.Cmp.Lexicographic.{pointwise}
 use Rattle.rhai_scope.specs.Entry.{Entry}
 use Rattle.rhai_scope.specs.Lookup.{later_or_here, last_position, unless_later, visible}
-use Rattle.rhai_scope.proofs.GoneThrough.{append_nil}
+use Rattle.std.proofs.lemmas.List.{append-nil}
 
 abbrev pub names_of : List Entry → List (List ℕ)
 names_of es = map (λ e. e.name) es
@@ -46,7 +46,7 @@ no_names = tt
 once_step : (es : List Entry) (e : Entry) (o : Option ℕ) → IsDistinct (pointwise nat_eq) (names_of (visible es)) → (o ≡ None → Others e.name (names_of (visible es)))
     → IsDistinct (pointwise nat_eq) (names_of (visible es ++ unless_later o e))
 once_step es e None h k = subst (IsDistinct (pointwise nat_eq)) (sym (map-append (λ x. x.name) (visible es) (e ∷ []))) (distinct_more (names_of (visible es)) e.name h (k refl))
-once_step es e (Some i) h k = subst (λ xs. IsDistinct (pointwise nat_eq) (names_of xs)) (sym (append_nil (visible es))) h
+once_step es e (Some i) h k = subst (λ xs. IsDistinct (pointwise nat_eq) (names_of xs)) (sym (append-nil (visible es))) h
 
 pub once : (es : List Entry) → IsDistinct (pointwise nat_eq) (map (λ e. e.name) (visible es))
 once [] = no_names

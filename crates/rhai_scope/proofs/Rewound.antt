@@ -5,7 +5,7 @@ use Rattle.rhai_value.specs.declared.access_mode.AccessMode.{AccessMode}
 use Rattle.rhai_value.specs.Tree.{Tree, paint}
 use Rattle.rhai_scope.specs.Entry.{Entry, new_entry, pushed}
 use Rattle.rhai_scope.specs.Pushes.{all_pushed}
-use Rattle.rhai_scope.proofs.GoneThrough.{append_nil}
+use Rattle.std.proofs.lemmas.List.{append-nil}
 
 -- pushes leave what was there, with more behind it
 record Longer (es fs : List Entry) : Type 0 where
@@ -13,7 +13,7 @@ record Longer (es fs : List Entry) : Type 0 where
   pub is : fs ≡ es ++ more
 
 longer : (ps : List (AccessMode × List ℕ × Tree)) (es : List Entry) → Longer es (all_pushed ps es)
-longer [] es = record { more = []; is = sym (append_nil es) }
+longer [] es = record { more = []; is = sym (append-nil es) }
 longer (p ∷ ps) es =
     let rest = longer ps (pushed p.0 p.1 p.2 es) in
     record { more = new_entry p.1 (paint p.0 p.2) ∷ rest.more; is = rest.is ∙ append_assoc es (new_entry p.1 (paint p.0 p.2) ∷ []) rest.more }

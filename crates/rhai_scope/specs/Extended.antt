@@ -21,3 +21,7 @@ extended_flagged es xs = es ++ map (λ x. new_entry x.0 (paint (flagged_mode x.1
 -- each name and flag with its value
 abbrev pub flagged_values : List (List ℕ × Bool) → List Tree → List (List ℕ × Bool × Tree)
 flagged_values ns ts = map (λ p. (p.0.0, p.0.1, p.1)) (zip ns ts)
+
+-- the new entries that have their names and modes from headings
+abbrev pub headed : {H : Type 0} → (H → List ℕ) → (H → AccessMode) → List H → List Tree → List Entry
+headed name_of mode_of hs ts = map (λ p. new_entry (name_of p.0) (paint (mode_of p.0) p.1)) (zip hs ts)

@@ -1,13 +1,14 @@
 pub mod Alias
 pub mod Code
-pub mod Columns
 pub mod Entry
 pub mod Extended
+pub mod Index
 pub mod Items
-pub mod Left
 pub mod Lookup
 pub mod NamesText
+pub mod Places
 pub mod Pushes
+pub mod Records
 pub mod Relation
 pub mod ScopeBytes
 pub mod ScopeText

@@ -2,22 +2,13 @@
 ghost use Rattle.std.specs.Prelude.{◌≡◌, ℕ, Bool, List, [], IfOk, OnOk, OnErr};
 ghost use Rattle.std.specs.Iterator.{IsFinite, Drains};
 ghost use Rattle.rhai_value.specs.Tree.{Tree};
-ghost use Rattle.rhai_scope.specs.Extended.{flagged_mode, extended, extended_flagged};
+ghost use Rattle.rhai_scope.specs.Extended.{extended, extended_flagged};
 
+use crate::heading::mode_of_flag;
 use crate::scope::Scope;
 use rhai_text::ImmutableString;
 use rhai_value::{AccessMode, Dynamic};
 use std::alloc::{AllocError, Global};
-
-pub(crate) fn mode_of_flag(is_constant: bool) -> AccessMode
-    ensures { result ≡ flagged_mode is_constant }
-{
-    if is_constant {
-        AccessMode::ReadOnly
-    } else {
-        AccessMode::ReadWrite
-    }
-}
 
 impl Scope {
     /// Adds an entry for each name with its value, painted ReadWrite, in the order in which they come. No name is copied, and where
@@ -34,7 +25,7 @@ impl Scope {
     {
         let len = self.len();
         let items = items.into_iter();
-        self.columns.reserve(items.size_hint().0)?;
+        self.reserve(items.size_hint().0)?;
         for (name, value) in items {
             if let Err(refused) = self.push_moved(name, AccessMode::ReadWrite, value) {
                 self.rewind(len);
@@ -57,7 +48,7 @@ impl Scope {
     {
         let len = self.len();
         let items = items.into_iter();
-        self.columns.reserve(items.size_hint().0)?;
+        self.reserve(items.size_hint().0)?;
         for (name, is_constant, value) in items {
             if let Err(refused) = self.push_moved(name, mode_of_flag(is_constant), value) {
                 self.rewind(len);

@@ -1,44 +1,56 @@
 //! Entries that come from vectors, which come back where memory is refused.
-ghost use Rattle.std.specs.Prelude.{◌≡◌, length, OnOk, IfErr};
+ghost use Rattle.std.specs.Prelude.{◌≡◌, ◌+◌, ◌≤◌, ◌++◌, length, vec_len, vec_capacity, OnOk, IfErr};
 ghost use Rattle.std.specs.List.{zip};
-ghost use Rattle.rhai_scope.specs.Columns.{entries, AreParallel, HasRoom};
-ghost use Rattle.rhai_scope.specs.Extended.{extended, extended_flagged, flagged_values};
+ghost use Rattle.rhai_scope.specs.Extended.{extended, extended_flagged, flagged_values, headed};
 
-use crate::columns::Columns;
-use crate::extend::mode_of_flag;
-use crate::scope::Scope;
+use crate::heading::Heading;
+use crate::records::Record;
+use crate::scope::{Scope, painted};
 use rhai_text::ImmutableString;
-use rhai_value::{AccessMode, Dynamic};
+use rhai_value::Dynamic;
+use std::alloc::Global;
 
-impl Columns {
-    /// Adds an entry for each name with its value, where there is room for them.
-    fn add_in_room(&mut self, names: Vec<ImmutableString>, values: Vec<Dynamic>)
-        requires parallel { AreParallel self.old }
-        requires as_many { length values.items ≡ length names.items }
-        requires room { HasRoom (length names.items) self.old }
-        ensures entries { entries self.new ≡ extended (entries self.old) (zip names.items values.items) }
-        ensures parallel { AreParallel self.new }
-    {
-        for (name, value) in names.into_iter().zip(values) {
-            self.push_painted(name, AccessMode::ReadWrite, value);
-        }
-    }
-
-    /// The same, each value painted as its flag says.
-    fn add_flagged_in_room(&mut self, names: Vec<(ImmutableString, bool)>, values: Vec<Dynamic>)
-        requires parallel { AreParallel self.old }
-        requires as_many { length values.items ≡ length names.items }
-        requires room { HasRoom (length names.items) self.old }
-        ensures entries { entries self.new ≡ extended_flagged (entries self.old) (flagged_values names.items values.items) }
-        ensures parallel { AreParallel self.new }
-    {
-        for ((name, is_constant), value) in names.into_iter().zip(values) {
-            self.push_painted(name, mode_of_flag(is_constant), value);
-        }
+/// Adds an entry for each heading with the value at its place, where there is room for them.
+fn add_in_room<H: Heading>(
+    alloc: Global,
+    records: &mut Vec<Record>,
+    headings: Vec<H>,
+    values: Vec<Dynamic>,
+)
+    requires as_many { length values.items ≡ length headings.items }
+    requires room { vec_len records.old + length headings.items ≤ vec_capacity records.old }
+    ensures { records.new.items ≡ records.old.items ++ headed H.name_of H.mode_of headings.items values.items }
+{
+    for (heading, value) in headings.into_iter().zip(values) {
+        let (name, access) = heading.split();
+        records.push_reserved(Record::new(alloc, name, painted(access, value)));
     }
 }
 
 impl Scope {
+    /// Adds an entry for each heading with the value at its place. All growths are made before anything is moved.
+    fn extend_headed<H: Heading>(
+        &mut self,
+        headings: Vec<H>,
+        values: Vec<Dynamic>,
+    ) -> Result<(), (Vec<H>, Vec<Dynamic>)>
+        requires { length values.items ≡ length headings.items }
+        ensures ok { OnOk result (self.new ≡ self.old ++ headed H.name_of H.mode_of headings.items values.items) }
+        ensures err { IfErr result (λ back. (back ≡ (headings, values)) × (self.new ≡ self.old)) }
+    {
+        let alloc = self.alloc;
+        if self.records.reserve(headings.len()).is_err() {
+            return Err((headings, values));
+        }
+        match self.index.admit_all(alloc, &self.records, &headings) {
+            Ok(()) => {
+                add_in_room(alloc, &mut self.records, headings, values);
+                Ok(())
+            }
+            Err(_) => Err((headings, values)),
+        }
+    }
+
     /// Adds an entry for each name with the value at its place, painted ReadWrite, in their order. Room is made once, before all
     /// else; where that is refused, names and values come back and the scope is as it was. No name is copied; the time is that of
     /// one push an entry. (rhai has `extend` alone, which takes an iterator)
@@ -51,11 +63,7 @@ impl Scope {
         ensures ok { OnOk result (self.new ≡ extended self.old (zip names.items values.items)) }
         ensures err { IfErr result (λ back. (back ≡ (names, values)) × (self.new ≡ self.old)) }
     {
-        if self.columns.reserve(names.len()).is_err() {
-            return Err((names, values));
-        }
-        self.columns.add_in_room(names, values);
-        Ok(())
+        self.extend_headed(names, values)
     }
 
     /// The same, each value painted ReadOnly where `true` stands beside its name, and else ReadWrite.
@@ -68,10 +76,6 @@ impl Scope {
         ensures ok { OnOk result (self.new ≡ extended_flagged self.old (flagged_values names.items values.items)) }
         ensures err { IfErr result (λ back. (back ≡ (names, values)) × (self.new ≡ self.old)) }
     {
-        if self.columns.reserve(names.len()).is_err() {
-            return Err((names, values));
-        }
-        self.columns.add_flagged_in_room(names, values);
-        Ok(())
+        self.extend_headed(names, values)
     }
 }

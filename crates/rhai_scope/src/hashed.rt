@@ -3,12 +3,11 @@ ghost use Rattle.std.specs.Prelude.{◌≡◌, ◌++◌, length, IfOk, OnOk, Som
 ghost use Rattle.std.specs.List.{flat_map};
 ghost use Rattle.std.specs.Str.{chars};
 ghost use Rattle.rhai_show.specs.HashBytes.{count_bytes, name_bytes, sized};
-ghost use Rattle.rhai_scope.specs.Columns.{entries, AreParallel};
 ghost use Rattle.rhai_scope.specs.Entry.{Entry};
 ghost use Rattle.rhai_scope.specs.ScopeBytes.{aliases_bytes, entry_bytes, scope_bytes, both_bytes};
 
 use crate::alias::Alias;
-use crate::columns::Columns;
+use crate::records::Record;
 use crate::rest::Rest;
 use crate::scope::Scope;
 use rhai_show::{Hashed, hashed};
@@ -77,12 +76,11 @@ fn with_entry(
     }
 }
 
-fn bytes_of(alloc: Global, columns: &Columns, s: &Store) -> Result<Option<Vec<u8>>, AllocError>
-    requires { AreParallel columns.now }
-    ensures { IfOk result (λ o. option_map (λ v. v.items) o ≡ scope_bytes s.now (entries columns.now)) }
+fn bytes_of(alloc: Global, entries: &[Record], s: &Store) -> Result<Option<Vec<u8>>, AllocError>
+    ensures { IfOk result (λ o. option_map (λ v. v.items) o ≡ scope_bytes s.now entries.now) }
 {
     let mut out = Vec::new(alloc);
-    let mut rest = Rest::of(columns);
+    let mut rest = Rest::of(entries);
     add_count(&mut out, rest.len())?;
     while let Some((name, value, aliases)) = rest.next() {
         match with_entry(alloc, out, name, value, aliases, s)? {
@@ -100,7 +98,7 @@ impl Scope {
     pub fn hashed(&self, s: &Store) -> Result<Option<Hashed>, AllocError>
         ensures { IfOk result (λ o. o ≡ scope_bytes s.now self.now) }
     {
-        match bytes_of(self.alloc, &self.columns, s)? {
+        match bytes_of(self.alloc, &self.records, s)? {
             None => Ok(None),
             Some(bytes) => Ok(Some(Hashed::from_bytes(bytes))),
         }

@@ -1,11 +1,10 @@
 //! Taking a scope apart.
 
 use crate::alias::AliasList;
+use crate::records::Record;
 use crate::scope::Scope;
 use rhai_text::ImmutableString;
 use rhai_value::Dynamic;
-use smallvec::SmallVec;
-use std::alloc::Global;
 use std::iter::{ExactSizeIterator, FusedIterator, IntoIterator, Iterator};
 use std::marker::Model;
 use std::vec;
@@ -13,28 +12,23 @@ use std::vec;
 /// The entries of a scope that are left, from the first to the last. Contracts see the list of them.
 #[derive(Drop)]
 pub struct IntoIter {
-    alloc: Global,
-    names: vec::IntoIter<ImmutableString>,
-    values: vec::IntoIter<Dynamic>,
-    aliases: vec::IntoIter<AliasList>,
+    records: vec::IntoIter<Record>,
 }
 
 impl Model for IntoIter {
-    ghost use Rattle.std.specs.Prelude.{List};
+    ghost use Rattle.std.specs.Prelude.{◌≡◌, List, length};
     ghost use Rattle.std.specs.Coded.{coded_list};
     ghost use Rattle.std.specs.Vec.Iter.{into_iter_items, into_iter_len};
     ghost use Rattle.rhai_scope.specs.Code.{entry_code};
-    ghost use Rattle.rhai_scope.specs.Columns.{entries_of};
     ghost use Rattle.rhai_scope.specs.Entry.{Entry};
-    ghost use Rattle.rhai_scope.specs.Left.{AreLeft};
 
     ghost Value = { List Entry };
 
     ghost coded = { coded_list entry_code };
 
-    ghost view = { λ r. entries_of (into_iter_items r.names) (into_iter_items r.values) (into_iter_items r.aliases) };
+    ghost view = { λ r. into_iter_items r.records };
 
-    ghost invariant = { λ r. AreLeft r.names r.values r.aliases };
+    ghost invariant = { λ r. into_iter_len r.records ≡ length (into_iter_items r.records) };
 }
 
 impl Iterator for IntoIter {
@@ -51,13 +45,8 @@ impl Iterator for IntoIter {
     ghost remaining = { item_count (λ rest. rest) };
 
     fn next(&mut self) -> Option<(ImmutableString, Dynamic, AliasList)> {
-        let name = self.names.next()?;
-        let value = self.values.next()?;
-        let aliases = match self.aliases.next() {
-            Some(aliases) => aliases,
-            None => SmallVec::new(self.alloc),
-        };
-        Some((name, value, aliases))
+        let first = self.records.next()?;
+        Some(first.into_parts())
     }
 
     fn size_hint(&self) -> (usize, Option<usize>)
@@ -71,9 +60,8 @@ impl Iterator for IntoIter {
 }
 
 impl ExactSizeIterator for IntoIter {
-    #[tactic(auto, using(crate::proofs::Parallel::length_entries))]
     fn len(&self) -> usize {
-        self.names.len()
+        self.records.len()
     }
 }
 
@@ -91,10 +79,7 @@ impl IntoIterator for Scope {
 
     fn into_iter(self) -> IntoIter {
         IntoIter {
-            alloc: self.alloc,
-            names: self.columns.names.into_iter(),
-            values: self.columns.values.into_iter(),
-            aliases: self.columns.aliases.into_iter(),
+            records: self.records.into_iter(),
         }
     }
 }

@@ -81,7 +81,7 @@ impl<'a> IntoIterator for &'a Scope {
 
     fn into_iter(self) -> Entries<'a> {
         Entries {
-            rest: Rest::of(&self.columns),
+            rest: Rest::of(&self.records),
         }
     }
 }
@@ -199,7 +199,7 @@ impl Scope {
         Iter {
             alloc: self.alloc,
             store: s,
-            rest: Rest::of(&self.columns),
+            rest: Rest::of(&self.records),
         }
     }
 
@@ -210,7 +210,7 @@ impl Scope {
     {
         IterRaw {
             store: s,
-            rest: Rest::of(&self.columns),
+            rest: Rest::of(&self.records),
         }
     }
 }

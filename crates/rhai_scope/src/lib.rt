@@ -3,17 +3,21 @@
 
 mod alias;
 mod aliases;
-mod columns;
 mod copy;
 mod extend;
 mod extend_moved;
 mod flat;
 mod hashed;
+mod heading;
+mod index;
 mod into_iter;
 mod iter;
 pub mod laws;
 mod lookup;
 mod names_text;
+mod place_list;
+mod places;
+mod records;
 mod rest;
 mod scope;
 mod shown;

@@ -1,19 +1,23 @@
 //! `Scope`.
 
-ghost use Rattle.std.specs.Prelude.{◌≡◌, ◌<◌, ◌↔◌, [], length, take, IsTrue, IfOk, IfErr, OnOk, OnErr};
+ghost use Rattle.std.specs.Prelude.{◌≡◌, ◌<◌, ◌≤◌, ◌+◌, ◌↔◌, ℕ, List, [], ◌∷◌, ◌++◌, length, take, remove, vec_len, vec_capacity, IsTrue, IfOk, IfErr, OnOk, OnErr};
 ghost use Rattle.std.specs.Str.{chars};
-ghost use Rattle.rhai_value.specs.Tree.{mode_of};
+ghost use Rattle.rhai_value.specs.Tree.{mode_of, paint};
 ghost use Rattle.rhai_value.specs.declared.access_mode.AccessMode.TheVariants.{ReadOnly};
 ghost use Rattle.rhai_scope.specs.Entry.{pushed, popped};
+ghost use Rattle.rhai_scope.specs.Index.{IsIndexOf, names_of};
 ghost use Rattle.rhai_scope.specs.Lookup.{last_position};
 ghost use Rattle.rhai_scope.specs.Typed.{removed_at};
 
-use crate::columns::Columns;
-pub use crate::columns::MIN_SCOPE_ENTRIES;
+use crate::index::Index;
+use crate::records::Record;
 use rhai_text::ImmutableString;
 use rhai_value::{AccessMode, Dynamic};
 use std::alloc::{AllocError, Global};
 use std::marker::Model;
+
+/// The least number of entries that a scope has room for, once it has one.
+pub const MIN_SCOPE_ENTRIES: usize = 8;
 
 /// The named values of a script (`Scope` of rhai). Contracts see the list of entries, the newest last.
 ///
@@ -21,23 +25,58 @@ use std::marker::Model;
 #[derive(Drop)]
 pub struct Scope {
     pub(crate) alloc: Global,
-    pub(crate) columns: Columns,
+    pub(crate) records: Vec<Record>,
+    pub(crate) index: Index,
 }
 
 impl Model for Scope {
     ghost use Rattle.std.specs.Prelude.{List};
     ghost use Rattle.std.specs.Coded.{coded_list};
     ghost use Rattle.rhai_scope.specs.Code.{entry_code};
-    ghost use Rattle.rhai_scope.specs.Columns.{entries, AreParallel};
     ghost use Rattle.rhai_scope.specs.Entry.{Entry};
+    ghost use Rattle.rhai_scope.specs.Index.{IsIndexOf, names_of};
 
     ghost Value = { List Entry };
 
     ghost coded = { coded_list entry_code };
 
-    ghost view = { λ s. entries s.columns };
+    ghost view = { λ s. s.records.items };
 
-    ghost invariant = { λ s. AreParallel s.columns };
+    ghost invariant = { λ s. IsIndexOf s.index (names_of s.records.items) };
+}
+
+/// A value, painted with a mode.
+pub(crate) fn painted(access: AccessMode, mut value: Dynamic) -> Dynamic
+    ensures { result ≡ paint access value }
+{
+    value.set_access_mode(access);
+    value
+}
+
+/// Makes room for one more entry; where there is none yet, for the least number of a scope's entries.
+fn make_room(records: &mut Vec<Record>) -> Result<(), AllocError>
+    ensures items { records.new.items ≡ records.old.items }
+    ensures room { OnOk result (vec_len records.new + 1 ≤ vec_capacity records.new) }
+    ensures first { OnOk result (records.old.items ≡ [] → vec_len records.new + MIN_SCOPE_ENTRIES ≤ vec_capacity records.new) }
+{
+    let more = if records.is_empty() {
+        MIN_SCOPE_ENTRIES
+    } else {
+        1
+    };
+    records.reserve(more)
+}
+
+/// Makes all growths that one more entry wants.
+fn admit(alloc: Global, records: &mut Vec<Record>, index: &mut Index) -> Result<(), AllocError>
+    requires { IsIndexOf index.old (names_of records.old.items) }
+    ensures items { records.new.items ≡ records.old.items }
+    ensures room { OnOk result (vec_len records.new + 1 ≤ vec_capacity records.new) }
+    ensures ok { OnOk result ((name : List ℕ) → IsIndexOf index.new (names_of records.old.items ++ name ∷ [])) }
+    ensures err { OnErr result (IsIndexOf index.new (names_of records.old.items)) }
+{
+    make_room(records)?;
+    index.admit_one(alloc, records.as_slice())
 }
 
 impl Scope {
@@ -47,7 +86,8 @@ impl Scope {
     {
         Scope {
             alloc,
-            columns: Columns::new(alloc),
+            records: Vec::new(alloc),
+            index: Index::new(alloc),
         }
     }
 
@@ -55,23 +95,31 @@ impl Scope {
     pub fn with_capacity(alloc: Global, capacity: usize) -> Result<Scope, AllocError>
         ensures { IfOk result (λ s. s ≡ []) }
     {
-        let mut columns = Columns::new(alloc);
-        columns.reserve(capacity)?;
-        Ok(Scope { alloc, columns })
+        let mut scope = Scope::new(alloc);
+        scope.reserve(capacity)?;
+        Ok(scope)
+    }
+
+    /// Makes room for more entries.
+    pub(crate) fn reserve(&mut self, more: usize) -> Result<(), AllocError>
+        ensures { self.new ≡ self.old }
+    {
+        self.records.reserve(more)
     }
 
     /// Drops all entries with their aliases, and keeps the room for them. (`Scope::clear`)
     pub fn clear(&mut self)
         ensures { self.new ≡ [] }
     {
-        self.columns.truncate(0);
+        self.records.clear();
+        self.index.clear();
     }
 
     /// The number of entries. (`Scope::len`)
     pub fn len(&self) -> usize
         ensures { result ≡ length self.now }
     {
-        self.columns.len()
+        self.records.len()
     }
 
     /// Whether there is no entry. (`Scope::is_empty`)
@@ -92,10 +140,24 @@ impl Scope {
         ensures ok { OnOk result (self.new ≡ pushed access name value self.old) }
         ensures err { IfErr result (λ back. (back ≡ (name, value)) × (self.new ≡ self.old)) }
     {
-        if self.columns.make_room().is_err() {
-            return Err((name, value));
+        let alloc = self.alloc;
+        match admit(alloc, &mut self.records, &mut self.index) {
+            Ok(()) => {
+                let entry = Record::new(alloc, name, painted(access, value));
+                self.records.push_reserved(entry);
+                Ok(())
+            }
+            Err(_) => Err((name, value)),
         }
-        self.columns.push_painted(name, access, value);
+    }
+
+    /// Adds an entry as it is behind the others.
+    pub(crate) fn push_record(&mut self, entry: Record) -> Result<(), AllocError>
+        ensures ok { OnOk result (self.new ≡ self.old ++ entry ∷ []) }
+        ensures err { OnErr result (self.new ≡ self.old) }
+    {
+        admit(self.alloc, &mut self.records, &mut self.index)?;
+        self.records.push_reserved(entry);
         Ok(())
     }
 
@@ -150,15 +212,31 @@ impl Scope {
         ensures { self.new ≡ popped self.old }
     {
         let len = self.len() - 1;
-        self.columns.truncate(len);
+        self.rewind(len);
+    }
+
+    /// Takes the entry at a place out, and drops it.
+    #[tactic(auto, using(crate::proofs::MovedOut::last_taken))]
+    pub(crate) fn remove_at(&mut self, i: usize)
+        requires { i < length self.old }
+        ensures { self.new ≡ remove self.old i }
+    {
+        if self.len() - i == 1 {
+            return self.pop();
+        }
+        let gone = self.records.remove(i);
+        self.index.remove(gone.name().as_str(), i);
     }
 
     /// Drops the last entry of a name with its aliases, if there is one, whatever its value is. It takes no memory; the time is that
     /// of `search`, and the number of entries behind it.
+    #[tactic(auto, using(crate::proofs::Found::position_within))]
     pub fn drop_entry(&mut self, name: &str)
         ensures { self.new ≡ removed_at (last_position (chars name.now) self.old) self.old }
     {
-        self.columns.drop_named(name);
+        if let Some(i) = self.search(name) {
+            self.remove_at(i);
+        }
     }
 
     /// Keeps the first `size` entries with their aliases, and all where there are no more. The time is in the number of the
@@ -166,6 +244,9 @@ impl Scope {
     pub fn rewind(&mut self, size: usize)
         ensures { self.new ≡ take size self.old }
     {
-        self.columns.truncate(size);
+        if size < self.records.len() {
+            self.index.rewind(&self.records, size);
+            self.records.truncate(size);
+        }
     }
 }

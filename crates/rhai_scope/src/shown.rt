@@ -2,10 +2,9 @@
 ghost use Rattle.std.specs.Prelude.{◌≡◌, ◌++◌, IfOk, OnOk, string_bytes};
 ghost use Rattle.std.specs.Fmt.{decimal};
 ghost use Rattle.std.specs.Str.{chars};
-ghost use Rattle.rhai_scope.specs.Columns.{entries, AreParallel};
 ghost use Rattle.rhai_scope.specs.ScopeText.{constant_mark, line, scope_text};
 
-use crate::columns::Columns;
+use crate::records::Record;
 use crate::rest::Rest;
 use crate::scope::Scope;
 use rhai_show::{Shown, debug_text};
@@ -58,12 +57,11 @@ fn add_line(
     add_text(out, "\n")
 }
 
-fn text_of(alloc: Global, columns: &Columns, s: &Store) -> Result<String, AllocError>
-    requires { AreParallel columns.now }
-    ensures { IfOk result (λ t. chars (string_bytes t) ≡ scope_text s.now (entries columns.now)) }
+fn text_of(alloc: Global, entries: &[Record], s: &Store) -> Result<String, AllocError>
+    ensures { IfOk result (λ t. chars (string_bytes t) ≡ scope_text s.now entries.now) }
 {
     let mut out = String::new(alloc);
-    let mut rest = Rest::of(columns);
+    let mut rest = Rest::of(entries);
     let len = rest.len();
     while let Some((name, value, _)) = rest.next() {
         let is_constant = value.is_read_only(s);
@@ -85,7 +83,7 @@ impl Scope {
     pub fn shown(&self, s: &Store) -> Result<Shown, AllocError>
         ensures { IfOk result (λ x. x ≡ scope_text s.now self.now) }
     {
-        let text = text_of(self.alloc, &self.columns, s)?;
+        let text = text_of(self.alloc, &self.records, s)?;
         Ok(Shown::from_text(text))
     }
 }

@@ -1,20 +1,18 @@
 //! Entries by types of Rust.
-ghost use Rattle.std.specs.Prelude.{◌≡◌, ◌<◌, true, false, is_some, None, Some, length, option_map, option_and_then, slice_get, remove, IfSome, IfOk, IfErr, OnOk, OnErr, IsOk};
+ghost use Rattle.std.specs.Prelude.{◌≡◌, ◌<◌, true, false, is_some, None, Some, length, option_map, option_and_then, slice_get, IfSome, IfOk, IfErr, OnOk, OnErr, IsOk};
 ghost use Rattle.std.specs.Borrow.{LendsIf, sem};
 ghost use Rattle.std.specs.Str.{chars};
 ghost use Rattle.rhai_value.specs.declared.access_mode.AccessMode.TheVariants.{ReadWrite, ReadOnly};
 ghost use Rattle.rhai_value.specs.End.{flat, flattened};
-ghost use Rattle.rhai_value.specs.Tree.{TakesNoMemory, cell_of};
+ghost use Rattle.rhai_value.specs.Tree.{TakesNoMemory, cell_of, fresh, unit};
 ghost use Rattle.rhai_value.specs.Types.{is_type};
 ghost use Rattle.rhai_value.specs.declared.type_id.TypeId.TheVariants as type_id;
 ghost use Rattle.rhai_variant.specs.Reads.{read, viewed};
-ghost use Rattle.rhai_scope.specs.Columns.{entries, AreParallel};
-ghost use Rattle.rhai_scope.specs.Entry.{is_constant_entry, pushed};
-ghost use Rattle.rhai_scope.specs.Lookup.{changed_named, last_position, last_entry, value_named, writable_position};
+ghost use Rattle.rhai_scope.specs.Entry.{is_constant_entry, pushed, with_value};
+ghost use Rattle.rhai_scope.specs.Lookup.{changed_at, changed_named, last_position, last_entry, value_at, value_named, writable_position};
 ghost use Rattle.rhai_scope.specs.Typed.{set_or_pushed, removed_at, written_entry};
 ghost use Rattle.rhai_scope.specs.contracts.scope.Scope as scope_type;
 
-use crate::columns::Columns;
 use crate::scope::Scope;
 use rhai_cast::{DynamicCast, is_castable};
 use rhai_value::{AccessMode, Dynamic, Store};
@@ -63,70 +61,53 @@ fn cast_out<T: Variant>(alloc: Global, value: Dynamic, s: &Store) -> Result<Opti
     }
 }
 
-impl Columns {
-    /// Takes the entry at a place out, and casts its value; the entry stays where memory is refused.
-    #[tactic(auto, using(crate::proofs::MovedOut::taken))]
-    fn take_out<T: Variant>(
+impl Scope {
+    /// Sets the value at a place.
+    fn put(&mut self, i: usize, value: Dynamic)
+        requires { i < length self.old }
+        ensures { self.new ≡ changed_at (with_value value) self.old i }
+    {
+        *self.value_at_mut(i) = value;
+    }
+
+    /// Moves the value at a place out, and leaves unit.
+    fn lift(&mut self, i: usize) -> Dynamic
+        requires { i < length self.old }
+        ensures value { option_map (λ e. e.value) (slice_get self.old i) ≡ Some result }
+        ensures left { self.new ≡ changed_at (with_value (fresh unit)) self.old i }
+    {
+        self.value_at_mut(i).take()
+    }
+
+    /// Takes the entry at a place out, if there is one, and casts its value; the entry stays where memory is refused.
+    #[tactic(auto, using(crate::proofs::MovedOut::taken, crate::proofs::MovedOut::length_changed))]
+    fn take_at<T: Variant>(
         &mut self,
-        alloc: Global,
-        i: usize,
+        place: Option<usize>,
         s: &Store,
     ) -> Result<Option<T>, AllocError>
-        requires parallel { AreParallel self.old }
-        requires within { i < length self.old.names.items }
-        ensures found { IfOk result (λ found. IfSome (slice_get self.old.values.items i) (λ t. option_map T.tree found ≡ read T.KIND (flattened s.now t))) }
-        ensures ok { OnOk result (entries self.new ≡ remove (entries self.old) i) }
-        ensures err { OnErr result (entries self.new ≡ entries self.old) }
-        ensures unread { IfSome (slice_get self.old.values.items i) (λ t. read T.KIND (flattened s.now t) ≡ None) → IsOk result }
-        ensures own { IfSome (slice_get self.old.values.items i) (λ t. cell_of t ≡ None) → is_type T.KIND type_id.String ≡ false → IsOk result }
-        ensures free { IfSome (slice_get self.old.values.items i) (λ t. TakesNoMemory (flattened s.now t)) → is_type T.KIND type_id.String ≡ false → IsOk result }
-        ensures parallel { AreParallel self.new }
+        requires { IfSome place (λ i. i < length self.old) }
+        ensures missing { place ≡ None → IsOk result }
+        ensures found { IfOk result (λ found. option_map T.tree found ≡ option_and_then (λ t. read T.KIND (flattened s.now t)) (value_at self.old place)) }
+        ensures ok { OnOk result (self.new ≡ removed_at place self.old) }
+        ensures err { OnErr result (self.new ≡ self.old) }
+        ensures unread { option_and_then (λ t. read T.KIND (flattened s.now t)) (value_at self.old place) ≡ None → IsOk result }
+        ensures own { IfSome (value_at self.old place) (λ t. cell_of t ≡ None) → is_type T.KIND type_id.String ≡ false → IsOk result }
+        ensures free { IfSome (value_at self.old place) (λ t. TakesNoMemory (flattened s.now t)) → is_type T.KIND type_id.String ≡ false → IsOk result }
     {
+        let Some(i) = place else {
+            return Ok(None);
+        };
         let value = self.lift(i);
-        match cast_out(alloc, value, s) {
+        match cast_out(self.alloc, value, s) {
             Ok(found) => {
-                self.remove(i);
+                self.remove_at(i);
                 Ok(found)
             }
             Err(back) => {
-                self.set(i, back);
+                self.put(i, back);
                 Err(AllocError)
             }
-        }
-    }
-
-    /// Drops the last entry of a name.
-    #[tactic(auto, using(crate::proofs::Names::found_within))]
-    pub(crate) fn drop_named(&mut self, name: &str)
-        requires { AreParallel self.old }
-        ensures entries { entries self.new ≡ removed_at (last_position (chars name.now) (entries self.old)) (entries self.old) }
-        ensures parallel { AreParallel self.new }
-    {
-        if let Some(i) = self.search(name) {
-            self.remove(i);
-        }
-    }
-
-    /// Takes the last entry of a name out.
-    #[tactic(auto, using(crate::proofs::Names::found_within))]
-    fn remove_named<T: Variant>(
-        &mut self,
-        alloc: Global,
-        name: &str,
-        s: &Store,
-    ) -> Result<Option<T>, AllocError>
-        requires { AreParallel self.old }
-        ensures found { IfOk result (λ found. option_map T.tree found ≡ option_and_then (λ t. read T.KIND (flattened s.now t)) (value_named (chars name.now) (entries self.old))) }
-        ensures ok { OnOk result (entries self.new ≡ removed_at (last_position (chars name.now) (entries self.old)) (entries self.old)) }
-        ensures err { OnErr result (entries self.new ≡ entries self.old) }
-        ensures unread { option_and_then (λ t. read T.KIND (flattened s.now t)) (value_named (chars name.now) (entries self.old)) ≡ None → IsOk result }
-        ensures own { IfSome (value_named (chars name.now) (entries self.old)) (λ t. cell_of t ≡ None) → is_type T.KIND type_id.String ≡ false → IsOk result }
-        ensures free { IfSome (value_named (chars name.now) (entries self.old)) (λ t. TakesNoMemory (flattened s.now t)) → is_type T.KIND type_id.String ≡ false → IsOk result }
-        ensures parallel { AreParallel self.new }
-    {
-        match self.search(name) {
-            Some(i) => self.take_out(alloc, i, s),
-            None => Ok(None),
         }
     }
 }
@@ -153,20 +134,19 @@ impl Scope {
     /// Gives the last entry of a name another value, which isn't painted, unless that entry is a constant by its own mode. Then, and
     /// where there is none of the name, an entry is added behind the others. No cell is written. At the cost of `search`.
     /// (`Scope::set_or_push`)
-    #[tactic(auto, using(crate::proofs::Parallel::length_entries))]
     pub fn set_or_push<T: Variant>(&mut self, name: &str, value: T) -> Result<(), AllocError>
         ensures free { is_type T.KIND type_id.String ≡ false → is_some (writable_position (chars name.now) self.old) ≡ true → IsOk result }
         ensures ok { OnOk result (self.new ≡ set_or_pushed (writable_position (chars name.now) self.old) (chars name.now) (T.tree value) self.old) }
         ensures err { OnErr result (self.new ≡ self.old) }
     {
         let value = made(self.alloc, value)?;
-        let place = self.columns.writable(name);
+        let place = self.writable(name);
         self.set_at(place, name, value)
     }
 
     /// Gives the last entry of a name another value, which isn't painted; where there is none of the name, an entry is added
     /// behind the others. No cell is written. At the cost of `search`. (`Scope::set_value`, which panics on a constant)
-    #[tactic(auto, using(crate::proofs::Parallel::position_within))]
+    #[tactic(auto, using(crate::proofs::Found::position_within))]
     pub fn set_value<T: Variant>(&mut self, name: &str, value: T) -> Result<(), AllocError>
         requires { IfSome (last_entry (chars name.now) self.old) (λ e. is_constant_entry e ≡ false) }
         ensures free { is_type T.KIND type_id.String ≡ false → is_some (last_position (chars name.now) self.old) ≡ true → IsOk result }
@@ -178,7 +158,6 @@ impl Scope {
         self.set_at(place, name, value)
     }
 
-    #[tactic(auto, using(crate::proofs::Parallel::length_entries))]
     fn set_at(&mut self, place: Option<usize>, name: &str, value: Dynamic) -> Result<(), AllocError>
         requires { IfSome place (λ i. i < length self.old) }
         ensures free { is_some place ≡ true → IsOk result }
@@ -187,7 +166,7 @@ impl Scope {
     {
         match place {
             Some(i) => {
-                self.columns.set(i, value);
+                self.put(i, value);
                 Ok(())
             }
             None => self.push_named(name, AccessMode::ReadWrite, value),
@@ -242,6 +221,7 @@ impl Scope {
     /// # Errors
     ///
     /// Where memory is refused, for a copy out of a cell or for a `String`; the entry stays then.
+    #[tactic(auto, using(crate::proofs::Found::position_within))]
     pub fn remove<T: Variant>(&mut self, name: &str, s: &Store) -> Result<Option<T>, AllocError>
         ensures missing { last_position (chars name.now) self.old ≡ None → IsOk result }
         ensures found { IfOk result (λ found. option_map T.tree found ≡ option_and_then (λ t. read T.KIND (flattened s.now t)) (value_named (chars name.now) self.old)) }
@@ -251,6 +231,7 @@ impl Scope {
         ensures own { IfSome (value_named (chars name.now) self.old) (λ t. cell_of t ≡ None) → is_type T.KIND type_id.String ≡ false → IsOk result }
         ensures free { IfSome (value_named (chars name.now) self.old) (λ t. TakesNoMemory (flattened s.now t)) → is_type T.KIND type_id.String ≡ false → IsOk result }
     {
-        self.columns.remove_named(self.alloc, name, s)
+        let place = self.search(name);
+        self.take_at(place, s)
     }
 }

@@ -5,6 +5,7 @@ mod readme;
 // Tests.
 mod callers;
 mod iterators;
+mod look_ups;
 mod makers;
 mod typed;
 

@@ -1,0 +1,165 @@
+-- An index, once entries have come or gone.
+use Rattle.std.proofs.Common.{◌≡◌, ℕ, suc, ◌+◌, ◌-◌, ◌<◌, ◌≤◌, nat_eq, List, [], ◌∷◌, ◌++◌, length, take, drop, Option, Some, None, option_map, option_and_then, refl, sym, ap, ◌∙◌, subst, arith}
+use Rattle.std.proofs.lemmas.List.{length-append, length-drop, length-map, length-take, length-take-le, map-append, take-append-drop, take-append-le, take-map, take-take, take_all}
+use Rattle.std.proofs.Math.Seq.{take-add, take-append-add}
+use Rattle.std.specs.Cmp.Lexicographic.{pointwise}
+use Rattle.std.specs.Str.{IsUtf8, chars}
+use Rattle.rhai_scope.specs.Entry.{Entry}
+use Rattle.rhai_scope.specs.Index.{most_walked, IsIndexOf, names_of}
+use Rattle.rhai_scope.specs.Lookup.{later_or_here, last_position}
+use Rattle.rhai_scope.specs.Places.{listed, unless_empty, last_item, trues_from, are_named, ListsNames}
+use Rattle.rhai_scope.specs.declared.index.Index.{Index}
+use Rattle.rhai_scope.specs.declared.places.Places.{Places}
+use Rattle.rhai_scope.proofs.LastTrue.{last_more}
+
+-- ---- the last entry of a name
+
+last_named : (i : ℕ) (name : List ℕ) (es : List Entry) → last_item (trues_from i (are_named (names_of es) name)) ≡ option_map (λ k. i + k) (last_position name es)
+last_named i name [] = refl
+last_named i name (e ∷ es) = last_more i (pointwise nat_eq e.name name) (are_named (names_of es) name) (last_position name es) (last_named (suc i) name es)
+
+unlisted : (ps : List ℕ) → option_and_then last_item (unless_empty ps) ≡ last_item ps
+unlisted [] = refl
+unlisted (p ∷ ps) = refl
+
+from_none : (o : Option ℕ) → option_map (λ k. 0 + k) o ≡ o
+from_none None = refl
+from_none (Some k) = let same_place : 0 + k ≡ k = omega arith in ap Some same_place
+
+pub last_listed : (p : Places) (text : List ℕ) (es : List Entry) → ListsNames p (names_of es) → IsUtf8 text → option_and_then last_item (listed p text) ≡ last_position (chars text) es
+last_listed p text es lists u =
+    ap (option_and_then last_item) (lists text u)
+    ∙ unlisted (trues_from 0 (are_named (names_of es) (chars text)))
+    ∙ last_named 0 (chars text) es
+    ∙ from_none (last_position (chars text) es)
+
+-- one of the later entries has the name, or only one of the first may have it
+pub later : (name : List ℕ) (es fs : List Entry) (k : ℕ) → last_position name fs ≡ Some k → last_position name (es ++ fs) ≡ Some (length es + k)
+later name [] fs k h = let same_place : k ≡ 0 + k = omega arith in h ∙ ap Some same_place
+later name (e ∷ es) fs k h =
+    let more : suc (length es + k) ≡ length (e ∷ es) + k = omega arith in
+    ap (λ o. later_or_here o (pointwise nat_eq e.name name)) (later name es fs k h) ∙ ap Some more
+
+earlier : (name : List ℕ) (es fs : List Entry) → last_position name fs ≡ None → last_position name (es ++ fs) ≡ last_position name es
+earlier name [] fs h = h
+earlier name (e ∷ es) fs h = ap (λ o. later_or_here o (pointwise nat_eq e.name name)) (earlier name es fs h)
+
+-- what was found behind the first ones
+pub found_behind : (name : List ℕ) (es : List Entry) (i k : ℕ) → i ≤ length es → last_position name (drop i es) ≡ Some k → Some (i + k) ≡ last_position name es
+found_behind name es i k h is =
+    sym (ap (last_position name) (sym (take-append-drop i es)) ∙ later name (take i es) (drop i es) k is ∙ ap (λ n. Some (n + k)) (length-take-le i es h))
+
+pub within : (x : Index) (es : List Entry) → IsIndexOf x (names_of es) → x.indexed ≤ length es
+within x es index = subst (λ n. x.indexed ≤ n) (length-map es (λ e. e.name)) index.within
+
+pub few : (x : Index) (es : List Entry) → IsIndexOf x (names_of es) → length es ≤ x.indexed + most_walked
+few x es index = subst (λ n. n ≤ x.indexed + most_walked) (length-map es (λ e. e.name)) index.few
+
+-- the first entries, and the end of a list as a slice has it
+pub end_of : {A : Type 0} (xs : List A) (i : ℕ) → take (length xs - i) (drop i xs) ≡ drop i xs
+end_of xs i = take_all (length xs - i) (drop i xs) (omega (arith, length-drop i xs))
+
+first_names : (x : Index) (es : List Entry) → IsIndexOf x (names_of es) → ListsNames x.places (names_of (take x.indexed es))
+first_names x es index = subst (ListsNames x.places) (take-map (λ e. e.name) x.indexed es) index.lists
+
+-- what the lists say where none of the others has the name
+pub found_listed : (x : Index) (es : List Entry) (text : List ℕ) → IsIndexOf x (names_of es) → IsUtf8 text → None ≡ last_position (chars text) (take (length es - x.indexed) (drop x.indexed es))
+    → option_and_then last_item (listed x.places text) ≡ last_position (chars text) es
+found_listed x es text index u none =
+    let name = chars text in
+    last_listed x.places text (take x.indexed es) (first_names x es index) u
+    ∙ sym (ap (last_position name) (sym (take-append-drop x.indexed es)) ∙ earlier name (take x.indexed es) (drop x.indexed es) (sym (none ∙ ap (last_position name) (end_of es x.indexed))))
+
+-- ---- names that come
+
+abbrev pub index : ℕ → Places → Index
+index n p = record { indexed = n; places = p }
+
+module _ (n : ℕ) (p : Places) (ns : List (List ℕ)) where
+  -- and aren't listed
+  pub walked_with : (ms : List (List ℕ)) → IsIndexOf (index n p) ns → length ns + length ms ≤ n + most_walked → IsIndexOf (index n p) (ns ++ ms)
+  walked_with ms x h =
+      let long = length-append ns ms in
+      record { within = omega (arith, x.within); few = omega arith; lists = subst (ListsNames p) (sym (take-append-le n ns ms x.within)) x.lists }
+
+  -- all are listed
+  pub all_listed : n ≡ length ns → ListsNames p ns → IsIndexOf (index n p) ns
+  all_listed all lists = record { within = omega arith; few = omega arith; lists = subst (ListsNames p) (sym (take_all n ns (omega arith))) lists }
+
+  -- all but the last few are listed
+  pub listed_with : (ms : List (List ℕ)) → n ≡ length ns → ListsNames p ns → length ms ≤ most_walked → IsIndexOf (index n p) (ns ++ ms)
+  listed_with ms all lists h = walked_with ms (all_listed all lists) (omega arith)
+
+-- the names of some first entries, and of the others up to a place
+pub first_and_others : (es : List Entry) (i j : ℕ) → i ≤ j → names_of (take i es) ++ names_of (take (j - i) (drop i es)) ≡ names_of (take j es)
+first_and_others es i j h =
+    let all : i + (j - i) ≡ j = omega arith in
+    sym (map-append (λ e. e.name) (take i es) (take (j - i) (drop i es))) ∙ ap names_of (sym (take-add i (j - i) es) ∙ ap (λ k. take k es) all)
+
+module _ (x : Index) (es : List Entry) (indexed : IsIndexOf x (names_of es)) where
+  pub listed_first : ListsNames x.places (names_of (take x.indexed es))
+  listed_first = first_names x es indexed
+
+  pub length_first : length (names_of (take x.indexed es)) ≡ x.indexed
+  length_first = length-map (take x.indexed es) (λ e. e.name) ∙ length-take-le x.indexed es (within x es indexed)
+
+  -- those that weren't listed are
+  pub listed_others : (p : Places) → ListsNames p (names_of (take x.indexed es) ++ names_of (take (length es - x.indexed) (drop x.indexed es))) → ListsNames p (names_of es)
+  listed_others p lists =
+      subst (ListsNames p) (first_and_others es x.indexed (length es) (within x es indexed) ∙ ap names_of (take_all (length es) es (omega arith))) lists
+
+  -- only the first ones are still listed
+  pub first_again : (p : Places) → ListsNames p (names_of (take x.indexed es)) → IsIndexOf (index x.indexed p) (names_of es)
+  first_again p lists = record { within = indexed.within; few = indexed.few; lists = subst (ListsNames p) (sym (take-map (λ e. e.name) x.indexed es)) lists }
+
+  -- ---- entries that go from the end
+
+  pub rewound : (size : ℕ) → x.indexed ≤ size → IsIndexOf x (names_of (take size es))
+  rewound size h =
+      let all = length-map es (λ e. e.name) in
+      let cut = length-map (take size es) (λ e. e.name) in
+      let short = length-take size es in
+      let inside = indexed.within in
+      let walked = indexed.few in
+      record {
+        within = omega arith;
+        few = omega arith;
+        lists = subst (ListsNames x.places) (sym (take-map (λ e. e.name) x.indexed (take size es) ∙ ap names_of (take-take x.indexed size es h))) (first_names x es indexed);
+      }
+
+  pub length_kept : (size : ℕ) → size ≤ x.indexed → size ≡ length (names_of (take size es))
+  length_kept size h = let inside = within x es indexed in sym (length-map (take size es) (λ e. e.name) ∙ length-take-le size es (omega arith))
+
+  pub unlisted_end : (size : ℕ) → size ≤ x.indexed → ListsNames x.places (names_of (take size es) ++ names_of (take (x.indexed - size) (drop size es)))
+  unlisted_end size h = subst (ListsNames x.places) (sym (first_and_others es size x.indexed h)) (first_names x es indexed)
+
+-- ---- a name that goes from between
+
+module _ (p r : Places) (w place : ℕ) (ms ns : List (List ℕ)) (n : List ℕ) (is : length ms ≡ place) (x : IsIndexOf (index w p) (ms ++ n ∷ ns)) where
+  pub walked_gone : w ≤ place → IsIndexOf (index w p) (ms ++ ns)
+  walked_gone h =
+      let long = length-append ms (n ∷ ns) in
+      let short = length-append ms ns in
+      let few = x.few in
+      let below : w ≤ length ms = omega arith in
+      record {
+        within = omega arith;
+        few = omega arith;
+        lists = subst (ListsNames p) (take-append-le w ms (n ∷ ns) below ∙ sym (take-append-le w ms ns below)) x.lists;
+      }
+
+  pub listed_gone : place < w → ((ks : List (List ℕ)) → ListsNames p (ms ++ n ∷ ks) → ListsNames r (ms ++ ks)) → IsIndexOf (index (w - 1) r) (ms ++ ns)
+  listed_gone h gone =
+      let k = w - 1 - length ms in
+      let long = length-append ms (n ∷ ns) in
+      let short = length-append ms ns in
+      let inside = x.within in
+      let few = x.few in
+      let with_it : w ≡ length ms + suc k = omega arith in
+      let without : w - 1 ≡ length ms + k = omega arith in
+      record {
+        within = omega arith;
+        few = omega arith;
+        lists = subst (ListsNames r) (sym (ap (λ i. take i (ms ++ ns)) without ∙ take-append-add ms ns k))
+            (gone (take k ns) (subst (ListsNames p) (ap (λ i. take i (ms ++ n ∷ ns)) with_it ∙ take-append-add ms (n ∷ ns) (suc k)) x.lists));
+      }

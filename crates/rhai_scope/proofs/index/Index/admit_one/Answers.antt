@@ -1,0 +1,18 @@
+use Rattle.std.proofs.Common.{[], ◌∷◌, sym, ◌∙◌, arith}
+use Rattle.std.proofs.lemmas.Result.{on_ok_weaker}
+use Rattle.rhai_scope.specs.Index.{names_of}
+use Rattle.rhai_scope.proofs.Indexed.{listed_with, walked_with}
+use Rattle.rhai_scope.proofs.EntryNames.{length_names}
+use Rattle.rhai_scope.proofs.index.Index.admit_one.Goals as goal
+
+pub returns-then-walked-lt-WALKED_ENTRIES-clause-ok : goal.returns-then-walked-lt-WALKED_ENTRIES-clause-ok
+returns-then-walked-lt-WALKED_ENTRIES-clause-ok c = λ name.
+    let x = c.args.self.now in
+    let long = length_names c.args.entries.now in
+    walked_with x.indexed x.places (names_of c.args.entries.now) (name ∷ []) c.requires (omega (arith, c.requires.within, c.requires.few))
+
+pub returns-clause-ok : goal.returns-clause-ok
+returns-clause-ok c =
+    on_ok_weaker c.list_all.result
+    (λ all name. listed_with c.list_all.new.self.indexed c.list_all.new.self.places (names_of c.args.entries.now) (name ∷ []) (all.0 ∙ sym (length_names c.args.entries.now)) all.1 (omega arith))
+    c.list_all.ensures.ok

@@ -1,0 +1,13 @@
+use Rattle.std.proofs.Common.{◌≡◌, ℕ, ◌-◌, ◌≤◌, List, length}
+use Rattle.rhai_scope.specs.Places.{ListsNames}
+use Rattle.rhai_scope.proofs.Headed.{so_far}
+use Rattle.rhai_scope.proofs.places.Places.push_all.Given as goal
+
+abbrev pub invariant-loop-i : goal.invariant-loop-i
+invariant-loop-i g l = record {
+  within : l.i ≤ length l.names;
+  lists : (ns : List (List ℕ)) → length ns ≡ l.place → ListsNames l.fn.self ns → ListsNames l.self (so_far g.N.Named.name_of ns l.names l.i);
+}
+
+abbrev pub decreases-loop-i : goal.decreases-loop-i
+decreases-loop-i g l = length l.names - l.i

@@ -1,0 +1,66 @@
+-- Where each name stands.
+use Rattle.std.specs.Prelude.{◌≡◌, ℕ, suc, ◌-◌, nat_eq, nat_lt, Bool, true, false, not, if◌then◌else◌, List, [], ◌∷◌, ◌++◌, length, take, map, slice_get, option_and_then, Option, Some, None}
+use Rattle.std.specs.BTreeMap.{get_by_text}
+use Rattle.std.specs.Cmp.Lexicographic.{pointwise}
+use Rattle.std.specs.List.{filter}
+use Rattle.std.specs.Str.{IsUtf8, chars}
+use Rattle.rhai_scope.specs.declared.places.Places.{Places}
+
+-- ---- the list of a name
+
+-- the list that stands at a text, if there is one
+abbrev pub listed : Places → List ℕ → Option (List ℕ)
+listed p text = get_by_text p.lists text
+
+-- an empty list isn't listed
+abbrev pub unless_empty : List ℕ → Option (List ℕ)
+unless_empty [] = None
+unless_empty (p ∷ ps) = Some (p ∷ ps)
+
+-- the last of a list
+abbrev pub last_item : List ℕ → Option ℕ
+last_item ps = slice_get ps (length ps - 1)
+
+-- a list with one more place at its end
+abbrev pub with_place : ℕ → Option (List ℕ) → Option (List ℕ)
+with_place p None = Some (p ∷ [])
+with_place p (Some ps) = Some (ps ++ p ∷ [])
+
+-- a list of which f leaves something, or nothing
+abbrev pub shortened : (List ℕ → List ℕ) → Option (List ℕ) → Option (List ℕ)
+shortened f o = option_and_then (λ ps. unless_empty (f ps)) o
+
+-- all but the last, and all but one place
+abbrev pub front : List ℕ → List ℕ
+front ps = take (length ps - 1) ps
+
+abbrev pub others : ℕ → List ℕ → List ℕ
+others place ps = filter (λ p. not (nat_eq p place)) ps
+
+-- a place, once a place is closed up: those behind it move down by one
+abbrev pub lowered : ℕ → ℕ → ℕ
+lowered place p = if nat_lt place p then p - 1 else p
+
+-- ---- the lists of all names
+
+-- the places of true, of which the first one stands at place i
+abbrev pub trues_from : ℕ → List Bool → List ℕ
+trues_from i [] = []
+trues_from i (true ∷ bs) = i ∷ trues_from (suc i) bs
+trues_from i (false ∷ bs) = trues_from (suc i) bs
+
+-- For each text there are exactly the places at which that name stands by `stands`, rising, and no list is empty.
+abbrev pub Lists : Places → (List ℕ → List Bool) → Type 0
+Lists p stands = (text : List ℕ) → IsUtf8 text → listed p text ≡ unless_empty (trues_from 0 (stands (chars text)))
+
+-- which of some names are this one
+abbrev pub are_named : List (List ℕ) → List ℕ → List Bool
+are_named ns name = map (λ n. pointwise nat_eq n name) ns
+
+-- the same with a place between them at which no name stands
+abbrev pub with_gap : List (List ℕ) → List (List ℕ) → List ℕ → List Bool
+with_gap ms ns name = are_named ms name ++ false ∷ are_named ns name
+
+-- the places of these names
+abbrev pub ListsNames : Places → List (List ℕ) → Type 0
+ListsNames p ns = Lists p (are_named ns)

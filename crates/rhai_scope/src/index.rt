@@ -1,0 +1,137 @@
+//! The index of names.
+ghost use Rattle.std.specs.Prelude.{◌≡◌, ◌+◌, ◌<◌, ◌^◌, ℕ, [], ◌∷◌, ◌++◌, List, length, take, map, OnOk, OnErr};
+ghost use Rattle.std.specs.Str.{chars};
+ghost use Rattle.rhai_scope.specs.Index.{IsIndexOf, names_of};
+ghost use Rattle.rhai_scope.specs.Lookup.{last_position};
+ghost use Rattle.rhai_scope.specs.Places.{ListsNames};
+
+use crate::heading::Named;
+use crate::places::Places;
+use crate::records::Record;
+use std::alloc::{AllocError, Global};
+
+/// The most last entries whose names aren't listed: by a walk through so few a name is found as soon as in the lists, and no memory
+/// is taken for them.
+pub(crate) const WALKED_ENTRIES: usize = 32;
+
+/// The places of the names of the first entries. The others, which are few, are walked through.
+#[derive(Drop)]
+pub(crate) struct Index {
+    /// The number of the first entries, whose names are listed.
+    pub(crate) indexed: usize,
+    pub(crate) places: Places,
+}
+
+/// The position of the last of these entries that has the name.
+fn last_of(entries: &[Record], name: &str) -> Option<usize>
+    ensures { result ≡ last_position (chars name.now) entries.now }
+{
+    let mut i = entries.len();
+    while i > 0 {
+        i -= 1;
+        if entries[i].is_named(name) {
+            return Some(i);
+        }
+    }
+    None
+}
+
+impl Index {
+    pub(crate) fn new(alloc: Global) -> Index
+        ensures { IsIndexOf result [] }
+    {
+        Index {
+            indexed: 0,
+            places: Places::new(alloc),
+        }
+    }
+
+    pub(crate) fn clear(&mut self)
+        ensures { IsIndexOf self.new [] }
+    {
+        self.indexed = 0;
+        self.places.clear();
+    }
+
+    /// The position of the last entry of a name. It takes no memory.
+    pub(crate) fn search(&self, entries: &[Record], name: &str) -> Option<usize>
+        requires { IsIndexOf self.now (names_of entries.now) }
+        ensures { result ≡ last_position (chars name.now) entries.now }
+    {
+        match last_of(&entries[self.indexed..], name) {
+            Some(place) => Some(self.indexed + place),
+            None => self.places.last(name),
+        }
+    }
+
+    /// Lists the names of all entries where no more can come without. Where memory is refused, the index stays as it is.
+    pub(crate) fn admit_one(&mut self, alloc: Global, entries: &[Record]) -> Result<(), AllocError>
+        requires { IsIndexOf self.old (names_of entries.now) }
+        ensures ok { OnOk result ((name : List ℕ) → IsIndexOf self.new (names_of entries.now ++ name ∷ [])) }
+        ensures err { OnErr result (IsIndexOf self.new (names_of entries.now)) }
+    {
+        let walked = entries.len() - self.indexed;
+        if walked < WALKED_ENTRIES {
+            return Ok(());
+        }
+        self.list_all(alloc, entries)
+    }
+
+    /// Lists the names of all entries.
+    #[cold]
+    fn list_all(&mut self, alloc: Global, entries: &[Record]) -> Result<(), AllocError>
+        requires { IsIndexOf self.old (names_of entries.now) }
+        ensures ok { OnOk result ((self.new.indexed ≡ length entries.now) × ListsNames self.new.places (names_of entries.now)) }
+        ensures err { OnErr result (IsIndexOf self.new (names_of entries.now)) }
+    {
+        self.places
+            .push_all(alloc, self.indexed, &entries[self.indexed..])?;
+        self.indexed = entries.len();
+        Ok(())
+    }
+
+    /// Makes room for names of entries that are to come behind these, by listing all names where they are many. Where memory is
+    /// refused, there is no trace of those that are to come.
+    pub(crate) fn admit_all<N: Named>(
+        &mut self,
+        alloc: Global,
+        entries: &[Record],
+        names: &[N],
+    ) -> Result<(), AllocError>
+        requires indexed { IsIndexOf self.old (names_of entries.now) }
+        requires countable { length entries.now + length names.now < 2 ^ 64 }
+        ensures ok { OnOk result (IsIndexOf self.new (names_of entries.now ++ map N.name_of names.now)) }
+        ensures err { OnErr result (IsIndexOf self.new (names_of entries.now)) }
+    {
+        let walked = entries.len() - self.indexed;
+        if names.len() <= WALKED_ENTRIES - walked {
+            return Ok(());
+        }
+        self.list_all(alloc, entries)?;
+        self.places.push_all(alloc, self.indexed, names)?;
+        self.indexed += names.len();
+        Ok(())
+    }
+
+    /// Keeps the names of the first entries. It takes no memory.
+    pub(crate) fn rewind(&mut self, entries: &[Record], size: usize)
+        requires { IsIndexOf self.old (names_of entries.now) }
+        ensures { IsIndexOf self.new (names_of (take size entries.now)) }
+    {
+        if size < self.indexed {
+            self.places.pop_all(&entries[size..self.indexed]);
+            self.indexed = size;
+        }
+    }
+
+    /// Drops the name of the entry at a place, so that the entries behind it move down by one. It takes no memory. Where that entry's
+    /// name isn't listed, the lists stay as they are; else the time is in the number of all places that are listed.
+    pub(crate) fn remove(&mut self, name: &str, place: usize)
+        ensures { (ms ns : List (List ℕ)) → length ms ≡ place → IsIndexOf self.old (ms ++ chars name.now ∷ ns) → IsIndexOf self.new (ms ++ ns) }
+    {
+        if place < self.indexed {
+            self.places.remove(name, place);
+            self.indexed -= 1;
+        }
+    }
+}

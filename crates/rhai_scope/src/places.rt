@@ -1,0 +1,140 @@
+//! The places of each name.
+ghost use Rattle.std.specs.Prelude.{◌≡◌, ◌+◌, ◌<◌, ◌^◌, ℕ, [], ◌∷◌, ◌++◌, List, length, map, option_map, option_and_then, if◌then◌else◌, None, OnOk, OnErr};
+ghost use Rattle.std.specs.Str.{bytes_eq, chars};
+ghost use Rattle.rhai_scope.specs.Places.{listed, last_item, with_place, shortened, front, others, lowered, ListsNames};
+
+use crate::heading::Named;
+use crate::place_list::PlaceList;
+use std::alloc::{AllocError, Global};
+use std::collections::BTreeMap;
+
+/// For each name the rising list of its places; no list is empty.
+#[derive(Drop)]
+pub(crate) struct Places {
+    pub(crate) lists: BTreeMap<String, PlaceList>,
+}
+
+impl Places {
+    pub(crate) fn new(alloc: Global) -> Places
+        ensures { ListsNames result [] }
+    {
+        Places {
+            lists: BTreeMap::new(alloc),
+        }
+    }
+
+    pub(crate) fn clear(&mut self)
+        ensures { ListsNames self.new [] }
+    {
+        self.lists.clear();
+    }
+
+    /// The last place of a name. It takes no memory.
+    pub(crate) fn last(&self, name: &str) -> Option<usize>
+        ensures { result ≡ option_and_then last_item (listed self.now name.now) }
+    {
+        match self.lists.get(name) {
+            Some(list) => Some(list.last()),
+            None => None,
+        }
+    }
+
+    /// Adds a place behind those of its name.
+    fn push(&mut self, alloc: Global, name: &str, place: usize) -> Result<(), AllocError>
+        ensures ok { OnOk result ((q : List ℕ) → listed self.new q ≡ (if bytes_eq name.now q then with_place place (listed self.old q) else listed self.old q)) }
+        ensures err { OnErr result ((q : List ℕ) → listed self.new q ≡ listed self.old q) }
+    {
+        match self.lists.get_mut(name) {
+            Some(list) => list.push(place),
+            None => self.push_first(alloc, name, place),
+        }
+    }
+
+    /// Adds the first place of a name. The last growth is that of the map, which stays as it is where memory is refused.
+    fn push_first(&mut self, alloc: Global, name: &str, place: usize) -> Result<(), AllocError>
+        requires { listed self.old name.now ≡ None }
+        ensures ok { OnOk result ((q : List ℕ) → listed self.new q ≡ (if bytes_eq name.now q then with_place place (listed self.old q) else listed self.old q)) }
+        ensures err { OnErr result ((q : List ℕ) → listed self.new q ≡ listed self.old q) }
+    {
+        let key = String::from_str(alloc, name)?;
+        match self.lists.insert(key, PlaceList::new(alloc, place)) {
+            Ok(_) => Ok(()),
+            Err(_) => Err(AllocError),
+        }
+    }
+
+    /// Drops the last place of a name, and the name with its only one. It takes no memory.
+    fn pop(&mut self, name: &str)
+        ensures { (q : List ℕ) → listed self.new q ≡ (if bytes_eq name.now q then shortened front (listed self.old q) else listed self.old q) }
+    {
+        if let Some(list) = self.lists.get_mut(name) {
+            if !list.pop() {
+                self.lists.remove(name);
+            }
+        }
+    }
+
+    /// Adds names, the first of them at this place, behind all others. Where memory is refused, there is no trace of them.
+    pub(crate) fn push_all<N: Named>(
+        &mut self,
+        alloc: Global,
+        place: usize,
+        names: &[N],
+    ) -> Result<(), AllocError>
+        requires { place + length names.now < 2 ^ 64 }
+        ensures ok { OnOk result ((ns : List (List ℕ)) → length ns ≡ place → ListsNames self.old ns → ListsNames self.new (ns ++ map N.name_of names.now)) }
+        ensures err { OnErr result ((ns : List (List ℕ)) → length ns ≡ place → ListsNames self.old ns → ListsNames self.new ns) }
+    {
+        let mut i = 0;
+        while i < names.len() {
+            match self.push(alloc, names[i].name_text(), place + i) {
+                Ok(()) => i += 1,
+                Err(refused) => {
+                    self.pop_all(&names[..i]);
+                    return Err(refused);
+                }
+            }
+        }
+        Ok(())
+    }
+
+    /// Drops the last names. It takes no memory.
+    pub(crate) fn pop_all<N: Named>(&mut self, names: &[N])
+        ensures { (ns : List (List ℕ)) → ListsNames self.old (ns ++ map N.name_of names.now) → ListsNames self.new ns }
+    {
+        let mut i = names.len();
+        while i > 0 {
+            i -= 1;
+            self.pop(names[i].name_text());
+        }
+    }
+
+    /// Drops a place of a name, and the name with its only one.
+    fn unlist(&mut self, name: &str, place: usize)
+        ensures { (q : List ℕ) → listed self.new q ≡ (if bytes_eq name.now q then shortened (others place) (listed self.old q) else listed self.old q) }
+    {
+        if let Some(list) = self.lists.get_mut(name) {
+            if !list.take_out(place) {
+                self.lists.remove(name);
+            }
+        }
+    }
+
+    /// Moves all places behind one that is gone down by one.
+    fn lower(&mut self, gone: usize)
+        ensures { (q : List ℕ) → listed self.new q ≡ option_map (map (lowered gone)) (listed self.old q) }
+    {
+        self.lists.retain(move |_, list| {
+            list.lower(gone);
+            true
+        });
+    }
+
+    /// Drops a place of a name, and moves all places behind it down by one. It takes no memory; the time is in the number of all places.
+    pub(crate) fn remove(&mut self, name: &str, place: usize)
+        ensures { (ms ns : List (List ℕ)) → length ms ≡ place → ListsNames self.old (ms ++ chars name.now ∷ ns) → ListsNames self.new (ms ++ ns) }
+    {
+        self.unlist(name, place);
+        self.lower(place);
+    }
+}

@@ -1,0 +1,135 @@
+//! Look-ups by name where entries come and go, in scopes of few entries and of many.
+use rhai_scope::Scope;
+use rhai_text::ImmutableString;
+use rhai_value::{Dynamic, Store};
+use std::alloc::{AllocError, Global};
+use std::test::Fail;
+
+const NAMES: usize = 1000;
+
+/// A thousand names.
+fn names(alloc: Global) -> Result<Vec<ImmutableString>, AllocError> {
+    let mut names = Vec::with_capacity(alloc, NAMES)?;
+    for i in 0..NAMES {
+        let name = format!(in alloc; "n{i}")?;
+        names.push(ImmutableString::from_str(alloc, &name)?)?;
+    }
+    Ok(names)
+}
+
+/// Whether `x` and `y` are found where they come and go behind `first` other entries.
+fn are_found(scope: &mut Scope, store: &Store, first: usize) -> bool {
+    let (second, third) = (first.wrapping_add(1), first.wrapping_add(2));
+    if scope.push("x", 1i64).is_err()
+        || scope.push("y", 2i64).is_err()
+        || scope.push("x", 3i64).is_err()
+        || !matches!(scope.remove::<i64>("x", store), Ok(Some(3)))
+        || scope.search("x") != Some(first)
+        || scope.push("x", 4i64).is_err()
+        || scope.search("x") != Some(third)
+        || !matches!(scope.remove::<i64>("y", store), Ok(Some(2)))
+        || scope.search("x") != Some(second)
+    {
+        return false;
+    }
+    scope.rewind(second);
+    scope.search("x") == Some(first) && scope.search("y").is_none()
+}
+
+/// Adds entries, each `step` names after the one before; `numbers` are those of the names of all entries.
+fn push_many(
+    scope: &mut Scope,
+    names: &[ImmutableString],
+    numbers: &mut Vec<usize>,
+    count: usize,
+    step: usize,
+) -> bool {
+    for i in 0..count {
+        let number = i.wrapping_mul(step) % NAMES;
+        let Some(name) = names.get(number) else {
+            return false;
+        };
+        if numbers.push(number).is_err()
+            || scope.push_dynamic(name.as_str(), Dynamic::ONE).is_err()
+        {
+            return false;
+        }
+    }
+    true
+}
+
+/// The position of the last entry whose name has this number, by a walk through all of them.
+fn last_of(numbers: &[usize], number: usize) -> Option<usize> {
+    numbers.iter().rposition(|own| *own == number)
+}
+
+/// Drops the last entry of every seventh name.
+fn drop_some(scope: &mut Scope, names: &[ImmutableString], numbers: &mut Vec<usize>) {
+    for (number, name) in names.iter().enumerate() {
+        if number % 7 == 0 {
+            scope.drop_entry(name.as_str());
+            match last_of(numbers, number) {
+                Some(place) if place < numbers.len() => {
+                    numbers.remove(place);
+                }
+                Some(_) | None => {}
+            }
+        }
+    }
+}
+
+/// Whether each name is found where the walk finds it.
+fn agree(scope: &Scope, names: &[ImmutableString], numbers: &[usize]) -> bool {
+    for (number, name) in names.iter().enumerate() {
+        if scope.search(name.as_str()) != last_of(numbers, number) {
+            return false;
+        }
+    }
+    scope.len() == numbers.len()
+}
+
+/// Whether that holds after pushes, after removals and after the scope is rewound.
+fn stay_found(
+    scope: &mut Scope,
+    names: &[ImmutableString],
+    numbers: &mut Vec<usize>,
+    count: usize,
+    step: usize,
+    left: usize,
+) -> bool {
+    if !push_many(scope, names, numbers, count, step) || !agree(scope, names, numbers) {
+        return false;
+    }
+    drop_some(scope, names, numbers);
+    if !agree(scope, names, numbers) {
+        return false;
+    }
+    scope.rewind(left);
+    numbers.truncate(left);
+    agree(scope, names, numbers)
+}
+
+#[test]
+fn names_are_found_behind_few_and_many_entries(rt: HostRuntime) -> Result<(), Fail> {
+    let alloc = rt.alloc();
+    let store = Store::new(alloc);
+    let names = names(alloc)?;
+    let mut scope = Scope::new(alloc);
+    let mut numbers = Vec::new(alloc);
+    assert!(rt; are_found(&mut scope, &store, 0));
+    assert!(rt; push_many(&mut scope, &names, &mut numbers, 100, 1));
+    assert!(rt; are_found(&mut scope, &store, 101));
+    Ok(())
+}
+
+#[test]
+fn ten_thousand_entries_are_found_as_by_a_walk(rt: HostRuntime) -> Result<(), Fail> {
+    let alloc = rt.alloc();
+    let names = names(alloc)?;
+    let mut scope = Scope::new(alloc);
+    let mut numbers = Vec::new(alloc);
+    assert!(rt; stay_found(&mut scope, &names, &mut numbers, 10_000, 1, 9_500));
+    assert!(rt; stay_found(&mut scope, &names, &mut numbers, 700, 13, 20));
+    assert!(rt; stay_found(&mut scope, &names, &mut numbers, 100, 7, 0));
+    Ok(())
+}

@@ -40,7 +40,7 @@ module _ (r : Renaming) (w v : State) (h : RelatedStates r w v) where
   same_set_or_push name i =
       m_value r w v h i _ _ (λ t u e. m_scope r w v h _ _ _ _ (entries_set _ _ (same_writable r name w.entries v.entries h.entries) name i t u e) (moved_hand r w v h i))
 
-  same_there_constant : (o p : Option Entry) → Alike (RelatedEntry r) o p → is_there_constant o ≡ is_there_constant p
+  pub same_there_constant : (o p : Option Entry) → Alike (RelatedEntry r) o p → is_there_constant o ≡ is_there_constant p
   same_there_constant None None k = refl
   same_there_constant (Some e) (Some f) k = same_constant r e f k
   same_there_constant None (Some f) k = absurd k

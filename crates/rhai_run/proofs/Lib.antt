@@ -24,6 +24,9 @@ pub mod Fitting
 pub mod KeptWorlds
 pub mod Runs
 pub mod GoingOn
+pub mod Wents
+pub mod Meant
+pub mod StandsAlike
 pub mod Moves
 pub mod MapRows
 pub mod LastEntry

@@ -29,3 +29,5 @@ pub mod KeptWorld
 pub mod Stop
 pub mod Both
 pub mod Does
+pub mod Stands
+pub mod Evaluates

@@ -1,8 +1,10 @@
 //! What a world is told to do.
+ghost use Rattle.std.specs.Prelude.{◌≡◌, IfOk};
 
 use crate::lists::{Bytes, FlaggedNames, Names};
 use rhai_text::{ImmutableString, Token};
 use rhai_value::{ExclusiveRange, Host, INT, InclusiveRange, Tag, TypeId};
+use std::alloc::{AllocError, Global};
 
 /// A value that a command makes.
 #[derive(Drop)]
@@ -25,6 +27,25 @@ pub enum Literal {
     Range(ExclusiveRange),
     /// A range with its end.
     RangeEq(InclusiveRange),
+}
+
+impl Literal {
+    /// The same literal again. Costs the bytes of a blob.
+    pub(crate) fn copy(&self, alloc: Global) -> Result<Literal, AllocError>
+        ensures { IfOk result (λ l. l ≡ self.now) }
+    {
+        Ok(match self {
+            Literal::Unit => Literal::Unit,
+            Literal::Bool(b) => Literal::Bool(*b),
+            Literal::Int(n) => Literal::Int(*n),
+            Literal::Char(c) => Literal::Char(*c),
+            Literal::Text(text) => Literal::Text(text.copy(alloc)?),
+            Literal::Blob(bytes) => Literal::Blob(bytes.copy(alloc)?),
+            Literal::Host(host) => Literal::Host(*host),
+            Literal::Range(range) => Literal::Range(*range),
+            Literal::RangeEq(range) => Literal::RangeEq(*range),
+        })
+    }
 }
 
 /// What is asked of a value.

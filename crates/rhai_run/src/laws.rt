@@ -10,11 +10,13 @@ ghost use Rattle.rhai_run.specs.declared.command.Command.{Command};
 ghost use Rattle.rhai_run.specs.declared.command.Command.TheVariants as command;
 ghost use Rattle.rhai_run.specs.declared.command.Place.{Place};
 ghost use Rattle.rhai_run.specs.declared.command.Scanner.{Scanner};
+ghost use Rattle.rhai_run.specs.declared.expr.Expr.{Expr};
+ghost use Rattle.rhai_run.specs.Stands.{stands};
 ghost use Rattle.rhai_run.specs.State.{State, empty_state, with_store};
 ghost use Rattle.rhai_run.specs.Reply.{Reply};
 ghost use Rattle.rhai_run.specs.Step.{step};
 ghost use Rattle.rhai_run.specs.Machine.{replies, state_after};
-ghost use Rattle.rhai_run.specs.Stop.{NeverWants, Stops};
+ghost use Rattle.rhai_run.specs.Stop.{NeverWants, StopsAfter};
 ghost use Rattle.rhai_run.specs.Scanners.{visited};
 ghost use Rattle.rhai_run.specs.Fits.{Fits};
 ghost use Rattle.rhai_run.specs.Correspondence.{Corresponds, RunAlike};
@@ -90,12 +92,18 @@ pub fn free_commands_are_granted()
     ensures index { (length : ℕ) (index : ℤ) (from_end : Bool) → NeverWants (command.Index length index from_end) }
 {}
 
-/// A run that stopped goes on with the rest of its list: the answers so far and those of the rest are the machine's on the whole list,
+/// Where states correspond, an expression stands for the same commands on both.
+#[tactic(auto, using(crate::proofs::StandsAlike::stands_alike))]
+pub fn expressions_stand_alike()
+    ensures { (r : Renaming) (w v : State) (e : Expr) → Corresponds r w v → stands w e ≡ stands v e }
+{}
+
+/// A run, or the commands of an expression, that stopped goes on with the rest of its list: the answers so far and those of the rest are the machine's on the whole list,
 /// and so is the state in the end.
 #[tactic(auto, using(crate::proofs::GoingOn::answers_go_on, crate::proofs::GoingOn::state_goes_on))]
 pub fn stopped_runs_go_on()
-    ensures answers { (w v : State) (commands : List Command) (told : List Reply) → Stops w commands told v
+    ensures answers { (w v : State) (commands : List Command) (told : List Reply) → StopsAfter w commands told v
         → told ++ replies v (drop (length told) commands) ≡ replies w commands }
-    ensures state { (w v : State) (commands : List Command) (told : List Reply) → Stops w commands told v
+    ensures state { (w v : State) (commands : List Command) (told : List Reply) → StopsAfter w commands told v
         → state_after v (drop (length told) commands) ≡ state_after w commands }
 {}

@@ -1,6 +1,6 @@
 //! Operators and assignments, where a call alone can show it: what they come to is tested by lines in `rhai_world`.
 // Proved callers.
-mod readme;
+pub(crate) mod readme;
 
 // Tests.
 mod assigned_pairs;

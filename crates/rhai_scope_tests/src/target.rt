@@ -6,7 +6,6 @@ mod readme;
 // Tests.
 mod lent;
 mod parts;
-mod refusals;
 mod shared_values;
 mod ways_out;
 

@@ -6,7 +6,6 @@ mod readme;
 mod arrays;
 mod chains;
 mod makers;
-mod refusals;
 
 use crate::values::{copied, is_named, shared, text_of};
 use readme::cast_or;

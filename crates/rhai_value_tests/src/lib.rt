@@ -4,6 +4,8 @@
 #[cfg(test)]
 mod cast;
 #[cfg(test)]
+mod growths;
+#[cfg(test)]
 mod show;
 #[cfg(test)]
 mod text;

@@ -2,7 +2,7 @@
 mod hash;
 mod readme;
 
-use crate::values::{chain, shared, text_of};
+use crate::values::{chain, ring, shared, text_of};
 use rhai_show::{Shown, debug_text, display_text};
 use rhai_value::{Dynamic, Store};
 use std::alloc::Global;
@@ -78,31 +78,22 @@ fn has_length(alloc: Global, value: &Dynamic, store: &Store, wanted: usize) -> b
     }
 }
 
-/// The 7 at the end, and " (shared)" a hundred times.
+/// The 7 at the end, and " (shared)" once for each holder.
 #[test]
 fn a_long_chain_prints_each_holder(rt: HostRuntime) {
-    let mut store = Store::new(rt.alloc());
-    let value = chain(&mut store, 100);
-    assert!(rt; has_length(rt.alloc(), &value, &store, 901));
-}
-
-/// A text, asked for again where memory was refused once.
-fn text_at_last(alloc: Global) -> Dynamic {
-    match Dynamic::from_text(alloc, "é\n") {
-        Ok(text) => text,
-        Err(_) => text_of(alloc, "é\n"),
+    for (length, wanted) in [(100, 901), (1000, 9001)] {
+        let mut store = Store::new(rt.alloc());
+        let value = chain(&mut store, length);
+        assert!(rt; has_length(rt.alloc(), &value, &store, wanted));
     }
 }
 
-/// Whether a text is quoted, at the second try at last.
-fn debugs_at_last(alloc: Global, value: &Dynamic, store: &Store) -> bool {
-    debugs(alloc, value, store, r#""é\n""#) || debugs(alloc, value, store, r#""é\n""#)
-}
-
-/// Passes whichever growth is refused.
+/// "<shared>" where the ring closes, and " (shared)" once for each holder.
 #[test]
-fn a_refused_growth_changes_nothing(rt: HostRuntime) {
-    let text = text_at_last(rt.alloc());
-    let store = Store::new(rt.alloc());
-    assert!(rt; debugs_at_last(rt.alloc(), &text, &store));
+fn a_ring_prints_each_holder(rt: HostRuntime) {
+    for (length, wanted) in [(1, 17), (2, 26), (1000, 9008)] {
+        let mut store = Store::new(rt.alloc());
+        let holder = ring(rt.alloc(), &mut store, length);
+        assert!(rt; has_length(rt.alloc(), &holder, &store, wanted));
+    }
 }

@@ -78,49 +78,6 @@ fn line_feeds_are_quoted(rt: HostRuntime) {
     assert!(rt; is_quoted_char(alloc, '\n', r"'\n'", r#""\n""#));
 }
 
-/// Whether all of it was appended, or, where memory was refused, nothing.
-fn is_whole_or_nothing(outcome: Result<(), AllocError>, out: &str, quoted: &str) -> bool {
-    match outcome {
-        Ok(()) => out.strip_prefix("ab") == Some(quoted),
-        Err(_) => out == "ab",
-    }
-}
-
-/// Whether a text is quoted whole or not at all; true too where there was no room for the text.
-fn quotes_whole_or_nothing(alloc: Global, characters: &str, quoted: &str) -> bool {
-    let Ok(text) = ImmutableString::from_str(alloc, characters) else {
-        return true;
-    };
-    let Ok(mut out) = String::from_str(alloc, "ab") else {
-        return true;
-    };
-    let outcome = text.quoted_into(&mut out);
-    is_whole_or_nothing(outcome, out.as_str(), quoted)
-}
-
-/// The same of a character.
-fn quotes_char_or_nothing(alloc: Global, character: char, quoted: &str) -> bool {
-    let Ok(mut out) = String::from_str(alloc, "ab") else {
-        return true;
-    };
-    let outcome = quoted_char_into(character, &mut out);
-    is_whole_or_nothing(outcome, out.as_str(), quoted)
-}
-
-/// Passes whichever growth is refused.
-#[test]
-fn quotes_all_or_nothing(rt: HostRuntime) {
-    let alloc = rt.alloc();
-    assert!(rt;
-        quotes_whole_or_nothing(
-            alloc,
-            "0123456789\n0123456789\u{1}0123456789\"",
-            r#""0123456789\n0123456789\u{1}0123456789\"""#
-        )
-    );
-    assert!(rt; quotes_char_or_nothing(alloc, '\u{1f}', r"'\u{1f}'"));
-}
-
 #[test]
 fn places_and_errors(rt: HostRuntime) {
     let place = Position::new(3, 14);

@@ -5,14 +5,13 @@ mod readme;
 
 // Tests.
 mod containers;
-mod growth;
 mod maps;
 mod marks;
 mod references;
 mod scan;
 mod written;
 
-use crate::values::{chain, holds, is_locked, is_named, is_shared, shared};
+use crate::values::{chain, holds, is_locked, is_named, is_shared, ring, shared};
 use rhai_value::{AccessMode, Dynamic, INT, Path, Store, Union};
 use std::alloc::Global;
 use std::mem::size_of;
@@ -122,8 +121,27 @@ fn a_holder_is_closed_to_another_store(rt: HostRuntime) {
 
 #[test]
 fn a_long_chain_has_an_end(rt: HostRuntime) {
-    let mut store = Store::new(rt.alloc());
-    let value = chain(&mut store, 100);
-    assert!(rt; is_shared(&value));
-    assert!(rt; holds(&value, &store, 7));
+    for length in [1, 100, 10_000] {
+        let mut store = Store::new(rt.alloc());
+        let value = chain(&mut store, length);
+        assert!(rt; is_shared(&value));
+        assert!(rt; holds(&value, &store, 7));
+    }
+}
+
+/// Whether nothing is held by a holder, which is of no type but its own.
+fn holds_nothing(holder: &Dynamic, store: &Store) -> bool {
+    holder.held(store).is_none()
+        && holder.as_int(store) == Err("<shared>")
+        && is_named(holder, store, "<shared>")
+        && !is_locked(holder, store)
+}
+
+#[test]
+fn a_ring_has_no_end(rt: HostRuntime) {
+    for length in [1, 2, 1000] {
+        let mut store = Store::new(rt.alloc());
+        let holder = ring(rt.alloc(), &mut store, length);
+        assert!(rt; holds_nothing(&holder, &store));
+    }
 }

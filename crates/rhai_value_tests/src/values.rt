@@ -53,6 +53,17 @@ pub(crate) fn chain(store: &mut Store, length: usize) -> Dynamic {
     value
 }
 
+/// A holder of the first of so many cells that each hold the next one, the last one the first.
+pub(crate) fn ring(alloc: Global, store: &mut Store, length: usize) -> Dynamic {
+    let mut first = shared(Dynamic::UNIT, store);
+    let mut value = copied(alloc, &first);
+    for _ in 1..length {
+        value = cell_with(value, store);
+    }
+    let _ = put(&mut first, value, store);
+    first
+}
+
 /// A text; unit where there is no room.
 pub(crate) fn text_of(alloc: Global, text: &str) -> Dynamic {
     match Dynamic::from_text(alloc, text) {

@@ -2,8 +2,7 @@ ghost use Rattle.std.specs.Prelude.{◌≡◌, IfOk};
 ghost use Rattle.rhai_lines.specs.Output.{output};
 
 use crate::status;
-use rhai_lines::{LinesFault, command, run_lines, write_answer};
-use rhai_run::{Answer, Command};
+use rhai_lines::{LinesFault, run_lines};
 use std::alloc::{AllocError, Global};
 use std::cell::Cell;
 use std::io;
@@ -12,19 +11,13 @@ use std::process::Abort;
 use std::test::Fail;
 
 mod assignments;
-mod both;
 mod entries;
-mod journals;
-mod limits;
 mod lines;
-mod machine;
 mod operators;
-mod page;
 mod places;
 mod printed;
 mod printed_values;
 mod questions;
-mod session;
 mod texts;
 mod values;
 mod worked_operators;
@@ -138,40 +131,6 @@ fn are_answered(rt: &impl Abort, alloc: Global, sections: &str) -> Result<(), Fa
         }
     }
     Ok(())
-}
-
-/// The commands that the lines say, where each says one.
-fn commands_of(alloc: Global, lines: &[&str]) -> Result<Vec<Command>, AllocError> {
-    let mut commands = Vec::new(alloc);
-    for line in lines {
-        match command(alloc, line.as_bytes())? {
-            Some(command) => commands.push(command)?,
-            None => return Err(AllocError),
-        }
-    }
-    Ok(commands)
-}
-
-/// Answers as they are printed.
-fn printed_lines(alloc: Global, answers: &[Answer]) -> Result<String, AllocError> {
-    let mut out = Vec::new(alloc);
-    for answer in answers {
-        if write_answer(answer, &mut out).is_err() {
-            return Err(AllocError);
-        }
-    }
-    String::from_utf8_lossy(alloc, &out)
-}
-
-/// The lines of rows that say a command.
-fn lines_of(alloc: Global, rows: &str) -> Result<Vec<&str>, AllocError> {
-    let mut lines = Vec::new(alloc);
-    for (line, answer) in rows.lines().filter_map(row_of) {
-        if !line.is_empty() && answer != "refused BadLine" {
-            lines.push(line)?;
-        }
-    }
-    Ok(lines)
 }
 
 #[test]
@@ -316,6 +275,27 @@ fn writes_may_fail(rt: HostRuntime) -> Result<(), Fail> {
         assert!(rt; OUTPUT.starts_with(&writer.bytes), "at {calls}");
     }
     Ok(())
+}
+
+/// Takes no byte.
+#[derive(Drop)]
+struct Full {}
+
+impl Write for Full {
+    fn write(&mut self, _buf: &[u8]) -> io::Result<usize> {
+        Ok(0)
+    }
+
+    fn flush(&mut self) -> io::Result<()> {
+        Ok(())
+    }
+}
+
+#[test]
+fn a_writer_that_takes_nothing_is_a_fault(rt: HostRuntime) {
+    let mut reader = INPUT;
+    let outcome = run_lines(rt.alloc(), &mut reader, &mut Full {});
+    assert_eq!(rt; fault(&outcome), "Write");
 }
 
 /// Whether a fault, and no fault, give the exit statuses that they should.

@@ -177,6 +177,8 @@ int 255 -> ok
 int 21 -> ok
 field 0 240 4 1 -> ok
 show 0 -> 95
+field 0 0 0 1 -> ok
+show 0 -> 95
 int 0 -> ok
 int 3 -> ok
 field 2 -1 63 3 -> ok

@@ -1,8 +1,5 @@
 //! Long runs over one world, with lines of every subject.
 
-use crate::tests::are_answered;
-use std::test::Fail;
-
 /// Values of the hand, shared and written over; then entries of the scope. And captures, loops, marks and operators, on a new world.
 pub const SESSIONS: &str = "
 # values and entries
@@ -114,9 +111,11 @@ extendflagged !pi -> ok
 assign @pi += 10 -> refused ConstantEntry
 charat @x 0 10 -> refused WrongSource
 index 3 -1 true -> 2
+# values gathered in a map
+int 0 -> ok
+int 1 -> ok
+int 2 -> ok
+map a b -> ok
+debug 0 -> 0
+debug 1 -> #{\"a\": 1, \"b\": 2}
 ";
-
-#[test]
-fn long_runs(rt: HostRuntime) -> Result<(), Fail> {
-    are_answered(&rt, rt.alloc(), SESSIONS)
-}

@@ -1,6 +1,6 @@
 //! Worlds with limits, which no line can set.
 
-use crate::tests::{commands_of, lines_of, printed_lines, wanted};
+use crate::rows::{commands_of, lines_of, printed_lines, wanted};
 use rhai_run::{World, run};
 use rhai_text::Limits;
 use std::alloc::{AllocError, Global};

@@ -1,7 +1,7 @@
 //! Lines on two worlds whose cells have other numbers: the answers must be the same.
 
-use crate::tests::page::SECTIONS;
-use crate::tests::{commands_of, lines_of, printed_lines};
+use crate::page::SECTIONS;
+use crate::rows::{commands_of, lines_of, printed_lines};
 use rhai_run::{World, run, run_both};
 use rhai_text::Limits;
 use std::alloc::{AllocError, Global};

@@ -1,8 +1,8 @@
 //! Commands written as lines, and journals of runs.
 
-use crate::tests::page::SECTIONS;
-use crate::tests::session::SESSIONS;
-use crate::tests::{answers, commands_of, lines_of, printed_lines, row_of, wanted};
+use crate::page::SECTIONS;
+use crate::rows::{answers, commands_of, lines_of, printed_lines, row_of, wanted};
+use crate::session::SESSIONS;
 use rhai_lines::{command, journal, line_of};
 use rhai_run::{Bytes, Command, Literal, Names, Place, World, run};
 use rhai_text::{ImmutableString, Limits};

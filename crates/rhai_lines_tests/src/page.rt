@@ -1,8 +1,5 @@
 //! The examples of docs/LINES.md, section by section, each on a new world. The rows are a copy of the page's, kept by hand.
 
-use crate::tests::are_answered;
-use std::test::Fail;
-
 /// The sections, each with its name.
 pub const SECTIONS: &str = "
 # new values
@@ -232,8 +229,3 @@ show 0 -> <shared> (shared)
 hash 0 -> refused NotHashable
 ask 0 int -> refused Mismatch <shared>
 ";
-
-#[test]
-fn the_examples_of_the_page(rt: HostRuntime) -> Result<(), Fail> {
-    are_answered(&rt, rt.alloc(), SECTIONS)
-}

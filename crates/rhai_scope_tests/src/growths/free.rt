@@ -1,0 +1,183 @@
+//! Calls that take no memory: they answer also where all of it is refused.
+use super::is_text;
+use crate::ops::readme::{assign, operate};
+use rhai_scope::Scope;
+use rhai_target::{Target, calc_index, calc_offset_len, write_bit, write_byte, write_field};
+use rhai_text::{Limits, Position, Token};
+use rhai_value::{Blob, Dynamic, Store};
+use std::alloc::{AllocError, Global};
+use std::test::Fail;
+
+const UNLIMITED: Limits = Limits { text: 0, items: 0 };
+
+/// Whether a scope with a constant `c` and a text `x` behind it answers by name and by place.
+fn is_looked_up(scope: &Scope, store: &Store) -> bool {
+    scope.len() == 2
+        && scope.contains("x")
+        && !scope.contains("y")
+        && scope.search("c") == Some(0)
+        && scope.is_constant("c") == Some(true)
+        && scope
+            .get("x")
+            .is_some_and(|value| is_text(value, store, "hé"))
+        && scope.iter_raw(store).count() == 2
+}
+
+/// Whether entries are lent for writing, and go.
+fn is_emptied(scope: &mut Scope) -> bool {
+    let is_lent = scope.get_mut("x").is_some() && scope.get_mut("c").is_none();
+    scope.rewind(2);
+    if scope.is_empty() {
+        return false;
+    }
+    scope.pop();
+    let is_popped = scope.len() == 1;
+    scope.rewind(0);
+    let is_rewound = scope.is_empty();
+    scope.clear();
+    is_lent && is_popped && is_rewound
+}
+
+/// Whether a bit and a field of an int are written.
+fn is_written_in_int(int: &mut Dynamic, store: &mut Store) -> bool {
+    if !int.is_int(store) || write_bit(int, store, &Dynamic::TRUE, 3, Position::NONE).is_err() {
+        return false;
+    }
+    if !int.is_int(store)
+        || write_field(int, store, &Dynamic::ONE, 240, 4, Position::NONE).is_err()
+    {
+        return false;
+    }
+    int.as_int(store) == Ok(31)
+}
+
+/// Whether a byte of a blob is written.
+fn is_written_in_blob(blob: &mut Dynamic, store: &mut Store) -> bool {
+    match blob.as_blob_ref(store) {
+        Ok(bytes) if bytes.len() == 2 => {}
+        _ => return false,
+    }
+    write_byte(blob, store, &Dynamic::TEN, 1, Position::NONE).is_ok()
+}
+
+/// Whether a holder is a target, and is let go.
+fn is_target(holder: &mut Dynamic, store: &mut Store) -> bool {
+    match Target::try_from(holder, store) {
+        Ok(target) => target.take_ref(store).is_none(),
+        Err(_) => false,
+    }
+}
+
+/// The rows that need no room, with operands and how they are told: ints by their sum, the rest by a boolean.
+const ROWS: [(Token, i64, i64, i64); 8] = [
+    (Token::Plus, 7, 2, 9),
+    (Token::Divide, -7, 2, -3),
+    (Token::PowerOf, 2, 5, 32),
+    (Token::LeftShift, 1, 4, 16),
+    (Token::Ampersand, 7, 3, 3),
+    (Token::PlusAssign, 7, 2, 9),
+    (Token::LeftShiftAssign, 1, 4, 16),
+    (Token::XOrAssign, 7, 2, 5),
+];
+
+fn is_computed(alloc: Global, store: &mut Store, row: &(Token, i64, i64, i64)) -> bool {
+    let (mut x, mut y) = (Dynamic::from_int(row.1), Dynamic::from_int(row.2));
+    match assign(row.0, alloc, store, &UNLIMITED, &mut x, &mut y) {
+        Ok(true) => return x.as_int(store) == Ok(row.3),
+        Ok(false) => {}
+        Err(_) => return false,
+    }
+    match operate(row.0, alloc, store, &UNLIMITED, &mut x, &mut y) {
+        Ok(Some(answer)) => answer.as_int(store) == Ok(row.3),
+        Ok(None) | Err(_) => false,
+    }
+}
+
+/// Whether two values are compared.
+fn is_compared(
+    alloc: Global,
+    store: &mut Store,
+    token: Token,
+    mut x: Dynamic,
+    mut y: Dynamic,
+    wanted: bool,
+) -> bool {
+    match operate(token, alloc, store, &UNLIMITED, &mut x, &mut y) {
+        Ok(Some(answer)) => answer.as_bool(store) == Ok(wanted),
+        Ok(None) | Err(_) => false,
+    }
+}
+
+#[test]
+fn calls_without_memory_answer(rt: HostRuntime) -> Result<(), Fail> {
+    let alloc = rt.alloc();
+    let mut store = Store::new(alloc);
+    let mut scope = Scope::new(alloc);
+    scope.push_constant("c", 1i64)?;
+    scope.push_dynamic("x", Dynamic::from_text(alloc, "hé")?)?;
+    let mut blob = Dynamic::from_blob(Blob::from_slice(alloc, &[1, 2])?);
+    let Ok(mut holder) = Dynamic::from_int(7).into_shared(&mut store) else {
+        return Err(Fail::from(AllocError));
+    };
+    assert!(rt; is_looked_up(&scope, &store));
+    assert!(rt; is_emptied(&mut scope));
+    assert!(rt; is_written_in_int(&mut holder, &mut store));
+    assert!(rt; is_written_in_blob(&mut blob, &mut store));
+    assert!(rt; is_target(&mut holder, &mut store));
+    for row in &ROWS {
+        assert!(rt; is_computed(alloc, &mut store, row), "{}", row.3);
+    }
+    assert!(rt;
+        is_compared(
+            alloc,
+            &mut store,
+            Token::LessThan,
+            Dynamic::ONE,
+            Dynamic::TWO,
+            true
+        )
+    );
+    assert!(rt;
+        is_compared(
+            alloc,
+            &mut store,
+            Token::GreaterThan,
+            Dynamic::FALSE,
+            Dynamic::TRUE,
+            false
+        )
+    );
+    assert!(rt;
+        is_compared(
+            alloc,
+            &mut store,
+            Token::XOr,
+            Dynamic::FALSE,
+            Dynamic::TRUE,
+            true
+        )
+    );
+    assert!(rt;
+        is_compared(
+            alloc,
+            &mut store,
+            Token::EqualsTo,
+            Dynamic::ONE,
+            Dynamic::UNIT,
+            false
+        )
+    );
+    assert!(rt;
+        is_compared(
+            alloc,
+            &mut store,
+            Token::NotEqualsTo,
+            Dynamic::ONE,
+            Dynamic::UNIT,
+            true
+        )
+    );
+    assert!(rt; calc_offset_len(5, -2, 10) == (3, 2));
+    assert!(rt; matches!(calc_index(5, -1, true), Some(4)));
+    Ok(())
+}

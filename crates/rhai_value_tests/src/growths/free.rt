@@ -1,0 +1,117 @@
+//! Calls that take no memory: they answer also where all of it is refused.
+use crate::values::holds;
+use rhai_cast::DynamicCast;
+use rhai_text::ImmutableString;
+use rhai_value::{AccessMode, Dynamic, Path, Store, laws};
+use std::alloc::{AllocError, Global};
+use std::test::Fail;
+
+/// Whether the type that is held is told by each call alike.
+fn is_told(value: &Dynamic, store: &Store, name: &str) -> bool {
+    let is_known = match name {
+        "bool" => value.is_bool(store) && value.as_bool(store) == Ok(true),
+        "i64" => value.is_int(store) && value.as_int(store) == Ok(7),
+        "char" => value.is_char(store) && value.as_char(store) == Ok('x'),
+        "()" => value.is_unit(store) && value.as_unit(store) == Ok(()),
+        _ => value.is_string(store) && value.as_immutable_string_ref(store).is_ok(),
+    };
+    is_known
+        && value.type_name(store) == name
+        && value.type_id(store).name() == name
+        && !value.is_locked(store)
+        && value.held(store).is_some()
+        && value.read_whole(store).is_some()
+}
+
+/// Whether a value has its tag and mode set, and is taken out of its place.
+fn is_marked_and_taken(value: &mut Dynamic, store: &Store) -> bool {
+    value.set_tag(5);
+    value.set_access_mode(AccessMode::ReadOnly);
+    let taken = value.take();
+    taken.tag() == 5 && value.is_unit(store) && value.tag() == 0
+}
+
+/// Whether an int is written in each way, and copied.
+fn is_written(alloc: Global, value: &mut Dynamic, store: &mut Store) -> bool {
+    let is_set = value.set_int(store, 8) && holds(value, store, 8);
+    let is_held = match value.held_mut(store) {
+        Some(place) => {
+            *place = Dynamic::from_int(9);
+            true
+        }
+        None => false,
+    };
+    let is_whole = match value.write_whole(store) {
+        Some(place) => {
+            *place = Dynamic::from_int(7);
+            true
+        }
+        None => false,
+    };
+    let is_copied = match value.copy(alloc) {
+        Ok(copy) => holds(&copy, store, 7),
+        Err(_) => false,
+    };
+    is_set && is_held && is_whole && is_copied
+}
+
+/// Whether a value is locked by its type for reading and writing.
+fn is_locked_by_type(value: &mut Dynamic, store: &mut Store) -> bool {
+    let is_read = value.read_lock::<i64>(store).is_some()
+        && value.read_lock::<bool>(store).is_none();
+    is_read
+        && value.write_lock::<i64>(store).is_some()
+        && value.write_lock::<ImmutableString>(store).is_none()
+}
+
+/// Whether a cell is marked, seen, written and released.
+fn is_passed_through(holder: &Dynamic, store: &mut Store) -> bool {
+    laws::marks_stay();
+    let Some(token) = store.mark(holder) else {
+        return false;
+    };
+    let is_seen = store.through(&token).as_int(store) == Ok(7);
+    *store.through_mut(&token) = Dynamic::from_int(7);
+    store.release(token);
+    let Some(token) = store.mark_held(holder) else {
+        return false;
+    };
+    store.release(token);
+    is_seen && !holder.is_locked(store)
+}
+
+/// A path with the holder's cell open, which is left.
+fn is_left(path: &mut Path, holder: &Dynamic, store: &Store) -> Result<bool, AllocError> {
+    if path.enter(store, holder)?.is_none() {
+        return Ok(false);
+    }
+    path.leave();
+    Ok(true)
+}
+
+#[test]
+fn calls_without_memory_answer(rt: HostRuntime) -> Result<(), Fail> {
+    let alloc = rt.alloc();
+    let mut store = Store::new(alloc);
+    let mut text = Dynamic::from_text(alloc, "hé")?;
+    let Ok(mut holder) = Dynamic::from_int(7).into_shared(&mut store) else {
+        return Err(Fail::from(AllocError));
+    };
+    let mut path = Path::new(alloc);
+    assert!(rt; is_left(&mut path, &holder, &store)?);
+    for (value, name) in [
+        (Dynamic::UNIT, "()"),
+        (Dynamic::TRUE, "bool"),
+        (Dynamic::from_int(7), "i64"),
+        (Dynamic::from_char('x'), "char"),
+    ] {
+        assert!(rt; is_told(&value, &store, name));
+    }
+    assert!(rt; is_told(&text, &store, "string"));
+    assert!(rt; is_told(&holder, &store, "i64"));
+    assert!(rt; is_written(alloc, &mut holder, &mut store));
+    assert!(rt; is_locked_by_type(&mut holder, &mut store));
+    assert!(rt; is_passed_through(&holder, &mut store));
+    assert!(rt; is_marked_and_taken(&mut text, &store));
+    Ok(())
+}

@@ -1,0 +1,140 @@
+//! What comes back of values, maps and paths.
+use super::{is_text, tell};
+use crate::values::holds;
+use rhai_value::{Dynamic, Map, Path, Store};
+use std::alloc::{AllocError, Global};
+use std::io::Eprint;
+use std::test::Fail;
+
+/// Whether a text is shared; where memory is refused it comes back, and is shared then.
+fn shares(rt: &impl Eprint, alloc: Global) -> Result<bool, AllocError> {
+    let mut store = Store::new(alloc);
+    let text = Dynamic::from_text(alloc, "hé")?;
+    let back = match text.into_shared(&mut store) {
+        Ok(holder) => return Ok(holder.is_shared() && is_text(&holder, &store, "hé")),
+        Err(back) => back,
+    };
+    tell(rt, "Dynamic::into_shared");
+    if back.is_shared() || !is_text(&back, &store, "hé") {
+        return Ok(false);
+    }
+    match back.into_shared(&mut store) {
+        Ok(holder) => Ok(holder.is_shared() && is_text(&holder, &store, "hé")),
+        Err(_) => Err(AllocError),
+    }
+}
+
+/// A holder of an array of one text.
+fn listed(alloc: Global, store: &mut Store) -> Result<Dynamic, AllocError> {
+    let text = Dynamic::from_text(alloc, "hé")?;
+    let list = Dynamic::from_array(vec![in alloc; text]?);
+    list.into_shared(store).map_err(|_| AllocError)
+}
+
+fn is_list(value: &Dynamic, store: &Store) -> bool {
+    match value.as_array_ref(store) {
+        Ok(items) => matches!(items.as_slice(), [item] if is_text(item, store, "hé")),
+        Err(_) => false,
+    }
+}
+
+/// Whether a holder is flattened; where memory is refused the holder comes back, and is flattened then.
+fn flattens(rt: &impl Eprint, alloc: Global) -> Result<bool, AllocError> {
+    let mut store = Store::new(alloc);
+    let back = match listed(alloc, &mut store)?.flatten(alloc, &store) {
+        Ok(flat) => return Ok(!flat.is_shared() && is_list(&flat, &store)),
+        Err(back) => back,
+    };
+    tell(rt, "Dynamic::flatten");
+    if !back.is_shared() || !is_list(&back, &store) {
+        return Ok(false);
+    }
+    match back.flatten(alloc, &store) {
+        Ok(flat) => Ok(!flat.is_shared() && is_list(&flat, &store)),
+        Err(_) => Err(AllocError),
+    }
+}
+
+fn has(map: &Map, store: &Store, key: &str, wanted: i64) -> bool {
+    match map.get(key) {
+        Some(value) => holds(value, store, wanted),
+        None => false,
+    }
+}
+
+/// Whether a key is inserted; where memory is refused key and value come back, and the map has what it had.
+fn inserts(rt: &impl Eprint, alloc: Global) -> Result<bool, AllocError> {
+    let store = Store::new(alloc);
+    let mut map = Map::new(alloc);
+    for (key, value) in [("a", 1), ("b", 2), ("c", 3), ("d", 4), ("e", 5)] {
+        let before = map.len();
+        let name = String::from_str(alloc, key)?;
+        if let Err((name, int)) = map.insert(name, Dynamic::from_int(value)) {
+            tell(rt, "Map::insert");
+            if name.as_str() != key
+                || !holds(&int, &store, value)
+                || map.len() != before
+                || map.contains_key(key)
+            {
+                return Ok(false);
+            }
+            if map.insert(name, int).is_err() {
+                return Err(AllocError);
+            }
+        }
+        if !has(&map, &store, key, value) || !has(&map, &store, "a", 1) {
+            return Ok(false);
+        }
+    }
+    Ok(true)
+}
+
+/// Whether a cell opens on a path; where memory is refused it isn't open, and opens then.
+fn enters(rt: &impl Eprint, alloc: Global) -> Result<bool, AllocError> {
+    let mut store = Store::new(alloc);
+    let holder = Dynamic::ONE
+        .into_shared(&mut store)
+        .map_err(|_| AllocError)?;
+    let mut path = Path::new(alloc);
+    match path.enter(&store, &holder) {
+        Ok(opened) => return Ok(opened.is_some()),
+        Err(_) => tell(rt, "Path::enter"),
+    }
+    Ok(path.enter(&store, &holder)?.is_some() && path.enter(&store, &holder)?.is_none())
+}
+
+/// Whether a value is as before where a copy of it, with its holders or without, is refused memory.
+fn copies(rt: &impl Eprint, alloc: Global) -> Result<bool, AllocError> {
+    let mut store = Store::new(alloc);
+    let holder = listed(alloc, &mut store)?;
+    let list = match holder.flatten_clone(alloc, &store) {
+        Ok(list) => list,
+        Err(_) => {
+            tell(rt, "Dynamic::flatten_clone");
+            holder.flatten_clone(alloc, &store)?
+        }
+    };
+    let copy = match list.copy(alloc) {
+        Ok(copy) => copy,
+        Err(_) => {
+            tell(rt, "Dynamic::copy");
+            list.copy(alloc)?
+        }
+    };
+    Ok(
+        holder.is_shared()
+            && is_list(&holder, &store)
+            && is_list(&list, &store)
+            && is_list(&copy, &store),
+    )
+}
+
+#[test]
+fn values_come_back(rt: HostRuntime) -> Result<(), Fail> {
+    assert!(rt; shares(&rt, rt.alloc())?);
+    assert!(rt; flattens(&rt, rt.alloc())?);
+    assert!(rt; inserts(&rt, rt.alloc())?);
+    assert!(rt; enters(&rt, rt.alloc())?);
+    assert!(rt; copies(&rt, rt.alloc())?);
+    Ok(())
+}

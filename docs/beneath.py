@@ -161,9 +161,9 @@ def main(words):
     seen = reach([it for file, functions in run for it in clauses(file, functions)])
     tell("beneath " + ", ".join(it for _, functions in run for it in functions), seen)
     if not words:
-        # the program's own: where run_lines stands
-        file = "crates/rhai_lines/src/lines.rt"
-        tell("and beneath run_lines besides", reach(clauses(file, ["run_lines"])), seen)
+        # what stands on it: the program's own, and expressions
+        for file, name in [("crates/rhai_lines/src/lines.rt", "run_lines"), ("crates/rhai_run/src/eval.rt", "eval")]:
+            tell(f"and beneath {name} besides", reach(clauses(file, [name])), seen)
 
 
 if __name__ == "__main__":

@@ -190,7 +190,7 @@ fn outcome(alloc: Global, world: &mut World, expr: &Expr) -> Result<String, Allo
 fn first_wrong(alloc: Global, world: &mut World, rows: &str) -> Result<Option<String>, AllocError> {
     for (row, wanted) in rows.lines().filter_map(row_of) {
         let found = outcome(alloc, world, &expr_of(alloc, row)?)?;
-        if found != wanted {
+        if found.as_str() != wanted {
             return Ok(Some(format!(in alloc; "{row} -> {found}")?));
         }
     }
@@ -250,6 +250,6 @@ fn closures_share_a_counter(rt: HostRuntime) -> Result<(), Fail> {
     let mut world = World::new(rt.alloc(), Limits { text: 0, items: 0 });
     let found = outcome(rt.alloc(), &mut world, &expr);
     world.close();
-    assert_eq!(rt; found?, "Fn(\"g\", 1 (shared)) in 1, 0");
+    assert_eq!(rt; found?.as_str(), "Fn(\"g\", 1 (shared)) in 1, 0");
     Ok(())
 }

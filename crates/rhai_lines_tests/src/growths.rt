@@ -16,6 +16,65 @@ use std::test::Fail;
 
 const UNLIMITED: Limits = Limits { text: 0, items: 0 };
 
+/// Sections in which the last command that changes the world finds the hand or the scope full.
+const FULL: &str = "
+# a value taken to a full hand
+int 1 -> ok
+int 2 -> ok
+int 3 -> ok
+int 4 -> ok
+take 0 -> ok
+show 0 ->
+show 4 -> 1
+# a function of no values in a full hand
+int 1 -> ok
+int 2 -> ok
+int 3 -> ok
+int 4 -> ok
+fn f 0 -> ok
+debug 4 -> Fn(\"f\")
+# a marked value read to a full hand
+int 1 -> ok
+share 0 -> ok
+mark 0 -> ok
+int 2 -> ok
+int 3 -> ok
+int 4 -> ok
+readmarked 0 -> ok
+show 4 -> 1
+unmark 0 -> ok
+# an entry taken out to a full hand
+int 1 -> ok
+push x 0 -> ok
+int 2 -> ok
+int 3 -> ok
+int 4 -> ok
+remove x i64 -> ok
+show 4 -> 1
+len -> 0
+# a holder in whose place its array is copied
+int 1 -> ok
+array 1 -> ok
+share 0 -> ok
+flatten 0 -> ok
+show 0 -> [1]
+# first entries of a scope
+int 1 -> ok
+setorpush x 0 -> ok
+get x -> ok
+show 1 -> 1
+# first entries by their value
+int 1 -> ok
+setvalue x 0 -> ok
+get x -> ok
+show 1 -> 1
+# first entries with their own mode
+int 1 -> ok
+readonly 0 -> ok
+pushdyn x 0 -> ok
+constant x -> true
+";
+
 /// How the commands of rows are given to the machine.
 enum Way {
     Apply,
@@ -265,7 +324,7 @@ fn run_commands(
 
 /// Asserts that the rows of each section are answered as they say, each section on a new world.
 fn are_answered(rt: &(impl Abort + Eprint), alloc: Global, way: &Way) -> Result<(), Fail> {
-    for sections in [SECTIONS, SESSIONS] {
+    for sections in [SECTIONS, SESSIONS, FULL] {
         for rows in sections.split("\n# ") {
             let wanted = match way {
                 Way::RunLines => wanted(alloc, rows)?,

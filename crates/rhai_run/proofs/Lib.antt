@@ -27,6 +27,7 @@ pub mod GoingOn
 pub mod Wents
 pub mod Meant
 pub mod StandsAlike
+pub mod Left
 pub mod Moves
 pub mod MapRows
 pub mod LastEntry

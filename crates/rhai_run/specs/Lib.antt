@@ -30,4 +30,5 @@ pub mod Stop
 pub mod Both
 pub mod Does
 pub mod Stands
+pub mod Bindings
 pub mod Evaluates

@@ -1,5 +1,5 @@
 //! Laws of the machine: each is the contract of a function that does nothing.
-ghost use Rattle.std.specs.Prelude.{◌≡◌, ℕ, ℤ, ◌<◌, ◌↔◌, Bool, nat_eq, List, ◌++◌, length, drop};
+ghost use Rattle.std.specs.Prelude.{◌≡◌, ℕ, ℤ, ◌+◌, ◌<◌, ◌↔◌, Bool, nat_eq, List, [], ◌∷◌, ◌++◌, length, drop, Option, Some, None};
 ghost use Rattle.std.specs.List.{Contains, IsDistinct};
 ghost use Rattle.rhai_text.specs.declared.limits.Limits.{Limits};
 ghost use Rattle.rhai_value.specs.Tree.{Tree};
@@ -11,9 +11,10 @@ ghost use Rattle.rhai_run.specs.declared.command.Command.TheVariants as command;
 ghost use Rattle.rhai_run.specs.declared.command.Place.{Place};
 ghost use Rattle.rhai_run.specs.declared.command.Scanner.{Scanner};
 ghost use Rattle.rhai_run.specs.declared.expr.Expr.{Expr};
-ghost use Rattle.rhai_run.specs.Stands.{stands};
+ghost use Rattle.rhai_run.specs.Bindings.{bindings};
+ghost use Rattle.rhai_run.specs.Stands.{refusal, stands};
 ghost use Rattle.rhai_run.specs.State.{State, empty_state, with_store};
-ghost use Rattle.rhai_run.specs.Reply.{Reply};
+ghost use Rattle.rhai_run.specs.Reply.{Reply, Reason};
 ghost use Rattle.rhai_run.specs.Step.{step};
 ghost use Rattle.rhai_run.specs.Machine.{replies, state_after};
 ghost use Rattle.rhai_run.specs.Stop.{NeverWants, StopsAfter};
@@ -106,4 +107,17 @@ pub fn stopped_runs_go_on()
         → told ++ replies v (drop (length told) commands) ≡ replies w commands }
     ensures state { (w v : State) (commands : List Command) (told : List Reply) → StopsAfter w commands told v
         → state_after v (drop (length told) commands) ≡ state_after w commands }
+{}
+
+/// Where no command of an expression is refused, the hand has one value more, behind those of before, and the scope one entry more for
+/// each `Let` and `Const` that stands in no `Block` of the expression.
+pub fn expressions_leave_a_value()
+    ensures hand { (w : State) (e : Expr) → refusal w (stands w e) ≡ None → (t : Tree) × ((state_after w (stands w e)).hand ≡ w.hand ++ t ∷ []) }
+    ensures scope { (w : State) (e : Expr) → refusal w (stands w e) ≡ None → length (state_after w (stands w e)).entries ≡ length w.entries + bindings e }
+{}
+
+/// Where one is refused, the hand is as before, and the scope as long as before.
+pub fn refused_expressions_leave_nothing()
+    ensures hand { (w : State) (e : Expr) (why : Reason) → refusal w (stands w e) ≡ Some why → (state_after w (stands w e)).hand ≡ w.hand }
+    ensures scope { (w : State) (e : Expr) (why : Reason) → refusal w (stands w e) ≡ Some why → length (state_after w (stands w e)).entries ≡ length w.entries }
 {}

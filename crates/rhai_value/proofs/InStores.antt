@@ -133,13 +133,23 @@ pub put_own_part : {A : Type 0} (content : A → Content) (part : Tree → Optio
     → (with_content d t ≡ value_after (with_part part d) (end s [] t) t) × (s ≡ store_after (with_part part d) (end s [] t) s)
 put_own_part content part k constructs reads d s t a h = put_own part d s t a (none_of_holder content part k constructs reads) h
 
--- the same of a holder whose cell itself has such a part
+-- a value with a part that no holder has is no holder
 part_alone : {A : Type 0} (part : Tree → Option A) (t : Tree) (a : A) → ((c : ℕ) (g : ℤ) (m : AccessMode) → part (node (holder c) g m) ≡ None) → part t ≡ Some a → None ≡ cell_of t
 part_alone part (node (leaf l) g m) a none h = refl
 part_alone part (node (branch k ts) g m) a none h = refl
 part_alone part (node (fields fs) g m) a none h = refl
 part_alone part (node (holder c) g m) a none h = let e : None ≡ Some a = sym (none c g m) ∙ h in cc
 
+-- the same where the value is lent with its store
+written_own : {A : Type 0} (part : Tree → Option A) (d : Content) (h : InStore) (a : A) → ((c : ℕ) (g : ℤ) (m : AccessMode) → part (node (holder c) g m) ≡ None) → part h.value.now ≡ Some a
+    → record { value = record (h.value) { now = with_content d h.value.now }; store = h.store } ≡ written h (with_content d)
+written_own part d h a none e = rw (end_own h.store.now [] h.value.now (sym (part_alone part h.value.now a none e))) refl
+
+pub own_part_written : {A : Type 0} (content : A → Content) (part : Tree → Option A) (k : TypeId) → is_content_type k ≡ true → ((t : Tree) → option_map content (part t) ≡ typed_content k t)
+    → (d : Content) (h : InStore) (a : A) → part h.value.now ≡ Some a → record { value = record (h.value) { now = with_content d h.value.now }; store = h.store } ≡ written h (with_content d)
+own_part_written content part k constructs reads d h a e = written_own part d h a (none_of_holder content part k constructs reads) e
+
+-- the same of a holder whose cell itself has such a part
 pub put_near_part : {A : Type 0} (content : A → Content) (part : Tree → Option A) (k : TypeId) → is_content_type k ≡ true → ((t : Tree) → option_map content (part t) ≡ typed_content k t)
     → (d : Content) (s : List Cell) (t w : Tree) (c : ℕ) (a : A) → Some c ≡ cell_of t → Some w ≡ at s c → part w ≡ Some a
     → (held_part part (end s [] t) ≡ Some a) × (t ≡ value_after (with_part part d) (end s [] t) t) × (put s c (with_content d w) ≡ store_after (with_part part d) (end s [] t) s)

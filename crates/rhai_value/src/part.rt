@@ -1,6 +1,6 @@
 //! Parts of values: the Rust types of which a value may have one, each the content of one constructor.
-ghost use Rattle.std.specs.Prelude.{◌≡◌, [], true, Option, Some, None, option_map, IfOk, IfErr, IsOk, OnOk};
-ghost use Rattle.std.specs.Borrow.{sem, LendsIf, LendsIfOk};
+ghost use Rattle.std.specs.Prelude.{◌≡◌, [], true, Option, Some, None, option_map, IfOk, IfErr, IsOk, IsSome, OnOk};
+ghost use Rattle.std.specs.Borrow.{sem, Lends, LendsIf, LendsIfOk};
 ghost use Rattle.rhai_value.specs.contracts.dynamic.Dynamic as dynamic_type;
 ghost use Rattle.rhai_value.specs.declared.type_id.TypeId.{TypeId};
 ghost use Rattle.rhai_value.specs.End.{end, held_part, site_of, value_after, store_after, end_name};
@@ -96,10 +96,28 @@ impl Dynamic {
 
     /// What is held, if it is of this kind, to write, or the name of the held type. Takes no memory. What value and store are once
     /// it was written is said by `InStore::part_mut`.
+    #[inline(always)]
     pub fn as_part_mut<'s, T: Part>(
         &'s mut self,
         m: &'s mut Store,
     ) -> Result<&'s mut T, &'static str>
+        ensures ok { IfOk result (λ v. held_part T.part_of (end m.old [] self.old) ≡ Some (T.meaning v.now)) }
+        ensures err { IfErr result (λ name. (held_part T.part_of (end m.old [] self.old) ≡ None)
+            × (name.now ≡ end_name (end m.old [] self.old))) }
+    {
+        match T::own(self) {
+            Some(_) => match T::own_mut(self) {
+                Some(part) => Ok(part),
+                None => unreachable!(),
+            },
+            None => self.far_part_mut::<T>(m),
+        }
+    }
+
+    /// The same where a chain of holders is followed, in a function of its own, so that writes to what the value itself has stay
+    /// short.
+    #[inline(never)]
+    fn far_part_mut<'s, T: Part>(&'s mut self, m: &'s mut Store) -> Result<&'s mut T, &'static str>
         ensures ok { IfOk result (λ v. held_part T.part_of (end m.old [] self.old) ≡ Some (T.meaning v.now)) }
         ensures err { IfErr result (λ name. (held_part T.part_of (end m.old [] self.old) ≡ None)
             × (name.now ≡ end_name (end m.old [] self.old))) }
@@ -194,8 +212,38 @@ impl Dynamic {
 
 /// What is held in a store, if it is of one kind, to write.
 impl<'a> InStore<'a> {
-    /// What is held, if it is of this kind, to write, or the name of the held type. Takes no memory.
+    /// What is held, if it is of this kind, to write, or the name of the held type. Takes no memory; what the value itself has is
+    /// found without a look at its holders.
+    #[inline(always)]
     pub fn part_mut<T: Part>(&mut self) -> Result<&mut T, &'static str>
+        ensures* writes_back { sem 𝓛 (LendsIfOk in_store_row T.row self.entry result (λ w. written self.old (with_content (T.content (T.meaning w)))) self.old) }
+        ensures ok { IfOk result (λ v. held_part T.part_of (end self.old.store.now [] self.old.value.now) ≡ Some (T.meaning v.now)) }
+        ensures err { IfErr result (λ name. (held_part T.part_of (end self.old.store.now [] self.old.value.now) ≡ None)
+            × (name.now ≡ end_name (end self.old.store.now [] self.old.value.now))) }
+    {
+        match T::own(self.value) {
+            Some(_) => Ok(self.own_part_mut::<T>()),
+            None => self.far_part_mut::<T>(),
+        }
+    }
+
+    /// The same of what the value itself has.
+    #[inline(always)]
+    fn own_part_mut<T: Part>(&mut self) -> &mut T
+        requires { IsSome (T.part_of self.old.value.now) }
+        ensures* writes_back { sem 𝓛 (Lends in_store_row T.row self.entry result (λ w. written self.old (with_content (T.content (T.meaning w))))) }
+        ensures value { held_part T.part_of (end self.old.store.now [] self.old.value.now) ≡ Some (T.meaning result.now) }
+    {
+        match T::own_mut(self.value) {
+            Some(part) => part,
+            None => unreachable!(),
+        }
+    }
+
+    /// The same where a chain of holders is followed, in a function of its own, so that writes to what the value itself has stay
+    /// short.
+    #[inline(never)]
+    fn far_part_mut<T: Part>(&mut self) -> Result<&mut T, &'static str>
         ensures* writes_back { sem 𝓛 (LendsIfOk in_store_row T.row self.entry result (λ w. written self.old (with_content (T.content (T.meaning w)))) self.old) }
         ensures ok { IfOk result (λ v. held_part T.part_of (end self.old.store.now [] self.old.value.now) ≡ Some (T.meaning v.now)) }
         ensures err { IfErr result (λ name. (held_part T.part_of (end self.old.store.now [] self.old.value.now) ≡ None)

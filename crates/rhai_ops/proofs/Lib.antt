@@ -3,7 +3,6 @@ pub mod Agree
 pub mod FromBelow
 pub mod Items
 pub mod Characters
-pub mod Alone
 pub mod Roles
 pub mod Lengths
 pub mod Lines

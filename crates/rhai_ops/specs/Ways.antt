@@ -1,13 +1,14 @@
 -- What a call does with what its row comes to: an operator answers it; an assignment writes it where the chain of the first operand
 -- ends, and answers unit.
-use Rattle.std.specs.Prelude.{Bool, true, false, List, []}
+use Rattle.std.specs.Prelude.{◌≡◌, Bool, true, false, List, [], Result, IfOk, IfErr}
+use Rattle.rhai_text.specs.declared.error.EvalAltResult.{EvalAltResult}
 use Rattle.rhai_value.specs.declared.store.Cell.{Cell}
 use Rattle.rhai_value.specs.Tree.{Tree, node, leaf, char, text, content_of, fresh, unit}
 use Rattle.rhai_value.specs.Parts.{with_content}
 use Rattle.rhai_value.specs.End.{end, value_after, store_after}
 use Rattle.rhai_ops.specs.declared.builtin.FnBuiltin.{FnBuiltin}
 use Rattle.rhai_ops.specs.declared.builtin.FnBuiltin.TheVariants as row
-use Rattle.rhai_ops.specs.Outcome.{Outcome, fault, too_large, answers, unsuited}
+use Rattle.rhai_ops.specs.Outcome.{Outcome, IsOutcome, fault, too_large, answers, unsuited}
 
 -- the second operand of an assignment stays, or unit is left of it
 pub data Second : Type 0 where
@@ -71,6 +72,14 @@ second_left (assignment taken) o y = on_value (λ t. fresh unit) y o
 abbrev pub store_left : Way → Outcome → List Cell → Tree → List Cell
 store_left operator o s x = s
 store_left (assignment q) o s x = on_value (λ t. store_after (rewritten t) (end s [] x) s) s o
+
+-- What a row comes to was written in the place of x, in the store s, and nothing changed where it was refused: the first operand is
+-- now y, and the store is z.
+pub record IsAssigned (MayWant : Type 0) (r : Result Tree EvalAltResult) (o : Outcome) (x y : Tree) (s z : List Cell) : Type 0 where
+  pub answer : IsOutcome MayWant r (answered (assignment stays) o)
+  pub first : IfOk r (λ d. y ≡ first_left (assignment stays) o s x)
+  pub store : IfOk r (λ d. z ≡ store_left (assignment stays) o s x)
+  pub err : IfErr r (λ e. (y ≡ x) × (z ≡ s))
 
 -- a character and an empty text
 abbrev pub takes_nothing : Tree → Tree → Bool

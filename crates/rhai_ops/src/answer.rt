@@ -10,9 +10,9 @@ pub(crate) fn part<'s, T: Part>(value: &'s Dynamic, s: &'s Store) -> &'s T
     requires { Holds T.part_of s.now value.now }
     ensures { part_in T.part_of s.now value.now ≡ Some (T.meaning result.now) }
 {
-    match value.as_part::<T>(s) {
-        Ok(content) => content,
-        Err(_) => unreachable!(),
+    match value.held_part::<T>(s) {
+        Some(content) => content,
+        None => unreachable!(),
     }
 }
 

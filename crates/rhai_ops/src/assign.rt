@@ -1,15 +1,15 @@
 //! Assignments that write what their operators answer.
-ghost use Rattle.std.specs.Prelude.{◌≡◌, ◌++◌, ◌∷◌, [], Ok, IsTrue, IfOk, IfErr};
+ghost use Rattle.std.specs.Prelude.{◌≡◌, ◌++◌, ◌∷◌, [], Ok, IsTrue};
 ghost use Rattle.rhai_text.specs.Text.{minus, minus_char};
 ghost use Rattle.rhai_value.specs.End.{end, value_after, store_after};
 ghost use Rattle.rhai_value.specs.Parts.{bool_of, char_of, text_of};
 ghost use Rattle.rhai_value.specs.Tree.{fresh, text, unit};
 ghost use Rattle.rhai_ops.specs.Numbers.{both_bits};
-ghost use Rattle.rhai_ops.specs.Outcome.{IsOutcome, answers, bool_answer, both, limited_text};
+ghost use Rattle.rhai_ops.specs.Outcome.{answers, bool_answer, both, limited_text};
 ghost use Rattle.rhai_ops.specs.Results.{Holds, joined_texts, joined_to_char, part as part_in};
 ghost use Rattle.rhai_ops.specs.Tokens as asked;
 ghost use Rattle.rhai_ops.specs.Tokens.{is_bits};
-ghost use Rattle.rhai_ops.specs.Ways.{answered, assignment, first_left, rewritten, stays, store_left};
+ghost use Rattle.rhai_ops.specs.Ways.{IsAssigned, rewritten};
 
 use crate::answer::{part, value};
 use crate::write::write;
@@ -30,10 +30,7 @@ pub(crate) fn bits(
     requires bits { IsTrue (is_bits (asked.done_by (asked.role op))) }
     requires first { Holds bool_of m.old x.old }
     requires second { Holds bool_of m.old y.now }
-    ensures result { IsOutcome ⊥ result (answered (assignment stays) (both (λ a b. bool_answer (both_bits (asked.done_by (asked.role op)) a b)) (part_in bool_of m.old x.old) (part_in bool_of m.old y.now))) }
-    ensures first { IfOk result (λ d. x.new ≡ first_left (assignment stays) (both (λ a b. bool_answer (both_bits (asked.done_by (asked.role op)) a b)) (part_in bool_of m.old x.old) (part_in bool_of m.old y.now)) m.old x.old) }
-    ensures store { IfOk result (λ d. m.new ≡ store_left (assignment stays) (both (λ a b. bool_answer (both_bits (asked.done_by (asked.role op)) a b)) (part_in bool_of m.old x.old) (part_in bool_of m.old y.now)) m.old x.old) }
-    ensures err { IfErr result (λ e. (x.new ≡ x.old) × (m.new ≡ m.old)) }
+    ensures { IsAssigned ⊥ result (both (λ a b. bool_answer (both_bits (asked.done_by (asked.role op)) a b)) (part_in bool_of m.old x.old) (part_in bool_of m.old y.now)) x.old x.new m.old m.new }
 {
     put(bools::assigned(op, value(x, m), value(y, m))?, m, x)
 }
@@ -49,10 +46,7 @@ pub(crate) fn two_chars(
 ) -> Result<Dynamic, EvalAltResult>
     requires first { Holds char_of m.old x.old }
     requires second { Holds char_of m.old y.now }
-    ensures result { IsOutcome (Unit {0}) result (answered (assignment stays) (both (λ c d. answers (fresh (text (c ∷ d ∷ [])))) (part_in char_of m.old x.old) (part_in char_of m.old y.now))) }
-    ensures first { IfOk result (λ d. x.new ≡ first_left (assignment stays) (both (λ c d. answers (fresh (text (c ∷ d ∷ [])))) (part_in char_of m.old x.old) (part_in char_of m.old y.now)) m.old x.old) }
-    ensures store { IfOk result (λ d. m.new ≡ store_left (assignment stays) (both (λ c d. answers (fresh (text (c ∷ d ∷ [])))) (part_in char_of m.old x.old) (part_in char_of m.old y.now)) m.old x.old) }
-    ensures err { IfErr result (λ e. (x.new ≡ x.old) × (m.new ≡ m.old)) }
+    ensures { IsAssigned (Unit {0}) result (both (λ c d. answers (fresh (text (c ∷ d ∷ [])))) (part_in char_of m.old x.old) (part_in char_of m.old y.now)) x.old x.new m.old m.new }
 {
     put(chars::append(alloc, value(x, m), value(y, m))?, m, x)
 }
@@ -69,10 +63,7 @@ pub(crate) fn text_and_text(
 ) -> Result<Dynamic, EvalAltResult>
     requires first { Holds text_of m.old x.old }
     requires second { Holds text_of m.old y.now }
-    ensures result { IsOutcome (Unit {0}) result (answered (assignment stays) (both (joined_texts limits.now) (part_in text_of m.old x.old) (part_in text_of m.old y.now))) }
-    ensures first { IfOk result (λ d. x.new ≡ first_left (assignment stays) (both (joined_texts limits.now) (part_in text_of m.old x.old) (part_in text_of m.old y.now)) m.old x.old) }
-    ensures store { IfOk result (λ d. m.new ≡ store_left (assignment stays) (both (joined_texts limits.now) (part_in text_of m.old x.old) (part_in text_of m.old y.now)) m.old x.old) }
-    ensures err { IfErr result (λ e. (x.new ≡ x.old) × (m.new ≡ m.old)) }
+    ensures { IsAssigned (Unit {0}) result (both (joined_texts limits.now) (part_in text_of m.old x.old) (part_in text_of m.old y.now)) x.old x.new m.old m.new }
 {
     put(texts::append(alloc, limits, m, x, y)?, m, x)
 }
@@ -88,10 +79,7 @@ pub(crate) fn text_minus_text(
 ) -> Result<Dynamic, EvalAltResult>
     requires first { Holds text_of m.old x.old }
     requires second { Holds text_of m.old y.now }
-    ensures result { IsOutcome (Unit {0}) result (answered (assignment stays) (both (λ v w. answers (fresh (text (minus v w)))) (part_in text_of m.old x.old) (part_in text_of m.old y.now))) }
-    ensures first { IfOk result (λ d. x.new ≡ first_left (assignment stays) (both (λ v w. answers (fresh (text (minus v w)))) (part_in text_of m.old x.old) (part_in text_of m.old y.now)) m.old x.old) }
-    ensures store { IfOk result (λ d. m.new ≡ store_left (assignment stays) (both (λ v w. answers (fresh (text (minus v w)))) (part_in text_of m.old x.old) (part_in text_of m.old y.now)) m.old x.old) }
-    ensures err { IfErr result (λ e. (x.new ≡ x.old) × (m.new ≡ m.old)) }
+    ensures { IsAssigned (Unit {0}) result (both (λ v w. answers (fresh (text (minus v w)))) (part_in text_of m.old x.old) (part_in text_of m.old y.now)) x.old x.new m.old m.new }
 {
     put(texts::minus(alloc, m, x, y)?, m, x)
 }
@@ -108,10 +96,7 @@ pub(crate) fn text_and_char(
 ) -> Result<Dynamic, EvalAltResult>
     requires first { Holds text_of m.old x.old }
     requires second { Holds char_of m.old y.now }
-    ensures result { IsOutcome (Unit {0}) result (answered (assignment stays) (both (λ v d. limited_text limits.now (v ++ (d ∷ []))) (part_in text_of m.old x.old) (part_in char_of m.old y.now))) }
-    ensures first { IfOk result (λ d. x.new ≡ first_left (assignment stays) (both (λ v d. limited_text limits.now (v ++ (d ∷ []))) (part_in text_of m.old x.old) (part_in char_of m.old y.now)) m.old x.old) }
-    ensures store { IfOk result (λ d. m.new ≡ store_left (assignment stays) (both (λ v d. limited_text limits.now (v ++ (d ∷ []))) (part_in text_of m.old x.old) (part_in char_of m.old y.now)) m.old x.old) }
-    ensures err { IfErr result (λ e. (x.new ≡ x.old) × (m.new ≡ m.old)) }
+    ensures { IsAssigned (Unit {0}) result (both (λ v d. limited_text limits.now (v ++ (d ∷ []))) (part_in text_of m.old x.old) (part_in char_of m.old y.now)) x.old x.new m.old m.new }
 {
     put(texts::join_char(alloc, limits, m, x, y)?, m, x)
 }
@@ -127,10 +112,7 @@ pub(crate) fn text_minus_char(
 ) -> Result<Dynamic, EvalAltResult>
     requires first { Holds text_of m.old x.old }
     requires second { Holds char_of m.old y.now }
-    ensures result { IsOutcome (Unit {0}) result (answered (assignment stays) (both (λ v d. answers (fresh (text (minus_char v d)))) (part_in text_of m.old x.old) (part_in char_of m.old y.now))) }
-    ensures first { IfOk result (λ d. x.new ≡ first_left (assignment stays) (both (λ v d. answers (fresh (text (minus_char v d)))) (part_in text_of m.old x.old) (part_in char_of m.old y.now)) m.old x.old) }
-    ensures store { IfOk result (λ d. m.new ≡ store_left (assignment stays) (both (λ v d. answers (fresh (text (minus_char v d)))) (part_in text_of m.old x.old) (part_in char_of m.old y.now)) m.old x.old) }
-    ensures err { IfErr result (λ e. (x.new ≡ x.old) × (m.new ≡ m.old)) }
+    ensures { IsAssigned (Unit {0}) result (both (λ v d. answers (fresh (text (minus_char v d)))) (part_in text_of m.old x.old) (part_in char_of m.old y.now)) x.old x.new m.old m.new }
 {
     put(texts::minus_char(alloc, m, x, y)?, m, x)
 }
@@ -147,10 +129,7 @@ pub(crate) fn char_and_text(
 ) -> Result<Dynamic, EvalAltResult>
     requires first { Holds char_of m.old x.old }
     requires second { Holds text_of m.old y.now }
-    ensures result { IsOutcome (Unit {0}) result (answered (assignment stays) (both (joined_to_char limits.now) (part_in char_of m.old x.old) (part_in text_of m.old y.now))) }
-    ensures first { IfOk result (λ d. x.new ≡ first_left (assignment stays) (both (joined_to_char limits.now) (part_in char_of m.old x.old) (part_in text_of m.old y.now)) m.old x.old) }
-    ensures store { IfOk result (λ d. m.new ≡ store_left (assignment stays) (both (joined_to_char limits.now) (part_in char_of m.old x.old) (part_in text_of m.old y.now)) m.old x.old) }
-    ensures err { IfErr result (λ e. (x.new ≡ x.old) × (m.new ≡ m.old)) }
+    ensures { IsAssigned (Unit {0}) result (both (joined_to_char limits.now) (part_in char_of m.old x.old) (part_in text_of m.old y.now)) x.old x.new m.old m.new }
 {
     put(
         chars::append_text(alloc, limits, value(x, m), part(y, m))?,

@@ -1,5 +1,5 @@
 //! Integers under operators.
-ghost use Rattle.std.specs.Prelude.{◌≡◌, [], IsTrue, Some, IfOk, IfErr, OnOk, OnErr};
+ghost use Rattle.std.specs.Prelude.{◌≡◌, IsTrue, Some, OnOk, OnErr};
 ghost use Rattle.std.specs.Option.{ok_or};
 ghost use Rattle.std.specs.Ordering.{int_cmp};
 ghost use Rattle.rhai_text.specs.declared.error.ArithmeticFault.TheVariants.{Overflow};
@@ -8,7 +8,7 @@ ghost use Rattle.rhai_value.specs.Parts.{int_of};
 ghost use Rattle.rhai_value.specs.Tree.{fresh, int};
 ghost use Rattle.rhai_ops.specs.Outcome.{IsOutcome, answers, bool_answer, both, number_answer};
 ghost use Rattle.rhai_ops.specs.Results.{Holds, part};
-ghost use Rattle.rhai_ops.specs.Ways.{answered, assignment, first_left, stays, store_left};
+ghost use Rattle.rhai_ops.specs.Ways.{IsAssigned, answered, assignment, stays};
 ghost use Rattle.rhai_ops.specs.Tokens as asked;
 ghost use Rattle.rhai_ops.specs.Tokens.{is_cmp, is_number};
 
@@ -16,7 +16,7 @@ use crate::answer::value;
 use crate::compare::compared;
 use crate::role::{Arithmetic, Bits, Role, Scale, done_by, role_of};
 use rhai_text::{ArithmeticFault, EvalAltResult, Position, Token};
-use rhai_value::{Dynamic, INT, InStore, Part, Store};
+use rhai_value::{Dynamic, INT, InStore, Store};
 
 /// One of the first eleven operators on two ints.
 #[inline(never)]
@@ -31,8 +31,7 @@ pub(crate) fn answer(
     requires second { Holds int_of s.now y.now }
     ensures { IsOutcome ⊥ result (both (λ i j. number_answer (specs.number (asked.role op) i j)) (part int_of s.now x.now) (part int_of s.now y.now)) }
 {
-    let (a, b) = both_held(s, x, y);
-    match number(role_of(op), a, b) {
+    match number(role_of(op), value(x, s), value(y, s)) {
         Ok(n) => Ok(Dynamic::from_int(n)),
         Err(fault) => Err(EvalAltResult::ErrorArithmetic(fault, Position::NONE)),
     }
@@ -51,36 +50,8 @@ pub(crate) fn compare(
     requires second { Holds int_of s.now y.now }
     ensures { IsOutcome ⊥ result (both (λ i j. bool_answer (specs.compared (asked.role op) (int_cmp i j))) (part int_of s.now x.now) (part int_of s.now y.now)) }
 {
-    let (a, b) = both_held(s, x, y);
-    Ok(Dynamic::from_bool(compared(role_of(op), a.cmp(&b))))
-}
-
-/// Two held ints. Where both values have their own, that is seen before any holder is asked.
-#[inline(always)]
-#[tactic(auto, using(crate::proofs::Alone::own_int))]
-fn both_held(s: &Store, x: &Dynamic, y: &Dynamic) -> (INT, INT)
-    requires first { Holds int_of s.now x.now }
-    requires second { Holds int_of s.now y.now }
-    ensures first { part int_of s.now x.now ≡ Some result.0 }
-    ensures second { part int_of s.now y.now ≡ Some result.1 }
-{
-    if let Some(a) = INT::own(x) {
-        if let Some(b) = INT::own(y) {
-            return (*a, *b);
-        }
-    }
-    both_behind(s, x, y)
-}
-
-/// The same of any values, in a function of its own, so that what is asked of a value itself stays short.
-#[inline(never)]
-fn both_behind(s: &Store, x: &Dynamic, y: &Dynamic) -> (INT, INT)
-    requires first { Holds int_of s.now x.now }
-    requires second { Holds int_of s.now y.now }
-    ensures first { part int_of s.now x.now ≡ Some result.0 }
-    ensures second { part int_of s.now y.now ≡ Some result.1 }
-{
-    (value(x, s), value(y, s))
+    let order = value::<INT>(x, s).cmp(&value(y, s));
+    Ok(Dynamic::from_bool(compared(role_of(op), order)))
 }
 
 /// An assignment of one of these operators to the int at a place. The place and the second operand are each looked up once.
@@ -94,61 +65,17 @@ pub(crate) fn assign(
     requires number { IsTrue (is_number (asked.done_by (asked.role op))) }
     requires first { Holds int_of m.old x.old }
     requires second { Holds int_of m.old y.now }
-    ensures result { IsOutcome ⊥ result (answered (assignment stays) (both (λ i j. number_answer (specs.number (asked.done_by (asked.role op)) i j)) (part int_of m.old x.old) (part int_of m.old y.now))) }
-    ensures first { IfOk result (λ d. x.new ≡ first_left (assignment stays) (both (λ i j. number_answer (specs.number (asked.done_by (asked.role op)) i j)) (part int_of m.old x.old) (part int_of m.old y.now)) m.old x.old) }
-    ensures store { IfOk result (λ d. m.new ≡ store_left (assignment stays) (both (λ i j. number_answer (specs.number (asked.done_by (asked.role op)) i j)) (part int_of m.old x.old) (part int_of m.old y.now)) m.old x.old) }
-    ensures err { IfErr result (λ e. (x.new ≡ x.old) × (m.new ≡ m.old)) }
+    ensures { IsAssigned ⊥ result (both (λ i j. number_answer (specs.number (asked.done_by (asked.role op)) i j)) (part int_of m.old x.old) (part int_of m.old y.now)) x.old x.new m.old m.new }
 {
     let number = value(y, m);
-    assign_number(done_by(role_of(op)), m, x, number)
-}
-
-/// The same by a number. Where the place has its own int, that is seen before any holder is asked.
-#[inline(always)]
-#[tactic(auto, using(crate::proofs::FromBelow::same_int))]
-fn assign_number(
-    role: Role,
-    m: &mut Store,
-    x: &mut Dynamic,
-    y: INT,
-) -> Result<Dynamic, EvalAltResult>
-    requires number { IsTrue (is_number role) }
-    requires holds { Holds int_of m.old x.old }
-    ensures result { IsOutcome ⊥ result (answered (assignment stays) (both (λ i j. number_answer (specs.number role i j)) (part int_of m.old x.old) (Some y))) }
-    ensures first { IfOk result (λ d. x.new ≡ first_left (assignment stays) (both (λ i j. number_answer (specs.number role i j)) (part int_of m.old x.old) (Some y)) m.old x.old) }
-    ensures store { IfOk result (λ d. m.new ≡ store_left (assignment stays) (both (λ i j. number_answer (specs.number role i j)) (part int_of m.old x.old) (Some y)) m.old x.old) }
-    ensures err { IfErr result (λ e. (x.new ≡ x.old) × (m.new ≡ m.old)) }
-{
-    if let Some(held) = INT::own_mut(x) {
-        return assign_held(role, held, y);
-    }
-    assign_behind(role, m, x, y)
-}
-
-/// The same of the int where a chain of holders ends.
-#[inline(never)]
-#[tactic(auto, using(crate::proofs::FromBelow::int_stays))]
-fn assign_behind(
-    role: Role,
-    m: &mut Store,
-    x: &mut Dynamic,
-    y: INT,
-) -> Result<Dynamic, EvalAltResult>
-    requires number { IsTrue (is_number role) }
-    requires holds { Holds int_of m.old x.old }
-    ensures result { IsOutcome ⊥ result (answered (assignment stays) (both (λ i j. number_answer (specs.number role i j)) (part int_of m.old x.old) (Some y))) }
-    ensures first { IfOk result (λ d. x.new ≡ first_left (assignment stays) (both (λ i j. number_answer (specs.number role i j)) (part int_of m.old x.old) (Some y)) m.old x.old) }
-    ensures store { IfOk result (λ d. m.new ≡ store_left (assignment stays) (both (λ i j. number_answer (specs.number role i j)) (part int_of m.old x.old) (Some y)) m.old x.old) }
-    ensures err { IfErr result (λ e. (x.new ≡ x.old) × (m.new ≡ m.old)) }
-{
     let mut place = InStore { value: x, store: m };
     match place.part_mut::<INT>() {
-        Ok(held) => assign_held(role, held, y),
+        Ok(held) => assign_held(done_by(role_of(op)), held, number),
         Err(_) => unreachable!(),
     }
 }
 
-/// The same of an int that is held.
+/// The same of an int that is held and a number.
 #[inline(always)]
 fn assign_held(role: Role, held: &mut INT, y: INT) -> Result<Dynamic, EvalAltResult>
     requires { IsTrue (is_number role) }

@@ -6,12 +6,13 @@ ghost use Rattle.rhai_ops.specs.Table as table;
 ghost use Rattle.rhai_ops.specs.Tokens as asked;
 
 use crate::builtin::FnBuiltin;
-use crate::own::{Own, own_of};
+use crate::own::{Own, is_int, own_of};
 use crate::role::{Arithmetic, Role, is_cmp, is_equal, is_minus, is_plus, is_unequal, role_of};
 use rhai_text::Token;
 use rhai_value::{Dynamic, Store, TypeId};
 
-/// The row of a binary operator on these operands. Takes no memory.
+/// The row of a binary operator on these operands. Takes no memory; that of two ints is found first.
+#[inline(always)]
 pub fn get_builtin_binary_op_fn(
     op: &Token,
     x: &Dynamic,
@@ -20,7 +21,20 @@ pub fn get_builtin_binary_op_fn(
 ) -> Option<FnBuiltin>
     ensures { result ≡ row_of op.now s.now x.now y.now }
 {
-    own_row(*op, role_of(*op), own_of(x), own_of(y), x, y, s)
+    if is_int(x) {
+        if is_int(y) {
+            return int_row(*op, role_of(*op));
+        }
+    }
+    other_row(*op, x, y, s)
+}
+
+/// The row on any operands, in a function of its own, so that the lookup on two ints stays short.
+#[inline(never)]
+fn other_row(op: Token, x: &Dynamic, y: &Dynamic, s: &Store) -> Option<FnBuiltin>
+    ensures { result ≡ row_of op s.now x.now y.now }
+{
+    own_row(op, role_of(op), own_of(x), own_of(y), x, y, s)
 }
 
 fn int_row(t: Token, role: Role) -> Option<FnBuiltin>

@@ -1,5 +1,5 @@
 // The constructor of a value, as far as the table tells constructors apart.
-ghost use Rattle.std.specs.Prelude.{◌≡◌};
+ghost use Rattle.std.specs.Prelude.{◌≡◌, IsTrue};
 ghost use Rattle.rhai_ops.specs.Table.{own};
 
 use rhai_value::{Dynamic, Union};
@@ -33,4 +33,10 @@ pub(crate) fn own_of(value: &Dynamic) -> Own
         Union::Variant(_, _, _) => Own::Other,
         Union::Shared(_, _, _) => Own::Other,
     }
+}
+
+pub(crate) fn is_int(value: &Dynamic) -> bool
+    ensures { IsTrue result → own value.now ≡ Own.Int }
+{
+    matches!(value.parts(), Union::Int(_, _, _))
 }

@@ -9,7 +9,7 @@ ghost use Rattle.rhai_value.specs.Tree.{array, blob, branch, copy_trees, fresh, 
 ghost use Rattle.rhai_ops.specs.Outcome.{IsOutcome, answers, both, too_large};
 ghost use Rattle.rhai_value.specs.Bytes.{low_byte};
 ghost use Rattle.rhai_ops.specs.Results.{Holds, appended, blob_and_text, joined_items, part as part_in, pushed};
-ghost use Rattle.rhai_ops.specs.Ways.{answered, assignment, first_left, stays, store_left};
+ghost use Rattle.rhai_ops.specs.Ways.{IsAssigned, answered, assignment, stays};
 
 use crate::answer::{is_allowed, part, value};
 use rhai_text::{EvalAltResult, ImmutableString, Limits, Position, SizeKind};
@@ -30,7 +30,6 @@ fn extend(limits: &Limits, bytes: &mut Blob, more: &[u8]) -> Result<Dynamic, Eva
 }
 
 /// Bytes behind the blob at the place.
-#[tactic(auto, using(crate::proofs::FromBelow::blob_stays))]
 pub(crate) fn push_bytes(
     limits: &Limits,
     m: &mut Store,
@@ -38,13 +37,10 @@ pub(crate) fn push_bytes(
     more: &[u8],
 ) -> Result<Dynamic, EvalAltResult>
     requires { Holds blob_of m.old x.old }
-    ensures result { IsOutcome (Unit {0}) result (answered (assignment stays) (both (appended limits.now) (part_in blob_of m.old x.old) (Some more.now))) }
-    ensures first { IfOk result (λ d. x.new ≡ first_left (assignment stays) (both (appended limits.now) (part_in blob_of m.old x.old) (Some more.now)) m.old x.old) }
-    ensures store { IfOk result (λ d. m.new ≡ store_left (assignment stays) (both (appended limits.now) (part_in blob_of m.old x.old) (Some more.now)) m.old x.old) }
-    ensures err { IfErr result (λ e. (x.new ≡ x.old) × (m.new ≡ m.old)) }
+    ensures { IsAssigned (Unit {0}) result (both (appended limits.now) (part_in blob_of m.old x.old) (Some more.now)) x.old x.new m.old m.new }
 {
     let mut place = InStore { value: x, store: m };
-    match place.blob_mut() {
+    match place.part_mut::<Blob>() {
         Ok(bytes) => extend(limits, bytes, more),
         Err(_) => unreachable!(),
     }
@@ -68,7 +64,6 @@ fn push(limits: &Limits, items: &mut Array, y: &mut Dynamic) -> Result<Dynamic, 
 
 /// An item behind the array at the place, and unit where the item was.
 #[inline(never)]
-#[tactic(auto, using(crate::proofs::Alone::array_end, crate::proofs::FromBelow::same_array))]
 pub(crate) fn push_item(
     limits: &Limits,
     m: &mut Store,
@@ -76,36 +71,12 @@ pub(crate) fn push_item(
     y: &mut Dynamic,
 ) -> Result<Dynamic, EvalAltResult>
     requires { Holds array_of m.old x.old }
-    ensures result { IsOutcome (Unit {0}) result (answered (assignment stays) (both (pushed limits.now) (part_in array_of m.old x.old) (Some y.old))) }
-    ensures first { IfOk result (λ d. x.new ≡ first_left (assignment stays) (both (pushed limits.now) (part_in array_of m.old x.old) (Some y.old)) m.old x.old) }
+    ensures assigned { IsAssigned (Unit {0}) result (both (pushed limits.now) (part_in array_of m.old x.old) (Some y.old)) x.old x.new m.old m.new }
     ensures second { IfOk result (λ d. y.new ≡ fresh unit) }
-    ensures store { IfOk result (λ d. m.new ≡ store_left (assignment stays) (both (pushed limits.now) (part_in array_of m.old x.old) (Some y.old)) m.old x.old) }
-    ensures err { IfErr result (λ e. (x.new ≡ x.old) × (y.new ≡ y.old) × (m.new ≡ m.old)) }
-{
-    if let Some(items) = Array::own_mut(x) {
-        return push(limits, items, y);
-    }
-    push_item_behind(limits, m, x, y)
-}
-
-/// The same where the array stands at the end of a chain of holders.
-#[inline(never)]
-#[tactic(auto, using(crate::proofs::FromBelow::array_stays))]
-fn push_item_behind(
-    limits: &Limits,
-    m: &mut Store,
-    x: &mut Dynamic,
-    y: &mut Dynamic,
-) -> Result<Dynamic, EvalAltResult>
-    requires { Holds array_of m.old x.old }
-    ensures result { IsOutcome (Unit {0}) result (answered (assignment stays) (both (pushed limits.now) (part_in array_of m.old x.old) (Some y.old))) }
-    ensures first { IfOk result (λ d. x.new ≡ first_left (assignment stays) (both (pushed limits.now) (part_in array_of m.old x.old) (Some y.old)) m.old x.old) }
-    ensures second { IfOk result (λ d. y.new ≡ fresh unit) }
-    ensures store { IfOk result (λ d. m.new ≡ store_left (assignment stays) (both (pushed limits.now) (part_in array_of m.old x.old) (Some y.old)) m.old x.old) }
-    ensures err { IfErr result (λ e. (x.new ≡ x.old) × (y.new ≡ y.old) × (m.new ≡ m.old)) }
+    ensures kept { IfErr result (λ e. y.new ≡ y.old) }
 {
     let mut place = InStore { value: x, store: m };
-    match place.array_mut() {
+    match place.part_mut::<Array>() {
         Ok(items) => push(limits, items, y),
         Err(_) => unreachable!(),
     }
@@ -140,7 +111,6 @@ fn may_join(limits: &Limits, items: &Array, more: &Array) -> bool
 }
 
 /// The items of an array behind those of the array at the place, where none are left.
-#[tactic(auto, using(crate::proofs::FromBelow::array_stays))]
 fn append_at(
     limits: &Limits,
     m: &mut Store,
@@ -148,13 +118,11 @@ fn append_at(
     more: &mut Array,
 ) -> Result<Dynamic, EvalAltResult>
     requires { Holds array_of m.old x.old }
-    ensures result { IsOutcome (Unit {0}) result (answered (assignment stays) (both (joined_items limits.now) (part_in array_of m.old x.old) (Some (trees_of more.old.items)))) }
-    ensures first { IfOk result (λ d. x.new ≡ first_left (assignment stays) (both (joined_items limits.now) (part_in array_of m.old x.old) (Some (trees_of more.old.items))) m.old x.old) }
-    ensures store { IfOk result (λ d. m.new ≡ store_left (assignment stays) (both (joined_items limits.now) (part_in array_of m.old x.old) (Some (trees_of more.old.items))) m.old x.old) }
-    ensures err { IfErr result (λ e. (x.new ≡ x.old) × (m.new ≡ m.old) × (more.new.items ≡ more.old.items)) }
+    ensures assigned { IsAssigned (Unit {0}) result (both (joined_items limits.now) (part_in array_of m.old x.old) (Some (trees_of more.old.items))) x.old x.new m.old m.new }
+    ensures kept { IfErr result (λ e. more.new.items ≡ more.old.items) }
 {
     let mut place = InStore { value: x, store: m };
-    match place.array_mut() {
+    match place.part_mut::<Array>() {
         Ok(items) => append(limits, items, more),
         Err(_) => unreachable!(),
     }
@@ -183,7 +151,7 @@ fn copies(
 
 /// The items of the second operand behind those of the array at the place, and unit where the second operand was. Its own items are
 /// moved, those that a cell holds are copied.
-#[tactic(auto, using(crate::proofs::FromBelow::same_array))]
+#[tactic(auto, using(crate::proofs::FromBelow::array_over))]
 pub(crate) fn append_items(
     alloc: Global,
     limits: &Limits,
@@ -193,11 +161,9 @@ pub(crate) fn append_items(
 ) -> Result<Dynamic, EvalAltResult>
     requires first { Holds array_of m.old x.old }
     requires second { Holds array_of m.old y.old }
-    ensures result { IsOutcome (Unit {0}) result (answered (assignment stays) (both (joined_items limits.now) (part_in array_of m.old x.old) (array_moved m.old y.old))) }
-    ensures first { IfOk result (λ d. x.new ≡ first_left (assignment stays) (both (joined_items limits.now) (part_in array_of m.old x.old) (array_moved m.old y.old)) m.old x.old) }
+    ensures assigned { IsAssigned (Unit {0}) result (both (joined_items limits.now) (part_in array_of m.old x.old) (array_moved m.old y.old)) x.old x.new m.old m.new }
     ensures second { IfOk result (λ d. y.new ≡ fresh unit) }
-    ensures store { IfOk result (λ d. m.new ≡ store_left (assignment stays) (both (joined_items limits.now) (part_in array_of m.old x.old) (array_moved m.old y.old)) m.old x.old) }
-    ensures err { IfErr result (λ e. (x.new ≡ x.old) × (y.new ≡ y.old) × (m.new ≡ m.old)) }
+    ensures kept { IfErr result (λ e. y.new ≡ y.old) }
 {
     if let Some(own) = Array::own_mut(y) {
         let done = append_at(limits, m, x, own)?;
@@ -228,10 +194,7 @@ fn append_bytes(
 ) -> Result<Dynamic, EvalAltResult>
     requires first { Holds blob_of m.old x.old }
     requires second { Holds blob_of m.old y.now }
-    ensures result { IsOutcome (Unit {0}) result (answered (assignment stays) (both (appended limits.now) (part_in blob_of m.old x.old) (part_in blob_of m.old y.now))) }
-    ensures first { IfOk result (λ d. x.new ≡ first_left (assignment stays) (both (appended limits.now) (part_in blob_of m.old x.old) (part_in blob_of m.old y.now)) m.old x.old) }
-    ensures store { IfOk result (λ d. m.new ≡ store_left (assignment stays) (both (appended limits.now) (part_in blob_of m.old x.old) (part_in blob_of m.old y.now)) m.old x.old) }
-    ensures err { IfErr result (λ e. (x.new ≡ x.old) × (m.new ≡ m.old)) }
+    ensures { IsAssigned (Unit {0}) result (both (appended limits.now) (part_in blob_of m.old x.old) (part_in blob_of m.old y.now)) x.old x.new m.old m.new }
 {
     if let Some(own) = Blob::own(y) {
         return push_bytes(limits, m, x, own);
@@ -254,11 +217,9 @@ pub(crate) fn append_blob(
 ) -> Result<Dynamic, EvalAltResult>
     requires first { Holds blob_of m.old x.old }
     requires second { Holds blob_of m.old y.old }
-    ensures result { IsOutcome (Unit {0}) result (answered (assignment stays) (both (appended limits.now) (part_in blob_of m.old x.old) (part_in blob_of m.old y.old))) }
-    ensures first { IfOk result (λ d. x.new ≡ first_left (assignment stays) (both (appended limits.now) (part_in blob_of m.old x.old) (part_in blob_of m.old y.old)) m.old x.old) }
+    ensures assigned { IsAssigned (Unit {0}) result (both (appended limits.now) (part_in blob_of m.old x.old) (part_in blob_of m.old y.old)) x.old x.new m.old m.new }
     ensures second { IfOk result (λ d. y.new ≡ fresh unit) }
-    ensures store { IfOk result (λ d. m.new ≡ store_left (assignment stays) (both (appended limits.now) (part_in blob_of m.old x.old) (part_in blob_of m.old y.old)) m.old x.old) }
-    ensures err { IfErr result (λ e. (x.new ≡ x.old) × (y.new ≡ y.old) × (m.new ≡ m.old)) }
+    ensures kept { IfErr result (λ e. y.new ≡ y.old) }
 {
     let done = append_bytes(alloc, limits, m, x, y)?;
     leave_unit(y);
@@ -275,34 +236,14 @@ pub(crate) fn push_byte(
 ) -> Result<Dynamic, EvalAltResult>
     requires first { Holds blob_of m.old x.old }
     requires second { Holds int_of m.old y.now }
-    ensures result { IsOutcome (Unit {0}) result (answered (assignment stays) (both (appended limits.now) (part_in blob_of m.old x.old) (option_map (λ n. low_byte n ∷ []) (part_in int_of m.old y.now)))) }
-    ensures first { IfOk result (λ d. x.new ≡ first_left (assignment stays) (both (appended limits.now) (part_in blob_of m.old x.old) (option_map (λ n. low_byte n ∷ []) (part_in int_of m.old y.now))) m.old x.old) }
-    ensures store { IfOk result (λ d. m.new ≡ store_left (assignment stays) (both (appended limits.now) (part_in blob_of m.old x.old) (option_map (λ n. low_byte n ∷ []) (part_in int_of m.old y.now))) m.old x.old) }
-    ensures err { IfErr result (λ e. (x.new ≡ x.old) × (m.new ≡ m.old)) }
+    ensures { IsAssigned (Unit {0}) result (both (appended limits.now) (part_in blob_of m.old x.old) (option_map (λ n. low_byte n ∷ []) (part_in int_of m.old y.now))) x.old x.new m.old m.new }
 {
     let number = value::<INT>(y, m);
-    push_one(limits, m, x, number.rem_euclid(256) as u8)
-}
-
-/// A byte behind the blob at the place. Where the place has its own blob, that is seen before any holder is asked.
-#[inline(always)]
-#[tactic(auto, using(crate::proofs::Alone::blob_end, crate::proofs::FromBelow::same_blob))]
-fn push_one(
-    limits: &Limits,
-    m: &mut Store,
-    x: &mut Dynamic,
-    byte: u8,
-) -> Result<Dynamic, EvalAltResult>
-    requires { Holds blob_of m.old x.old }
-    ensures result { IsOutcome (Unit {0}) result (answered (assignment stays) (both (appended limits.now) (part_in blob_of m.old x.old) (Some (byte ∷ [])))) }
-    ensures first { IfOk result (λ d. x.new ≡ first_left (assignment stays) (both (appended limits.now) (part_in blob_of m.old x.old) (Some (byte ∷ []))) m.old x.old) }
-    ensures store { IfOk result (λ d. m.new ≡ store_left (assignment stays) (both (appended limits.now) (part_in blob_of m.old x.old) (Some (byte ∷ []))) m.old x.old) }
-    ensures err { IfErr result (λ e. (x.new ≡ x.old) × (m.new ≡ m.old)) }
-{
-    if let Some(bytes) = Blob::own_mut(x) {
-        return extend_by_one(limits, bytes, byte);
+    let mut place = InStore { value: x, store: m };
+    match place.part_mut::<Blob>() {
+        Ok(bytes) => extend_by_one(limits, bytes, number.rem_euclid(256) as u8),
+        Err(_) => unreachable!(),
     }
-    push_bytes(limits, m, x, &[byte])
 }
 
 /// A byte behind a blob, or the blob as it was.
@@ -327,17 +268,14 @@ pub(crate) fn push_char(
     character: char,
 ) -> Result<Dynamic, EvalAltResult>
     requires { Holds blob_of m.old x.old }
-    ensures result { IsOutcome (Unit {0}) result (answered (assignment stays) (both (appended limits.now) (part_in blob_of m.old x.old) (Some (encode_utf8 character)))) }
-    ensures first { IfOk result (λ d. x.new ≡ first_left (assignment stays) (both (appended limits.now) (part_in blob_of m.old x.old) (Some (encode_utf8 character))) m.old x.old) }
-    ensures store { IfOk result (λ d. m.new ≡ store_left (assignment stays) (both (appended limits.now) (part_in blob_of m.old x.old) (Some (encode_utf8 character))) m.old x.old) }
-    ensures err { IfErr result (λ e. (x.new ≡ x.old) × (m.new ≡ m.old)) }
+    ensures { IsAssigned (Unit {0}) result (both (appended limits.now) (part_in blob_of m.old x.old) (Some (encode_utf8 character))) x.old x.new m.old m.new }
 {
     let mut buffer = [0; 4];
     push_bytes(limits, m, x, character.encode_utf8(&mut buffer).as_bytes())
 }
 
 /// The UTF-8 bytes of a text behind the blob at the place. Of an empty one no limit is tested.
-#[tactic(auto, using(crate::proofs::FromBelow::blob_stays, crate::proofs::Bytes::own_text, crate::proofs::Bytes::refused_text, crate::proofs::Bytes::allowed_text))]
+#[tactic(auto, using(crate::proofs::Bytes::refused_text, crate::proofs::Bytes::allowed_text))]
 pub(crate) fn append_text(
     alloc: Global,
     limits: &Limits,
@@ -347,10 +285,7 @@ pub(crate) fn append_text(
 ) -> Result<Dynamic, EvalAltResult>
     requires first { Holds blob_of m.old x.old }
     requires second { Holds text_of m.old y.now }
-    ensures result { IsOutcome (Unit {0}) result (answered (assignment stays) (both (blob_and_text limits.now) (part_in blob_of m.old x.old) (part_in text_of m.old y.now))) }
-    ensures first { IfOk result (λ d. x.new ≡ first_left (assignment stays) (both (blob_and_text limits.now) (part_in blob_of m.old x.old) (part_in text_of m.old y.now)) m.old x.old) }
-    ensures store { IfOk result (λ d. m.new ≡ store_left (assignment stays) (both (blob_and_text limits.now) (part_in blob_of m.old x.old) (part_in text_of m.old y.now)) m.old x.old) }
-    ensures err { IfErr result (λ e. (x.new ≡ x.old) × (m.new ≡ m.old)) }
+    ensures { IsAssigned (Unit {0}) result (both (blob_and_text limits.now) (part_in blob_of m.old x.old) (part_in text_of m.old y.now)) x.old x.new m.old m.new }
 {
     if let Some(own) = ImmutableString::own(y) {
         return push_text(limits, m, x, own);
@@ -367,7 +302,6 @@ pub(crate) fn append_text(
 }
 
 /// The UTF-8 bytes of a text behind the blob at the place. Of an empty one no limit is tested.
-#[tactic(auto, using(crate::proofs::FromBelow::blob_stays))]
 fn push_text(
     limits: &Limits,
     m: &mut Store,
@@ -375,10 +309,7 @@ fn push_text(
     text: &ImmutableString,
 ) -> Result<Dynamic, EvalAltResult>
     requires { Holds blob_of m.old x.old }
-    ensures result { IsOutcome (Unit {0}) result (answered (assignment stays) (both (blob_and_text limits.now) (part_in blob_of m.old x.old) (Some text.now))) }
-    ensures first { IfOk result (λ d. x.new ≡ first_left (assignment stays) (both (blob_and_text limits.now) (part_in blob_of m.old x.old) (Some text.now)) m.old x.old) }
-    ensures store { IfOk result (λ d. m.new ≡ store_left (assignment stays) (both (blob_and_text limits.now) (part_in blob_of m.old x.old) (Some text.now)) m.old x.old) }
-    ensures err { IfErr result (λ e. (x.new ≡ x.old) × (m.new ≡ m.old)) }
+    ensures { IsAssigned (Unit {0}) result (both (blob_and_text limits.now) (part_in blob_of m.old x.old) (Some text.now)) x.old x.new m.old m.new }
 {
     if text.is_empty() {
         return Ok(Dynamic::UNIT);

@@ -7,7 +7,8 @@ use Rattle.std.specs.Str.{IsUtf8, chars}
 use Rattle.rhai_scope.specs.Entry.{Entry}
 use Rattle.rhai_scope.specs.Index.{most_walked, IsIndexOf, names_of}
 use Rattle.rhai_scope.specs.Lookup.{later_or_here, last_position}
-use Rattle.rhai_scope.specs.Places.{listed, unless_empty, last_item, trues_from, are_named, ListsNames}
+use Rattle.rhai_value.specs.Reach.{trues_from}
+use Rattle.rhai_scope.specs.Places.{listed, unless_empty, last_item, are_named, ListsNames}
 use Rattle.rhai_scope.specs.declared.index.Index.{Index}
 use Rattle.rhai_scope.specs.declared.places.Places.{Places}
 use Rattle.rhai_scope.proofs.LastTrue.{last_more}

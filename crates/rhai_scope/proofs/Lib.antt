@@ -4,6 +4,7 @@ pub mod Extended
 pub mod FromBelow
 pub mod Lines
 pub mod MovedOut
+pub mod Renumbered
 pub mod Rewound
 pub mod Found
 pub mod Trues

@@ -5,10 +5,12 @@ use Rattle.std.proofs.lemmas.Slice.Eq.{bytes_eq-Decides}
 use Rattle.std.proofs.Math.Seq.{take-append_seam}
 use Rattle.std.specs.Cmp.Lexicographic.{pointwise, bytes_decides}
 use Rattle.std.specs.Str.{IsUtf8, bytes_eq, chars}
-use Rattle.rhai_scope.specs.Places.{listed, unless_empty, with_place, shortened, front, others, lowered, trues_from, Lists, are_named, with_gap, ListsNames}
+use Rattle.rhai_value.specs.Reach.{trues_from}
+use Rattle.rhai_scope.specs.Places.{listed, unless_empty, with_place, shortened, front, others, lowered, Lists, are_named, with_gap, ListsNames}
 use Rattle.rhai_scope.specs.declared.places.Places.{Places}
 use Rattle.rhai_scope.proofs.Names.{same_bytes}
-use Rattle.rhai_scope.proofs.Trues.{one_more, none_more, gap_made, gap_closed}
+use Rattle.rhai_value.proofs.ForCallers.{false_more, true_more}
+use Rattle.rhai_scope.proofs.Trues.{gap_made, gap_closed}
 
 -- ---- lists, one of which has become what f makes of it
 
@@ -44,8 +46,8 @@ module _ (text : List ℕ) (utf8 : IsUtf8 text) (p r : Places) where
       relisted (with_place place) (are_named ns) (are_named (ns ++ chars text ∷ [])) old
       (added place (trues_from 0 stood)
       ∙ ap (λ n. unless_empty (trues_from 0 stood ++ n ∷ [])) (sym (length-map ns (λ m. pointwise nat_eq m (chars text)) ∙ is))
-      ∙ ap unless_empty (sym (ap (trues_from 0) (named_more ns (chars text) (chars text) true (itself (chars text))) ∙ one_more stood)))
-      (λ q other. sym (ap (trues_from 0) (named_more ns (chars text) q false other) ∙ none_more (are_named ns q)))
+      ∙ ap unless_empty (sym (ap (trues_from 0) (named_more ns (chars text) (chars text) true (itself (chars text))) ∙ true_more stood)))
+      (λ q other. sym (ap (trues_from 0) (named_more ns (chars text) q false other) ∙ false_more (are_named ns q)))
       new
 
   -- the last name goes
@@ -63,9 +65,9 @@ module _ (text : List ℕ) (utf8 : IsUtf8 text) (p r : Places) where
   names_popped ns old new =
       relisted (shortened front) (are_named (ns ++ chars text ∷ [])) (are_named ns) old
       (ap (λ bs. shortened front (unless_empty (trues_from 0 bs))) (named_more ns (chars text) (chars text) true (itself (chars text)))
-      ∙ ap (λ ps. shortened front (unless_empty ps)) (one_more (are_named ns (chars text)))
+      ∙ ap (λ ps. shortened front (unless_empty ps)) (true_more (are_named ns (chars text)))
       ∙ without_last (trues_from 0 (are_named ns (chars text))) (length (are_named ns (chars text))))
-      (λ q other. ap (trues_from 0) (named_more ns (chars text) q false other) ∙ none_more (are_named ns q))
+      (λ q other. ap (trues_from 0) (named_more ns (chars text) q false other) ∙ false_more (are_named ns q))
       new
 
   -- a name goes, and leaves a gap

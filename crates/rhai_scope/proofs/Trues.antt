@@ -1,27 +1,11 @@
--- The places of true.
-use Rattle.std.proofs.Common.{◌≡◌, ℕ, suc, ◌+◌, ◌-◌, ◌<◌, ◌≤◌, Bool, true, false, not, nat_eq, List, [], ◌∷◌, ◌++◌, length, map, refl, sym, ap, ap₂, ◌∙◌, arith}
+-- The places of true around a gap.
+use Rattle.std.proofs.Common.{◌≡◌, ℕ, suc, ◌+◌, ◌<◌, ◌≤◌, Bool, true, false, not, nat_eq, List, [], ◌∷◌, ◌++◌, length, map, refl, sym, ap, ap₂, ◌∙◌, arith}
 use Rattle.std.proofs.lemmas.Bool.Decides.{nat_tests}
-use Rattle.std.proofs.lemmas.List.{append-nil, map-append}
+use Rattle.std.proofs.lemmas.List.{map-append}
 use Rattle.std.proofs.lemmas.List.Elements.{filter-append}
-use Rattle.rhai_scope.specs.Places.{trues_from, others, lowered}
-
-pub trues-append : (i : ℕ) (bs cs : List Bool) → trues_from i (bs ++ cs) ≡ trues_from i bs ++ trues_from (i + length bs) cs
-trues-append i [] cs = let none : i ≡ i + 0 = omega arith in ap (λ k. trues_from k cs) none
-trues-append i (true ∷ bs) cs =
-    let more : suc i + length bs ≡ i + length (true ∷ bs) = omega arith in
-    ap (λ ps. i ∷ ps) (trues-append (suc i) bs cs ∙ ap (λ k. trues_from (suc i) bs ++ trues_from k cs) more)
-trues-append i (false ∷ bs) cs =
-    let more : suc i + length bs ≡ i + length (false ∷ bs) = omega arith in
-    trues-append (suc i) bs cs ∙ ap (λ k. trues_from (suc i) bs ++ trues_from k cs) more
-
-from_zero : (bs cs : List Bool) → trues_from 0 (bs ++ cs) ≡ trues_from 0 bs ++ trues_from (length bs) cs
-from_zero bs cs = let same : 0 + length bs ≡ length bs = omega arith in trues-append 0 bs cs ∙ ap (λ k. trues_from 0 bs ++ trues_from k cs) same
-
-pub one_more : (bs : List Bool) → trues_from 0 (bs ++ true ∷ []) ≡ trues_from 0 bs ++ length bs ∷ []
-one_more bs = from_zero bs (true ∷ [])
-
-pub none_more : (bs : List Bool) → trues_from 0 (bs ++ false ∷ []) ≡ trues_from 0 bs
-none_more bs = from_zero bs (false ∷ []) ∙ append-nil (trues_from 0 bs)
+use Rattle.rhai_value.specs.Reach.{trues_from}
+use Rattle.rhai_value.proofs.ForCallers.{from_zero}
+use Rattle.rhai_scope.specs.Places.{others, lowered}
 
 -- ---- a gap, which a place leaves that is dropped
 

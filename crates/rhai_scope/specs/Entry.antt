@@ -1,6 +1,7 @@
 -- What a scope is: a list of entries, the newest last.
 use Rattle.std.specs.Prelude.{ℕ, ◌-◌, Bool, List, [], ◌∷◌, ◌++◌, length, take}
 use Rattle.rhai_value.specs.declared.access_mode.AccessMode.{AccessMode}
+use Rattle.rhai_value.specs.Cells.{renumbered}
 use Rattle.rhai_value.specs.Tree.{Tree, mode_of, copy, paint, is_constant}
 
 -- An entry: a name, a value, and the other names of the value.
@@ -35,3 +36,7 @@ copied_value t = paint (mode_of t) (copy t)
 
 abbrev pub copied_entry : Entry → Entry
 copied_entry e = with_value (copied_value e.value) e
+
+-- the same entry with f c in the place of each cell number c in its value
+abbrev pub renumbered_entry : (ℕ → ℕ) → Entry → Entry
+renumbered_entry f e = with_value (renumbered f e.value) e

@@ -1,9 +1,10 @@
 -- Where each name stands.
-use Rattle.std.specs.Prelude.{◌≡◌, ℕ, suc, ◌-◌, nat_eq, nat_lt, Bool, true, false, not, if◌then◌else◌, List, [], ◌∷◌, ◌++◌, length, take, map, slice_get, option_and_then, Option, Some, None}
+use Rattle.std.specs.Prelude.{◌≡◌, ℕ, ◌-◌, nat_eq, nat_lt, Bool, false, not, if◌then◌else◌, List, [], ◌∷◌, ◌++◌, length, take, map, slice_get, option_and_then, Option, Some, None}
 use Rattle.std.specs.BTreeMap.{get_by_text}
 use Rattle.std.specs.Cmp.Lexicographic.{pointwise}
 use Rattle.std.specs.List.{filter}
 use Rattle.std.specs.Str.{IsUtf8, chars}
+use Rattle.rhai_value.specs.Reach.{trues_from}
 use Rattle.rhai_scope.specs.declared.places.Places.{Places}
 
 -- ---- the list of a name
@@ -42,12 +43,6 @@ abbrev pub lowered : ℕ → ℕ → ℕ
 lowered place p = if nat_lt place p then p - 1 else p
 
 -- ---- the lists of all names
-
--- the places of true, of which the first one stands at place i
-abbrev pub trues_from : ℕ → List Bool → List ℕ
-trues_from i [] = []
-trues_from i (true ∷ bs) = i ∷ trues_from (suc i) bs
-trues_from i (false ∷ bs) = trues_from (suc i) bs
 
 -- For each text there are exactly the places at which that name stands by `stands`, rising, and no list is empty.
 abbrev pub Lists : Places → (List ℕ → List Bool) → Type 0

@@ -17,6 +17,7 @@ mod lookup;
 mod names_text;
 mod place_list;
 mod places;
+mod reach;
 mod records;
 mod rest;
 mod scope;

@@ -31,3 +31,10 @@ pub use Rattle.rhai_value.proofs.SameScans.{RelatedVisits, same_nodes, same_scan
 pub use Rattle.rhai_value.proofs.Zips.{by_alike, by_zip, get_append, get_set_other, zip_append, zip_drop, zip_get, zip_length, zip_set, zip_take, zip_weaker}
 -- booleans
 pub use Rattle.rhai_value.proofs.Slots.{or_false}
+-- the list of the cell numbers in a value
+pub use Rattle.rhai_value.proofs.CellNumbers.{cells_renumbered, each_in, each_of}
+-- flags, and rising numbers
+pub use Rattle.rhai_value.proofs.Flags.{flagged_met, flags_length, flags_rise}
+pub use Rattle.rhai_value.proofs.Rising.{rising_distinct, rising_same}
+-- the places of true
+pub use Rattle.rhai_value.proofs.Trues.{false_more, from_zero, true_more, trues-append}

@@ -19,3 +19,6 @@ pub mod Cells
 pub mod Writes
 pub mod Locked
 pub mod Scan
+pub mod Reach
+pub mod Meetings
+pub mod Renumbers

@@ -14,7 +14,7 @@ use std::marker::Model;
 /// The right to read and to write what is in one marked cell. It must be spent, by `Store::release`: the compiler refuses to let
 /// it go. Contracts see the number of the cell.
 pub struct WriteToken {
-    cell: usize,
+    pub(crate) cell: usize,
 }
 
 impl Model for WriteToken {

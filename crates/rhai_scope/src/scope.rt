@@ -200,10 +200,11 @@ impl Scope {
         ensures ok { OnOk result (self.new ≡ pushed access name value self.old) }
         ensures err { OnErr result (self.new ≡ self.old) }
     {
-        match self.push_entry(name, access, value) {
-            Ok(()) => Ok(()),
-            Err(_) => Err(AllocError),
-        }
+        let alloc = self.alloc;
+        admit(alloc, &mut self.records, &mut self.index)?;
+        let entry = Record::new(alloc, name, painted(access, value));
+        self.records.push_reserved(entry);
+        Ok(())
     }
 
     /// Drops the last entry with its aliases. (`Scope::pop`, which panics without an entry)

@@ -78,6 +78,8 @@ constant x -> true
 /// How the commands of rows are given to the machine.
 enum Way {
     Apply,
+    /// One by one, and after each the world is collected.
+    Collect,
     Run,
     RunBoth,
     RunLines,
@@ -164,6 +166,36 @@ fn apply_each(
         match apply_at_last(rt, alloc, world, line, command)? {
             Some(answer) if write_answer(&answer, out).is_ok() => {}
             _ => return Ok(false),
+        }
+    }
+    Ok(true)
+}
+
+/// Collects. Where memory is refused, the world is to be as before, and it is collected once more; then it is to be seen as before.
+fn collect_at_last(rt: &impl Eprint, alloc: Global, world: &mut World) -> Result<bool, AllocError> {
+    let before = seen(alloc, world)?;
+    let cells = world.cells();
+    if world.collect().is_err() {
+        tell(rt, "collect");
+        if world.cells() != cells || !is_seen(alloc, world, &before)? {
+            return Ok(false);
+        }
+        world.collect()?;
+    }
+    is_seen(alloc, world, &before)
+}
+
+fn collect_after_each(
+    rt: &impl Eprint,
+    alloc: Global,
+    world: &mut World,
+    commands: &[Command],
+    out: &mut Vec<u8>,
+) -> Result<bool, AllocError> {
+    for command in commands {
+        let answer = apply(world, command)?;
+        if write_answer(&answer, out).is_err() || !collect_at_last(rt, alloc, world)? {
+            return Ok(false);
         }
     }
     Ok(true)
@@ -305,6 +337,7 @@ fn run_commands(
     let mut other = World::new(alloc, UNLIMITED);
     let is_right = match way {
         Way::Apply => apply_each(rt, alloc, &mut world, &lines, &commands, out),
+        Way::Collect => collect_after_each(rt, alloc, &mut world, &commands, out),
         Way::Run => run_at_last(rt, alloc, &mut world, &commands, out),
         Way::RunBoth => run_both_at_last(
             rt,
@@ -328,7 +361,9 @@ fn are_answered(rt: &(impl Abort + Eprint), alloc: Global, way: &Way) -> Result<
         for rows in sections.split("\n# ") {
             let wanted = match way {
                 Way::RunLines => wanted(alloc, rows)?,
-                Way::Apply | Way::Run | Way::RunBoth => wanted_of_commands(alloc, rows)?,
+                Way::Apply | Way::Collect | Way::Run | Way::RunBoth => wanted_of_commands(
+                    alloc, rows,
+                )?,
             };
             let mut out = room(alloc)?;
             let is_right = run_commands(rt, alloc, way, rows, &mut out);
@@ -343,6 +378,12 @@ fn are_answered(rt: &(impl Abort + Eprint), alloc: Global, way: &Way) -> Result<
 #[test]
 fn commands_go_on_one_by_one(rt: HostRuntime) -> Result<(), Fail> {
     are_answered(&rt, rt.alloc(), &Way::Apply)
+}
+
+/// Each form of line is answered as it is where nothing was collected.
+#[test]
+fn collections_are_not_seen(rt: HostRuntime) -> Result<(), Fail> {
+    are_answered(&rt, rt.alloc(), &Way::Collect)
 }
 
 #[test]

@@ -4,6 +4,8 @@
 #[cfg(test)]
 mod both;
 #[cfg(test)]
+mod collected;
+#[cfg(test)]
 mod expressions;
 #[cfg(test)]
 mod growths;

@@ -22,6 +22,7 @@ pub mod IndexSteps
 pub mod Step
 pub mod Fitting
 pub mod KeptWorlds
+pub mod Collecting
 pub mod Runs
 pub mod GoingOn
 pub mod Wents

@@ -1,10 +1,11 @@
 //! Laws of the machine: each is the contract of a function that does nothing.
-ghost use Rattle.std.specs.Prelude.{◌≡◌, ℕ, ℤ, ◌+◌, ◌<◌, ◌↔◌, Bool, nat_eq, List, [], ◌∷◌, ◌++◌, length, drop, Option, Some, None};
+ghost use Rattle.std.specs.Prelude.{◌≡◌, ℕ, ℤ, ◌+◌, ◌<◌, ◌↔◌, Bool, nat_eq, List, [], ◌∷◌, ◌++◌, length, drop, Some, None};
 ghost use Rattle.std.specs.List.{Contains, IsDistinct};
 ghost use Rattle.rhai_text.specs.declared.limits.Limits.{Limits};
 ghost use Rattle.rhai_value.specs.Tree.{Tree};
 ghost use Rattle.rhai_value.specs.Store.{added};
 ghost use Rattle.rhai_value.specs.Relation.{Renaming, new_pairs};
+ghost use Rattle.rhai_value.specs.Reach.{IsReached};
 ghost use Rattle.rhai_value.specs.Scan.{SameVisits, scan};
 ghost use Rattle.rhai_run.specs.declared.command.Command.{Command};
 ghost use Rattle.rhai_run.specs.declared.command.Command.TheVariants as command;
@@ -21,7 +22,7 @@ ghost use Rattle.rhai_run.specs.Stop.{NeverWants, StopsAfter};
 ghost use Rattle.rhai_run.specs.Scanners.{visited};
 ghost use Rattle.rhai_run.specs.Fits.{Fits};
 ghost use Rattle.rhai_run.specs.Correspondence.{Corresponds, RunAlike};
-ghost use Rattle.rhai_run.specs.KeptWorld.{KeepsAllReached, kept, kept_pairs};
+ghost use Rattle.rhai_run.specs.KeptWorld.{Collects, KeepsAllReached, Reaches, kept, kept_pairs, roots};
 
 /// The state of a new world fits.
 pub fn empty_state_fits()
@@ -54,9 +55,30 @@ pub fn reordered_worlds_correspond()
     ensures { (w : State) (c : List ℕ) → Fits w → IsDistinct nat_eq c → ((n : ℕ) → Contains c n ↔ (n < length w.store)) → Corresponds (kept_pairs c) w (kept w c) }
 {}
 
+/// What a state reaches keeps all that is reached, and each list of cells that does has all of it.
+pub fn reached_cells_are_kept()
+    ensures kept { (w : State) → Fits w → (c : List ℕ) → Reaches w c → KeepsAllReached c w }
+    ensures least { (w : State) (c d : List ℕ) (n : ℕ) → Reaches w c → KeepsAllReached d w → Contains c n → Contains d n }
+{}
+
+/// A collected world has no cell that nothing reaches.
+pub fn collected_worlds_are_reached()
+    ensures { (w v : State) → Fits w → Collects w v → (n : ℕ) → n < length v.store → IsReached v.store (roots v) n }
+{}
+
+/// Collecting again changes nothing more.
+pub fn collecting_again_changes_nothing()
+    ensures { (w v u : State) → Fits w → Collects w v → Collects v u → u ≡ v }
+{}
+
 /// Runs over states that correspond give the same answers and end in states that correspond.
 pub fn runs_are_alike()
     ensures { (r : Renaming) (w v : State) (commands : List Command) → Corresponds r w v → RunAlike r w v commands }
+{}
+
+/// No run can tell that a world was collected: the answers are those of the world before.
+pub fn collecting_is_not_seen()
+    ensures { (w v : State) (h : Collects w v) (commands : List Command) → RunAlike (kept_pairs h.cells) w v commands }
 {}
 
 /// What a scanner makes of a value, and of all that stands in it, doesn't depend on the numbers of cells; nor does the number of its

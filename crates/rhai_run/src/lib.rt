@@ -6,6 +6,7 @@ mod ask;
 pub mod both;
 mod cast;
 mod change;
+mod collect;
 pub mod command;
 mod desk;
 mod entries;

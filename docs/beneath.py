@@ -4,7 +4,7 @@ they can be read.
 
     docs/beneath.py [FILE FUNCTION..] ..
 
-With no arguments: beneath the run theorem (`run`, `run_both`, `apply`), and besides beneath `run_lines`.
+With no arguments: beneath the run theorem (`run`, `run_both`, `apply`), and besides beneath `run_lines`, `eval` and `collect`.
 From the clauses of a function it follows each name to its definition in some crate's specs/, and on from there. It counts lines without
 comments, blank lines and imports; types of src/ and definitions of the standard library are not counted.
 """
@@ -161,8 +161,8 @@ def main(words):
     seen = reach([it for file, functions in run for it in clauses(file, functions)])
     tell("beneath " + ", ".join(it for _, functions in run for it in functions), seen)
     if not words:
-        # what stands on it: the program's own, and expressions
-        for file, name in [("crates/rhai_lines/src/lines.rt", "run_lines"), ("crates/rhai_run/src/eval.rt", "eval")]:
+        # what stands on it: the program's own, expressions, and collections
+        for file, name in [("crates/rhai_lines/src/lines.rt", "run_lines"), ("crates/rhai_run/src/eval.rt", "eval"), ("crates/rhai_run/src/world.rt", "collect")]:
             tell(f"and beneath {name} besides", reach(clauses(file, [name])), seen)
 
 

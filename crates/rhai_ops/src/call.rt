@@ -7,6 +7,7 @@ ghost use Rattle.rhai_value.specs.Tree.{TakesNoMemory, copy};
 
 use crate::answer::{part, value};
 use crate::builtin::FnBuiltin;
+use crate::own::{own_int, own_text};
 use crate::{assign, blobs, bools, chars, ints, push, ranges, texts};
 use rhai_text::{EvalAltResult, Limits};
 use rhai_value::{Dynamic, INT, Store};
@@ -38,6 +39,28 @@ impl FnBuiltin {
         ensures store { IfOk result (λ d. m.new ≡ store_left (way self.now) (outcome self.now limits.now m.old x.old y.old) m.old x.old) }
         ensures err { IfErr result (λ e. (x.new ≡ x.old) × (y.new ≡ y.old) × (m.new ≡ m.old)) }
     {
+        // what operands have themselves, as most do, is read here; the rows on any operands follow
+        match *self {
+            FnBuiltin::Int(t) => if let Some(i) = own_int(x) {
+                if let Some(j) = own_int(y) {
+                    return ints::answer_numbers(t, i, j);
+                }
+            },
+            FnBuiltin::IntCompare(t) => if let Some(i) = own_int(x) {
+                if let Some(j) = own_int(y) {
+                    return ints::compare_numbers(t, i, j);
+                }
+            },
+            FnBuiltin::IntAssign(t) => if let Some(j) = own_int(y) {
+                return ints::assign_number(t, m, x, j);
+            },
+            FnBuiltin::TextCompare(t) => if let Some(a) = own_text(x) {
+                if let Some(b) = own_text(y) {
+                    return texts::compare_two(t, a, b);
+                }
+            },
+            _ => {}
+        }
         match *self {
             FnBuiltin::Int(t) => ints::answer(t, m, x, y),
             FnBuiltin::IntCompare(t) => ints::compare(t, m, x, y),

@@ -31,10 +31,28 @@ pub(crate) fn answer(
     requires second { Holds int_of s.now y.now }
     ensures { IsOutcome ⊥ result (both (λ i j. number_answer (specs.number (asked.role op) i j)) (part int_of s.now x.now) (part int_of s.now y.now)) }
 {
-    match number(role_of(op), value(x, s), value(y, s)) {
+    answer_numbers(op, value(x, s), value(y, s))
+}
+
+/// The same of two numbers.
+#[inline(always)]
+pub(crate) fn answer_numbers(op: Token, i: INT, j: INT) -> Result<Dynamic, EvalAltResult>
+    requires { IsTrue (is_number (asked.role op)) }
+    ensures { IsOutcome ⊥ result (number_answer (specs.number (asked.role op) i j)) }
+{
+    match number_of(op, i, j) {
         Ok(n) => Ok(Dynamic::from_int(n)),
         Err(fault) => Err(EvalAltResult::ErrorArithmetic(fault, Position::NONE)),
     }
+}
+
+/// The number that the operator answers, in a function of its own, so that each call of a row stays short.
+#[inline(never)]
+fn number_of(op: Token, i: INT, j: INT) -> Result<INT, ArithmeticFault>
+    requires { IsTrue (is_number (asked.role op)) }
+    ensures { specs.number (asked.role op) i j ≡ Some result }
+{
+    number(role_of(op), i, j)
 }
 
 /// A comparison of two ints.
@@ -50,8 +68,24 @@ pub(crate) fn compare(
     requires second { Holds int_of s.now y.now }
     ensures { IsOutcome ⊥ result (both (λ i j. bool_answer (specs.compared (asked.role op) (int_cmp i j))) (part int_of s.now x.now) (part int_of s.now y.now)) }
 {
-    let order = value::<INT>(x, s).cmp(&value(y, s));
-    Ok(Dynamic::from_bool(compared(role_of(op), order)))
+    compare_numbers(op, value(x, s), value(y, s))
+}
+
+/// The same of two numbers.
+#[inline(always)]
+pub(crate) fn compare_numbers(op: Token, i: INT, j: INT) -> Result<Dynamic, EvalAltResult>
+    requires { IsTrue (is_cmp (asked.role op)) }
+    ensures { IsOutcome ⊥ result (bool_answer (specs.compared (asked.role op) (int_cmp i j))) }
+{
+    Ok(Dynamic::from_bool(compared_numbers(op, i, j)))
+}
+
+#[inline(never)]
+fn compared_numbers(op: Token, i: INT, j: INT) -> bool
+    requires { IsTrue (is_cmp (asked.role op)) }
+    ensures { specs.compared (asked.role op) (int_cmp i j) ≡ Some result }
+{
+    compared(role_of(op), i.cmp(&j))
 }
 
 /// An assignment of one of these operators to the int at a place. The place and the second operand are each looked up once.
@@ -68,16 +102,31 @@ pub(crate) fn assign(
     ensures { IsAssigned ⊥ result (both (λ i j. number_answer (specs.number (asked.done_by (asked.role op)) i j)) (part int_of m.old x.old) (part int_of m.old y.now)) x.old x.new m.old m.new }
 {
     let number = value(y, m);
+    assign_number(op, m, x, number)
+}
+
+/// The same of a number.
+#[inline(always)]
+pub(crate) fn assign_number(
+    op: Token,
+    m: &mut Store,
+    x: &mut Dynamic,
+    number: INT,
+) -> Result<Dynamic, EvalAltResult>
+    requires number { IsTrue (is_number (asked.done_by (asked.role op))) }
+    requires first { Holds int_of m.old x.old }
+    ensures { IsAssigned ⊥ result (both (λ i j. number_answer (specs.number (asked.done_by (asked.role op)) i j)) (part int_of m.old x.old) (Some number)) x.old x.new m.old m.new }
+{
     let mut place = InStore { value: x, store: m };
     match place.part_mut::<INT>() {
-        Ok(held) => assign_held(done_by(role_of(op)), held, number),
+        Ok(held) => write_number(done_by(role_of(op)), held, number),
         Err(_) => unreachable!(),
     }
 }
 
 /// The same of an int that is held and a number.
 #[inline(always)]
-fn assign_held(role: Role, held: &mut INT, y: INT) -> Result<Dynamic, EvalAltResult>
+fn write_number(role: Role, held: &mut INT, y: INT) -> Result<Dynamic, EvalAltResult>
     requires { IsTrue (is_number role) }
     ensures result { IsOutcome ⊥ result (answered (assignment stays) (number_answer (specs.number role held.old y))) }
     ensures ok { OnOk result (number_answer (specs.number role held.old y) ≡ answers (fresh (int held.new))) }

@@ -6,12 +6,12 @@ ghost use Rattle.rhai_ops.specs.Table as table;
 ghost use Rattle.rhai_ops.specs.Tokens as asked;
 
 use crate::builtin::FnBuiltin;
-use crate::own::{Own, is_int, own_of};
+use crate::own::{Own, is_int, is_text, own_of};
 use crate::role::{Arithmetic, Role, is_cmp, is_equal, is_minus, is_plus, is_unequal, role_of};
 use rhai_text::Token;
 use rhai_value::{Dynamic, Store, TypeId};
 
-/// The row of a binary operator on these operands. Takes no memory; that of two ints is found first.
+/// The row of a binary operator on these operands. Takes no memory; that of two ints is found first, that of two texts next.
 #[inline(always)]
 pub fn get_builtin_binary_op_fn(
     op: &Token,
@@ -25,11 +25,15 @@ pub fn get_builtin_binary_op_fn(
         if is_int(y) {
             return int_row(*op, role_of(*op));
         }
+    } else if is_text(x) {
+        if is_text(y) {
+            return two_texts_row(*op, role_of(*op));
+        }
     }
     other_row(*op, x, y, s)
 }
 
-/// The row on any operands, in a function of its own, so that the lookup on two ints stays short.
+/// The row on any operands, in a function of its own, so that the lookup on two ints or texts stays short.
 #[inline(never)]
 fn other_row(op: Token, x: &Dynamic, y: &Dynamic, s: &Store) -> Option<FnBuiltin>
     ensures { result ≡ row_of op s.now x.now y.now }
@@ -68,6 +72,17 @@ pub(crate) fn plus_row(role: Role, plus: FnBuiltin) -> Option<FnBuiltin>
     ensures { result ≡ pick ((asked.is_plus role, plus) ∷ []) }
 {
     if is_plus(role) { Some(plus) } else { None }
+}
+
+fn two_texts_row(t: Token, role: Role) -> Option<FnBuiltin>
+    ensures { result ≡ pair_row (own_pair t role Own.Str Own.Str) [] }
+{
+    text_row(
+        role,
+        FnBuiltin::TextJoin,
+        FnBuiltin::TextMinus,
+        FnBuiltin::TextCompare(t),
+    )
 }
 
 /// The row of `+`, of `-`, or that of the comparisons.
@@ -238,12 +253,7 @@ fn own_row(
             } else {
                 unlike_row(role)
             },
-            Own::Str => text_row(
-                role,
-                FnBuiltin::TextJoin,
-                FnBuiltin::TextMinus,
-                FnBuiltin::TextCompare(t),
-            ),
+            Own::Str => two_texts_row(t, role),
             Own::Char => text_row(
                 role,
                 FnBuiltin::TextChar,

@@ -1,8 +1,12 @@
 // The constructor of a value, as far as the table tells constructors apart.
-ghost use Rattle.std.specs.Prelude.{◌≡◌, IsTrue};
+ghost use Rattle.std.specs.Prelude.{◌≡◌, IfSome, IsTrue, List, Some};
+ghost use Rattle.rhai_value.specs.declared.store.Cell.{Cell};
+ghost use Rattle.rhai_value.specs.Parts.{int_of, text_of};
+ghost use Rattle.rhai_ops.specs.Results.{part};
 ghost use Rattle.rhai_ops.specs.Table.{own};
 
-use rhai_value::{Dynamic, Union};
+use rhai_text::ImmutableString;
+use rhai_value::{Dynamic, INT, Union};
 
 // The constructors that the table names; a map, a function pointer, a value of the host and a holder are none of them.
 #[derive(Clone, Copy)]
@@ -39,4 +43,34 @@ pub(crate) fn is_int(value: &Dynamic) -> bool
     ensures { IsTrue result → own value.now ≡ Own.Int }
 {
     matches!(value.parts(), Union::Int(_, _, _))
+}
+
+pub(crate) fn is_text(value: &Dynamic) -> bool
+    ensures { IsTrue result → own value.now ≡ Own.Str }
+{
+    matches!(value.parts(), Union::Str(_, _, _))
+}
+
+// The int that the value itself is, which is then what it holds in any store.
+#[inline(always)]
+#[tactic(auto, using(crate::proofs::Suited::own_part))]
+pub(crate) fn own_int(value: &Dynamic) -> Option<INT>
+    ensures { (s : List Cell) → IfSome result (λ n. part int_of s value.now ≡ Some n) }
+{
+    if let Union::Int(_, _, n) = value.parts() {
+        return Some(*n);
+    }
+    None
+}
+
+// The same of a text.
+#[inline(always)]
+#[tactic(auto, using(crate::proofs::Suited::own_part))]
+pub(crate) fn own_text(value: &Dynamic) -> Option<&ImmutableString>
+    ensures { (s : List Cell) → IfSome result (λ text. part text_of s value.now ≡ Some text.now) }
+{
+    if let Union::Str(_, _, text) = value.parts() {
+        return Some(text);
+    }
+    None
 }

@@ -12,7 +12,7 @@ ghost use Rattle.rhai_ops.specs.Tokens.{is_cmp};
 use crate::answer::{is_allowed, part, value};
 use crate::chars::spelled;
 use crate::compare::compared;
-use crate::role::{Role, is_equal, role_of};
+use crate::role::{is_equal, role_of};
 use rhai_text::laws::byte_order_is_character_order;
 use rhai_text::{EvalAltResult, ImmutableString, Limits, Position, SizeKind, Token};
 use rhai_value::{Dynamic, Store};
@@ -100,15 +100,30 @@ pub(crate) fn compare(
     requires second { Holds text_of s.now y.now }
     ensures { IsOutcome ⊥ result (both (λ v w. bool_answer (specs.compared (asked.role op) (text_order v w))) (part_in text_of s.now x.now) (part_in text_of s.now y.now)) }
 {
-    Ok(Dynamic::from_bool(compared_texts(role_of(op), part(x, s), part(y, s))))
+    compare_two(op, part(x, s), part(y, s))
+}
+
+/// The same of what the operands have.
+#[inline(always)]
+pub(crate) fn compare_two(
+    op: Token,
+    a: &ImmutableString,
+    b: &ImmutableString,
+) -> Result<Dynamic, EvalAltResult>
+    requires { IsTrue (is_cmp (asked.role op)) }
+    ensures { IsOutcome ⊥ result (bool_answer (specs.compared (asked.role op) (text_order a.now b.now))) }
+{
+    Ok(Dynamic::from_bool(compared_texts(op, a, b)))
 }
 
 /// Whether the comparison holds of two texts. Whether they are equal is told by their lengths first.
+#[inline(never)]
 #[tactic(auto, using(crate::proofs::Characters::equal_by_order))]
-fn compared_texts(role: Role, a: &ImmutableString, b: &ImmutableString) -> bool
-    requires { IsTrue (is_cmp role) }
-    ensures { specs.compared role (text_order a.now b.now) ≡ Some result }
+fn compared_texts(op: Token, a: &ImmutableString, b: &ImmutableString) -> bool
+    requires { IsTrue (is_cmp (asked.role op)) }
+    ensures { specs.compared (asked.role op) (text_order a.now b.now) ≡ Some result }
 {
+    let role = role_of(op);
     if is_equal(role) {
         return a == b;
     }

@@ -7,15 +7,14 @@ use std::alloc::AllocError;
 use std::mem;
 
 /// Adds an item where there is room for it.
+#[inline(always)]
 pub(crate) fn push_in_room<T: Drop>(items: &mut Vec<T>, item: T)
     requires { vec_len items.old < vec_capacity items.old }
     ensures items { items.new.items ≡ items.old.items ++ item ∷ [] }
     ensures len { vec_len items.new ≡ vec_len items.old + 1 }
     ensures capacity { vec_capacity items.old ≤ vec_capacity items.new }
 {
-    if items.push(item).is_err() {
-        unreachable!();
-    }
+    items.push_reserved(item);
 }
 
 /// Takes a value out of its place, and leaves another there.

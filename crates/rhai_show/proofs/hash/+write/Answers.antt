@@ -8,7 +8,7 @@ use Rattle.rhai_value.specs.View.{tree_of}
 use Rattle.rhai_value.specs.Walk.{entry}
 use Rattle.rhai_show.specs.Plain.{plain}
 use Rattle.rhai_show.specs.Clean.{are_plain}
-use Rattle.rhai_show.specs.HashBytes.{count_bytes, name_bytes, sized, some_bytes, hash_bytes}
+use Rattle.rhai_show.specs.HashBytes.{count_bytes, leaf_bytes, name_bytes, some_bytes, hash_bytes}
 use Rattle.rhai_show.proofs.Measures.{left_in, left-entry, nodes_item}
 use Rattle.rhai_show.proofs.Plains.{plain-branch, plain-map, plain-closed}
 use Rattle.rhai_show.proofs.Pushed.{added_as, added_twice, added_more}
@@ -27,25 +27,22 @@ pub add_value-returns-in-Char-clause-bytes : goal.add_value-returns-in-Char-clau
 add_value-returns-in-Char-clause-bytes t c =
     added_hash c.add_char.result _ _ c.args.store.now c.args.path.now c.args.value.now (char c.in-Char.value) c.in-Char.field-0 c.in-Char.field-1 (sym c.parts.ensures ∙ ap tree_of c.in-Char.is) c.add_char.ensures
 
-pub add_value-returns-in_ok-add_bytes-in-Str-clause-bytes : goal.add_value-returns-in_ok-add_bytes-in-Str-clause-bytes
-add_value-returns-in_ok-add_bytes-in-Str-clause-bytes t c =
-    added_hash c.add_name.result _ _ c.args.store.now c.args.path.now c.args.value.now (text c.in-Str.value) c.in-Str.field-0 c.in-Str.field-1 (sym c.parts.ensures ∙ ap tree_of c.in-Str.is)
-    (added_twice c.add_name.result _ c.add_bytes-in-Str.new.out.items _ (2 ∷ []) _ _ c.in_ok-add_bytes-in-Str.ensures (ap (λ cs. 2 ∷ name_bytes cs) c.as_str.ensures.characters) c.add_name.ensures)
+pub add_value-returns-in-Str-clause-bytes : goal.add_value-returns-in-Str-clause-bytes
+add_value-returns-in-Str-clause-bytes t c =
+    added_hash c.add_text.result _ _ c.args.store.now c.args.path.now c.args.value.now (text c.in-Str.value) c.in-Str.field-0 c.in-Str.field-1 (sym c.parts.ensures ∙ ap tree_of c.in-Str.is) c.add_text.ensures
 
-pub add_value-returns-in_ok-add_bytes-in-Int-clause-bytes : goal.add_value-returns-in_ok-add_bytes-in-Int-clause-bytes
-add_value-returns-in_ok-add_bytes-in-Int-clause-bytes t c =
-    added_hash c.add_int.result _ _ c.args.store.now c.args.path.now c.args.value.now (int c.in-Int.value) c.in-Int.field-0 c.in-Int.field-1 (sym c.parts.ensures ∙ ap tree_of c.in-Int.is)
-    (added_twice c.add_int.result _ c.add_bytes-in-Int.new.out.items _ (4 ∷ []) _ _ c.in_ok-add_bytes-in-Int.ensures refl c.add_int.ensures)
+pub add_value-returns-in-Int-clause-bytes : goal.add_value-returns-in-Int-clause-bytes
+add_value-returns-in-Int-clause-bytes t c =
+    added_hash c.add_int.result _ _ c.args.store.now c.args.path.now c.args.value.now (int c.in-Int.value) c.in-Int.field-0 c.in-Int.field-1 (sym c.parts.ensures ∙ ap tree_of c.in-Int.is) c.add_int.ensures
 
-pub add_value-returns-in_ok-add_bytes-in-Blob-clause-bytes : goal.add_value-returns-in_ok-add_bytes-in-Blob-clause-bytes
-add_value-returns-in_ok-add_bytes-in-Blob-clause-bytes t c =
-    added_hash c.add_sized.result _ _ c.args.store.now c.args.path.now c.args.value.now (blob c.in-Blob.bytes.items) c.in-Blob.field-0 c.in-Blob.field-1 (sym c.parts.ensures ∙ ap tree_of c.in-Blob.is)
-    (added_twice c.add_sized.result _ c.add_bytes-in-Blob.new.out.items _ (6 ∷ []) _ _ c.in_ok-add_bytes-in-Blob.ensures (ap (λ bs. 6 ∷ sized bs) c.as_slice-in-Blob.ensures.value) c.add_sized.ensures)
+pub add_value-returns-in-Blob-clause-bytes : goal.add_value-returns-in-Blob-clause-bytes
+add_value-returns-in-Blob-clause-bytes t c =
+    added_hash c.add_blob.result _ _ c.args.store.now c.args.path.now c.args.value.now (blob c.in-Blob.bytes.items) c.in-Blob.field-0 c.in-Blob.field-1 (sym c.parts.ensures ∙ ap tree_of c.in-Blob.is)
+    (added_as c.add_blob.result _ _ _ _ (ap (λ bs. leaf_bytes (blob bs)) c.as_slice-in-Blob.ensures.value) c.add_blob.ensures)
 
-pub add_value-returns-in_ok-add_bytes-in-Variant-clause-bytes : goal.add_value-returns-in_ok-add_bytes-in-Variant-clause-bytes
-add_value-returns-in_ok-add_bytes-in-Variant-clause-bytes t c =
-    added_hash c.add_host.result _ _ c.args.store.now c.args.path.now c.args.value.now (host c.in-Variant.value) c.in-Variant.field-0 c.in-Variant.field-1 (sym c.parts.ensures ∙ ap tree_of c.in-Variant.is)
-    (added_twice c.add_host.result _ c.add_bytes-in-Variant.new.out.items _ (9 ∷ []) _ _ c.in_ok-add_bytes-in-Variant.ensures refl c.add_host.ensures)
+pub add_value-returns-in-Variant-clause-bytes : goal.add_value-returns-in-Variant-clause-bytes
+add_value-returns-in-Variant-clause-bytes t c =
+    added_hash c.add_host.result _ _ c.args.store.now c.args.path.now c.args.value.now (host c.in-Variant.value) c.in-Variant.field-0 c.in-Variant.field-1 (sym c.parts.ensures ∙ ap tree_of c.in-Variant.is) c.add_host.ensures
 
 pub add_value-returns-in_ok-add_bytes-in-Array-clause-bytes : goal.add_value-returns-in_ok-add_bytes-in-Array-clause-bytes
 add_value-returns-in_ok-add_bytes-in-Array-clause-bytes t c =
@@ -65,7 +62,7 @@ add_value-returns-in_ok-add_name-in-FnPtr-clause-bytes t c =
     let h = c.in-FnPtr in
     let named = added_more _ c.add_bytes-in-FnPtr.new.out.items c.args.out.now.items (8 ∷ []) (name_bytes h.function.0) c.in_ok-add_bytes-in-FnPtr.ensures
     (c.in_ok-add_name-in-FnPtr.ensures ∙ ap (λ n. c.add_bytes-in-FnPtr.new.out.items ++ name_bytes n) c.fn_name.ensures) in
-    added_twice c.add_items-in-FnPtr.result _ c.add_name-in-FnPtr.new.out.items _ (8 ∷ name_bytes h.function.0) _ _ named
+    added_twice c.add_items-in-FnPtr.result _ c.add_name.new.out.items _ (8 ∷ name_bytes h.function.0) _ _ named
     (ap (λ xs. 8 ∷ name_bytes h.function.0 ++ (count_bytes (length xs) ++ flat_map (hash_bytes c.args.store.now c.args.path.now) xs)) c.curry.ensures
     ∙ hashed-branch c.args.store.now c.args.path.now c.args.value.now (function h.function.0) h.function.1 h.field-0 h.field-1 (sym c.parts.ensures ∙ ap tree_of c.in-FnPtr.is) c.requires)
     c.add_items-in-FnPtr.ensures.bytes

@@ -1,7 +1,9 @@
 //! The hash bytes of a value.
-ghost use Rattle.std.specs.Prelude.{◌≡◌, ◌++◌, ◌∷◌, [], true, IfOk, IsOk, List, None, OnOk, Some, is_some, length, option_map};
+ghost use Rattle.std.specs.Prelude.{ℕ, ℤ, ◌≡◌, ◌++◌, ◌∷◌, [], true, IfOk, IsOk, List, None, OnOk, Some, is_some, length, option_map};
 ghost use Rattle.std.specs.List.{flat_map};
+ghost use Rattle.rhai_value.specs.declared.access_mode.AccessMode.{AccessMode};
 ghost use Rattle.rhai_value.specs.declared.store.Cell.{Cell};
+ghost use Rattle.rhai_value.specs.Tree.{holder, node};
 ghost use Rattle.rhai_value.specs.End.{first};
 ghost use Rattle.rhai_value.specs.Rows.{trees_of, fields_of};
 ghost use Rattle.rhai_show.specs.Plain.{plain};
@@ -17,8 +19,10 @@ use crate::hashed_value::Hashed;
 use rhai_value::{Dynamic, Map, Path, Store, Union};
 use std::alloc::{AllocError, Global};
 
-/// Adds the hash bytes of a value that has some, the cells of the path being open.
+/// Adds the hash bytes of a value that has some, the cells of the path being open. It is inlined in the loops, where most values
+/// hold no other.
 #[cycle(write)]
+#[inline(always)]
 fn add_value(
     store: &Store,
     path: &mut Path,
@@ -47,19 +51,37 @@ fn add_value(
             add_items(store, path, function.curry(), out)
         }
         Union::Variant(_, _, value) => add_host(out, value),
-        Union::Shared(_, _, _) => match path.enter(store, value)? {
-            None => unreachable!(),
-            Some(content) => {
-                add_value(store, path, content, out)?;
-                path.leave();
-                Ok(())
-            }
-        },
+        Union::Shared(_, _, _) => add_held(store, path, value, out),
+    }
+}
+
+/// Adds the hash bytes of what a holder's cell has.
+#[cycle(write)]
+#[inline(never)]
+fn add_held(
+    store: &Store,
+    path: &mut Path,
+    value: &Dynamic,
+    out: &mut Vec<u8>,
+) -> Result<(), AllocError>
+    requires plain { is_some (plain store.now path.old value.now) ≡ true }
+    requires holder { (c : ℕ) × (g : ℤ) × (m : AccessMode) × (value.now ≡ node (holder c) g m) }
+    ensures bytes { OnOk result (out.new.items ≡ out.old.items ++ hash_bytes store.now path.old value.now) }
+    ensures path { OnOk result (path.new ≡ path.old) }
+{
+    match path.enter(store, value)? {
+        None => unreachable!(),
+        Some(content) => {
+            add_value(store, path, content, out)?;
+            path.leave();
+            Ok(())
+        }
     }
 }
 
 /// Adds the number of items, and then the items.
 #[cycle(write)]
+#[inline(never)]
 fn add_items(
     store: &Store,
     path: &mut Path,
@@ -80,6 +102,7 @@ fn add_items(
 
 /// Adds the number of entries, and then each key with its value.
 #[cycle(write)]
+#[inline(never)]
 fn add_map(store: &Store, path: &mut Path, map: &Map, out: &mut Vec<u8>) -> Result<(), AllocError>
     requires { are_plain store.now path.old (values_in (fields_of map.now)) ≡ true }
     ensures bytes { OnOk result (out.new.items ≡ out.old.items ++ 7 ∷ (count_bytes (length map.now)

@@ -90,30 +90,30 @@ add_value-add_map-requires t c =
     let size = ap nodes is in
     (omega arith, sym (plain-map c.args.store.now c.args.path.now c.args.value.now (fields_of h.map) h.field-0 h.field-1 is) ∙ c.requires)
 
-pub add_value-unreachable-requires : goal.add_value-unreachable-requires
-add_value-unreachable-requires t c =
-    let h = c.in-Shared in
-    let none : None ≡ entry c.args.store.now c.args.path.now c.args.value.now = ap option_copied (sym c.in-None.is) ∙ c.in_ok-enter-in-Shared.ensures.found in
-    let no : false ≡ true = sym (ap is_some (plain-closed c.args.store.now c.args.path.now c.args.value.now h.field-2.index h.field-0 h.field-1 (sym c.parts.ensures ∙ ap tree_of c.in-Shared.is) none)) ∙ c.requires in
+pub add_held-unreachable-requires : goal.add_held-unreachable-requires
+add_held-unreachable-requires t c =
+    let h = c.requires.holder in
+    let none : None ≡ entry c.args.store.now c.args.path.now c.args.value.now = ap option_copied (sym c.in-None.is) ∙ c.in_ok-enter.ensures.found in
+    let no : false ≡ true = sym (ap is_some (plain-closed c.args.store.now c.args.path.now c.args.value.now h.0 h.1 h.2 h.3 none)) ∙ c.requires.plain in
     cc
 
-pub add_value-add_value-requires : goal.add_value-add_value-requires
-add_value-add_value-requires t c =
-    let h = c.in-Shared in
-    let o = c.in_ok-enter-in-Shared.ensures in
+pub add_held-add_value-requires : goal.add_held-add_value-requires
+add_held-add_value-requires t c =
+    let h = c.requires.holder in
+    let o = c.in_ok-enter.ensures in
     let some : Some c.in-Some.content.now ≡ entry c.args.store.now c.args.path.now c.args.value.now = ap option_copied (sym c.in-Some.is) ∙ o.found in
     let next : IfSome (cell_of c.args.value.now) (λ k. c.enter.new.self ≡ k ∷ c.args.path.now) = MatchOption-at_some _ _ _ c.in-Some.is o.opened in
-    let less = left-entry c.args.store.now c.args.path.now c.enter.new.self c.args.value.now c.in-Some.content.now (4 * nodes c.args.value.now) some next in
-    (omega arith, ap is_some (plain-content c.args.store.now c.args.path.now c.enter.new.self c.args.value.now c.in-Some.content.now h.field-2.index h.field-0 h.field-1 (sym c.parts.ensures ∙ ap tree_of c.in-Shared.is) some next) ∙ c.requires)
+    let less = left-entry c.args.store.now c.args.path.now c.enter.new.self c.args.value.now c.in-Some.content.now 0 some next in
+    (omega arith, ap is_some (plain-content c.args.store.now c.args.path.now c.enter.new.self c.args.value.now c.in-Some.content.now h.0 h.1 h.2 h.3 some next) ∙ c.requires.plain)
 
-pub add_value-returns-in_ok-add_value-in-Some-clause-bytes : goal.add_value-returns-in_ok-add_value-in-Some-clause-bytes
-add_value-returns-in_ok-add_value-in-Some-clause-bytes t c =
-    let h = c.in-Shared in
-    let o = c.in_ok-enter-in-Shared.ensures in
+pub add_held-returns-clause-bytes : goal.add_held-returns-clause-bytes
+add_held-returns-clause-bytes t c =
+    let h = c.requires.holder in
+    let o = c.in_ok-enter.ensures in
     let some : Some c.in-Some.content.now ≡ entry c.args.store.now c.args.path.now c.args.value.now = ap option_copied (sym c.in-Some.is) ∙ o.found in
     let next : IfSome (cell_of c.args.value.now) (λ k. c.enter.new.self ≡ k ∷ c.args.path.now) = MatchOption-at_some _ _ _ c.in-Some.is o.opened in
     c.in_ok-add_value-in-Some.ensures.bytes
-    ∙ ap (λ p. c.args.out.now.items ++ some_bytes p) (plain-content c.args.store.now c.args.path.now c.enter.new.self c.args.value.now c.in-Some.content.now h.field-2.index h.field-0 h.field-1 (sym c.parts.ensures ∙ ap tree_of c.in-Shared.is) some next)
+    ∙ ap (λ p. c.args.out.now.items ++ some_bytes p) (plain-content c.args.store.now c.args.path.now c.enter.new.self c.args.value.now c.in-Some.content.now h.0 h.1 h.2 h.3 some next)
 
 pub add_items-add_value-requires : goal.add_items-add_value-requires
 add_items-add_value-requires t c =
@@ -124,3 +124,10 @@ add_items-add_value-requires t c =
     let same = ap (left_in c.args.store.now) i.path in
     let next : drop n xs ≡ c.item-item.result ∷ drop (n + 1) xs = drop-cons xs n c.item-item.result (omega arith) ∙ ap₂ (λ y k. y ∷ drop k xs) (sym c.item-item.is) (sym (add-one n)) in
     (omega arith, ap (λ p. is_some (plain c.args.store.now p c.item-item.result)) i.path ∙ first_of_both _ _ (sym (ap (λ ys. are_plain c.args.store.now c.args.path.now (trees_of ys)) next) ∙ i.plain))
+
+pub add_value-add_held-requires : goal.add_value-add_held-requires
+add_value-add_held-requires t c =
+    let h = c.in-Shared in
+    let is = sym c.parts.ensures ∙ ap tree_of h.is in
+    let size = ap nodes is in
+    (omega arith, (c.requires, (h.field-2.index, h.field-0, h.field-1, is)))

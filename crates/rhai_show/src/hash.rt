@@ -19,6 +19,9 @@ use crate::hashed_value::Hashed;
 use rhai_value::{Dynamic, Map, Path, Store, Union};
 use std::alloc::{AllocError, Global};
 
+/// How many bytes there is room for at first where a value may hold others, so that short ones don't grow.
+const FIRST_ROOM: usize = 64;
+
 /// Adds the hash bytes of a value that has some, the cells of the path being open. It is inlined in the loops, where most values
 /// hold no other.
 #[cycle(write)]
@@ -141,7 +144,7 @@ fn add_leaf(value: &Dynamic, out: &mut Vec<u8>) -> Result<bool, AllocError>
     Ok(true)
 }
 
-/// The hash bytes of a value, once it is found hashable.
+/// The hash bytes of a value that may hold others, once it is found hashable.
 #[inline(never)]
 #[tactic(auto, using(crate::proofs::Barred::barred_plain))]
 fn hashed_below(alloc: Global, value: &Dynamic, s: &Store) -> Result<Option<Hashed>, AllocError>
@@ -151,16 +154,16 @@ fn hashed_below(alloc: Global, value: &Dynamic, s: &Store) -> Result<Option<Hash
     if !is_hashable(alloc, value, s)? {
         return Ok(None);
     }
-    let mut bytes = Vec::new(alloc);
+    let mut bytes = Vec::with_capacity(alloc, FIRST_ROOM)?;
     let mut path = Path::new(alloc);
     add_value(s, &mut path, value, &mut bytes)?;
     Ok(Some(Hashed::from_bytes(bytes)))
 }
 
-/// The hash bytes of a value, `None` exactly where it isn't hashable (`Hash` of rhai's `Dynamic`, which feeds any hasher). A value
-/// that holds no other one costs the number of the bytes, for which memory is asked once. Another costs
-/// what `is_hashable` costs and the number of the bytes, and for each holder on the way the logarithm of how many cells are open
-/// then. A cell that is reached on many ways gives its bytes on each, so that these can be very many more than the values are.
+/// The hash bytes of a value, `None` exactly where it isn't hashable (`Hash` of rhai's `Dynamic`, which feeds any hasher). A unit,
+/// boolean, int, character, text, blob or value of the host costs the number of its bytes, for which memory is asked once. Another
+/// costs what `is_hashable` costs and the number of the bytes, and for each holder on the way the logarithm of how many cells are
+/// open then. A cell that is reached on many ways gives its bytes on each, so that these can be very many more than the values are.
 pub fn hashed(alloc: Global, value: &Dynamic, s: &Store) -> Result<Option<Hashed>, AllocError>
     ensures bytes { IfOk result (λ o. o ≡ option_map plain_bytes (plain s.now [] value.now)) }
     ensures barred { first s.now value.now ≡ None → IsOk result }

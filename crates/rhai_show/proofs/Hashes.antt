@@ -4,7 +4,6 @@ use Rattle.std.specs.List.{flat_map}
 use Rattle.std.specs.Str.{chars}
 use Rattle.rhai_value.specs.declared.access_mode.AccessMode.{AccessMode}
 use Rattle.rhai_value.specs.declared.store.Cell.{Cell}
-use Rattle.rhai_value.specs.End.{first}
 use Rattle.rhai_value.specs.Rows.{Rows, trees_of, fields_of}
 use Rattle.rhai_value.specs.Tree.{Tree, node, Leaf, leaf, Kind, branch, fields, holder, cell_of}
 use Rattle.rhai_value.specs.Walk.{entry}
@@ -70,13 +69,10 @@ module _ (s : List Cell) (path : List ℕ) where
 pub added_hash : {A E : Type 0} (r : Result A E) (new old : List ℕ) (s : List Cell) (path : List ℕ) (t : Tree) (l : Leaf) (g : ℤ) (m : AccessMode) → t ≡ node (leaf l) g m → OnOk r (new ≡ old ++ leaf_bytes l) → OnOk r (new ≡ old ++ hash_bytes s path t)
 added_hash r new old s path t l g m e h = added_as r new old (leaf_bytes l) (hash_bytes s path t) (hashed-leaf s path t l g m e) h
 
--- a leaf is what is read of it
-pub leaf_first : (s : List Cell) (t : Tree) (l : Leaf) (g : ℤ) (m : AccessMode) → t ≡ node (leaf l) g m → first s t ≡ None → ⊥
-leaf_first s t l g m e none = let bad : Some (node (leaf l) g m) ≡ None = sym (ap (first s) e) ∙ none in absurd (cc)
-
 -- the bytes of a leaf are those of its plain value
-pub leaf_made : (s : List Cell) (t : Tree) (l : Leaf) (g : ℤ) (m : AccessMode) (new old : List ℕ) → t ≡ node (leaf l) g m → new ≡ old ++ leaf_bytes l → Some new ≡ option_map (λ p. old ++ plain_bytes p) (plain s [] t)
-leaf_made s t l g m new old e is = ap Some is ∙ sym (ap (option_map (λ p. old ++ plain_bytes p)) (by_parts s [] t (node (leaf l) g m) e))
+pub leaf_made : (s : List Cell) (path : List ℕ) (t : Tree) (l : Leaf) (g : ℤ) (m : AccessMode) (new old : List ℕ) → t ≡ node (leaf l) g m → new ≡ old ++ leaf_bytes l
+    → Some new ≡ option_map (λ p. old ++ plain_bytes p) (plain s path t)
+leaf_made s path t l g m new old e is = ap Some is ∙ sym (ap (option_map (λ p. old ++ plain_bytes p)) (by_parts s path t (node (leaf l) g m) e))
 
 -- a holder whose cell opens
 module _ (s : List Cell) (path next : List ℕ) (t u : Tree) (c : ℕ) (g : ℤ) (m : AccessMode) (e : t ≡ node (holder c) g m) (some : Some u ≡ entry s path t) (is : IfSome (cell_of t) (λ k. next ≡ k ∷ path)) where

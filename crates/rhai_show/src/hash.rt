@@ -123,10 +123,8 @@ fn add_map(store: &Store, path: &mut Path, map: &Map, out: &mut Vec<u8>) -> Resu
 
 /// Adds the hash bytes of a value that holds no other one; false, and nothing is added, for a value that may.
 #[inline(always)]
-#[tactic(auto, using(crate::proofs::Hashes::leaf_first))]
 fn add_leaf(value: &Dynamic, out: &mut Vec<u8>) -> Result<bool, AllocError>
-    ensures bytes { IfOk result (λ b. b ≡ true → (s : List Cell) → Some out.new.items ≡ option_map (λ p. out.old.items ++ plain_bytes p) (plain s [] value.now)) }
-    ensures barred { (s : List Cell) → first s value.now ≡ None → IsOk result }
+    ensures { IfOk result (λ b. b ≡ true → (s : List Cell) (path : List ℕ) → Some out.new.items ≡ option_map (λ p. out.old.items ++ plain_bytes p) (plain s path value.now)) }
 {
     match value.parts() {
         Union::Unit(_, _, _) => add_bytes(out, &[0])?,
@@ -161,15 +159,20 @@ fn hashed_below(alloc: Global, value: &Dynamic, s: &Store) -> Result<Option<Hash
 }
 
 /// The hash bytes of a value, `None` exactly where it isn't hashable (`Hash` of rhai's `Dynamic`, which feeds any hasher). A unit,
-/// boolean, int, character, text, blob or value of the host costs the number of its bytes, for which memory is asked once. Another
-/// costs what `is_hashable` costs and the number of the bytes, and for each holder on the way the logarithm of how many cells are
-/// open then. A cell that is reached on many ways gives its bytes on each, so that these can be very many more than the values are.
+/// boolean, int, character, text, blob or value of the host, also as what a holder's cell has, costs the number of its bytes, for
+/// which memory is asked once. Another value costs what `is_hashable` costs and the number of the bytes, and for each holder on the
+/// way the logarithm of how many cells are open then. A cell that is reached on many ways gives its bytes on each, so that these
+/// can be very many more than the values are.
+#[tactic(auto, using(crate::proofs::Barred::barred_plain))]
 pub fn hashed(alloc: Global, value: &Dynamic, s: &Store) -> Result<Option<Hashed>, AllocError>
     ensures bytes { IfOk result (λ o. o ≡ option_map plain_bytes (plain s.now [] value.now)) }
     ensures barred { first s.now value.now ≡ None → IsOk result }
 {
+    let Some(content) = value.read_whole(s) else {
+        return Ok(None);
+    };
     let mut bytes = Vec::new(alloc);
-    if add_leaf(value, &mut bytes)? {
+    if add_leaf(content, &mut bytes)? {
         return Ok(Some(Hashed::from_bytes(bytes)));
     }
     hashed_below(alloc, value, s)

@@ -1,4 +1,4 @@
-use Rattle.std.proofs.Common.{◌≡◌, ◌+◌, ◌*◌, ◌++◌, true, false, [], ◌∷◌, drop, length, Some, None, IfSome, is_some, option_copied, refl, sym, ap, ap₂, ◌∙◌, arith, add-one}
+use Rattle.std.proofs.Common.{◌≡◌, ◌+◌, ◌++◌, true, false, [], ◌∷◌, drop, length, Some, None, IfSome, is_some, option_copied, sym, ap, ap₂, ◌∙◌, arith, add-one}
 use Rattle.std.specs.List.{flat_map}
 use Rattle.std.proofs.Math.Seq.{drop-cons}
 use Rattle.std.proofs.lemmas.Option.{MatchOption-at_some}

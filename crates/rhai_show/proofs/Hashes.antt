@@ -9,7 +9,7 @@ use Rattle.rhai_value.specs.Tree.{Tree, node, Leaf, leaf, Kind, branch, fields, 
 use Rattle.rhai_value.specs.Walk.{entry}
 use Rattle.rhai_show.specs.Plain.{Plains, PlainFields, no_plains, plain_then, plain_branch, plain_map, no_plain_fields, plain_field_then, plain_more, plain_field_more, all_plain, fields_plain, plain}
 use Rattle.rhai_show.specs.Clean.{are_plain, values_in}
-use Rattle.rhai_show.specs.HashBytes.{count_bytes, name_bytes, leaf_bytes, kind_bytes, how_many, how_many_fields, all_bytes, fields_bytes, some_bytes, hash_bytes}
+use Rattle.rhai_show.specs.HashBytes.{count_bytes, name_bytes, leaf_bytes, kind_bytes, how_many, how_many_fields, all_bytes, fields_bytes, plain_bytes, some_bytes, hash_bytes}
 use Rattle.rhai_show.specs.HashRows.{row_bytes}
 use Rattle.rhai_show.proofs.Pushed.{added_as}
 use Rattle.rhai_show.proofs.Plains.{plain_within, plain_opens, by_parts, plain-branch, plain-map, plain-opened}
@@ -68,6 +68,11 @@ module _ (s : List Cell) (path : List ℕ) where
 -- the bytes of a leaf are added, which are those of the value
 pub added_hash : {A E : Type 0} (r : Result A E) (new old : List ℕ) (s : List Cell) (path : List ℕ) (t : Tree) (l : Leaf) (g : ℤ) (m : AccessMode) → t ≡ node (leaf l) g m → OnOk r (new ≡ old ++ leaf_bytes l) → OnOk r (new ≡ old ++ hash_bytes s path t)
 added_hash r new old s path t l g m e h = added_as r new old (leaf_bytes l) (hash_bytes s path t) (hashed-leaf s path t l g m e) h
+
+-- the bytes of a leaf are those of its plain value
+pub leaf_made : (s : List Cell) (path : List ℕ) (t : Tree) (l : Leaf) (g : ℤ) (m : AccessMode) (new old : List ℕ) → t ≡ node (leaf l) g m → new ≡ old ++ leaf_bytes l
+    → Some new ≡ option_map (λ p. old ++ plain_bytes p) (plain s path t)
+leaf_made s path t l g m new old e is = ap Some is ∙ sym (ap (option_map (λ p. old ++ plain_bytes p)) (by_parts s path t (node (leaf l) g m) e))
 
 -- a holder whose cell opens
 module _ (s : List Cell) (path next : List ℕ) (t u : Tree) (c : ℕ) (g : ℤ) (m : AccessMode) (e : t ≡ node (holder c) g m) (some : Some u ≡ entry s path t) (is : IfSome (cell_of t) (λ k. next ≡ k ∷ path)) where

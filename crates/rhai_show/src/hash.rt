@@ -1,6 +1,9 @@
 //! The hash bytes of a value.
-ghost use Rattle.std.specs.Prelude.{◌≡◌, ◌++◌, ◌∷◌, [], true, IfOk, IsOk, None, OnOk, is_some, length, option_map};
+ghost use Rattle.std.specs.Prelude.{ℕ, ℤ, ◌≡◌, ◌++◌, ◌∷◌, [], true, IfOk, IsOk, List, None, OnOk, Some, is_some, length, option_map};
 ghost use Rattle.std.specs.List.{flat_map};
+ghost use Rattle.rhai_value.specs.declared.access_mode.AccessMode.{AccessMode};
+ghost use Rattle.rhai_value.specs.declared.store.Cell.{Cell};
+ghost use Rattle.rhai_value.specs.Tree.{holder, node};
 ghost use Rattle.rhai_value.specs.End.{first};
 ghost use Rattle.rhai_value.specs.Rows.{trees_of, fields_of};
 ghost use Rattle.rhai_show.specs.Plain.{plain};
@@ -9,15 +12,20 @@ ghost use Rattle.rhai_show.specs.HashBytes.{count_bytes, name_bytes, plain_bytes
 ghost use Rattle.rhai_show.specs.HashRows.{row_bytes};
 
 use crate::hash_bytes::{
-    add_bool, add_bytes, add_char, add_count, add_host, add_int, add_name, add_sized,
+    add_blob, add_bool, add_bytes, add_char, add_count, add_host, add_int, add_name, add_text,
 };
 use crate::hashable::is_hashable;
 use crate::hashed_value::Hashed;
 use rhai_value::{Dynamic, Map, Path, Store, Union};
 use std::alloc::{AllocError, Global};
 
-/// Adds the hash bytes of a value that has some, the cells of the path being open.
+/// How many bytes there is room for at first where a value may hold others, so that short ones don't grow.
+const FIRST_ROOM: usize = 64;
+
+/// Adds the hash bytes of a value that has some, the cells of the path being open. It is inlined in the loops, where most values
+/// hold no other.
 #[cycle(write)]
+#[inline(always)]
 fn add_value(
     store: &Store,
     path: &mut Path,
@@ -31,46 +39,52 @@ fn add_value(
     match value.parts() {
         Union::Unit(_, _, _) => add_bytes(out, &[0]),
         Union::Bool(_, _, value) => add_bool(out, *value),
-        Union::Str(_, _, value) => {
-            add_bytes(out, &[2])?;
-            add_name(out, value.as_str())
-        }
+        Union::Str(_, _, value) => add_text(out, value),
         Union::Char(_, _, value) => add_char(out, *value),
-        Union::Int(_, _, value) => {
-            add_bytes(out, &[4])?;
-            add_int(out, value)
-        }
+        Union::Int(_, _, value) => add_int(out, value),
         Union::Array(_, _, items) => {
             add_bytes(out, &[5])?;
             add_items(store, path, items.as_slice(), out)
         }
-        Union::Blob(_, _, bytes) => {
-            add_bytes(out, &[6])?;
-            add_sized(out, bytes.as_slice())
-        }
+        Union::Blob(_, _, bytes) => add_blob(out, bytes.as_slice()),
         Union::Map(_, _, map) => add_map(store, path, map, out),
         Union::FnPtr(_, _, function) => {
             add_bytes(out, &[8])?;
             add_name(out, function.fn_name())?;
             add_items(store, path, function.curry(), out)
         }
-        Union::Variant(_, _, value) => {
-            add_bytes(out, &[9])?;
-            add_host(out, value)
+        Union::Variant(_, _, value) => add_host(out, value),
+        Union::Shared(_, _, _) => add_held(store, path, value, out),
+    }
+}
+
+/// Adds the hash bytes of what a holder's cell has.
+#[cycle(write)]
+#[inline(never)]
+fn add_held(
+    store: &Store,
+    path: &mut Path,
+    value: &Dynamic,
+    out: &mut Vec<u8>,
+) -> Result<(), AllocError>
+    requires plain { is_some (plain store.now path.old value.now) ≡ true }
+    requires holder { (c : ℕ) × (g : ℤ) × (m : AccessMode) × (value.now ≡ node (holder c) g m) }
+    ensures bytes { OnOk result (out.new.items ≡ out.old.items ++ hash_bytes store.now path.old value.now) }
+    ensures path { OnOk result (path.new ≡ path.old) }
+{
+    match path.enter(store, value)? {
+        None => unreachable!(),
+        Some(content) => {
+            add_value(store, path, content, out)?;
+            path.leave();
+            Ok(())
         }
-        Union::Shared(_, _, _) => match path.enter(store, value)? {
-            None => unreachable!(),
-            Some(content) => {
-                add_value(store, path, content, out)?;
-                path.leave();
-                Ok(())
-            }
-        },
     }
 }
 
 /// Adds the number of items, and then the items.
 #[cycle(write)]
+#[inline(never)]
 fn add_items(
     store: &Store,
     path: &mut Path,
@@ -91,6 +105,7 @@ fn add_items(
 
 /// Adds the number of entries, and then each key with its value.
 #[cycle(write)]
+#[inline(never)]
 fn add_map(store: &Store, path: &mut Path, map: &Map, out: &mut Vec<u8>) -> Result<(), AllocError>
     requires { are_plain store.now path.old (values_in (fields_of map.now)) ≡ true }
     ensures bytes { OnOk result (out.new.items ≡ out.old.items ++ 7 ∷ (count_bytes (length map.now)
@@ -106,19 +121,59 @@ fn add_map(store: &Store, path: &mut Path, map: &Map, out: &mut Vec<u8>) -> Resu
     Ok(())
 }
 
-/// The hash bytes of a value, `None` exactly where it isn't hashable (`Hash` of rhai's `Dynamic`, which feeds any hasher). Costs
-/// what `is_hashable` costs and the number of the bytes, and for each holder on the way the logarithm of how many cells are open
-/// then. A cell that is reached on many ways gives its bytes on each, so that these can be very many more than the values are.
+/// Adds the hash bytes of a value that holds no other one; false, and nothing is added, for a value that may.
+#[inline(always)]
+fn add_leaf(value: &Dynamic, out: &mut Vec<u8>) -> Result<bool, AllocError>
+    ensures { IfOk result (λ b. b ≡ true → (s : List Cell) (path : List ℕ) → Some out.new.items ≡ option_map (λ p. out.old.items ++ plain_bytes p) (plain s path value.now)) }
+{
+    match value.parts() {
+        Union::Unit(_, _, _) => add_bytes(out, &[0])?,
+        Union::Bool(_, _, value) => add_bool(out, *value)?,
+        Union::Str(_, _, value) => add_text(out, value)?,
+        Union::Char(_, _, value) => add_char(out, *value)?,
+        Union::Int(_, _, value) => add_int(out, value)?,
+        Union::Blob(_, _, bytes) => add_blob(out, bytes.as_slice())?,
+        Union::Variant(_, _, value) => add_host(out, value)?,
+        Union::Array(_, _, _) => return Ok(false),
+        Union::Map(_, _, _) => return Ok(false),
+        Union::FnPtr(_, _, _) => return Ok(false),
+        Union::Shared(_, _, _) => return Ok(false),
+    }
+    Ok(true)
+}
+
+/// The hash bytes of a value that may hold others, once it is found hashable.
+#[inline(never)]
 #[tactic(auto, using(crate::proofs::Barred::barred_plain))]
-pub fn hashed(alloc: Global, value: &Dynamic, s: &Store) -> Result<Option<Hashed>, AllocError>
+fn hashed_below(alloc: Global, value: &Dynamic, s: &Store) -> Result<Option<Hashed>, AllocError>
     ensures bytes { IfOk result (λ o. o ≡ option_map plain_bytes (plain s.now [] value.now)) }
     ensures barred { first s.now value.now ≡ None → IsOk result }
 {
     if !is_hashable(alloc, value, s)? {
         return Ok(None);
     }
-    let mut bytes = Vec::new(alloc);
+    let mut bytes = Vec::with_capacity(alloc, FIRST_ROOM)?;
     let mut path = Path::new(alloc);
     add_value(s, &mut path, value, &mut bytes)?;
     Ok(Some(Hashed::from_bytes(bytes)))
+}
+
+/// The hash bytes of a value, `None` exactly where it isn't hashable (`Hash` of rhai's `Dynamic`, which feeds any hasher). A unit,
+/// boolean, int, character, text, blob or value of the host, also as what a holder's cell has, costs the number of its bytes, for
+/// which memory is asked once. Another value costs what `is_hashable` costs and the number of the bytes, and for each holder on the
+/// way the logarithm of how many cells are open then. A cell that is reached on many ways gives its bytes on each, so that these
+/// can be very many more than the values are.
+#[tactic(auto, using(crate::proofs::Barred::barred_plain))]
+pub fn hashed(alloc: Global, value: &Dynamic, s: &Store) -> Result<Option<Hashed>, AllocError>
+    ensures bytes { IfOk result (λ o. o ≡ option_map plain_bytes (plain s.now [] value.now)) }
+    ensures barred { first s.now value.now ≡ None → IsOk result }
+{
+    let Some(content) = value.read_whole(s) else {
+        return Ok(None);
+    };
+    let mut bytes = Vec::new(alloc);
+    if add_leaf(content, &mut bytes)? {
+        return Ok(Some(Hashed::from_bytes(bytes)));
+    }
+    hashed_below(alloc, value, s)
 }

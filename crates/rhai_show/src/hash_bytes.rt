@@ -1,9 +1,10 @@
-//! The hash bytes of values that hold no other value, and of names and counts.
-ghost use Rattle.std.specs.Prelude.{◌≡◌, ◌++◌, ◌∷◌, [], OnOk, length};
+//! The hash bytes of values that hold no other value, and of names and counts. Room for the bytes of a value is made at once.
+ghost use Rattle.std.specs.Prelude.{◌≡◌, ◌++◌, ◌∷◌, OnOk};
 ghost use Rattle.std.specs.Str.{chars};
-ghost use Rattle.rhai_value.specs.Tree.{bool as a_bool, char as a_char};
-ghost use Rattle.rhai_show.specs.HashBytes.{count_bytes, int_bytes, sized, name_bytes, host_bytes, leaf_bytes};
+ghost use Rattle.rhai_value.specs.Tree.{bool as a_bool, char as a_char, int as an_int, text as a_text, blob as a_blob, host as a_host};
+ghost use Rattle.rhai_show.specs.HashBytes.{count_bytes, int_bytes, sized, name_bytes, leaf_bytes};
 
+use rhai_text::ImmutableString;
 use rhai_value::{Host, INT};
 use std::alloc::AllocError;
 
@@ -27,8 +28,46 @@ pub(crate) fn add_bool(out: &mut Vec<u8>, value: bool) -> Result<(), AllocError>
 pub(crate) fn add_char(out: &mut Vec<u8>, value: char) -> Result<(), AllocError>
     ensures { OnOk result (out.new.items ≡ out.old.items ++ leaf_bytes (a_char value)) }
 {
-    add_bytes(out, &[3])?;
+    out.reserve(5)?;
+    out.push_reserved(3);
     add_bytes(out, &(value as u32).to_le_bytes())
+}
+
+pub(crate) fn add_int(out: &mut Vec<u8>, value: &INT) -> Result<(), AllocError>
+    ensures { OnOk result (out.new.items ≡ out.old.items ++ leaf_bytes (an_int value.now)) }
+{
+    out.reserve(9)?;
+    out.push_reserved(4);
+    add_number(out, value)
+}
+
+pub(crate) fn add_text(out: &mut Vec<u8>, value: &ImmutableString) -> Result<(), AllocError>
+    ensures { OnOk result (out.new.items ≡ out.old.items ++ leaf_bytes (a_text value.now)) }
+{
+    add_kind_sized(out, 2, value.as_str().as_bytes())
+}
+
+pub(crate) fn add_blob(out: &mut Vec<u8>, value: &[u8]) -> Result<(), AllocError>
+    ensures { OnOk result (out.new.items ≡ out.old.items ++ leaf_bytes (a_blob value.now)) }
+{
+    add_kind_sized(out, 6, value)
+}
+
+/// Adds a kind, and bytes behind their number.
+fn add_kind_sized(out: &mut Vec<u8>, kind: u8, bytes: &[u8]) -> Result<(), AllocError>
+    ensures { OnOk result (out.new.items ≡ out.old.items ++ kind ∷ sized bytes.now) }
+{
+    out.reserve(bytes.len() + 9)?;
+    out.push_reserved(kind);
+    add_sized(out, bytes)
+}
+
+/// Adds bytes behind their number.
+fn add_sized(out: &mut Vec<u8>, bytes: &[u8]) -> Result<(), AllocError>
+    ensures { OnOk result (out.new.items ≡ out.old.items ++ sized bytes.now) }
+{
+    add_count(out, bytes.len())?;
+    add_bytes(out, bytes)
 }
 
 /// Adds how many bytes, items or entries follow.
@@ -38,58 +77,55 @@ pub(crate) fn add_count(out: &mut Vec<u8>, count: usize) -> Result<(), AllocErro
     add_bytes(out, &count.to_le_bytes())
 }
 
-/// Adds bytes behind their number.
-pub(crate) fn add_sized(out: &mut Vec<u8>, bytes: &[u8]) -> Result<(), AllocError>
-    ensures { OnOk result (out.new.items ≡ out.old.items ++ sized bytes.now) }
-{
-    add_count(out, bytes.len())?;
-    add_bytes(out, bytes)
-}
-
-/// Adds a text, a key or a name.
+/// Adds a key or a name.
 pub(crate) fn add_name(out: &mut Vec<u8>, name: &str) -> Result<(), AllocError>
     ensures { OnOk result (out.new.items ≡ out.old.items ++ name_bytes (chars name.now)) }
 {
     add_sized(out, name.as_bytes())
 }
 
-pub(crate) fn add_int(out: &mut Vec<u8>, value: &INT) -> Result<(), AllocError>
+/// Adds the eight bytes of an integer.
+fn add_number(out: &mut Vec<u8>, value: &INT) -> Result<(), AllocError>
     ensures { OnOk result (out.new.items ≡ out.old.items ++ int_bytes value.now) }
 {
     add_bytes(out, &value.to_le_bytes())
 }
 
 pub(crate) fn add_host(out: &mut Vec<u8>, value: &Host) -> Result<(), AllocError>
-    ensures { OnOk result (out.new.items ≡ out.old.items ++ host_bytes value.now) }
+    ensures { OnOk result (out.new.items ≡ out.old.items ++ leaf_bytes (a_host value.now)) }
 {
     match *value {
-        Host::U8(n) => add_number(out, 0, &[n]),
-        Host::U16(n) => add_number(out, 1, &n.to_le_bytes()),
-        Host::U32(n) => add_number(out, 2, &n.to_le_bytes()),
-        Host::U64(n) => add_number(out, 3, &n.to_le_bytes()),
-        Host::U128(n) => add_number(out, 4, &n.to_le_bytes()),
-        Host::I8(n) => add_number(out, 5, &n.to_le_bytes()),
-        Host::I16(n) => add_number(out, 6, &n.to_le_bytes()),
-        Host::I32(n) => add_number(out, 7, &n.to_le_bytes()),
-        Host::I128(n) => add_number(out, 8, &n.to_le_bytes()),
+        Host::U8(n) => add_width(out, 0, &[n]),
+        Host::U16(n) => add_width(out, 1, &n.to_le_bytes()),
+        Host::U32(n) => add_width(out, 2, &n.to_le_bytes()),
+        Host::U64(n) => add_width(out, 3, &n.to_le_bytes()),
+        Host::U128(n) => add_width(out, 4, &n.to_le_bytes()),
+        Host::I8(n) => add_width(out, 5, &n.to_le_bytes()),
+        Host::I16(n) => add_width(out, 6, &n.to_le_bytes()),
+        Host::I32(n) => add_width(out, 7, &n.to_le_bytes()),
+        Host::I128(n) => add_width(out, 8, &n.to_le_bytes()),
         Host::ExclusiveRange(range) => add_range(out, 9, &range.start, &range.end),
         Host::InclusiveRange(range) => add_range(out, 10, &range.start, &range.end),
     }
 }
 
-/// Adds the kind of a number and its bytes.
-fn add_number(out: &mut Vec<u8>, kind: u8, number: &[u8]) -> Result<(), AllocError>
-    ensures { OnOk result (out.new.items ≡ out.old.items ++ kind ∷ number.now) }
+/// Adds the kind of a host's value, the kind of a number and its bytes.
+fn add_width(out: &mut Vec<u8>, kind: u8, number: &[u8]) -> Result<(), AllocError>
+    ensures { OnOk result (out.new.items ≡ out.old.items ++ 9 ∷ kind ∷ number.now) }
 {
-    add_bytes(out, &[kind])?;
+    out.reserve(number.len() + 2)?;
+    out.push_reserved(9);
+    out.push_reserved(kind);
     add_bytes(out, number)
 }
 
-/// Adds the kind of a range and its two ends.
+/// Adds the kind of a host's value, the kind of a range and its two ends.
 fn add_range(out: &mut Vec<u8>, kind: u8, start: &INT, end: &INT) -> Result<(), AllocError>
-    ensures { OnOk result (out.new.items ≡ out.old.items ++ (kind ∷ int_bytes start.now ++ int_bytes end.now)) }
+    ensures { OnOk result (out.new.items ≡ out.old.items ++ (9 ∷ kind ∷ int_bytes start.now ++ int_bytes end.now)) }
 {
-    add_bytes(out, &[kind])?;
-    add_int(out, start)?;
-    add_int(out, end)
+    out.reserve(18)?;
+    out.push_reserved(9);
+    out.push_reserved(kind);
+    add_number(out, start)?;
+    add_number(out, end)
 }

@@ -1,8 +1,9 @@
 //! Whether a value can be hashed.
-ghost use Rattle.std.specs.Prelude.{◌≡◌, [], true, IfOk, IsOk, None, OnOk, is_some};
+ghost use Rattle.std.specs.Prelude.{ℕ, ℤ, ◌≡◌, [], true, IfOk, IsOk, None, OnOk, is_some};
+ghost use Rattle.rhai_value.specs.declared.access_mode.AccessMode.{AccessMode};
 ghost use Rattle.rhai_value.specs.End.{first};
 ghost use Rattle.rhai_value.specs.Rows.{trees_of, fields_of};
-ghost use Rattle.rhai_value.specs.Tree.{tree_then, no_trees};
+ghost use Rattle.rhai_value.specs.Tree.{holder, node, tree_then, no_trees};
 ghost use Rattle.rhai_show.specs.Plain.{plain};
 ghost use Rattle.rhai_show.specs.Clean.{are_plain, values_in, has_left, Clean, HasNoHolder, HaveNoHolders, FieldsHaveNoHolders, Searched};
 
@@ -10,9 +11,9 @@ use rhai_value::{Dynamic, Map, Path, Store, Union};
 use std::alloc::{AllocError, Global};
 
 /// Whether the value is plain, the cells of `path` being open. The cells of `seen` were opened before; of those that are still open
-/// none opens again, and those that were left are known to be clean, so that none of these is looked into a second time.
+/// none opens again, and those that were left are known to be clean, so that none of these is looked into a second time. It is inlined in the loops, where most values hold no other.
 #[cycle(search)]
-#[tactic(auto, using(crate::proofs::Barred::barred_closed))]
+#[inline(always)]
 fn is_clean(
     store: &Store,
     path: &mut Path,
@@ -37,24 +38,46 @@ fn is_clean(
         Union::Array(_, _, items) => are_clean(store, path, seen, items.as_slice()),
         Union::Map(_, _, map) => is_map_clean(store, path, seen, map),
         Union::FnPtr(_, _, function) => are_clean(store, path, seen, function.curry()),
-        Union::Shared(_, _, _) => match path.enter(store, value)? {
-            None => Ok(false),
-            Some(content) => match seen.enter(store, value)? {
-                None => {
-                    path.leave();
-                    Ok(true)
-                }
-                Some(_) => {
-                    let is_clean = is_clean(store, path, seen, content)?;
-                    path.leave();
-                    Ok(is_clean)
-                }
-            },
+        Union::Shared(_, _, _) => is_held_clean(store, path, seen, value),
+    }
+}
+
+/// Whether a holder is plain.
+#[cycle(search)]
+#[inline(never)]
+#[tactic(auto, using(crate::proofs::Barred::barred_closed))]
+fn is_held_clean(
+    store: &Store,
+    path: &mut Path,
+    seen: &mut Path,
+    value: &Dynamic,
+) -> Result<bool, AllocError>
+    requires clean { Clean store.now (has_left seen.old path.old) }
+    requires holder { (c : ℕ) × (g : ℤ) × (m : AccessMode) × (value.now ≡ node (holder c) g m) }
+    ensures answer { IfOk result (λ b. b ≡ is_some (plain store.now path.old value.now)) }
+    ensures path { OnOk result (path.new ≡ path.old) }
+    ensures searched { IfOk result (λ b. b ≡ true → Searched store.now path.old seen.old seen.new (tree_then value.now no_trees)) }
+    ensures barred { first store.now value.now ≡ None → IsOk result }
+{
+    match path.enter(store, value)? {
+        None => Ok(false),
+        Some(content) => match seen.enter(store, value)? {
+            None => {
+                path.leave();
+                Ok(true)
+            }
+            Some(_) => {
+                let is_clean = is_clean(store, path, seen, content)?;
+                path.leave();
+                Ok(is_clean)
+            }
         },
     }
 }
 
+/// The same of items.
 #[cycle(search)]
+#[inline(never)]
 fn are_clean(
     store: &Store,
     path: &mut Path,
@@ -75,7 +98,9 @@ fn are_clean(
     Ok(true)
 }
 
+/// The same of the values of a map.
 #[cycle(search)]
+#[inline(never)]
 fn is_map_clean(
     store: &Store,
     path: &mut Path,

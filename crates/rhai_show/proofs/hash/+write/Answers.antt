@@ -1,4 +1,4 @@
-use Rattle.std.proofs.Common.{◌≡◌, ◌+◌, ◌*◌, ◌++◌, true, false, [], ◌∷◌, drop, length, Some, None, IfSome, is_some, option_copied, refl, sym, ap, ap₂, ◌∙◌, arith, add-one}
+use Rattle.std.proofs.Common.{◌≡◌, ◌+◌, ◌++◌, true, false, [], ◌∷◌, drop, length, Some, None, IfSome, is_some, option_copied, sym, ap, ap₂, ◌∙◌, arith, add-one}
 use Rattle.std.specs.List.{flat_map}
 use Rattle.std.proofs.Math.Seq.{drop-cons}
 use Rattle.std.proofs.lemmas.Option.{MatchOption-at_some}
@@ -8,7 +8,7 @@ use Rattle.rhai_value.specs.View.{tree_of}
 use Rattle.rhai_value.specs.Walk.{entry}
 use Rattle.rhai_show.specs.Plain.{plain}
 use Rattle.rhai_show.specs.Clean.{are_plain}
-use Rattle.rhai_show.specs.HashBytes.{count_bytes, name_bytes, sized, some_bytes, hash_bytes}
+use Rattle.rhai_show.specs.HashBytes.{count_bytes, leaf_bytes, name_bytes, some_bytes, hash_bytes}
 use Rattle.rhai_show.proofs.Measures.{left_in, left-entry, nodes_item}
 use Rattle.rhai_show.proofs.Plains.{plain-branch, plain-map, plain-closed}
 use Rattle.rhai_show.proofs.Pushed.{added_as, added_twice, added_more}
@@ -27,25 +27,22 @@ pub add_value-returns-in-Char-clause-bytes : goal.add_value-returns-in-Char-clau
 add_value-returns-in-Char-clause-bytes t c =
     added_hash c.add_char.result _ _ c.args.store.now c.args.path.now c.args.value.now (char c.in-Char.value) c.in-Char.field-0 c.in-Char.field-1 (sym c.parts.ensures ∙ ap tree_of c.in-Char.is) c.add_char.ensures
 
-pub add_value-returns-in_ok-add_bytes-in-Str-clause-bytes : goal.add_value-returns-in_ok-add_bytes-in-Str-clause-bytes
-add_value-returns-in_ok-add_bytes-in-Str-clause-bytes t c =
-    added_hash c.add_name.result _ _ c.args.store.now c.args.path.now c.args.value.now (text c.in-Str.value) c.in-Str.field-0 c.in-Str.field-1 (sym c.parts.ensures ∙ ap tree_of c.in-Str.is)
-    (added_twice c.add_name.result _ c.add_bytes-in-Str.new.out.items _ (2 ∷ []) _ _ c.in_ok-add_bytes-in-Str.ensures (ap (λ cs. 2 ∷ name_bytes cs) c.as_str.ensures.characters) c.add_name.ensures)
+pub add_value-returns-in-Str-clause-bytes : goal.add_value-returns-in-Str-clause-bytes
+add_value-returns-in-Str-clause-bytes t c =
+    added_hash c.add_text.result _ _ c.args.store.now c.args.path.now c.args.value.now (text c.in-Str.value) c.in-Str.field-0 c.in-Str.field-1 (sym c.parts.ensures ∙ ap tree_of c.in-Str.is) c.add_text.ensures
 
-pub add_value-returns-in_ok-add_bytes-in-Int-clause-bytes : goal.add_value-returns-in_ok-add_bytes-in-Int-clause-bytes
-add_value-returns-in_ok-add_bytes-in-Int-clause-bytes t c =
-    added_hash c.add_int.result _ _ c.args.store.now c.args.path.now c.args.value.now (int c.in-Int.value) c.in-Int.field-0 c.in-Int.field-1 (sym c.parts.ensures ∙ ap tree_of c.in-Int.is)
-    (added_twice c.add_int.result _ c.add_bytes-in-Int.new.out.items _ (4 ∷ []) _ _ c.in_ok-add_bytes-in-Int.ensures refl c.add_int.ensures)
+pub add_value-returns-in-Int-clause-bytes : goal.add_value-returns-in-Int-clause-bytes
+add_value-returns-in-Int-clause-bytes t c =
+    added_hash c.add_int.result _ _ c.args.store.now c.args.path.now c.args.value.now (int c.in-Int.value) c.in-Int.field-0 c.in-Int.field-1 (sym c.parts.ensures ∙ ap tree_of c.in-Int.is) c.add_int.ensures
 
-pub add_value-returns-in_ok-add_bytes-in-Blob-clause-bytes : goal.add_value-returns-in_ok-add_bytes-in-Blob-clause-bytes
-add_value-returns-in_ok-add_bytes-in-Blob-clause-bytes t c =
-    added_hash c.add_sized.result _ _ c.args.store.now c.args.path.now c.args.value.now (blob c.in-Blob.bytes.items) c.in-Blob.field-0 c.in-Blob.field-1 (sym c.parts.ensures ∙ ap tree_of c.in-Blob.is)
-    (added_twice c.add_sized.result _ c.add_bytes-in-Blob.new.out.items _ (6 ∷ []) _ _ c.in_ok-add_bytes-in-Blob.ensures (ap (λ bs. 6 ∷ sized bs) c.as_slice-in-Blob.ensures.value) c.add_sized.ensures)
+pub add_value-returns-in-Blob-clause-bytes : goal.add_value-returns-in-Blob-clause-bytes
+add_value-returns-in-Blob-clause-bytes t c =
+    added_hash c.add_blob.result _ _ c.args.store.now c.args.path.now c.args.value.now (blob c.in-Blob.bytes.items) c.in-Blob.field-0 c.in-Blob.field-1 (sym c.parts.ensures ∙ ap tree_of c.in-Blob.is)
+    (added_as c.add_blob.result _ _ _ _ (ap (λ bs. leaf_bytes (blob bs)) c.as_slice-in-Blob.ensures.value) c.add_blob.ensures)
 
-pub add_value-returns-in_ok-add_bytes-in-Variant-clause-bytes : goal.add_value-returns-in_ok-add_bytes-in-Variant-clause-bytes
-add_value-returns-in_ok-add_bytes-in-Variant-clause-bytes t c =
-    added_hash c.add_host.result _ _ c.args.store.now c.args.path.now c.args.value.now (host c.in-Variant.value) c.in-Variant.field-0 c.in-Variant.field-1 (sym c.parts.ensures ∙ ap tree_of c.in-Variant.is)
-    (added_twice c.add_host.result _ c.add_bytes-in-Variant.new.out.items _ (9 ∷ []) _ _ c.in_ok-add_bytes-in-Variant.ensures refl c.add_host.ensures)
+pub add_value-returns-in-Variant-clause-bytes : goal.add_value-returns-in-Variant-clause-bytes
+add_value-returns-in-Variant-clause-bytes t c =
+    added_hash c.add_host.result _ _ c.args.store.now c.args.path.now c.args.value.now (host c.in-Variant.value) c.in-Variant.field-0 c.in-Variant.field-1 (sym c.parts.ensures ∙ ap tree_of c.in-Variant.is) c.add_host.ensures
 
 pub add_value-returns-in_ok-add_bytes-in-Array-clause-bytes : goal.add_value-returns-in_ok-add_bytes-in-Array-clause-bytes
 add_value-returns-in_ok-add_bytes-in-Array-clause-bytes t c =
@@ -65,7 +62,7 @@ add_value-returns-in_ok-add_name-in-FnPtr-clause-bytes t c =
     let h = c.in-FnPtr in
     let named = added_more _ c.add_bytes-in-FnPtr.new.out.items c.args.out.now.items (8 ∷ []) (name_bytes h.function.0) c.in_ok-add_bytes-in-FnPtr.ensures
     (c.in_ok-add_name-in-FnPtr.ensures ∙ ap (λ n. c.add_bytes-in-FnPtr.new.out.items ++ name_bytes n) c.fn_name.ensures) in
-    added_twice c.add_items-in-FnPtr.result _ c.add_name-in-FnPtr.new.out.items _ (8 ∷ name_bytes h.function.0) _ _ named
+    added_twice c.add_items-in-FnPtr.result _ c.add_name.new.out.items _ (8 ∷ name_bytes h.function.0) _ _ named
     (ap (λ xs. 8 ∷ name_bytes h.function.0 ++ (count_bytes (length xs) ++ flat_map (hash_bytes c.args.store.now c.args.path.now) xs)) c.curry.ensures
     ∙ hashed-branch c.args.store.now c.args.path.now c.args.value.now (function h.function.0) h.function.1 h.field-0 h.field-1 (sym c.parts.ensures ∙ ap tree_of c.in-FnPtr.is) c.requires)
     c.add_items-in-FnPtr.ensures.bytes
@@ -93,30 +90,30 @@ add_value-add_map-requires t c =
     let size = ap nodes is in
     (omega arith, sym (plain-map c.args.store.now c.args.path.now c.args.value.now (fields_of h.map) h.field-0 h.field-1 is) ∙ c.requires)
 
-pub add_value-unreachable-requires : goal.add_value-unreachable-requires
-add_value-unreachable-requires t c =
-    let h = c.in-Shared in
-    let none : None ≡ entry c.args.store.now c.args.path.now c.args.value.now = ap option_copied (sym c.in-None.is) ∙ c.in_ok-enter-in-Shared.ensures.found in
-    let no : false ≡ true = sym (ap is_some (plain-closed c.args.store.now c.args.path.now c.args.value.now h.field-2.index h.field-0 h.field-1 (sym c.parts.ensures ∙ ap tree_of c.in-Shared.is) none)) ∙ c.requires in
+pub add_held-unreachable-requires : goal.add_held-unreachable-requires
+add_held-unreachable-requires t c =
+    let h = c.requires.holder in
+    let none : None ≡ entry c.args.store.now c.args.path.now c.args.value.now = ap option_copied (sym c.in-None.is) ∙ c.in_ok-enter.ensures.found in
+    let no : false ≡ true = sym (ap is_some (plain-closed c.args.store.now c.args.path.now c.args.value.now h.0 h.1 h.2 h.3 none)) ∙ c.requires.plain in
     cc
 
-pub add_value-add_value-requires : goal.add_value-add_value-requires
-add_value-add_value-requires t c =
-    let h = c.in-Shared in
-    let o = c.in_ok-enter-in-Shared.ensures in
+pub add_held-add_value-requires : goal.add_held-add_value-requires
+add_held-add_value-requires t c =
+    let h = c.requires.holder in
+    let o = c.in_ok-enter.ensures in
     let some : Some c.in-Some.content.now ≡ entry c.args.store.now c.args.path.now c.args.value.now = ap option_copied (sym c.in-Some.is) ∙ o.found in
     let next : IfSome (cell_of c.args.value.now) (λ k. c.enter.new.self ≡ k ∷ c.args.path.now) = MatchOption-at_some _ _ _ c.in-Some.is o.opened in
-    let less = left-entry c.args.store.now c.args.path.now c.enter.new.self c.args.value.now c.in-Some.content.now (4 * nodes c.args.value.now) some next in
-    (omega arith, ap is_some (plain-content c.args.store.now c.args.path.now c.enter.new.self c.args.value.now c.in-Some.content.now h.field-2.index h.field-0 h.field-1 (sym c.parts.ensures ∙ ap tree_of c.in-Shared.is) some next) ∙ c.requires)
+    let less = left-entry c.args.store.now c.args.path.now c.enter.new.self c.args.value.now c.in-Some.content.now 0 some next in
+    (omega arith, ap is_some (plain-content c.args.store.now c.args.path.now c.enter.new.self c.args.value.now c.in-Some.content.now h.0 h.1 h.2 h.3 some next) ∙ c.requires.plain)
 
-pub add_value-returns-in_ok-add_value-in-Some-clause-bytes : goal.add_value-returns-in_ok-add_value-in-Some-clause-bytes
-add_value-returns-in_ok-add_value-in-Some-clause-bytes t c =
-    let h = c.in-Shared in
-    let o = c.in_ok-enter-in-Shared.ensures in
+pub add_held-returns-clause-bytes : goal.add_held-returns-clause-bytes
+add_held-returns-clause-bytes t c =
+    let h = c.requires.holder in
+    let o = c.in_ok-enter.ensures in
     let some : Some c.in-Some.content.now ≡ entry c.args.store.now c.args.path.now c.args.value.now = ap option_copied (sym c.in-Some.is) ∙ o.found in
     let next : IfSome (cell_of c.args.value.now) (λ k. c.enter.new.self ≡ k ∷ c.args.path.now) = MatchOption-at_some _ _ _ c.in-Some.is o.opened in
     c.in_ok-add_value-in-Some.ensures.bytes
-    ∙ ap (λ p. c.args.out.now.items ++ some_bytes p) (plain-content c.args.store.now c.args.path.now c.enter.new.self c.args.value.now c.in-Some.content.now h.field-2.index h.field-0 h.field-1 (sym c.parts.ensures ∙ ap tree_of c.in-Shared.is) some next)
+    ∙ ap (λ p. c.args.out.now.items ++ some_bytes p) (plain-content c.args.store.now c.args.path.now c.enter.new.self c.args.value.now c.in-Some.content.now h.0 h.1 h.2 h.3 some next)
 
 pub add_items-add_value-requires : goal.add_items-add_value-requires
 add_items-add_value-requires t c =
@@ -127,3 +124,10 @@ add_items-add_value-requires t c =
     let same = ap (left_in c.args.store.now) i.path in
     let next : drop n xs ≡ c.item-item.result ∷ drop (n + 1) xs = drop-cons xs n c.item-item.result (omega arith) ∙ ap₂ (λ y k. y ∷ drop k xs) (sym c.item-item.is) (sym (add-one n)) in
     (omega arith, ap (λ p. is_some (plain c.args.store.now p c.item-item.result)) i.path ∙ first_of_both _ _ (sym (ap (λ ys. are_plain c.args.store.now c.args.path.now (trees_of ys)) next) ∙ i.plain))
+
+pub add_value-add_held-requires : goal.add_value-add_held-requires
+add_value-add_held-requires t c =
+    let h = c.in-Shared in
+    let is = sym c.parts.ensures ∙ ap tree_of h.is in
+    let size = ap nodes is in
+    (omega arith, (c.requires, (h.field-2.index, h.field-0, h.field-1, is)))

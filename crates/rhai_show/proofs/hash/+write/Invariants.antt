@@ -11,6 +11,9 @@ use Rattle.rhai_show.proofs.hash.+write.Given as goal
 abbrev pub decreases-add_value : goal.decreases-add_value
 decreases-add_value l = left_in l.store.now l.path.now + 4 * nodes l.value.now
 
+abbrev pub decreases-add_held : goal.decreases-add_held
+decreases-add_held l = left_in l.store.now l.path.now
+
 abbrev pub decreases-add_items : goal.decreases-add_items
 decreases-add_items l = left_in l.store.now l.path.now + (4 * nodes_trees (trees_of l.items.now) + 1)
 

@@ -7,4 +7,4 @@ use Rattle.rhai_show.proofs.hash_bytes.add_host.Goals as goal
 
 pub returns-in-I128 : goal.returns-in-I128
 returns-in-I128 c =
-    added_as c.add_number-in-I128.result _ _ _ _ (ap (λ bs. 8 ∷ bs) c.to_le_bytes-in-I128.ensures ∙ ap (λ z. 8 ∷ to_le_bytes w128 (cast_unsigned w128 z)) (to_z-of_z w128 c.in-I128.n (search rules)) ∙ sym (ap host_bytes c.in-I128.is)) c.add_number-in-I128.ensures
+    added_as c.add_width-in-I128.result _ _ _ _ (ap (λ bs. 9 ∷ 8 ∷ bs) c.to_le_bytes-in-I128.ensures ∙ ap (λ z. 9 ∷ 8 ∷ to_le_bytes w128 (cast_unsigned w128 z)) (to_z-of_z w128 c.in-I128.n (search rules)) ∙ sym (ap (λ h. 9 ∷ host_bytes h) c.in-I128.is)) c.add_width-in-I128.ensures

@@ -1,4 +1,4 @@
-use Rattle.std.proofs.Common.{◌≡◌, ◌+◌, ◌*◌, true, false, ◌∷◌, drop, Some, None, IfSome, is_some, option_copied, sym, ap, ap₂, ◌∙◌, arith, add-one}
+use Rattle.std.proofs.Common.{◌≡◌, ◌+◌, true, false, ◌∷◌, drop, Some, None, IfSome, is_some, option_copied, sym, ap, ap₂, ◌∙◌, arith, add-one}
 use Rattle.std.proofs.Math.Seq.{drop-cons}
 use Rattle.std.specs.Map.Iter.{deref_pair}
 use Rattle.std.proofs.lemmas.Map.Iter.{rest_more}
@@ -15,55 +15,55 @@ use Rattle.rhai_show.proofs.Plains.{plain-leaf, plain-branch, plain-map, plain-c
 use Rattle.rhai_show.proofs.Searches.{so_far_turns, answered, again_answers, inside_requires, inside_answers, inside_leaves, map_leaves, searched_by}
 use Rattle.rhai_show.proofs.hashable.+search.Goals as goal
 
-pub is_clean-returns-in-None-clause-answer : goal.is_clean-returns-in-None-clause-answer
-is_clean-returns-in-None-clause-answer t c =
-    let h = c.in-Shared in
-    let none : None ≡ entry c.args.store.now c.args.path.now c.args.value.now = ap option_copied (sym c.in-None.is) ∙ c.in_ok-enter-in-Shared.ensures.found in
-    sym (ap is_some (plain-closed c.args.store.now c.args.path.now c.args.value.now h.field-2.index h.field-0 h.field-1 (sym c.parts.ensures ∙ ap tree_of h.is) none))
+pub is_held_clean-returns-in-None-clause-answer : goal.is_held_clean-returns-in-None-clause-answer
+is_held_clean-returns-in-None-clause-answer t c =
+    let h = c.requires.holder in
+    let none : None ≡ entry c.args.store.now c.args.path.now c.args.value.now = ap option_copied (sym c.in-None.is) ∙ c.in_ok-enter.ensures.found in
+    sym (ap is_some (plain-closed c.args.store.now c.args.path.now c.args.value.now h.0 h.1 h.2 h.3 none))
 
-pub is_clean-returns-in-None-2-clause-answer : goal.is_clean-returns-in-None-2-clause-answer
-is_clean-returns-in-None-2-clause-answer t c =
-    let h = c.in-Shared in
-    let o = c.in_ok-enter-in-Shared.ensures in
+pub is_held_clean-returns-in-None-2-clause-answer : goal.is_held_clean-returns-in-None-2-clause-answer
+is_held_clean-returns-in-None-2-clause-answer t c =
+    let h = c.requires.holder in
+    let o = c.in_ok-enter.ensures in
     let some : Some c.in-Some.content.now ≡ entry c.args.store.now c.args.path.now c.args.value.now = ap option_copied (sym c.in-Some.is) ∙ o.found in
     let next : IfSome (cell_of c.args.value.now) (λ k. c.enter.new.self ≡ k ∷ c.args.path.now) = MatchOption-at_some _ _ _ c.in-Some.is o.opened in
     let none : None ≡ entry c.args.store.now c.args.seen.now c.args.value.now = ap option_copied (sym c.in-None-2.is) ∙ c.in_ok-enter-in-Some.ensures.found in
-    again_answers c.args.store.now c.args.path.now c.enter.new.self c.args.seen.now c.args.value.now c.in-Some.content.now h.field-2.index h.field-0 h.field-1 (sym c.parts.ensures ∙ ap tree_of h.is) some next c.requires none
+    again_answers c.args.store.now c.args.path.now c.enter.new.self c.args.seen.now c.args.value.now c.in-Some.content.now h.0 h.1 h.2 h.3 some next c.requires.clean none
 
-pub is_clean-is_clean-requires : goal.is_clean-is_clean-requires
-is_clean-is_clean-requires t c =
-    let h = c.in-Shared in
-    let o = c.in_ok-enter-in-Shared.ensures in
+pub is_held_clean-is_clean-requires : goal.is_held_clean-is_clean-requires
+is_held_clean-is_clean-requires t c =
+    let h = c.requires.holder in
+    let o = c.in_ok-enter.ensures in
     let some : Some c.in-Some.content.now ≡ entry c.args.store.now c.args.path.now c.args.value.now = ap option_copied (sym c.in-Some.is) ∙ o.found in
     let next : IfSome (cell_of c.args.value.now) (λ k. c.enter.new.self ≡ k ∷ c.args.path.now) = MatchOption-at_some _ _ _ c.in-Some.is o.opened in
-    let less = left-entry c.args.store.now c.args.path.now c.enter.new.self c.args.value.now c.in-Some.content.now (4 * nodes c.args.value.now) some next in
+    let less = left-entry c.args.store.now c.args.path.now c.enter.new.self c.args.value.now c.in-Some.content.now 0 some next in
     let q = c.in_ok-enter-in-Some.ensures in
     let new : Some c.in-Some-2.field-0.now ≡ entry c.args.store.now c.args.seen.now c.args.value.now = ap option_copied (sym c.in-Some-2.is) ∙ q.found in
     let after : IfSome (cell_of c.args.value.now) (λ k. c.enter-in-Some.new.self ≡ k ∷ c.args.seen.now) = MatchOption-at_some _ _ _ c.in-Some-2.is q.opened in
-    (omega arith, inside_requires c.args.store.now c.args.path.now c.enter.new.self c.args.seen.now c.args.value.now c.in-Some.content.now h.field-2.index h.field-0 h.field-1 (sym c.parts.ensures ∙ ap tree_of h.is) some next c.requires c.enter-in-Some.new.self c.in-Some-2.field-0.now new after)
+    (omega arith, inside_requires c.args.store.now c.args.path.now c.enter.new.self c.args.seen.now c.args.value.now c.in-Some.content.now h.0 h.1 h.2 h.3 some next c.requires.clean c.enter-in-Some.new.self c.in-Some-2.field-0.now new after)
 
-pub is_clean-returns-in_ok-is_clean-in-Some-2-clause-answer : goal.is_clean-returns-in_ok-is_clean-in-Some-2-clause-answer
-is_clean-returns-in_ok-is_clean-in-Some-2-clause-answer t c =
-    let h = c.in-Shared in
-    let o = c.in_ok-enter-in-Shared.ensures in
+pub is_held_clean-returns-in_ok-is_clean-in-Some-2-clause-answer : goal.is_held_clean-returns-in_ok-is_clean-in-Some-2-clause-answer
+is_held_clean-returns-in_ok-is_clean-in-Some-2-clause-answer t c =
+    let h = c.requires.holder in
+    let o = c.in_ok-enter.ensures in
     let some : Some c.in-Some.content.now ≡ entry c.args.store.now c.args.path.now c.args.value.now = ap option_copied (sym c.in-Some.is) ∙ o.found in
     let next : IfSome (cell_of c.args.value.now) (λ k. c.enter.new.self ≡ k ∷ c.args.path.now) = MatchOption-at_some _ _ _ c.in-Some.is o.opened in
     let q = c.in_ok-enter-in-Some.ensures in
     let new : Some c.in-Some-2.field-0.now ≡ entry c.args.store.now c.args.seen.now c.args.value.now = ap option_copied (sym c.in-Some-2.is) ∙ q.found in
     let after : IfSome (cell_of c.args.value.now) (λ k. c.enter-in-Some.new.self ≡ k ∷ c.args.seen.now) = MatchOption-at_some _ _ _ c.in-Some-2.is q.opened in
-    inside_answers c.args.store.now c.args.path.now c.enter.new.self c.args.seen.now c.args.value.now c.in-Some.content.now h.field-2.index h.field-0 h.field-1 (sym c.parts.ensures ∙ ap tree_of h.is) some next c.requires c.enter-in-Some.new.self c.in-Some-2.field-0.now new after
+    inside_answers c.args.store.now c.args.path.now c.enter.new.self c.args.seen.now c.args.value.now c.in-Some.content.now h.0 h.1 h.2 h.3 some next c.requires.clean c.enter-in-Some.new.self c.in-Some-2.field-0.now new after
     c.in_ok-is_clean-in-Some-2.is_clean c.in_ok-is_clean-in-Some-2.ensures.answer
 
-pub is_clean-returns-in_ok-is_clean-in-Some-2-clause-searched : goal.is_clean-returns-in_ok-is_clean-in-Some-2-clause-searched
-is_clean-returns-in_ok-is_clean-in-Some-2-clause-searched t c = λ yes.
-    let h = c.in-Shared in
-    let o = c.in_ok-enter-in-Shared.ensures in
+pub is_held_clean-returns-in_ok-is_clean-in-Some-2-clause-searched : goal.is_held_clean-returns-in_ok-is_clean-in-Some-2-clause-searched
+is_held_clean-returns-in_ok-is_clean-in-Some-2-clause-searched t c = λ yes.
+    let h = c.requires.holder in
+    let o = c.in_ok-enter.ensures in
     let some : Some c.in-Some.content.now ≡ entry c.args.store.now c.args.path.now c.args.value.now = ap option_copied (sym c.in-Some.is) ∙ o.found in
     let next : IfSome (cell_of c.args.value.now) (λ k. c.enter.new.self ≡ k ∷ c.args.path.now) = MatchOption-at_some _ _ _ c.in-Some.is o.opened in
     let q = c.in_ok-enter-in-Some.ensures in
     let new : Some c.in-Some-2.field-0.now ≡ entry c.args.store.now c.args.seen.now c.args.value.now = ap option_copied (sym c.in-Some-2.is) ∙ q.found in
     let after : IfSome (cell_of c.args.value.now) (λ k. c.enter-in-Some.new.self ≡ k ∷ c.args.seen.now) = MatchOption-at_some _ _ _ c.in-Some-2.is q.opened in
-    inside_leaves c.args.store.now c.args.path.now c.enter.new.self c.args.seen.now c.args.value.now c.in-Some.content.now h.field-2.index h.field-0 h.field-1 (sym c.parts.ensures ∙ ap tree_of h.is) some next c.requires c.enter-in-Some.new.self c.in-Some-2.field-0.now new after
+    inside_leaves c.args.store.now c.args.path.now c.enter.new.self c.args.seen.now c.args.value.now c.in-Some.content.now h.0 h.1 h.2 h.3 some next c.requires.clean c.enter-in-Some.new.self c.in-Some-2.field-0.now new after
     c.is_clean.new.seen (c.in_ok-is_clean-in-Some-2.ensures.searched yes)
 
 pub are_clean-is_clean-requires : goal.are_clean-is_clean-requires
@@ -175,3 +175,10 @@ pub is_map_clean-returns-in_err-is_clean-clause-free : goal.is_map_clean-returns
 is_map_clean-returns-in_err-is_clean-clause-free t c = λ h.
     let next = rest_more deref_pair c.loop-value.value-iterator c.next.new.self c.next.result (c.in-Some.field-0-0, c.in-Some.value) c.in-Some.is c.next.ensures.steps in
     let no : false ≡ true = c.in_err-is_clean.ensures.free (first_free _ _ _ _ (ap fields_of next) (c.loop-value.invariant.free_left h)).0 in cc
+
+pub is_clean-is_held_clean-requires : goal.is_clean-is_held_clean-requires
+is_clean-is_held_clean-requires t c =
+    let h = c.in-Shared in
+    let is = sym c.parts.ensures ∙ ap tree_of h.is in
+    let size = ap nodes is in
+    (omega arith, (c.requires, (h.field-2.index, h.field-0, h.field-1, is)))

@@ -9,6 +9,9 @@ use Rattle.rhai_show.proofs.hashable.+search.Given as goal
 abbrev pub decreases-is_clean : goal.decreases-is_clean
 decreases-is_clean l = left_in l.store.now l.path.now + 4 * nodes l.value.now
 
+abbrev pub decreases-is_held_clean : goal.decreases-is_held_clean
+decreases-is_held_clean l = left_in l.store.now l.path.now
+
 abbrev pub decreases-are_clean : goal.decreases-are_clean
 decreases-are_clean l = left_in l.store.now l.path.now + (4 * nodes_trees (trees_of l.items.now) + 1)
 

@@ -3,7 +3,7 @@ use Rattle.std.specs.Int.{w64, to_le_bytes, cast_unsigned}
 use Rattle.std.proofs.lemmas.Int.{to_z-of_z}
 use Rattle.rhai_show.proofs.Pushed.{added_as}
 use Rattle.rhai_show.specs.HashBytes.{int_bytes}
-use Rattle.rhai_show.proofs.hash_bytes.add_int.Goals as goal
+use Rattle.rhai_show.proofs.hash_bytes.add_number.Goals as goal
 
 pub returns : goal.returns
 unfolding int_bytes

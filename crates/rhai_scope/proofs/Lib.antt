@@ -11,6 +11,7 @@ pub mod Trues
 pub mod LastTrue
 pub mod PlaceLists
 pub mod Listed
+pub mod Buckets
 pub mod Placed
 pub mod Headed
 pub mod Indexed

@@ -3,6 +3,7 @@
 
 mod alias;
 mod aliases;
+mod bucket;
 mod copy;
 mod extend;
 mod extend_moved;

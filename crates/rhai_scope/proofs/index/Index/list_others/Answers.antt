@@ -1,0 +1,16 @@
+use Rattle.std.proofs.Common.{take, sym}
+use Rattle.rhai_scope.specs.Index.{names_of}
+use Rattle.rhai_scope.proofs.EntryNames.{length_names}
+use Rattle.rhai_scope.proofs.Indexed.{length_first, listed_first, listed_others}
+use Rattle.rhai_scope.proofs.index.Index.list_others.Goals as goal
+
+pub returns-clause-ok : goal.returns-clause-ok
+returns-clause-ok c =
+    let x = c.args.self.now in
+    let es = c.args.entries.now in
+    record {
+      indexed = sym (length_names es);
+      lists = listed_others x es c.requires.indexed c.push_all.new.self
+          (c.in_ok-push_all.ensures.ok (names_of (take x.indexed es)) (length_first x es c.requires.indexed) (listed_first x es c.requires.indexed));
+      bucket = c.in_ok-push_all.ensures.buckets;
+    }

@@ -11,7 +11,8 @@ use rhai_value::{Dynamic, Map, Path, Store, Union};
 use std::alloc::{AllocError, Global};
 
 /// Whether the value is plain, the cells of `path` being open. The cells of `seen` were opened before; of those that are still open
-/// none opens again, and those that were left are known to be clean, so that none of these is looked into a second time. It is inlined in the loops, where most values hold no other.
+/// none opens again, and those that were left are known to be clean, so that none of these is looked into a second time. It is inlined in the
+/// loops, where most values hold no other.
 #[cycle(search)]
 #[inline(always)]
 fn is_clean(

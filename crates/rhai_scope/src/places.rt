@@ -1,5 +1,5 @@
 //! The places of all names.
-ghost use Rattle.std.specs.Prelude.{◌≡◌, ◌+◌, ◌<◌, ◌^◌, ℕ, [], ◌∷◌, ◌++◌, List, length, map, option_map, option_and_then, slice_get, if◌then◌else◌, nat_lt, None, IsTrue, IfOk, OnOk, OnErr};
+ghost use Rattle.std.specs.Prelude.{◌≡◌, ◌+◌, ◌<◌, ◌^◌, ℕ, [], ◌∷◌, ◌++◌, List, length, map, option_map, option_and_then, None, IsTrue, IfOk, OnOk, OnErr};
 ghost use Rattle.std.specs.Str.{chars};
 ghost use Rattle.rhai_scope.specs.Places.{in_slot, mixed, slot_of, listed, last_item, with_place, shortened, front, others, lowered, Relists, ListsNames};
 

@@ -157,11 +157,6 @@ put_near_part content part k constructs reads d s t w c a e is h =
     let alone : None ≡ cell_of w = part_alone part w a (none_of_holder content part k constructs reads) h in
     rw (sym (end_near s t w c e is alone), h) (refl, refl, refl)
 
--- what is held by a holder whose cell itself has such a part
-pub near_part : {A : Type 0} (content : A → Content) (part : Tree → Option A) (k : TypeId) → is_content_type k ≡ true → ((t : Tree) → option_map content (part t) ≡ typed_content k t)
-    → (s : List Cell) (t w : Tree) (c : ℕ) (a : A) → Some c ≡ cell_of t → Some w ≡ at s c → part w ≡ Some a → held_part part (end s [] t) ≡ Some a
-near_part content part k constructs reads s t w c a e is h = (put_near_part content part k constructs reads (content a) s t w c a e is h).0
-
 pub own_text : (s : List Cell) (t : Tree) (x : List ℕ) → text_of t ≡ Some x → held_part text_of (end s [] t) ≡ Some x
 own_text s t x h = own_held text_of s t x (λ c g m. refl) h
 

@@ -1,5 +1,5 @@
 //! Parts of values: the Rust types of which a value may have one, each the content of one constructor.
-ghost use Rattle.std.specs.Prelude.{◌≡◌, [], true, Option, Some, None, option_map, IfOk, IfErr, IfSome, IsOk, IsSome, OnOk};
+ghost use Rattle.std.specs.Prelude.{◌≡◌, [], true, Option, Some, None, option_map, IfOk, IfErr, IsOk, IsSome, OnOk};
 ghost use Rattle.std.specs.Borrow.{sem, Lends, LendsIf, LendsIfOk};
 ghost use Rattle.rhai_value.specs.contracts.dynamic.Dynamic as dynamic_type;
 ghost use Rattle.rhai_value.specs.declared.type_id.TypeId.{TypeId};
@@ -77,27 +77,7 @@ impl Dynamic {
     {
         match T::own(self) {
             Some(part) => Some(part),
-            None => match self.near_part::<T>(s) {
-                Some(part) => Some(part),
-                None => T::own(self.held(s)?),
-            },
-        }
-    }
-
-    /// The same of a holder whose cell itself has one; `None` of any other value.
-    #[inline(always)]
-    fn near_part<'s, T: Part>(&'s self, s: &'s Store) -> Option<&'s T>
-        ensures { IfSome result (λ r. held_part T.part_of (end s.now [] self.now) ≡ Some (T.meaning r.now)) }
-    {
-        let Some(cell) = self.cell() else {
-            return None;
-        };
-        match s.read(cell) {
-            None => None,
-            Some(content) => match T::own(content) {
-                None => None,
-                Some(part) => Some(part),
-            },
+            None => T::own(self.held(s)?),
         }
     }
 

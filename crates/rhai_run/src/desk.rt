@@ -92,6 +92,7 @@ impl Desk {
     }
 
     /// Does one command.
+    #[inline(always)]
     pub(crate) fn apply(&mut self, command: &Command) -> Result<Answer, NotDone>
         requires { Fits self.old }
         ensures { Does result self.old self.new (step self.old command.now) }

@@ -15,6 +15,7 @@ impl<'a> Target<'a> {
     /// A working value of the wrong type is refused, at this place of the script, before anything is written. After an `Err` target
     /// and store are as before. The end of the source's chain is found once; a bit, some bits and a byte take no memory, a character
     /// and a slice one new text. (`Target::propagate_changed_value`)
+    #[inline(always)]
     #[tactic(auto, using(crate::proofs::TargetMarks::still_marked))]
     pub fn propagate_changed_value(
         &mut self,
@@ -43,6 +44,7 @@ impl<'a> Target<'a> {
 /// The same of one kind of target each.
 impl<'a> Target<'a> {
     /// A bit.
+    #[inline(always)]
     fn propagate_bit(&mut self, m: &mut Store, pos: Position) -> Result<(), EvalAltResult>
         requires part { HasPart m.old self.old }
         requires kind { kind_of self.old ≡ a_bit }
@@ -55,6 +57,7 @@ impl<'a> Target<'a> {
     }
 
     /// Some bits.
+    #[inline(always)]
     fn propagate_field(&mut self, m: &mut Store, pos: Position) -> Result<(), EvalAltResult>
         requires part { HasPart m.old self.old }
         requires kind { kind_of self.old ≡ a_field }
@@ -82,6 +85,7 @@ impl<'a> Target<'a> {
     }
 
     /// A byte.
+    #[inline(always)]
     fn propagate_byte(&mut self, m: &mut Store, pos: Position) -> Result<(), EvalAltResult>
         requires part { HasPart m.old self.old }
         requires kind { kind_of self.old ≡ a_byte }
@@ -99,6 +103,7 @@ impl<'a> Target<'a> {
     }
 
     /// A character.
+    #[inline(never)]
     fn propagate_char(
         &mut self,
         alloc: Global,
@@ -121,6 +126,7 @@ impl<'a> Target<'a> {
     }
 
     /// A slice of a text.
+    #[inline(never)]
     fn propagate_slice(
         &mut self,
         alloc: Global,

@@ -300,6 +300,7 @@ impl<'a> Target<'a> {
 
 impl<'a> Target<'a> {
     /// The reference that the target is; `None` for any other target, a mark being cleared. Takes no memory. (`Target::take_ref`)
+    #[inline(always)]
     pub fn take_ref(self, m: &mut Store) -> Option<&'a mut Dynamic>
         requires { IsMarkedIn m.old self }
         ensures which { result ≡ reference_in self.entry }
@@ -347,6 +348,7 @@ impl<'a> Target<'a> {
     }
 
     /// Spends the target; a mark is cleared. Takes no memory.
+    #[inline(always)]
     pub fn release(self, m: &mut Store)
         requires { IsMarkedIn m.old self }
         ensures { m.new ≡ unmarked_from (mark_in self.entry) m.old }

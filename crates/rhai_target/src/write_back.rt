@@ -11,6 +11,7 @@ use rhai_value::{Blob, Dynamic, INT, InStore, Store};
 use std::alloc::Global;
 
 /// One bit of the held int becomes the boolean that the working value holds. Takes no memory.
+#[inline(always)]
 pub fn write_bit(
     source: &mut Dynamic,
     m: &mut Store,
@@ -65,6 +66,7 @@ pub fn write_field(
 }
 
 /// Puts these bits into a field of the held int: what `write_field` and the write-back of a target share.
+#[inline(always)]
 pub(crate) fn put_field(source: &mut Dynamic, m: &mut Store, mask: INT, shift: u8, bits: INT)
     requires place { shift < 64 }
     requires held { is_some (held_part int_of (end m.old [] source.old)) ≡ true }
@@ -82,6 +84,7 @@ pub(crate) fn put_field(source: &mut Dynamic, m: &mut Store, mask: INT, shift: u
 }
 
 /// One byte of the held blob becomes the int that the working value holds, modulo 256. Takes no memory.
+#[inline(always)]
 pub fn write_byte(
     source: &mut Dynamic,
     m: &mut Store,

@@ -40,26 +40,31 @@ impl FnBuiltin {
         ensures err { IfErr result (λ e. (x.new ≡ x.old) × (y.new ≡ y.old) × (m.new ≡ m.old)) }
     {
         // what operands have themselves, as most do, is read here; the rows on any operands follow
-        match *self {
-            FnBuiltin::Int(t) => if let Some(i) = own_int(x) {
+        if let FnBuiltin::Int(t) = *self {
+            if let Some(i) = own_int(x) {
                 if let Some(j) = own_int(y) {
                     return ints::answer_numbers(t, i, j);
                 }
-            },
-            FnBuiltin::IntCompare(t) => if let Some(i) = own_int(x) {
+            }
+        }
+        if let FnBuiltin::IntCompare(t) = *self {
+            if let Some(i) = own_int(x) {
                 if let Some(j) = own_int(y) {
                     return ints::compare_numbers(t, i, j);
                 }
-            },
-            FnBuiltin::IntAssign(t) => if let Some(j) = own_int(y) {
+            }
+        }
+        if let FnBuiltin::IntAssign(t) = *self {
+            if let Some(j) = own_int(y) {
                 return ints::assign_number(t, m, x, j);
-            },
-            FnBuiltin::TextCompare(t) => if let Some(a) = own_text(x) {
+            }
+        }
+        if let FnBuiltin::TextCompare(t) = *self {
+            if let Some(a) = own_text(x) {
                 if let Some(b) = own_text(y) {
                     return texts::compare_two(t, a, b);
                 }
-            },
-            _ => {}
+            }
         }
         match *self {
             FnBuiltin::Int(t) => ints::answer(t, m, x, y),

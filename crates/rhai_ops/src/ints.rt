@@ -40,19 +40,10 @@ pub(crate) fn answer_numbers(op: Token, i: INT, j: INT) -> Result<Dynamic, EvalA
     requires { IsTrue (is_number (asked.role op)) }
     ensures { IsOutcome ⊥ result (number_answer (specs.number (asked.role op) i j)) }
 {
-    match number_of(op, i, j) {
+    match number(role_of(op), i, j) {
         Ok(n) => Ok(Dynamic::from_int(n)),
         Err(fault) => Err(EvalAltResult::ErrorArithmetic(fault, Position::NONE)),
     }
-}
-
-/// The number that the operator answers, in a function of its own, so that each call of a row stays short.
-#[inline(never)]
-fn number_of(op: Token, i: INT, j: INT) -> Result<INT, ArithmeticFault>
-    requires { IsTrue (is_number (asked.role op)) }
-    ensures { specs.number (asked.role op) i j ≡ Some result }
-{
-    number(role_of(op), i, j)
 }
 
 /// A comparison of two ints.
@@ -77,15 +68,7 @@ pub(crate) fn compare_numbers(op: Token, i: INT, j: INT) -> Result<Dynamic, Eval
     requires { IsTrue (is_cmp (asked.role op)) }
     ensures { IsOutcome ⊥ result (bool_answer (specs.compared (asked.role op) (int_cmp i j))) }
 {
-    Ok(Dynamic::from_bool(compared_numbers(op, i, j)))
-}
-
-#[inline(never)]
-fn compared_numbers(op: Token, i: INT, j: INT) -> bool
-    requires { IsTrue (is_cmp (asked.role op)) }
-    ensures { specs.compared (asked.role op) (int_cmp i j) ≡ Some result }
-{
-    compared(role_of(op), i.cmp(&j))
+    Ok(Dynamic::from_bool(compared(role_of(op), i.cmp(&j))))
 }
 
 /// An assignment of one of these operators to the int at a place. The place and the second operand are each looked up once.

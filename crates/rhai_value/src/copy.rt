@@ -1,5 +1,5 @@
 //! Deep copies.
-ghost use Rattle.std.specs.Prelude.{◌≡◌, ◌<◌, vec_len, vec_capacity, ◌++◌, ◌∷◌, [], if◌then◌else◌, IfOk, IfSome, IsOk, map};
+ghost use Rattle.std.specs.Prelude.{◌≡◌, ◌<◌, vec_len, vec_capacity, ◌++◌, ◌∷◌, [], if◌then◌else◌, IfOk, IsOk, map};
 ghost use Rattle.rhai_value.specs.Rows.{copied_rows};
 ghost use Rattle.rhai_value.specs.Slots.{AreTaken, IsWhole, rows, rows_of, copied_slot};
 ghost use Rattle.rhai_value.specs.Tree.{TakesNoMemory, copy};
@@ -27,29 +27,20 @@ impl Dynamic {
     }
 }
 
-// What is most often copied and takes no memory, made by the caller in its place.
-#[inline(always)]
-fn copied_without_memory(union: &Union) -> Option<Union>
-    ensures { IfSome result (λ u. tree_of u ≡ copy (tree_of union.now)) }
-{
-    let mode = AccessMode::ReadWrite;
-    match union {
-        Union::Unit(tag, _, value) => Some(Union::Unit(*tag, mode, *value)),
-        Union::Bool(tag, _, value) => Some(Union::Bool(*tag, mode, *value)),
-        Union::Char(tag, _, value) => Some(Union::Char(*tag, mode, *value)),
-        Union::Int(tag, _, value) => Some(Union::Int(*tag, mode, *value)),
-        Union::Shared(tag, _, cell) => Some(Union::Shared(*tag, mode, *cell)),
-        _ => None,
-    }
-}
-
+// The kinds that are copied most often and take no memory are made by the caller in their place.
 #[inline(always)]
 #[cycle(copy)]
 fn copied(value: &Dynamic, alloc: Global) -> Result<Dynamic, AllocError>
     ensures value { IfOk result (λ d. d ≡ copy value.now) }
     ensures free { TakesNoMemory value.now → IsOk result }
 {
-    if let Some(union) = copied_without_memory(&value.union) {
+    let mode = AccessMode::ReadWrite;
+    if let Union::Int(tag, _, n) = &value.union {
+        let union = Union::Int(*tag, mode, *n);
+        return Ok(Dynamic { union });
+    }
+    if let Union::Shared(tag, _, shared) = &value.union {
+        let union = Union::Shared(*tag, mode, *shared);
         return Ok(Dynamic { union });
     }
     let union = copied_union(&value.union, alloc)?;

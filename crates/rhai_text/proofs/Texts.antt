@@ -1,17 +1,13 @@
 -- The characters of texts that are put together or cut.
-use Rattle.std.proofs.Common.{◌≡◌, ℕ, ◌+◌, ◌-◌, ◌≤◌, suc, List, [], ◌∷◌, ◌++◌, length, take, drop, set, sym, ◌∙◌, ap, subst, append_assoc, add-one, arith, length-append, length-drop}
+use Rattle.std.proofs.Common.{◌≡◌, ℕ, ◌+◌, ◌-◌, ◌≤◌, suc, List, [], ◌∷◌, ◌++◌, length, take, drop, set, sym, ◌∙◌, ap, subst, add-one, arith, length-append, length-drop}
 use Rattle.std.proofs.lemmas.List.{append-nil, take-append-drop, drop-drop, drop_all, set_split, take_at, drop_at}
-use Rattle.std.proofs.lemmas.Str.{chars-append, chars_from_encodes, cons_from_encodes, encodes-append, encodes-chars, length-le-encodes, IsUtf8-append, IsUtf8-take, IsCharBoundary-at_seam}
+use Rattle.std.proofs.lemmas.Str.{chars-append, chars_from_encodes, cons_from_encodes, encodes-append, encodes-chars, length-le-encodes, IsUtf8-take, IsCharBoundary-at_seam}
 use Rattle.std.specs.Char.{encode_utf8}
 use Rattle.std.specs.Str.{chars, encode_utf8_all, IsUtf8, IsCharBoundary}
 
--- three texts that are pushed one after another
-pub chars-pushed_three : {start one two three : List ℕ} (xs ys zs : List ℕ) → start ≡ [] → one ≡ start ++ xs → two ≡ one ++ ys → three ≡ two ++ zs → IsUtf8 xs → IsUtf8 ys → chars three ≡ chars xs ++ (chars ys ++ chars zs)
-chars-pushed_three xs ys zs empty first second third u v =
-    ap chars (third ∙ ap (λ bs. bs ++ zs) (second ∙ ap (λ bs. bs ++ ys) (first ∙ ap (λ bs. bs ++ xs) empty)))
-    ∙ chars-append (xs ++ ys) zs (IsUtf8-append xs ys u v)
-    ∙ ap (λ cs. cs ++ chars zs) (chars-append xs ys u)
-    ∙ append_assoc (chars xs) (chars ys) (chars zs)
+-- three texts in a row
+pub chars-three : (xs ys zs : List ℕ) → IsUtf8 xs → IsUtf8 ys → chars (xs ++ (ys ++ zs)) ≡ chars xs ++ (chars ys ++ chars zs)
+chars-three xs ys zs u v = chars-append xs (ys ++ zs) u ∙ ap (λ cs. chars xs ++ cs) (chars-append ys zs v)
 
 -- one character on from what spells a text's characters from i on
 pub encodes-drop_next : (cs rest : List ℕ) (i c : ℕ) → encode_utf8_all (drop i cs) ≡ encode_utf8 c ++ rest → rest ≡ encode_utf8_all (drop (i + 1) cs)

@@ -4,6 +4,7 @@ ghost use Rattle.std.specs.Str.{chars, encode_utf8_all};
 ghost use Rattle.rhai_text.specs.Text.{minus, minus_char, with_slice};
 
 use crate::immutable_string::ImmutableString;
+use crate::text_bytes::{TextBytes, three_in_a_row};
 use std::alloc::{AllocError, Global};
 
 impl ImmutableString {
@@ -25,7 +26,7 @@ impl ImmutableString {
             return self.copy(alloc);
         }
         let text = self.as_str().replace(alloc, pattern, "")?;
-        ImmutableString::from_string(text)
+        ImmutableString::from_bytes(alloc, TextBytes::Long(text))
     }
 
     /// This text without any `character`: rhai's `-` of a text and a character. It goes over the text once, with room
@@ -37,7 +38,7 @@ impl ImmutableString {
         for run in self.as_str().split(character) {
             text.push_str(run)?;
         }
-        ImmutableString::from_string(text)
+        ImmutableString::from_bytes(alloc, TextBytes::Long(text))
     }
 
     /// This text with `character` in place of the one at `index`, counted in characters from 0, as rhai writes through
@@ -92,15 +93,8 @@ fn joined(
 ) -> Result<ImmutableString, AllocError>
     ensures { IfOk result (λ t. t ≡ chars front.now ++ (chars middle.now ++ chars back.now)) }
 {
-    let capacity = front
-        .len()
-        .saturating_add(middle.len())
-        .saturating_add(back.len());
-    let mut text = String::with_capacity(alloc, capacity)?;
-    text.push_str(front)?;
-    text.push_str(middle)?;
-    text.push_str(back)?;
-    ImmutableString::from_string(text)
+    let bytes = three_in_a_row(alloc, front, middle, back)?;
+    ImmutableString::from_bytes(alloc, bytes)
 }
 
 // The first `count` characters of the text, or all where it has fewer, and the rest.

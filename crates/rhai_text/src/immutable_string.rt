@@ -1,53 +1,57 @@
 // A text that is never changed in place, its reads and its comparisons.
-ghost use Rattle.std.specs.Prelude.{◌≡◌, ◌↔◌, [], length, string_bytes, IfOk, IsTrue, Some, nat_eq, refl};
+ghost use Rattle.std.specs.Prelude.{◌≡◌, ◌↔◌, [], length, IfOk, IsTrue, Some, nat_eq, refl};
 ghost use Rattle.std.specs.Cmp.{partial_equiv_from_equiv};
 ghost use Rattle.std.specs.Cmp.Lexicographic.{bytes_decides, pointwise, slice_cmp, nat_list_eq_equiv, nat_list_cmp_total, texts_po, texts_ties};
 ghost use Rattle.std.specs.Hash as fed;
 ghost use Rattle.std.specs.Ordering.{nat_cmp};
 ghost use Rattle.std.specs.Str.{chars, encode_utf8_all};
 ghost use Rattle.std.proofs.Common.{ap};
+ghost use Rattle.rhai_text.specs.Bytes.{text_bytes};
 
+use crate::text_bytes::TextBytes;
 use std::alloc::{AllocError, Global};
 use std::cmp::Ordering;
 use std::hash::{Hash, Hasher};
 use std::marker::Model;
-use std::rc::RcStr;
+use std::rc::Rc;
 
 /// A text that is never changed in place: rhai's `ImmutableString`. Contracts see it as the list of its characters.
 ///
 /// It is one pointer wide, and its copies share their bytes.
 #[derive(Drop)]
 pub struct ImmutableString {
-    text: RcStr,
+    bytes: Rc<TextBytes>,
 }
 
 impl Model for ImmutableString {
     ghost use Rattle.std.specs.Prelude.{List, ℕ};
-    ghost use Rattle.std.specs.Rc.{rc_str_bytes};
     ghost use Rattle.std.specs.Str.{chars};
+    ghost use Rattle.rhai_text.specs.Bytes.{text_bytes};
 
     ghost Value = { List ℕ };
 
-    ghost view = { λ t. chars (rc_str_bytes t.text) };
+    ghost view = { λ t. chars (text_bytes t.bytes.value) };
 }
 
 impl ImmutableString {
-    /// The text of a `&str`, as rhai's `From<&str>`. It takes memory for the bytes and for a count of the copies, and
-    /// fails only where that is refused. The time is in the length of the text.
+    /// The text of a `&str`, as rhai's `From<&str>`. It takes memory for the bytes and for a count of the copies, one
+    /// block where there are at most 24 bytes, and fails only where that is refused. The time is in the length of the text.
     pub fn from_str(alloc: Global, text: &str) -> Result<ImmutableString, AllocError>
         ensures characters { IfOk result (λ t. t ≡ chars text.now) }
         ensures bytes { IfOk result (λ t. encode_utf8_all t ≡ text.now) }
     {
-        let text = RcStr::from_str(alloc, text)?;
-        Ok(ImmutableString { text })
+        let bytes = TextBytes::from_str(alloc, text)?;
+        ImmutableString::from_bytes(alloc, bytes)
     }
 
-    // The text of a `String`, whose bytes it keeps. It takes memory for a count of the copies.
-    pub(crate) fn from_string(text: String) -> Result<ImmutableString, AllocError>
-        ensures { IfOk result (λ t. t ≡ chars (string_bytes text)) }
+    // The text of these bytes. It takes memory for a count of the copies, beside which few bytes stand.
+    pub(crate) fn from_bytes(alloc: Global, bytes: TextBytes) -> Result<ImmutableString, AllocError>
+        ensures { IfOk result (λ t. t ≡ chars (text_bytes bytes)) }
     {
-        let text = RcStr::from_string(text)?;
-        Ok(ImmutableString { text })
+        match Rc::new(alloc, bytes) {
+            Ok(bytes) => Ok(ImmutableString { bytes }),
+            Err(_) => Err(AllocError),
+        }
     }
 
     /// The text as a `&str`, at no cost.
@@ -55,7 +59,7 @@ impl ImmutableString {
         ensures characters { chars result.now ≡ self.now }
         ensures bytes { result.now ≡ encode_utf8_all self.now }
     {
-        self.text.as_str()
+        self.bytes.as_str()
     }
 
     /// The length in UTF-8 bytes, at no cost.
@@ -77,8 +81,8 @@ impl ImmutableString {
     pub fn copy(&self, alloc: Global) -> Result<ImmutableString, AllocError>
         ensures { IfOk result (λ t. t ≡ self.now) }
     {
-        match self.text.clone() {
-            Ok(text) => Ok(ImmutableString { text }),
+        match self.bytes.clone() {
+            Ok(bytes) => Ok(ImmutableString { bytes }),
             // The count of the copies is at its limit, so this one gets bytes of its own.
             Err(_) => ImmutableString::from_str(alloc, self.as_str()),
         }

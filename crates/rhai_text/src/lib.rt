@@ -9,6 +9,7 @@ pub mod laws;
 mod limits;
 mod position;
 mod quote;
+mod text_bytes;
 mod token;
 
 pub use error::{ArithmeticFault, EvalAltResult, SizeKind};

@@ -31,7 +31,7 @@ pub(crate) fn made_items<T: Variant>(
 {
     let mut values = Vec::with_capacity(alloc, items.len())?;
     for item in items {
-        values.push(made(alloc, item)?)?;
+        values.push_reserved(made(alloc, item)?);
     }
     Ok(values)
 }
@@ -46,7 +46,7 @@ pub(crate) fn copied_items<T: Variant>(
 {
     let mut values = Vec::with_capacity(alloc, items.len())?;
     for item in items {
-        values.push(made(alloc, item.duplicate(alloc)?)?)?;
+        values.push_reserved(made(alloc, item.duplicate(alloc)?)?);
     }
     Ok(values)
 }

@@ -7,7 +7,7 @@ use crate::cast::{can_cast, can_move, cast_to, moved_as};
 use crate::desk::Desk;
 use crate::lent::write_entry;
 use crate::not_done::NotDone;
-use crate::vectors::{push_in_room, replace_at};
+use crate::vectors::replace_at;
 use rhai_scope::aliases_shown;
 use rhai_text::ImmutableString;
 use rhai_value::{Dynamic, INT, TypeId};
@@ -152,7 +152,7 @@ impl Desk {
         let Some(value) = self.scope.remove::<Dynamic>(name.as_str(), &self.store)? else {
             unreachable!();
         };
-        push_in_room(&mut self.hand, moved_as(value, kind));
+        self.hand.push_reserved(moved_as(value, kind));
         Ok(Answer::Done)
     }
 

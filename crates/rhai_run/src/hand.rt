@@ -9,7 +9,7 @@ use crate::desk::Desk;
 use crate::lists::Names;
 use crate::maps::{map_of_keys, move_to_keys};
 use crate::not_done::NotDone;
-use crate::vectors::{push_in_room, replace_at, take_last};
+use crate::vectors::{replace_at, take_last};
 use rhai_text::ImmutableString;
 use rhai_value::{Dynamic, FnPtr, TypeId};
 
@@ -40,7 +40,7 @@ impl Desk {
     {
         self.has_values(n)?;
         let items = take_last(&mut self.hand, n)?;
-        push_in_room(&mut self.hand, Dynamic::from_array(items));
+        self.hand.push_reserved(Dynamic::from_array(items));
         Ok(Answer::Done)
     }
 
@@ -52,7 +52,7 @@ impl Desk {
         let mut map = map_of_keys(self.alloc, keys)?;
         let values = take_last(&mut self.hand, keys.len())?;
         move_to_keys(&mut map, keys, values);
-        push_in_room(&mut self.hand, Dynamic::from_map(map));
+        self.hand.push_reserved(Dynamic::from_map(map));
         Ok(Answer::Done)
     }
 
@@ -62,7 +62,8 @@ impl Desk {
         self.has_values(n)?;
         let name = name.copy(self.alloc)?;
         let curry = take_last(&mut self.hand, n)?;
-        push_in_room(&mut self.hand, Dynamic::from(FnPtr::new(name, curry)));
+        self.hand
+            .push_reserved(Dynamic::from(FnPtr::new(name, curry)));
         Ok(Answer::Done)
     }
 
@@ -101,7 +102,7 @@ impl Desk {
         self.value(i)?;
         self.hand.reserve(1)?;
         let value = replace_at(&mut self.hand, i, Dynamic::UNIT);
-        push_in_room(&mut self.hand, value);
+        self.hand.push_reserved(value);
         Ok(Answer::Done)
     }
 

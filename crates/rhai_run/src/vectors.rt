@@ -1,21 +1,10 @@
 //! Values that are moved in, out of and between vectors.
-ghost use Rattle.std.specs.Prelude.{◌≡◌, ◌<◌, ◌++◌, ◌∷◌, [], ◌+◌, ◌≤◌, slice_get, slice_set, vec_len, vec_capacity, Some, IfOk, IfErr, OnOk, OnErr, IsOk, IsErr};
+ghost use Rattle.std.specs.Prelude.{◌≡◌, ◌<◌, ◌++◌, ◌+◌, ◌≤◌, slice_get, slice_set, vec_len, vec_capacity, Some, IfOk, IfErr, OnOk, OnErr, IsOk, IsErr};
 ghost use Rattle.rhai_run.specs.State.{last_values, values_before};
 
 use rhai_value::Dynamic;
 use std::alloc::AllocError;
 use std::mem;
-
-/// Adds an item where there is room for it.
-#[inline(always)]
-pub(crate) fn push_in_room<T: Drop>(items: &mut Vec<T>, item: T)
-    requires { vec_len items.old < vec_capacity items.old }
-    ensures items { items.new.items ≡ items.old.items ++ item ∷ [] }
-    ensures len { vec_len items.new ≡ vec_len items.old + 1 }
-    ensures capacity { vec_capacity items.old ≤ vec_capacity items.new }
-{
-    items.push_reserved(item);
-}
 
 /// Takes a value out of its place, and leaves another there.
 pub(crate) fn replace_at(values: &mut Vec<Dynamic>, i: usize, left: Dynamic) -> Dynamic

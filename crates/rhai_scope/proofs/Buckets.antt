@@ -6,6 +6,7 @@ use Rattle.std.proofs.lemmas.List.{length-set}
 use Rattle.std.proofs.lemmas.Option.{slice_get_past, slice_get_read}
 use Rattle.std.proofs.lemmas.Slice.Eq.{bytes_eq-Decides}
 use Rattle.std.specs.Str.{bytes_eq}
+use Rattle.rhai_value.proofs.ForCallers.{get_set_other}
 use Rattle.rhai_scope.specs.Places.{in_bucket, in_slot, slot_of, listed, Relists}
 use Rattle.rhai_scope.specs.declared.bucket.Bucket.{Bucket}
 use Rattle.rhai_scope.specs.declared.places.Places.{Places}
@@ -15,13 +16,6 @@ get_same : {X : Type 0} (xs : List X) (i : ℕ) (y : X) → i < length xs → sl
 get_same [] i y l = absurd (omega (arith, l))
 get_same (x ∷ xs) zero y l = refl
 get_same (x ∷ xs) (suc i) y l = get_same xs i y (omega (arith, l))
-
-get_other : {X : Type 0} (xs : List X) (i j : ℕ) (y : X) → j ≢ i → slice_get (set xs i y) j ≡ slice_get xs j
-get_other [] i j y h = refl
-get_other (x ∷ xs) zero zero y h = absurd (h refl)
-get_other (x ∷ xs) zero (suc j) y h = refl
-get_other (x ∷ xs) (suc i) zero y h = refl
-get_other (x ∷ xs) (suc i) (suc j) y h = get_other xs i j y (λ e. h (ap suc e))
 
 get_behind : {X : Type 0} (xs : List X) (j : ℕ) (y : X) → (slice_get (xs ++ y ∷ []) j ≡ slice_get xs j) ⊎ (slice_get (xs ++ y ∷ []) j ≡ Some y)
 get_behind [] zero y = inr refl
@@ -56,7 +50,7 @@ module _ (old new : List Bucket) (i : ℕ) (b w : Bucket) (within : i < length o
   written_in q = ap (option_and_then (λ c. in_bucket c q)) (ap (λ bs. slice_get bs i) written ∙ get_same old i w within)
 
   others_stay : (slot : ℕ) (q : List ℕ) → slot ≢ i → in_slot new slot q ≡ in_slot old slot q
-  others_stay slot q other = ap (option_and_then (λ c. in_bucket c q)) (ap (λ bs. slice_get bs slot) written ∙ get_other old i slot w other)
+  others_stay slot q other = ap (option_and_then (λ c. in_bucket c q)) (ap (λ bs. slice_get bs slot) written ∙ get_set_other old i slot w other)
 
   -- the bucket of a text, where the list of that text alone has become what f makes of it
   module _ (f : Option (List ℕ) → Option (List ℕ)) (text : List ℕ) (is : i ≡ slot_of (length old) text) where

@@ -86,6 +86,19 @@ impl<'a> IntoIterator for &'a Scope {
     }
 }
 
+/// A value's flat copy. Most values are no holders, and these are copied without a look at the store.
+#[tactic(auto, using(crate::proofs::FlatItems::flat_own))]
+fn flat_copy(alloc: Global, store: &Store, value: &Dynamic) -> Result<Dynamic, AllocError>
+    ensures value { IfOk result (λ d. d ≡ flat store.now value.now) }
+    ensures free { TakesNoMemory (flat store.now value.now) → IsOk result }
+{
+    if value.is_shared() {
+        value.flatten_clone(alloc, store)
+    } else {
+        value.copy(alloc)
+    }
+}
+
 fn flat_item<'a>(
     alloc: Global,
     store: &Store,
@@ -96,11 +109,7 @@ fn flat_item<'a>(
     ensures free { TakesNoMemory (flat store.now value.now) → IsOk result }
 {
     let is_constant = value.is_read_only(store);
-    Ok((
-        name.as_str(),
-        is_constant,
-        value.flatten_clone(alloc, store)?,
-    ))
+    Ok((name.as_str(), is_constant, flat_copy(alloc, store, value)?))
 }
 
 /// The entries that are left to `Scope::iter`, which makes their values flat.

@@ -95,19 +95,25 @@ fn names_that_are_no_words_have_no_line(rt: HostRuntime) -> Result<(), Fail> {
     Ok(())
 }
 
+/// Whether no line puts the literal.
+fn is_never_put(alloc: Global, literal: Literal) -> Result<bool, AllocError> {
+    is_unwritten(alloc, &Command::Put(literal))
+}
+
 #[test]
 fn some_literals_have_no_line(rt: HostRuntime) -> Result<(), Fail> {
     let alloc = rt.alloc();
     let range = Host::ExclusiveRange(ExclusiveRange { start: 0, end: 1 });
-    assert!(rt; is_unwritten(alloc, &Command::Put(Literal::Text(text(alloc, "a\nb")?)))?);
-    assert!(rt; is_unwritten(alloc, &Command::Put(Literal::Char('\n')))?);
-    assert!(rt; is_unwritten(alloc, &Command::Put(Literal::Host(range)))?);
-    assert!(rt;
-        !is_unwritten(
-            alloc,
-            &Command::Put(Literal::Blob(Bytes::new(Vec::new(alloc))))
-        )?
-    );
+    assert!(rt; is_never_put(alloc, Literal::Text(text(alloc, "a\nb")?))?);
+    assert!(rt; is_never_put(alloc, Literal::Char('\n'))?);
+    assert!(rt; is_never_put(alloc, Literal::Host(range))?);
+    Ok(())
+}
+
+#[test]
+fn empty_lists_have_a_line(rt: HostRuntime) -> Result<(), Fail> {
+    let alloc = rt.alloc();
+    assert!(rt; !is_never_put(alloc, Literal::Blob(Bytes::new(Vec::new(alloc))))?);
     assert!(rt; !is_unwritten(alloc, &Command::MakeMap(Names::new(Vec::new(alloc))))?);
     Ok(())
 }

@@ -105,6 +105,7 @@ impl Places {
 
     /// The last place of a name. It takes no memory; the time is in the name's bytes and in the logarithm of the number of names in
     /// its bucket.
+    #[inline(never)]
     pub(crate) fn last(&self, name: &str) -> Option<usize>
         ensures { result ≡ option_and_then last_item (listed self.now name.now) }
     {

@@ -83,9 +83,17 @@ impl ImmutableString {
     {
         match self.bytes.clone() {
             Ok(bytes) => Ok(ImmutableString { bytes }),
-            // The count of the copies is at its limit, so this one gets bytes of its own.
-            Err(_) => ImmutableString::from_str(alloc, self.as_str()),
+            Err(_) => self.with_own_bytes(alloc),
         }
+    }
+
+    // The count of the copies is at its limit, so this one gets bytes of its own.
+    #[cold]
+    #[inline(never)]
+    fn with_own_bytes(&self, alloc: Global) -> Result<ImmutableString, AllocError>
+        ensures { IfOk result (λ t. t ≡ self.now) }
+    {
+        ImmutableString::from_str(alloc, self.as_str())
     }
 }
 

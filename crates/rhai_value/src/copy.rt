@@ -27,7 +27,7 @@ impl Dynamic {
     }
 }
 
-// The kinds that are copied most often and take no memory are made by the caller in their place.
+// The kinds that are copied most often are made by the caller in their place.
 #[inline(always)]
 #[cycle(copy)]
 fn copied(value: &Dynamic, alloc: Global) -> Result<Dynamic, AllocError>
@@ -41,6 +41,11 @@ fn copied(value: &Dynamic, alloc: Global) -> Result<Dynamic, AllocError>
     }
     if let Union::Shared(tag, _, shared) = &value.union {
         let union = Union::Shared(*tag, mode, *shared);
+        return Ok(Dynamic { union });
+    }
+    if let Union::Str(tag, _, text) = &value.union {
+        let text = text.copy(alloc)?;
+        let union = Union::Str(*tag, mode, text);
         return Ok(Dynamic { union });
     }
     let union = copied_union(&value.union, alloc)?;

@@ -49,6 +49,8 @@ pub(crate) fn set_own_mode(value: &mut Dynamic, mode: AccessMode)
     }
 }
 
+// Most values hold no others, so each caller sets their mode in its place.
+#[inline(always)]
 #[cycle(paint)]
 #[tactic(auto, using(crate::proofs::Paints::painted_trees))]
 fn paint_value(value: &mut Dynamic, mode: AccessMode)
@@ -62,6 +64,7 @@ fn paint_value(value: &mut Dynamic, mode: AccessMode)
     set_own_mode(value, mode);
 }
 
+#[inline(never)]
 #[cycle(paint)]
 fn paint_items(items: &mut Vec<Dynamic>, mode: AccessMode)
     ensures { items.new.items ≡ map (paint mode) items.old.items }
@@ -71,6 +74,7 @@ fn paint_items(items: &mut Vec<Dynamic>, mode: AccessMode)
     }
 }
 
+#[inline(never)]
 #[cycle(paint)]
 fn paint_map(map: &mut Map, mode: AccessMode)
     ensures { fields_of map.new ≡ paint_fields mode (fields_of map.old) }

@@ -27,12 +27,11 @@ pub flagged_back : (es : List Entry) (xs : List (List ℕ × Bool × Tree)) → 
 flagged_back es xs = rw take-append_seam
 
 -- one heading and one value less to come, and one entry more
-module _ {H : Type 0} (name_of : H → List ℕ) (mode_of : H → AccessMode) (es fs gs : List Entry) (h : H) (t u : Tree) (e : Entry) (p : List ℕ × AccessMode) (hs ks : List H) (ts us : List Tree) where
-  pub headed_step : hs ≡ h ∷ ks → ts ≡ t ∷ us → p ≡ (name_of h, mode_of h) → u ≡ paint p.1 t → e ≡ new_entry p.0 u → fs ≡ es ++ e ∷ []
+module _ {H : Type 0} (name_of : H → List ℕ) (mode_of : H → AccessMode) (es fs gs : List Entry) (h : H) (t : Tree) (p : List ℕ × AccessMode) (hs ks : List H) (ts us : List Tree) where
+  pub headed_step : hs ≡ h ∷ ks → ts ≡ t ∷ us → p ≡ (name_of h, mode_of h) → fs ≡ pushed p.1 p.0 t es
       → es ++ headed name_of mode_of hs ts ≡ gs → fs ++ headed name_of mode_of ks us ≡ gs
-  headed_step heading value parts painted new more is =
-      let entry : e ≡ new_entry (name_of h) (paint (mode_of h) t) = new ∙ ap (new_entry p.0) painted ∙ ap (λ q. new_entry q.0 (paint q.1 t)) parts in
-      ap (λ xs. xs ++ headed name_of mode_of ks us) (more ∙ ap (λ x. es ++ x ∷ []) entry)
+  headed_step heading value parts more is =
+      ap (λ xs. xs ++ headed name_of mode_of ks us) (more ∙ ap (λ q. pushed q.1 q.0 t es) parts)
       ∙ append_assoc es (new_entry (name_of h) (paint (mode_of h) t) ∷ []) (headed name_of mode_of ks us)
       ∙ ap₂ (λ xs ys. es ++ headed name_of mode_of xs ys) (sym heading) (sym value) ∙ is
 

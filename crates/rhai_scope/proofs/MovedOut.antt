@@ -20,6 +20,11 @@ set_changed f [] i e l is = absurd (omega (arith, l))
 set_changed f (x ∷ es) zero e l is = ap (λ y. f y ∷ es) is
 set_changed f (x ∷ es) (suc i) e l is = ap (λ xs. x ∷ xs) (set_changed f es i e (omega (arith, l)) is)
 
+-- the last entry, written over
+pub last_changed : (f : Entry → Entry) (es : List Entry) (e g : Entry) → g ≡ get_or (es ++ e ∷ []) (length es) g → slice_set (es ++ e ∷ []) (length es) (f g) ≡ es ++ f e ∷ []
+last_changed f [] e g is = ap (λ y. f y ∷ []) is
+last_changed f (x ∷ es) e g is = ap (λ xs. x ∷ xs) (last_changed f es e g is)
+
 -- the last entry goes
 pub last_taken : (es : List Entry) (i : ℕ) → length es - i ≡ 1 → popped es ≡ remove es i
 last_taken es i h =

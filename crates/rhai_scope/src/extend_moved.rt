@@ -5,7 +5,7 @@ ghost use Rattle.rhai_scope.specs.Extended.{extended, extended_flagged, flagged_
 
 use crate::heading::Heading;
 use crate::records::Record;
-use crate::scope::{Scope, painted};
+use crate::scope::{Scope, push_in_room};
 use rhai_text::ImmutableString;
 use rhai_value::Dynamic;
 use std::alloc::Global;
@@ -23,7 +23,7 @@ fn add_in_room<H: Heading>(
 {
     for (heading, value) in headings.into_iter().zip(values) {
         let (name, access) = heading.split();
-        records.push_reserved(Record::new(alloc, name, painted(access, value)));
+        push_in_room(alloc, records, name, access, value);
     }
 }
 

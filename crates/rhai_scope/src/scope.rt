@@ -45,14 +45,6 @@ impl Model for Scope {
     ghost invariant = { λ s. IsIndexOf s.index (names_of s.records.items) };
 }
 
-/// A value, painted with a mode.
-pub(crate) fn painted(access: AccessMode, mut value: Dynamic) -> Dynamic
-    ensures { result ≡ paint access value }
-{
-    value.set_access_mode(access);
-    value
-}
-
 /// Makes room for one more entry; where there is none yet, for the least number of a scope's entries.
 fn make_room(records: &mut Vec<Record>) -> Result<(), AllocError>
     ensures items { records.new.items ≡ records.old.items }
@@ -77,6 +69,25 @@ fn admit(alloc: Global, records: &mut Vec<Record>, index: &mut Index) -> Result<
 {
     make_room(records)?;
     index.admit_one(alloc, records.as_slice())
+}
+
+/// Adds an entry where there is room for it. Its value is painted in its place, so that what is written isn't moved again.
+#[inline(always)]
+pub(crate) fn push_in_room(
+    alloc: Global,
+    records: &mut Vec<Record>,
+    name: ImmutableString,
+    access: AccessMode,
+    value: Dynamic,
+)
+    requires { vec_len records.old + 1 ≤ vec_capacity records.old }
+    ensures items { records.new.items ≡ pushed access name value records.old.items }
+    ensures len { vec_len records.new ≡ vec_len records.old + 1 }
+    ensures capacity { vec_capacity records.old ≤ vec_capacity records.new }
+{
+    let place = records.len();
+    records.push_reserved(Record::new(alloc, name, value));
+    records[place].value_mut().set_access_mode(access);
 }
 
 impl Scope {
@@ -143,8 +154,7 @@ impl Scope {
         let alloc = self.alloc;
         match admit(alloc, &mut self.records, &mut self.index) {
             Ok(()) => {
-                let entry = Record::new(alloc, name, painted(access, value));
-                self.records.push_reserved(entry);
+                push_in_room(alloc, &mut self.records, name, access, value);
                 Ok(())
             }
             Err(_) => Err((name, value)),
@@ -202,8 +212,7 @@ impl Scope {
     {
         let alloc = self.alloc;
         admit(alloc, &mut self.records, &mut self.index)?;
-        let entry = Record::new(alloc, name, painted(access, value));
-        self.records.push_reserved(entry);
+        push_in_room(alloc, &mut self.records, name, access, value);
         Ok(())
     }
 
@@ -212,8 +221,9 @@ impl Scope {
         requires { 0 < length self.old }
         ensures { self.new ≡ popped self.old }
     {
-        let len = self.len() - 1;
-        self.rewind(len);
+        let len = self.records.len() - 1;
+        self.index.rewind(&self.records, len);
+        drop(self.records.pop());
     }
 
     /// Takes the entry at a place out, and drops it.

@@ -10,7 +10,7 @@ use Rattle.rhai_value.specs.declared.store.Cell.{Cell}
 use Rattle.rhai_value.specs.Tree.{Tree, node, leaf, branch, fields, holder, cell_of}
 use Rattle.rhai_value.specs.Store.{at}
 use Rattle.rhai_value.specs.Walk.{is_open, visit, visit_of, visit_map, unentered, walk_in}
-use Rattle.rhai_value.specs.End.{held_in, End, held, closed, end_at, end_from, site_after, end_of, end}
+use Rattle.rhai_value.specs.End.{held_in, End, held, stuck, closed, end_at, end_from, site_after, end_of, end}
 
 -- the end within n steps, where no account is kept of the cells that were passed
 abbrev pub chain : ℕ → List Cell → Site → Tree → End
@@ -138,6 +138,17 @@ end_alone s t e = chain_alone (length s) s Own t e ∙ chain-end s t
 
 pub held_alone : (s : List Cell) (t : Tree) → None ≡ cell_of t → Some t ≡ held_in (end s [] t)
 held_alone s t e = ap held_in (end_alone s t e)
+
+-- nothing is held by a holder whose cell is marked or no cell of the store
+chain_stuck : (n : ℕ) (s : List Cell) (site : Site) (t : Tree) (c : ℕ) → Some c ≡ cell_of t → None ≡ at s c → stuck t ≡ chain n s site t
+chain_stuck n s site (node (leaf l) g a) c e is = cc
+chain_stuck n s site (node (branch k ts) g a) c e is = cc
+chain_stuck n s site (node (fields fs) g a) c e is = cc
+chain_stuck zero s site (node (holder d) g a) c e is = rw (same_Some d c (sym e), ← is) refl
+chain_stuck (suc n) s site (node (holder d) g a) c e is = rw (same_Some d c (sym e), ← is) refl
+
+pub held_by_none : (s : List Cell) (t : Tree) (c : ℕ) → Some c ≡ cell_of t → None ≡ at s c → None ≡ held_in (end s [] t)
+held_by_none s t c e is = ap held_in (chain_stuck (length s) s Own t c e is ∙ chain-end s t)
 
 -- so is the content of a holder's cell, if it is no holder
 pub end_near : (s : List Cell) (t w : Tree) (c : ℕ) → Some c ≡ cell_of t → Some w ≡ at s c → None ≡ cell_of w → held (InCell c) w ≡ end s [] t

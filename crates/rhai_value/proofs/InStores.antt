@@ -1,5 +1,5 @@
 -- Writes to what a value holds in its store.
-use Rattle.std.proofs.Common.{◌≡◌, ◌<◌, ℕ, ℤ, Bool, true, false, if◌then◌else◌, option_map, List, [], length, Option, Some, None, IfSome, is_some, cond, slice_get, refl, sym, ap, ◌∙◌}
+use Rattle.std.proofs.Common.{◌≡◌, ◌<◌, ℕ, ℤ, Bool, true, false, if◌then◌else◌, option_map, List, [], length, Option, Some, None, IfSome, is_some, cond, slice_get, option_and_then, refl, sym, ap, ◌∙◌}
 use Rattle.rhai_value.specs.declared.access_mode.AccessMode.{AccessMode}
 use Rattle.rhai_value.specs.declared.in_store.InStore.{InStore}
 use Rattle.rhai_value.specs.declared.chain.Site.TheVariants.{Own, InCell}
@@ -13,7 +13,7 @@ use Rattle.rhai_value.specs.Kinds.{one_type}
 use Rattle.rhai_value.specs.Store.{put, at}
 use Rattle.rhai_value.specs.End.{End, end, held, stuck, closed, held_in, held_part, site_of, value_after, store_after}
 use Rattle.rhai_value.specs.Writes.{written_at, written}
-use Rattle.rhai_value.proofs.Chains.{end_near}
+use Rattle.rhai_value.proofs.Chains.{end_near, held_alone, held_by_one, held_by_none}
 use Rattle.rhai_value.proofs.Ends.{stands, end_opens, end_own}
 use Rattle.rhai_value.proofs.Stores.{content_is, put-same}
 use Rattle.rhai_value.proofs.Walks.{at_within}
@@ -115,6 +115,16 @@ none_of_holder {A = A} content part k constructs reads c g m = here (is_type k i
 pub own_part : {A : Type 0} (content : A → Content) (part : Tree → Option A) (k : TypeId) → is_content_type k ≡ true → ((t : Tree) → option_map content (part t) ≡ typed_content k t)
     → (s : List Cell) (t : Tree) (a : A) → part t ≡ Some a → held_part part (end s [] t) ≡ Some a
 own_part content part k constructs reads s t a h = own_held part s t a (none_of_holder content part k constructs reads) h
+
+-- what is held has what a value has that is no holder, what the content of a holder's cell has, and nothing where the cell doesn't open
+pub part_alone_held : {A : Type 0} (part : Tree → Option A) (s : List Cell) (t : Tree) → None ≡ cell_of t → part t ≡ held_part part (end s [] t)
+part_alone_held part s t e = ap (option_and_then part) (held_alone s t e)
+
+pub part_near_held : {A : Type 0} (part : Tree → Option A) (s : List Cell) (t w : Tree) (c : ℕ) → Some c ≡ cell_of t → Some w ≡ at s c → None ≡ cell_of w → part w ≡ held_part part (end s [] t)
+part_near_held part s t w c e is alone = ap (option_and_then part) (held_by_one s t w c e is alone)
+
+pub part_unheld : {A : Type 0} (part : Tree → Option A) (s : List Cell) (t : Tree) (c : ℕ) → Some c ≡ cell_of t → None ≡ at s c → None ≡ held_part part (end s [] t)
+part_unheld part s t c e is = ap (option_and_then part) (held_by_none s t c e is)
 
 -- what a write over such a part leaves
 put_at_own : {A : Type 0} (part : Tree → Option A) (d : Content) (s : List Cell) (t : Tree) (a : A) → cell_of t ≡ None → part t ≡ Some a

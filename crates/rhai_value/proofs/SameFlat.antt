@@ -8,6 +8,7 @@ use Rattle.rhai_value.specs.Seen.{flat_source}
 use Rattle.rhai_value.specs.declared.chain.Site.TheVariants.{InCell}
 use Rattle.rhai_value.specs.Locked.{is_locked, is_one_locked, is_field_locked}
 use Rattle.rhai_value.specs.Relation.{Renaming, paired, Related, Alike, IsOneToOne, RelatedCells, RelatedEnds}
+use Rattle.rhai_value.proofs.Chains.{end_near}
 use Rattle.rhai_value.proofs.RelatedCells.{by_ends, get_unchanged, same_put, length_changed}
 use Rattle.rhai_value.proofs.SameTrees.{by_related, by_trees, same_copy}
 use Rattle.rhai_value.proofs.SameWalks.{same_at, same_end}
@@ -42,6 +43,10 @@ same_flattened_holder r o q t u h k e f same = by_alike (Related r) (λ o q. Rel
 pub same_flattened : (r : Renaming) (s z : List Cell) (t u : Tree) → IsOneToOne r → RelatedCells r s z → Related r t u → Related r (flattened s t) (flattened z u)
 same_flattened r s z t u one cells = by_trees r (λ t u. Related r (flattened s t) (flattened z u)) (λ l g m. (refl, refl, refl)) (λ k ts us g m e. ((refl, e), refl, refl)) (λ fs hs g m e. (e, refl, refl))
     (λ c d g m p. same_flattened_holder r (at s c) (at z d) (node (holder c) g m) (node (holder d) g m) (same_at r s z c d cells p) (p, refl, refl) (end s [] (node (holder c) g m)) (end z [] (node (holder d) g m)) (same_end r s z (node (holder c) g m) (node (holder d) g m) one cells (p, refl, refl))) t u
+
+-- the source of a holder whose cell has no holder is what the cell has
+pub near_source : (s : List Cell) (t w : Tree) (c : ℕ) → Some c ≡ cell_of t → Some w ≡ at s c → None ≡ cell_of w → Some w ≡ flat_source s t
+near_source s t w c e is alone = rw (sym e, sym is, sym (end_near s t w c e is alone)) refl
 
 -- a value is flattened by the copy of its source, and stays where it has none
 kept_holder : (o : Option Tree) (e : End) (t : Tree) → None ≡ option_and_then (λ x. value_ahead e) o → t ≡ flattened_holder o e t

@@ -134,7 +134,7 @@ impl Dynamic {
 
     /// What is held, in a function of its own, so that the calls that ask for what is near stay short.
     #[inline(never)]
-    fn held_far<'s>(&'s self, s: &'s Store) -> Option<&'s Dynamic>
+    pub(crate) fn held_far<'s>(&'s self, s: &'s Store) -> Option<&'s Dynamic>
         ensures { option_copied result ≡ held_in (end s.now [] self.now) }
     {
         match self.long_chain_end(s) {

@@ -24,6 +24,7 @@ impl Dynamic {
 
     /// The value itself, modes kept, if it is no holder, if its own cell is marked or no cell of the store, and if the chain closes;
     /// else the answer of `flatten_clone`. Where memory is refused the value comes back. (`Dynamic::flatten`)
+    #[inline(always)]
     #[tactic(auto, using(crate::proofs::SameFlat::flattened_kept, crate::proofs::SameFlat::flattened_copied))]
     pub fn flatten(self, alloc: Global, s: &Store) -> Result<Dynamic, Dynamic>
         ensures ok { IfOk result (λ d. d ≡ flattened s.now self) }
@@ -42,15 +43,21 @@ impl Dynamic {
     }
 
     /// What `flatten` copies.
+    #[inline(always)]
+    #[tactic(auto, using(crate::proofs::SameFlat::near_source))]
     fn flat_source<'s>(&'s self, s: &'s Store) -> Option<&'s Dynamic>
         ensures { option_copied result ≡ flat_source s.now self.now }
     {
         let cell = self.cell()?;
-        let _ = s.read(cell)?;
-        self.value_ahead(s)
+        let content = s.read(cell)?;
+        match content.cell() {
+            None => Some(content),
+            Some(_) => self.value_ahead(s),
+        }
     }
 
     /// What stands where the chain ends, if it doesn't close.
+    #[inline(never)]
     fn value_ahead<'s>(&'s self, s: &'s Store) -> Option<&'s Dynamic>
         ensures { option_copied result ≡ value_ahead (end s.now [] self.now) }
     {

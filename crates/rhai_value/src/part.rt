@@ -75,9 +75,16 @@ impl Dynamic {
     pub fn held_part<'s, T: Part>(&'s self, s: &'s Store) -> Option<&'s T>
         ensures { option_map (λ r. T.meaning r.now) result ≡ held_part T.part_of (end s.now [] self.now) }
     {
-        match T::own(self) {
-            Some(part) => Some(part),
-            None => T::own(self.held(s)?),
+        if let Some(part) = T::own(self) {
+            return Some(part);
+        }
+        let content = s.read(self.cell()?)?;
+        if let Some(part) = T::own(content) {
+            return Some(part);
+        }
+        match content.cell() {
+            None => None,
+            Some(_) => T::own(self.held_far(s)?),
         }
     }
 

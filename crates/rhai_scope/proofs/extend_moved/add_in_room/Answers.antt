@@ -13,6 +13,6 @@ loop-heading-preserved g c =
       headings = omega (arith, headings, heading.1, before.headings);
       values = omega (arith, values, value.1, before.values);
       as_many = omega (arith, headings, values, before.as_many);
-      room = omega (arith, c.push_reserved.ensures.len, c.push_reserved.ensures.capacity, headings, before.room);
-      left = headed_step g.H.Named.name_of g.H.Heading.mode_of c.loop-heading.records.items c.push_reserved.new.self.items _ c.in-Some.heading c.in-Some.value c.painted.result c.new.result c.split-name.result _ _ _ _ heading.0 value.0 c.split-name.ensures c.painted.ensures c.new.ensures c.push_reserved.ensures.items before.left;
+      room = omega (arith, c.push_in_room.ensures.len, c.push_in_room.ensures.capacity, headings, before.room);
+      left = headed_step g.H.Named.name_of g.H.Heading.mode_of c.loop-heading.records.items c.push_in_room.new.records.items _ c.in-Some.heading c.in-Some.value c.split-name.result _ _ _ _ heading.0 value.0 c.split-name.ensures c.push_in_room.ensures.items before.left;
     }

@@ -1,5 +1,5 @@
 -- The list of the cell numbers in a value.
-use Rattle.std.proofs.Common.{◌≡◌, ℕ, ⊎_elim, List, [], ◌∷◌, ◌++◌, map, Contains, refl, sym, ap₂, subst, ◌∙◌}
+use Rattle.std.proofs.Common.{◌≡◌, ℕ, ⊎_elim, List, [], ◌++◌, map, Contains, refl, sym, ap₂, subst, ◌∙◌}
 use Rattle.std.proofs.lemmas.List.{map-append}
 use Rattle.std.proofs.lemmas.List.Elements.{Contains-append_cases, Contains-append_left, Contains-append_right}
 use Rattle.rhai_value.specs.Cells.{EachCell, EachInAll, EachInFields, renumbered, renumbered_all, renumbered_fields, cells_in, cells_in_all, cells_in_fields}

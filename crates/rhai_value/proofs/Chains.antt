@@ -1,5 +1,5 @@
 -- A count of steps finds where a chain ends.
-use Rattle.std.proofs.Common.{◌≡◌, ℕ, ℤ, zero, suc, ◌≤◌, Bool, true, false, List, [], ◌∷◌, length, slice_get, Option, Some, None, refl, ap, sym, ◌∙◌, arith, eqb, eqb-true, inl, inr}
+use Rattle.std.proofs.Common.{◌≡◌, ℕ, ℤ, zero, suc, ◌≤◌, Bool, true, false, List, [], ◌∷◌, length, slice_get, Option, Some, None, option_map, refl, ap, ap₂, sym, ◌∙◌, arith, eqb, eqb-true, inl, inr}
 use Rattle.std.specs.Option.{option_eq}
 use Rattle.std.proofs.lemmas.Bool.Decides.{eqb_tells}
 use Rattle.std.proofs.lemmas.Option.{none-some, same_Some}
@@ -10,7 +10,7 @@ use Rattle.rhai_value.specs.declared.store.Cell.{Cell}
 use Rattle.rhai_value.specs.Tree.{Tree, node, leaf, branch, fields, holder, cell_of}
 use Rattle.rhai_value.specs.Store.{at}
 use Rattle.rhai_value.specs.Walk.{is_open, visit, visit_of, visit_map, unentered, walk_in}
-use Rattle.rhai_value.specs.End.{held_in, End, held, stuck, closed, end_at, end_from, site_after, end_of, end}
+use Rattle.rhai_value.specs.End.{held_in, End, held, stuck, closed, end_at, end_from, site_after, end_of, end, first, first_site}
 
 -- the end within n steps, where no account is kept of the cells that were passed
 abbrev pub chain : ℕ → List Cell → Site → Tree → End
@@ -133,11 +133,8 @@ chain_alone zero s site (node (holder c) g a) e = cc
 chain_alone (suc n) s site (node (holder c) g a) e = cc
 
 -- a value that is no holder is held
-pub end_alone : (s : List Cell) (t : Tree) → None ≡ cell_of t → held Own t ≡ end s [] t
+end_alone : (s : List Cell) (t : Tree) → None ≡ cell_of t → held Own t ≡ end s [] t
 end_alone s t e = chain_alone (length s) s Own t e ∙ chain-end s t
-
-pub held_alone : (s : List Cell) (t : Tree) → None ≡ cell_of t → Some t ≡ held_in (end s [] t)
-held_alone s t e = ap held_in (end_alone s t e)
 
 -- nothing is held by a holder whose cell is marked or no cell of the store
 chain_stuck : (n : ℕ) (s : List Cell) (site : Site) (t : Tree) (c : ℕ) → Some c ≡ cell_of t → None ≡ at s c → stuck t ≡ chain n s site t
@@ -147,13 +144,53 @@ chain_stuck n s site (node (fields fs) g a) c e is = cc
 chain_stuck zero s site (node (holder d) g a) c e is = rw (same_Some d c (sym e), ← is) refl
 chain_stuck (suc n) s site (node (holder d) g a) c e is = rw (same_Some d c (sym e), ← is) refl
 
-pub held_by_none : (s : List Cell) (t : Tree) (c : ℕ) → Some c ≡ cell_of t → None ≡ at s c → None ≡ held_in (end s [] t)
-held_by_none s t c e is = ap held_in (chain_stuck (length s) s Own t c e is ∙ chain-end s t)
-
 -- so is the content of a holder's cell, if it is no holder
 pub end_near : (s : List Cell) (t w : Tree) (c : ℕ) → Some c ≡ cell_of t → Some w ≡ at s c → None ≡ cell_of w → held (InCell c) w ≡ end s [] t
 end_near [] t w c e is alone = cc
 end_near (x ∷ xs) t w c e is alone = chain_alone (length xs) (x ∷ xs) (InCell c) w alone ∙ sym (chain_next (x ∷ xs) t w c (length (x ∷ xs)) (length xs) Own e is refl) ∙ chain-end (x ∷ xs) t
 
-pub held_by_one : (s : List Cell) (t w : Tree) (c : ℕ) → Some c ≡ cell_of t → Some w ≡ at s c → None ≡ cell_of w → Some w ≡ held_in (end s [] t)
-held_by_one s t w c e is alone = ap held_in (end_near s t w c e is alone)
+-- A first content that is no holder is held where it stands; where there is none, the chain is stuck at once.
+first_at : (s : List Cell) (t w : Tree) (site : Site) (c : ℕ) (o : Option Tree) → Some c ≡ cell_of t → o ≡ at s c
+    → Some site ≡ option_map (λ x. InCell c) o → Some w ≡ o → None ≡ cell_of w → held site w ≡ end s [] t
+first_at s t w site c None e is p q alone = cc
+first_at s t w site c (Some u) e is p q alone = let same : site ≡ InCell c = cc in ap (λ i. held i w) same ∙ end_near s t w c e (q ∙ is) alone
+
+own_alone : (s : List Cell) (t : Tree) → Some Own ≡ first_site s t → None ≡ cell_of t
+own_alone s (node (leaf l) g a) p = refl
+own_alone s (node (branch k ts) g a) p = refl
+own_alone s (node (fields fs) g a) p = refl
+own_alone s (node (holder c) g a) p = at_cell (at s c) p
+  where
+    at_cell : (o : Option Tree) → Some Own ≡ option_map (λ x. InCell c) o → None ≡ Some c
+    at_cell None p = cc
+    at_cell (Some x) p = cc
+
+pub end_at_first : (s : List Cell) (t : Tree) → Some Own ≡ first_site s t → held Own t ≡ end s [] t
+end_at_first s t p = end_alone s t (own_alone s t p)
+
+pub held_at_first : (s : List Cell) (t : Tree) → Some Own ≡ first_site s t → Some t ≡ held_in (end s [] t)
+held_at_first s t p = ap held_in (end_at_first s t p)
+
+own_first : (s : List Cell) (t w : Tree) (site : Site) → Some site ≡ Some Own → Some w ≡ Some t → None ≡ cell_of t → held site w ≡ end s [] t
+own_first s t w site p q alone = let there : site ≡ Own = cc in let same : w ≡ t = cc in ap₂ held there same ∙ end_alone s t alone
+
+pub end_first : (s : List Cell) (t w : Tree) (site : Site) → Some site ≡ first_site s t → Some w ≡ first s t → None ≡ cell_of w → held site w ≡ end s [] t
+end_first s (node (leaf l) g a) w site p q alone = own_first s (node (leaf l) g a) w site p q refl
+end_first s (node (branch k ts) g a) w site p q alone = own_first s (node (branch k ts) g a) w site p q refl
+end_first s (node (fields fs) g a) w site p q alone = own_first s (node (fields fs) g a) w site p q refl
+end_first s (node (holder c) g a) w site p q alone = first_at s (node (holder c) g a) w site c (at s c) refl refl p q alone
+
+pub held_first : (s : List Cell) (t w : Tree) → Some w ≡ first s t → None ≡ cell_of w → Some w ≡ held_in (end s [] t)
+held_first s (node (leaf l) g a) w q alone = q ∙ ap held_in (end_alone s (node (leaf l) g a) refl)
+held_first s (node (branch k ts) g a) w q alone = q ∙ ap held_in (end_alone s (node (branch k ts) g a) refl)
+held_first s (node (fields fs) g a) w q alone = q ∙ ap held_in (end_alone s (node (fields fs) g a) refl)
+held_first s (node (holder c) g a) w q alone = ap held_in (end_near s (node (holder c) g a) w c refl q alone)
+
+pub end_barred : (s : List Cell) (t : Tree) → None ≡ first s t → stuck t ≡ end s [] t
+end_barred s (node (leaf l) g a) e = cc
+end_barred s (node (branch k ts) g a) e = cc
+end_barred s (node (fields fs) g a) e = cc
+end_barred s (node (holder c) g a) e = chain_stuck (length s) s Own (node (holder c) g a) c refl e ∙ chain-end s (node (holder c) g a)
+
+pub held_barred : (s : List Cell) (t : Tree) → None ≡ first s t → None ≡ held_in (end s [] t)
+held_barred s t e = ap held_in (end_barred s t e)

@@ -11,9 +11,9 @@ use Rattle.rhai_value.specs.declared.type_id.TypeId.TheVariants as id
 use Rattle.rhai_value.specs.Types.{is_type, is_content_type, typed_content}
 use Rattle.rhai_value.specs.Kinds.{one_type}
 use Rattle.rhai_value.specs.Store.{put, at}
-use Rattle.rhai_value.specs.End.{End, end, held, stuck, closed, held_in, held_part, site_of, value_after, store_after}
+use Rattle.rhai_value.specs.End.{End, end, held, stuck, closed, held_in, held_part, site_of, first, first_site, value_after, store_after}
 use Rattle.rhai_value.specs.Writes.{written_at, written}
-use Rattle.rhai_value.proofs.Chains.{end_near, held_alone, held_by_one, held_by_none}
+use Rattle.rhai_value.proofs.Chains.{end_first, held_at_first, held_first, held_barred}
 use Rattle.rhai_value.proofs.Ends.{stands, end_opens, end_own}
 use Rattle.rhai_value.proofs.Stores.{content_is, put-same}
 use Rattle.rhai_value.proofs.Walks.{at_within}
@@ -116,15 +116,15 @@ pub own_part : {A : Type 0} (content : A → Content) (part : Tree → Option A)
     → (s : List Cell) (t : Tree) (a : A) → part t ≡ Some a → held_part part (end s [] t) ≡ Some a
 own_part content part k constructs reads s t a h = own_held part s t a (none_of_holder content part k constructs reads) h
 
--- what is held has what a value has that is no holder, what the content of a holder's cell has, and nothing where the cell doesn't open
-pub part_alone_held : {A : Type 0} (part : Tree → Option A) (s : List Cell) (t : Tree) → None ≡ cell_of t → part t ≡ held_part part (end s [] t)
-part_alone_held part s t e = ap (option_and_then part) (held_alone s t e)
+-- what is held has what a first content has that is no holder, and nothing where there is no first content
+pub part_first_held : {A : Type 0} (part : Tree → Option A) (s : List Cell) (t w : Tree) → Some w ≡ first s t → None ≡ cell_of w → part w ≡ held_part part (end s [] t)
+part_first_held part s t w is alone = ap (option_and_then part) (held_first s t w is alone)
 
-pub part_near_held : {A : Type 0} (part : Tree → Option A) (s : List Cell) (t w : Tree) (c : ℕ) → Some c ≡ cell_of t → Some w ≡ at s c → None ≡ cell_of w → part w ≡ held_part part (end s [] t)
-part_near_held part s t w c e is alone = ap (option_and_then part) (held_by_one s t w c e is alone)
+pub part_own_held : {A : Type 0} (part : Tree → Option A) (s : List Cell) (t : Tree) → Some Own ≡ first_site s t → part t ≡ held_part part (end s [] t)
+part_own_held part s t p = ap (option_and_then part) (held_at_first s t p)
 
-pub part_unheld : {A : Type 0} (part : Tree → Option A) (s : List Cell) (t : Tree) (c : ℕ) → Some c ≡ cell_of t → None ≡ at s c → None ≡ held_part part (end s [] t)
-part_unheld part s t c e is = ap (option_and_then part) (held_by_none s t c e is)
+pub part_unheld : {A : Type 0} (part : Tree → Option A) (s : List Cell) (t : Tree) → None ≡ first s t → None ≡ held_part part (end s [] t)
+part_unheld part s t is = ap (option_and_then part) (held_barred s t is)
 
 -- what a write over such a part leaves
 put_at_own : {A : Type 0} (part : Tree → Option A) (d : Content) (s : List Cell) (t : Tree) (a : A) → cell_of t ≡ None → part t ≡ Some a
@@ -159,13 +159,33 @@ pub own_part_written : {A : Type 0} (content : A → Content) (part : Tree → O
     → (d : Content) (h : InStore) (a : A) → part h.value.now ≡ Some a → record { value = record (h.value) { now = with_content d h.value.now }; store = h.store } ≡ written h (with_content d)
 own_part_written content part k constructs reads d h a e = written_own part d h a (none_of_holder content part k constructs reads) e
 
--- the same of a holder whose cell itself has such a part
+-- the cell in which a first content stands has it
+pub first_in_cell : (s : List Cell) (t u : Tree) (c : ℕ) → Some (InCell c) ≡ first_site s t → IfSome (slice_get s c) (λ x. u ≡ x.content) → (Some u ≡ at s c) × (Some u ≡ first s t)
+first_in_cell s (node (leaf l) g m) u c p e = cc
+first_in_cell s (node (branch k ts) g m) u c p e = cc
+first_in_cell s (node (fields fs) g m) u c p e = cc
+first_in_cell s (node (holder d) g m) u c p e = read (at s d) refl p
+  where
+    read : (o : Option Tree) → at s d ≡ o → Some (InCell c) ≡ option_map (λ x. InCell d) o → (Some u ≡ at s c) × (Some u ≡ at s d)
+    read None is q = cc
+    read (Some v) is q =
+        let same : c ≡ d = cc in
+        let found : at s c ≡ Some v = ap (at s) same ∙ is in
+        let value : u ≡ v = content_is s c v u found e in
+        (ap Some value ∙ sym found, ap Some value ∙ sym is)
+
+-- the same of a holder whose cell itself has such a part, and of any first content that has one
 pub put_near_part : {A : Type 0} (content : A → Content) (part : Tree → Option A) (k : TypeId) → is_content_type k ≡ true → ((t : Tree) → option_map content (part t) ≡ typed_content k t)
-    → (d : Content) (s : List Cell) (t w : Tree) (c : ℕ) (a : A) → Some c ≡ cell_of t → Some w ≡ at s c → part w ≡ Some a
+    → (d : Content) (s : List Cell) (t w : Tree) (c : ℕ) (a : A) → Some (InCell c) ≡ first_site s t → Some w ≡ first s t → part w ≡ Some a
     → (held_part part (end s [] t) ≡ Some a) × (t ≡ value_after (with_part part d) (end s [] t) t) × (put s c (with_content d w) ≡ store_after (with_part part d) (end s [] t) s)
-put_near_part content part k constructs reads d s t w c a e is h =
+put_near_part content part k constructs reads d s t w c a site is h =
     let alone : None ≡ cell_of w = part_alone part w a (none_of_holder content part k constructs reads) h in
-    rw (sym (end_near s t w c e is alone), h) (refl, refl, refl)
+    rw (sym (end_first s t w (InCell c) site is alone), h) (refl, refl, refl)
+
+pub first_part_held : {A : Type 0} (content : A → Content) (part : Tree → Option A) (k : TypeId) → is_content_type k ≡ true → ((t : Tree) → option_map content (part t) ≡ typed_content k t)
+    → (s : List Cell) (t w : Tree) (a : A) → Some w ≡ first s t → part w ≡ Some a → Some a ≡ held_part part (end s [] t)
+first_part_held content part k constructs reads s t w a is h =
+    sym h ∙ part_first_held part s t w is (part_alone part w a (none_of_holder content part k constructs reads) h)
 
 pub own_text : (s : List Cell) (t : Tree) (x : List ℕ) → text_of t ≡ Some x → held_part text_of (end s [] t) ≡ Some x
 own_text s t x h = own_held text_of s t x (λ c g m. refl) h

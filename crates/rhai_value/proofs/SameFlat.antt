@@ -3,9 +3,9 @@ use Rattle.std.proofs.Common.{◌≡◌, ℕ, zero, suc, Bool, true, false, List
 use Rattle.rhai_value.specs.declared.store.Cell.{Cell}
 use Rattle.rhai_value.specs.Tree.{Tree, node, leaf, branch, fields, holder, cell_of, copy}
 use Rattle.rhai_value.specs.Store.{at, put, unmarked}
-use Rattle.rhai_value.specs.End.{End, held, stuck, closed, end, first, value_with_first, store_with_first, flat, flattened, flattened_holder, value_ahead, first_cell, held_cell, site_cell}
+use Rattle.rhai_value.specs.End.{End, held, stuck, closed, end, first, first_site, value_with_first, store_with_first, flat, flattened, flattened_holder, value_ahead, first_cell, held_cell, site_cell}
 use Rattle.rhai_value.specs.Seen.{flat_source}
-use Rattle.rhai_value.specs.declared.chain.Site.TheVariants.{InCell}
+use Rattle.rhai_value.specs.declared.chain.Site.TheVariants.{Own, InCell}
 use Rattle.rhai_value.specs.Locked.{is_locked, is_one_locked, is_field_locked}
 use Rattle.rhai_value.specs.Relation.{Renaming, paired, Related, Alike, IsOneToOne, RelatedCells, RelatedEnds}
 use Rattle.rhai_value.proofs.Chains.{end_near}
@@ -44,9 +44,35 @@ pub same_flattened : (r : Renaming) (s z : List Cell) (t u : Tree) → IsOneToOn
 same_flattened r s z t u one cells = by_trees r (λ t u. Related r (flattened s t) (flattened z u)) (λ l g m. (refl, refl, refl)) (λ k ts us g m e. ((refl, e), refl, refl)) (λ fs hs g m e. (e, refl, refl))
     (λ c d g m p. same_flattened_holder r (at s c) (at z d) (node (holder c) g m) (node (holder d) g m) (same_at r s z c d cells p) (p, refl, refl) (end s [] (node (holder c) g m)) (end z [] (node (holder d) g m)) (same_end r s z (node (holder c) g m) (node (holder d) g m) one cells (p, refl, refl))) t u
 
--- the source of a holder whose cell has no holder is what the cell has
-pub near_source : (s : List Cell) (t w : Tree) (c : ℕ) → Some c ≡ cell_of t → Some w ≡ at s c → None ≡ cell_of w → Some w ≡ flat_source s t
-near_source s t w c e is alone = rw (sym e, sym is, sym (end_near s t w c e is alone)) refl
+-- the source of a holder whose cell has no holder is what the cell has, that of one whose cell opens what stands ahead; there is none
+-- of a value that is no holder, and of a holder whose cell doesn't open
+pub near_source : (s : List Cell) (t w : Tree) (c : ℕ) → Some (InCell c) ≡ first_site s t → Some w ≡ first s t → None ≡ cell_of w → Some w ≡ flat_source s t
+near_source s (node (leaf l) g m) w c p q alone = cc
+near_source s (node (branch k ts) g m) w c p q alone = cc
+near_source s (node (fields fs) g m) w c p q alone = cc
+near_source s (node (holder d) g m) w c p q alone = rw (sym q, sym (end_near s (node (holder d) g m) w d refl q alone)) refl
+
+pub far_source : (s : List Cell) (t w : Tree) (c : ℕ) → Some (InCell c) ≡ first_site s t → Some w ≡ first s t → value_ahead (end s [] t) ≡ flat_source s t
+far_source s (node (leaf l) g m) w c p q = cc
+far_source s (node (branch k ts) g m) w c p q = cc
+far_source s (node (fields fs) g m) w c p q = cc
+far_source s (node (holder d) g m) w c p q = rw (sym q) refl
+
+pub own_source : (s : List Cell) (t : Tree) → Some Own ≡ first_site s t → None ≡ flat_source s t
+own_source s (node (leaf l) g m) p = refl
+own_source s (node (branch k ts) g m) p = refl
+own_source s (node (fields fs) g m) p = refl
+own_source s (node (holder d) g m) p = at_none (at s d) p
+  where
+    at_none : (o : Option Tree) → Some Own ≡ option_map (λ x. InCell d) o → None ≡ option_and_then (λ x. value_ahead (end s [] (node (holder d) g m))) o
+    at_none None e = cc
+    at_none (Some x) e = cc
+
+pub barred_source : (s : List Cell) (t : Tree) → None ≡ first s t → None ≡ flat_source s t
+barred_source s (node (leaf l) g m) q = refl
+barred_source s (node (branch k ts) g m) q = refl
+barred_source s (node (fields fs) g m) q = refl
+barred_source s (node (holder d) g m) q = rw (sym q) refl
 
 -- a value is flattened by the copy of its source, and stays where it has none
 kept_holder : (o : Option Tree) (e : End) (t : Tree) → None ≡ option_and_then (λ x. value_ahead e) o → t ≡ flattened_holder o e t

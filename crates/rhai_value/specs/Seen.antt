@@ -1,16 +1,31 @@
 -- What the private functions answer.
-use Rattle.std.specs.Prelude.{List, [], Option, option_and_then}
+use Rattle.std.specs.Prelude.{List, [], Option, Some, None, option_and_then}
 use Rattle.rhai_value.specs.declared.store.Cell.{Cell}
 use Rattle.rhai_value.specs.End.{End, held, stuck, closed, end, value_ahead}
 use Rattle.rhai_value.specs.Store.{at}
 use Rattle.rhai_value.specs.Tree.{Tree, cell_of}
 use Rattle.rhai_value.specs.declared.chain.ChainEnd.{ChainEnd}
 use Rattle.rhai_value.specs.declared.chain.ChainEnd.TheVariants.{Held, Stuck, Closed}
+use Rattle.rhai_value.specs.declared.chain.Near.{Near}
+use Rattle.rhai_value.specs.declared.chain.Near.TheVariants as near
+use Rattle.rhai_value.specs.declared.chain.Site.{Site}
+use Rattle.rhai_value.specs.declared.chain.Site.TheVariants as site
 
 abbrev pub end_seen : ChainEnd → End
 end_seen (Held site d) = held site d.now
 end_seen (Stuck d) = stuck d.now
 end_seen Closed = closed
+
+-- where the first content of a value stands, and which it is
+abbrev pub near_site : Near → Option Site
+near_site near.Own = Some site.Own
+near_site (near.InCell c d) = Some (site.InCell c)
+near_site near.Barred = None
+
+abbrev pub near_content : Tree → Near → Option Tree
+near_content t near.Own = Some t
+near_content t (near.InCell c d) = Some d.now
+near_content t near.Barred = None
 
 -- what is copied where a value is flattened, if anything is: what stands at the end of a holder whose own cell opens
 abbrev pub flat_source : List Cell → Tree → Option Tree

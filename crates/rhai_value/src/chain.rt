@@ -1,5 +1,5 @@
 //! Where a chain of holders ends.
-ghost use Rattle.std.specs.Prelude.{◌≡◌, [], Some, IfSome, option_copied};
+ghost use Rattle.std.specs.Prelude.{◌≡◌, [], Some, option_copied};
 ghost use Rattle.rhai_value.specs.End.{end, held_in, site_of, end_type};
 ghost use Rattle.rhai_value.specs.Seen.{end_seen};
 
@@ -15,6 +15,16 @@ pub enum Site {
     Own,
     /// The cell of this number.
     InCell(usize),
+}
+
+/// What a value and its own cell tell, without a walk, of its first content.
+pub(crate) enum Near<'s> {
+    /// It is the value itself, which is no holder.
+    Own,
+    /// The cell of this number has it.
+    InCell(usize, &'s Dynamic),
+    /// There is none: the holder's cell is marked or no cell of the store.
+    Barred,
 }
 
 /// Where a chain ends, and there what is held, and where it stands.
@@ -48,20 +58,18 @@ impl Dynamic {
 
     /// Where the chain ends. Most chains have one holder or none, and their end is found without an account of what was passed.
     #[inline(always)]
-    #[tactic(auto, using(crate::proofs::Chains::end_alone, crate::proofs::Chains::end_near))]
+    #[tactic(auto, using(crate::proofs::Chains::end_at_first, crate::proofs::Chains::end_first, crate::proofs::Chains::end_barred))]
     pub(crate) fn chain_end<'s>(&'s self, s: &'s Store) -> ChainEnd<'s>
         ensures { end_seen result ≡ end s.now [] self.now }
     {
-        let Some(cell) = self.cell() else {
-            return ChainEnd::Held(Site::Own, self);
-        };
-        if let Some(content) = s.read(cell) {
-            let None = content.cell() else {
-                return self.long_chain_end(s);
-            };
-            return ChainEnd::Held(Site::InCell(cell.index), content);
+        match self.near(s) {
+            Near::Own => ChainEnd::Held(Site::Own, self),
+            Near::InCell(index, content) => match content.cell() {
+                None => ChainEnd::Held(Site::InCell(index), content),
+                Some(_) => self.long_chain_end(s),
+            },
+            Near::Barred => ChainEnd::Stuck(self),
         }
-        self.long_chain_end(s)
     }
 
     /// Follows holders from cell to cell. Of the cells that were passed one is kept, and another after 1, 2, 4, 8 and so on steps,
@@ -105,30 +113,17 @@ impl Dynamic {
 
     /// The value where the chain of holders ends; `None` where the chain is stuck or closed. Takes no memory.
     #[inline(always)]
+    #[tactic(auto, using(crate::proofs::Chains::held_at_first, crate::proofs::Chains::held_first, crate::proofs::Chains::held_barred))]
     pub fn held<'s>(&'s self, s: &'s Store) -> Option<&'s Dynamic>
         ensures { option_copied result ≡ held_in (end s.now [] self.now) }
     {
-        match self.held_near(s) {
-            Some(value) => Some(value),
-            None => self.held_far(s),
-        }
-    }
-
-    /// What is held by a value that is no holder, or by a holder whose cell has none, as most have; `None` of any other value.
-    #[inline(always)]
-    #[tactic(auto, using(crate::proofs::Chains::held_alone, crate::proofs::Chains::held_by_one))]
-    fn held_near<'s>(&'s self, s: &'s Store) -> Option<&'s Dynamic>
-        ensures { IfSome result (λ v. Some v.now ≡ held_in (end s.now [] self.now)) }
-    {
-        let Some(cell) = self.cell() else {
-            return Some(self);
-        };
-        let Some(content) = s.read(cell) else {
-            return None;
-        };
-        match content.cell() {
-            None => Some(content),
-            Some(_) => None,
+        match self.near(s) {
+            Near::Own => Some(self),
+            Near::InCell(_, content) => match content.cell() {
+                None => Some(content),
+                Some(_) => self.held_far(s),
+            },
+            Near::Barred => None,
         }
     }
 

@@ -1,10 +1,10 @@
 //! Values without their holders.
-ghost use Rattle.std.specs.Prelude.{◌≡◌, IfOk, IfErr, IsOk, None, [], option_copied};
+ghost use Rattle.std.specs.Prelude.{◌≡◌, IfOk, IfErr, IsOk, OnOk, OnErr, None, [], option_copied};
 ghost use Rattle.rhai_value.specs.End.{end, flat, flattened, value_ahead};
 ghost use Rattle.rhai_value.specs.Seen.{flat_source};
 ghost use Rattle.rhai_value.specs.Tree.{TakesNoMemory, cell_of};
 
-use crate::chain::ChainEnd;
+use crate::chain::{ChainEnd, Near};
 use crate::dynamic::Dynamic;
 use crate::store::Store;
 use std::alloc::{AllocError, Global};
@@ -22,8 +22,24 @@ impl Dynamic {
         }
     }
 
-    /// The value itself, modes kept, if it is no holder, if its own cell is marked or no cell of the store, and if the chain closes;
-    /// else the answer of `flatten_clone`. Where memory is refused the value comes back. (`Dynamic::flatten`)
+    /// The value becomes what it is without its holders: it stays, modes kept, if it is no holder, if its own cell is marked or no
+    /// cell of the store, and if the chain closes; else it becomes the answer of `flatten_clone`. Where memory is refused it stays.
+    #[inline(always)]
+    #[tactic(auto, using(crate::proofs::SameFlat::flattened_kept, crate::proofs::SameFlat::flattened_copied))]
+    pub fn flatten_in_place(&mut self, alloc: Global, s: &Store) -> Result<(), AllocError>
+        ensures ok { OnOk result (self.new ≡ flattened s.now self.old) }
+        ensures err { OnErr result (self.new ≡ self.old) }
+        ensures free { TakesNoMemory (flattened s.now self.old) → IsOk result }
+        ensures unshared { cell_of self.old ≡ None → IsOk result }
+    {
+        let Some(source) = self.flat_source(s) else {
+            return Ok(());
+        };
+        *self = source.copy(alloc)?;
+        Ok(())
+    }
+
+    /// `flatten_in_place` of a value that is passed; where memory is refused the value comes back. (`Dynamic::flatten`)
     #[inline(always)]
     #[tactic(auto, using(crate::proofs::SameFlat::flattened_kept, crate::proofs::SameFlat::flattened_copied))]
     pub fn flatten(self, alloc: Global, s: &Store) -> Result<Dynamic, Dynamic>
@@ -32,11 +48,10 @@ impl Dynamic {
         ensures free { TakesNoMemory (flattened s.now self) → IsOk result }
         ensures unshared { cell_of self ≡ None → IsOk result }
     {
-        let copied = match self.flat_source(s) {
-            None => return Ok(self),
-            Some(source) => source.copy(alloc),
+        let Some(source) = self.flat_source(s) else {
+            return Ok(self);
         };
-        match copied {
+        match source.copy(alloc) {
             Ok(flat) => Ok(flat),
             Err(_) => Err(self),
         }
@@ -44,15 +59,16 @@ impl Dynamic {
 
     /// What `flatten` copies.
     #[inline(always)]
-    #[tactic(auto, using(crate::proofs::SameFlat::near_source))]
+    #[tactic(auto, using(crate::proofs::SameFlat::own_source, crate::proofs::SameFlat::near_source, crate::proofs::SameFlat::barred_source, crate::proofs::SameFlat::far_source))]
     fn flat_source<'s>(&'s self, s: &'s Store) -> Option<&'s Dynamic>
         ensures { option_copied result ≡ flat_source s.now self.now }
     {
-        let cell = self.cell()?;
-        let content = s.read(cell)?;
-        match content.cell() {
-            None => Some(content),
-            Some(_) => self.value_ahead(s),
+        match self.near(s) {
+            Near::InCell(_, content) => match content.cell() {
+                None => Some(content),
+                Some(_) => self.value_ahead(s),
+            },
+            Near::Own | Near::Barred => None,
         }
     }
 

@@ -1,6 +1,6 @@
 //! The index and the slots of a map that has had an entry.
 
-ghost use Rattle.std.specs.Prelude.{◌≡◌, ◌<◌, ℕ, true, false, [], ◌∷◌, None, length, option_copied, IfOk, IfErr, IfSome, IfNone, OnOk, OnErr, MatchOption, slice_set, string_bytes};
+ghost use Rattle.std.specs.Prelude.{◌≡◌, ◌<◌, true, [], ◌∷◌, None, length, option_copied, IfOk, IfErr, IfSome, IfNone, OnOk, OnErr, MatchOption, slice_set, string_bytes};
 ghost use Rattle.std.specs.BTreeMap.{insert_entry, is_at};
 ghost use Rattle.std.specs.Borrow.{Lends, LendsIf, sem};
 ghost use Rattle.std.specs.Map.{lookup, remove_entry};
@@ -17,7 +17,6 @@ use crate::dynamic::Dynamic;
 use crate::map::{MapParts, Slot};
 use std::alloc::Global;
 use std::collections::BTreeMap;
-use std::mem;
 
 /// The value in a slot that has one.
 pub(crate) fn value_in(slot: &Slot) -> &Dynamic
@@ -26,6 +25,7 @@ pub(crate) fn value_in(slot: &Slot) -> &Dynamic
 {
     match slot {
         Slot::Taken(value) => value,
+        // Which slots are taken is told by the index alone.
         Slot::Vacant(_) => unreachable!(),
     }
 }
@@ -47,6 +47,7 @@ fn value_in_mut(slot: &mut Slot) -> &mut Dynamic
 {
     match slot {
         Slot::Taken(value) => value,
+        // Which slots are taken is told by the index alone.
         Slot::Vacant(_) => unreachable!(),
     }
 }
@@ -57,10 +58,9 @@ fn exchange(slot: &mut Slot, with: Slot) -> Dynamic
     ensures taken { result ≡ tree_in slot.old }
     ensures left { slot.new ≡ with }
 {
-    match mem::replace(slot, with) {
-        Slot::Taken(value) => value,
-        Slot::Vacant(_) => unreachable!(),
-    }
+    let value = value_in_mut(slot).take();
+    *slot = with;
+    value
 }
 
 impl MapParts {

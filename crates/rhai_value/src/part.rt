@@ -1,5 +1,5 @@
 //! Parts of values: the Rust types of which a value may have one, each the content of one constructor.
-ghost use Rattle.std.specs.Prelude.{◌≡◌, [], true, Option, Some, None, option_map, IfOk, IfErr, IsOk, IsSome, OnOk};
+ghost use Rattle.std.specs.Prelude.{◌≡◌, [], true, Option, Some, None, option_map, is_some, IfOk, IfErr, IsOk, IsSome, OnOk};
 ghost use Rattle.std.specs.Borrow.{sem, Lends, LendsIf, LendsIfOk};
 ghost use Rattle.rhai_value.specs.contracts.dynamic.Dynamic as dynamic_type;
 ghost use Rattle.rhai_value.specs.declared.type_id.TypeId.{TypeId};
@@ -9,7 +9,7 @@ ghost use Rattle.rhai_value.specs.Tree.{Tree, Content, TakesNoMemory, made, copy
 ghost use Rattle.rhai_value.specs.Types.{is_content_type, typed_content};
 ghost use Rattle.rhai_value.specs.Writes.{written, in_store_row};
 
-use crate::chain::Site;
+use crate::chain::{Near, Site};
 use crate::dynamic::Dynamic;
 use crate::in_store::InStore;
 use crate::store::Store;
@@ -68,6 +68,36 @@ pub trait Part: Sized + Drop {
     ghost reads: { (t : Tree) → option_map content (part_of t) ≡ typed_content KIND t };
 }
 
+/// What the value itself has, which is of one kind. Each takes no memory.
+impl Dynamic {
+    /// What the value itself has, which is of this kind.
+    #[inline(always)]
+    pub fn own_part<T: Part>(&self) -> &T
+        requires { is_some (T.part_of self.now) ≡ true }
+        ensures { T.part_of self.now ≡ Some (T.meaning result.now) }
+    {
+        match T::own(self) {
+            Some(part) => part,
+            // All values are of one Rust type, whatever they are made of.
+            None => unreachable!(),
+        }
+    }
+
+    /// What the value itself has, which is of this kind, to write.
+    #[inline(always)]
+    pub fn own_part_mut<T: Part>(&mut self) -> &mut T
+        requires { is_some (T.part_of self.old) ≡ true }
+        ensures* writes_back { sem 𝓛 (Lends dynamic_type.the_row T.row self.entry result (λ w. with_content (T.content (T.meaning w)) self.old)) }
+        ensures value { T.part_of self.old ≡ Some (T.meaning result.now) }
+    {
+        match T::own_mut(self) {
+            Some(part) => part,
+            // All values are of one Rust type, whatever they are made of.
+            None => unreachable!(),
+        }
+    }
+}
+
 /// What is held, if it is of one kind.
 impl Dynamic {
     /// What is held, if it is of this kind. Takes no memory; what the value itself has is found without a look at its holders.
@@ -78,13 +108,16 @@ impl Dynamic {
         if let Some(part) = T::own(self) {
             return Some(part);
         }
-        let content = s.read(self.cell()?)?;
-        if let Some(part) = T::own(content) {
-            return Some(part);
-        }
-        match content.cell() {
-            None => None,
-            Some(_) => T::own(self.held_far(s)?),
+        match self.near(s) {
+            Near::Own => None,
+            Near::InCell(_, content) => match T::own(content) {
+                Some(part) => Some(part),
+                None => match content.cell() {
+                    None => None,
+                    Some(_) => T::own(self.held_far(s)?),
+                },
+            },
+            Near::Barred => None,
         }
     }
 
@@ -113,10 +146,7 @@ impl Dynamic {
             × (name.now ≡ end_name (end m.old [] self.old))) }
     {
         match T::own(self) {
-            Some(_) => match T::own_mut(self) {
-                Some(part) => Ok(part),
-                None => unreachable!(),
-            },
+            Some(_) => Ok(self.own_part_mut::<T>()),
             None => self.far_part_mut::<T>(m),
         }
     }
@@ -174,12 +204,9 @@ impl Dynamic {
         ensures store { OnOk result (m.new ≡ store_after (with_part T.part_of (T.content (T.meaning part))) (end m.old [] self.now) m.old) }
         ensures err { IfErr result (λ back. (back ≡ part) × (m.new ≡ m.old)) }
     {
-        let Some(cell) = self.cell() else {
-            return Err(part);
-        };
-        match m.read(cell) {
-            None => Err(part),
-            Some(_) => match m.content_mut(cell.index).put_own_part(part) {
+        match self.first_site(m) {
+            None | Some(Site::Own) => Err(part),
+            Some(Site::InCell(index)) => match m.content_mut(index).put_own_part(part) {
                 Ok(old) => Ok(old),
                 Err(part) => Err(part),
             },
@@ -234,6 +261,20 @@ impl<'a> InStore<'a> {
         }
     }
 
+    /// What is held, which is of this kind, to write. Takes no memory.
+    #[inline(always)]
+    pub fn held_part_mut<T: Part>(&mut self) -> &mut T
+        requires { is_some (held_part T.part_of (end self.old.store.now [] self.old.value.now)) ≡ true }
+        ensures* writes_back { sem 𝓛 (Lends in_store_row T.row self.entry result (λ w. written self.old (with_content (T.content (T.meaning w))))) }
+        ensures value { held_part T.part_of (end self.old.store.now [] self.old.value.now) ≡ Some (T.meaning result.now) }
+    {
+        match self.part_mut::<T>() {
+            Ok(part) => part,
+            // What a chain of holders leads to is known by the store's content alone.
+            Err(_) => unreachable!(),
+        }
+    }
+
     /// The same of what the value itself has.
     #[inline(always)]
     fn own_part_mut<T: Part>(&mut self) -> &mut T
@@ -241,10 +282,7 @@ impl<'a> InStore<'a> {
         ensures* writes_back { sem 𝓛 (Lends in_store_row T.row self.entry result (λ w. written self.old (with_content (T.content (T.meaning w))))) }
         ensures value { held_part T.part_of (end self.old.store.now [] self.old.value.now) ≡ Some (T.meaning result.now) }
     {
-        match T::own_mut(self.value) {
-            Some(part) => part,
-            None => unreachable!(),
-        }
+        self.value.own_part_mut::<T>()
     }
 
     /// The same where a chain of holders is followed, in a function of its own, so that writes to what the value itself has stay

@@ -64,9 +64,7 @@ impl Path {
         if !self.cells.insert(cell.index)? {
             return Ok(None);
         }
-        if self.order.push(cell.index).is_err() {
-            unreachable!();
-        }
+        self.order.push_reserved(cell.index);
         Ok(Some(content))
     }
 

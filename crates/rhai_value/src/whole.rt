@@ -1,10 +1,11 @@
 //! The first content of a value: the value itself, or what the cell of a holder has.
 ghost use Rattle.std.specs.Prelude.{◌≡◌, [], option_map, option_copied, IfSome, None};
 ghost use Rattle.rhai_value.specs.End.{end, held_in, site_of, first, first_site, constant_in};
+ghost use Rattle.rhai_value.specs.Seen.{near_content, near_site};
 ghost use Rattle.rhai_value.specs.Tree.{cell_of, is_constant, mode_of};
 
 use crate::access_mode::AccessMode;
-use crate::chain::Site;
+use crate::chain::{Near, Site};
 use crate::dynamic::Dynamic;
 use crate::store::Store;
 
@@ -14,9 +15,25 @@ impl Dynamic {
     pub fn read_whole<'s>(&'s self, s: &'s Store) -> Option<&'s Dynamic>
         ensures { option_copied result ≡ first s.now self.now }
     {
-        match self.cell() {
-            None => Some(self),
-            Some(cell) => s.read(cell),
+        match self.near(s) {
+            Near::Own => Some(self),
+            Near::InCell(_, content) => Some(content),
+            Near::Barred => None,
+        }
+    }
+
+    /// Where the first content is. Most chains of holders end there, so each search along a chain looks there before it walks.
+    #[inline(always)]
+    pub(crate) fn near<'s>(&'s self, s: &'s Store) -> Near<'s>
+        ensures site { near_site result ≡ first_site s.now self.now }
+        ensures content { near_content self.now result ≡ first s.now self.now }
+    {
+        let Some(cell) = self.cell() else {
+            return Near::Own;
+        };
+        match s.read(cell) {
+            None => Near::Barred,
+            Some(content) => Near::InCell(cell.index, content),
         }
     }
 
@@ -66,12 +83,10 @@ impl Dynamic {
     pub(crate) fn first_site(&self, s: &Store) -> Option<Site>
         ensures { result ≡ first_site s.now self.now }
     {
-        let Some(cell) = self.cell() else {
-            return Some(Site::Own);
-        };
-        match s.read(cell) {
-            None => None,
-            Some(_) => Some(Site::InCell(cell.index)),
+        match self.near(s) {
+            Near::Own => Some(Site::Own),
+            Near::InCell(index, _) => Some(Site::InCell(index)),
+            Near::Barred => None,
         }
     }
 

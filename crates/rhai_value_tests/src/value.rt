@@ -5,6 +5,7 @@ mod readme;
 
 // Tests.
 mod containers;
+mod in_place;
 mod maps;
 mod marks;
 mod references;

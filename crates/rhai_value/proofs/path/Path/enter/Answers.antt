@@ -6,9 +6,9 @@ use Rattle.rhai_value.proofs.path.Path.enter.Goals as goal
 
 pub invariant_of-self-2 : goal.invariant_of-self-2
 invariant_of-self-2 c =
-    let pushed : c.push.new.self.items ≡ c.self.inside.order.items ++ (c.in-Some.cell.index ∷ []) = grind (arith) in
+    let pushed : c.push_reserved.new.self.items ≡ c.self.inside.order.items ++ (c.in-Some.cell.index ∷ []) = grind (arith) in
     let fresh : contains nat_cmp c.self.inside.cells c.in-Some.cell.index ≡ false = grind (arith) in
-    opened-more c.self.inside.order.items c.push.new.self.items c.in-Some.cell.index _ _ c.self.invariant c.in_ok-insert.ensures.updates fresh pushed
+    opened-more c.self.inside.order.items c.push_reserved.new.self.items c.in-Some.cell.index _ _ c.self.invariant c.in_ok-insert.ensures.updates fresh pushed
 
 pub returns-then-not-branch-clause-found : goal.returns-then-not-branch-clause-found
 returns-then-not-branch-clause-found c =

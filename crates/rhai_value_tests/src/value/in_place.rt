@@ -1,0 +1,90 @@
+//! Values that are flattened, shared and written where they stand.
+use crate::values::{chain, closed, holds, is_shared};
+use rhai_value::{AccessMode, Dynamic, INT, InStore, Store, Union};
+use std::alloc::Global;
+
+/// Whether a value is flattened, and is this int then.
+fn flattens_to(alloc: Global, value: &mut Dynamic, store: &Store, wanted: INT) -> bool {
+    if value.flatten_in_place(alloc, store).is_err() {
+        return false;
+    }
+    matches!(value.parts(), Union::Int(_, AccessMode::ReadWrite, n) if *n == wanted)
+}
+
+#[test]
+fn a_holder_is_flattened_where_it_stands(rt: HostRuntime) {
+    let mut store = Store::new(rt.alloc());
+    for length in 0..3usize {
+        let mut value = chain(&mut store, length);
+        assert!(rt; flattens_to(rt.alloc(), &mut value, &store, 7));
+    }
+}
+
+/// Whether a value is the constant 7 with tag 3.
+fn is_seven(value: &Dynamic) -> bool {
+    matches!(value.parts(), Union::Int(3, AccessMode::ReadOnly, 7))
+}
+
+#[test]
+fn what_is_no_open_holder_stays(rt: HostRuntime) {
+    let alloc = rt.alloc();
+    let mut store = Store::new(alloc);
+    let mut seven = Dynamic::from_parts(Union::Int(3, AccessMode::ReadOnly, 7));
+    assert!(rt; seven.flatten_in_place(alloc, &store).is_ok());
+    assert!(rt; is_seven(&seven));
+    let mut round = closed(alloc, &mut store);
+    assert!(rt; round.flatten_in_place(alloc, &store).is_ok());
+    assert!(rt; is_shared(&round));
+}
+
+/// Whether a value is a holder of this int once it was shared.
+fn shares(value: &mut Dynamic, store: &mut Store, wanted: INT) -> bool {
+    value.share_in_place(store).is_ok() && is_shared(value) && holds(value, store, wanted)
+}
+
+#[test]
+fn a_value_is_shared_where_it_stands_and_once(rt: HostRuntime) {
+    let mut store = Store::new(rt.alloc());
+    let mut value = Dynamic::from_int(7);
+    assert!(rt; shares(&mut value, &mut store, 7));
+    assert!(rt; shares(&mut value, &mut store, 7));
+    assert!(rt; store.len() == 1);
+}
+
+/// Adds one to the int that is held, if one is.
+fn add_one(value: &mut Dynamic, store: &mut Store) {
+    if value.as_int(store).is_err() {
+        return;
+    }
+    let mut place = InStore { value, store };
+    let held = place.held_part_mut::<INT>();
+    *held = held.wrapping_add(1);
+}
+
+#[test]
+fn what_is_held_is_written(rt: HostRuntime) {
+    let mut store = Store::new(rt.alloc());
+    for length in 0..3usize {
+        let mut value = chain(&mut store, length);
+        add_one(&mut value, &mut store);
+        assert!(rt; holds(&value, &store, 8));
+    }
+}
+
+/// The int that a value itself is, which is then doubled there.
+fn doubled(value: &mut Dynamic) -> Option<INT> {
+    let Union::Int(_, _, _) = value.parts() else {
+        return None;
+    };
+    let own = value.own_part_mut::<INT>();
+    *own = own.wrapping_mul(2);
+    Some(*value.own_part::<INT>())
+}
+
+#[test]
+fn a_part_of_its_own_is_read_and_written(rt: HostRuntime) {
+    let mut store = Store::new(rt.alloc());
+    let mut seven = Dynamic::from_int(7);
+    assert!(rt; doubled(&mut seven) == Some(14));
+    assert!(rt; doubled(&mut chain(&mut store, 1)).is_none());
+}

@@ -1,5 +1,5 @@
 -- A value can be cast exactly where something is read of it without its holders.
-use Rattle.std.proofs.Common.{◌≡◌, true, false, List, [], Option, Some, None, is_some, refl, sym, ap, ◌∙◌}
+use Rattle.std.proofs.Common.{◌≡◌, List, [], is_some, refl, ap, ◌∙◌}
 use Rattle.rhai_value.specs.declared.store.Cell.{Cell}
 use Rattle.rhai_value.specs.declared.type_id.TypeId.{TypeId}
 use Rattle.rhai_value.specs.declared.type_id.TypeId.TheVariants as id
@@ -21,20 +21,3 @@ moved_castable k s t = castable_is k (flattened s t) (end s [] t) (flattened_typ
 
 pub copied_castable : (k : TypeId) (s : List Cell) (t : Tree) → is_some (read k (flat s t)) ≡ is_castable k (end s [] t)
 copied_castable k s t = castable_is k (flat s t) (end s [] t) (flat_type s t)
-
-none_of : {A : Type 0} (o : Option A) → is_some o ≡ false → None ≡ o
-none_of None h = refl
-none_of (Some x) h = cc
-
--- where it can't, nothing is read
-pub nothing_read : (k : TypeId) (s : List Cell) (t : Tree) → is_castable k (end s [] t) ≡ false → None ≡ read k (flattened s t)
-nothing_read k s t h = none_of (read k (flattened s t)) (moved_castable k s t ∙ h)
-
-pub something_read : (k : TypeId) (s : List Cell) (t : Tree) → is_castable k (end s [] t) ≡ true → read k (flattened s t) ≡ None → ⊥
-something_read k s t h none = let no : false ≡ true = sym (ap is_some none) ∙ moved_castable k s t ∙ h in absurd (cc)
-
-pub flattened_read : (k : TypeId) (s : List Cell) (t : Tree) → is_castable k (end s [] t) ≡ true → is_some (read k (flattened s t)) ≡ true
-flattened_read k s t h = moved_castable k s t ∙ h
-
-pub flat_read : (k : TypeId) (s : List Cell) (t : Tree) → is_castable k (end s [] t) ≡ true → is_some (read k (flat s t)) ≡ true
-flat_read k s t h = copied_castable k s t ∙ h

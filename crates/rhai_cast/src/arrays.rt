@@ -6,7 +6,7 @@ ghost use Rattle.rhai_value.specs.Types.{is_type, tree_type};
 ghost use Rattle.rhai_value.specs.declared.type_id.TypeId.TheVariants as type_id;
 ghost use Rattle.rhai_cast.specs.Arrays.{byte_tree, bytes_at, read_all, IsUnread};
 
-use crate::cast::DynamicCast;
+use crate::cast::{DynamicCast, read_castable};
 use rhai_value::{Array, Blob, Dynamic, Host, IntoError, Store, TypeId};
 use rhai_variant::Variant;
 use std::alloc::{AllocError, Global};
@@ -69,17 +69,7 @@ pub(crate) fn read_bytes<T: Variant>(bytes: &Blob, alloc: Global) -> Result<Vec<
 {
     let mut xs = Vec::with_capacity(alloc, bytes.len())?;
     for byte in bytes {
-        xs.push(read_byte::<T>(*byte, alloc))?;
+        xs.push(read_castable(alloc, Dynamic::from(Host::U8(*byte)))?)?;
     }
     Ok(xs)
-}
-
-fn read_byte<T: Variant>(byte: u8, alloc: Global) -> T
-    requires { is_type T.KIND type_id.U8 ≡ true }
-    ensures { T.tree result ≡ byte_tree byte }
-{
-    match T::from_dynamic(alloc, Dynamic::from(Host::U8(byte))) {
-        Ok(x) => x,
-        Err(_) => unreachable!(),
-    }
 }

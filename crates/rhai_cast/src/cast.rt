@@ -199,30 +199,25 @@ impl DynamicCast for Dynamic {
         }
     }
 
-    #[tactic(auto, using(crate::proofs::Castable::nothing_read, crate::proofs::Castable::something_read))]
     fn try_cast<T: Variant>(self, alloc: Global, s: &Store) -> Result<Option<T>, AllocError> {
-        if !is_castable::<T>(&self, s) {
-            return Ok(None);
-        }
-        match self.try_cast_result::<T>(alloc, s) {
-            Ok(x) => Ok(Some(x)),
-            Err(CastError::Mismatch(_)) => unreachable!(),
-            Err(CastError::Memory(_)) => Err(AllocError),
+        match cast_or_give_back(alloc, self, s) {
+            Ok(found) => Ok(found),
+            Err(_) => Err(AllocError),
         }
     }
 
+    #[tactic(auto, using(crate::proofs::Castable::moved_castable))]
     fn cast<T: Variant>(self, alloc: Global, s: &Store) -> Result<T, AllocError> {
         if T::KIND == TypeId::Dynamic {
             return read_castable(alloc, self);
         }
-        match self.try_cast_result::<T>(alloc, s) {
-            Ok(x) => Ok(x),
-            Err(CastError::Mismatch(_)) => unreachable!(),
-            Err(CastError::Memory(_)) => Err(AllocError),
+        match self.flatten(alloc, s) {
+            Ok(flat) => read_castable(alloc, flat),
+            Err(_) => Err(AllocError),
         }
     }
 
-    #[tactic(auto, using(crate::proofs::Castable::flat_read))]
+    #[tactic(auto, using(crate::proofs::Castable::copied_castable))]
     fn clone_cast<T: Variant>(&self, alloc: Global, s: &Store) -> Result<T, AllocError> {
         read_castable(alloc, self.flatten_clone(alloc, s)?)
     }
@@ -333,14 +328,42 @@ fn holder_again(value: &Dynamic) -> Option<Dynamic>
     }
 }
 
-/// What is read of a value of which something is.
-fn read_castable<T: Variant>(alloc: Global, value: Dynamic) -> Result<T, AllocError>
+/// Casts by move, as `DynamicCast::try_cast` does, and gives the value back where memory is refused. Whether what a holder leads to
+/// can be cast is asked before anything is copied.
+///
+/// # Errors
+///
+/// The value as it was, where memory is refused.
+pub fn cast_or_give_back<T: Variant>(
+    alloc: Global,
+    value: Dynamic,
+    s: &Store,
+) -> Result<Option<T>, Dynamic>
+    ensures ok { IfOk result (λ found. option_map T.tree found ≡ read T.KIND (flattened s.now value)) }
+    ensures err { IfErr result (λ back. back ≡ value) }
+    ensures own { cell_of value ≡ None → is_type T.KIND type_id.String ≡ false → IsOk result }
+    ensures unread { read T.KIND (flattened s.now value) ≡ None → IsOk result }
+    ensures free { TakesNoMemory (flattened s.now value) → is_type T.KIND type_id.String ≡ false → IsOk result }
+{
+    if value.is_shared() && !is_castable::<T>(&value, s) {
+        return Ok(None);
+    }
+    match value.try_cast_result::<T>(alloc, s) {
+        Ok(x) => Ok(Some(x)),
+        Err(CastError::Mismatch(_)) => Ok(None),
+        Err(CastError::Memory(back)) => Err(back),
+    }
+}
+
+/// What is read of a value of which something is. Memory may be refused for a `String` alone.
+pub(crate) fn read_castable<T: Variant>(alloc: Global, value: Dynamic) -> Result<T, AllocError>
     requires { is_some (read T.KIND value) ≡ true }
     ensures value { IfOk result (λ x. read T.KIND value ≡ Some (T.tree x)) }
     ensures free { is_type T.KIND type_id.String ≡ false → IsOk result }
 {
     match T::from_dynamic(alloc, value) {
         Ok(x) => Ok(x),
+        // no type can say it: what is read of a value is asked by `KIND`, a value of `TypeId`, of any `Variant`
         Err(CastError::Mismatch(_)) => unreachable!(),
         Err(CastError::Memory(_)) => Err(AllocError),
     }

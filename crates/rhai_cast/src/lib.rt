@@ -7,5 +7,5 @@ pub mod laws;
 mod lock;
 mod makers;
 
-pub use cast::{DynamicCast, is_castable};
+pub use cast::{DynamicCast, cast_or_give_back, is_castable};
 pub use lock::write_lock;

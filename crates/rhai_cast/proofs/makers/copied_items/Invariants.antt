@@ -1,4 +1,4 @@
-use Rattle.std.proofs.Common.{◌≡◌, ◌≤◌, length, map, take, vec_len, vec_capacity}
+use Rattle.std.proofs.Common.{◌≡◌, ◌≤◌, length, map, take, vec_capacity}
 use Rattle.rhai_value.specs.Tree.{copy}
 use Rattle.rhai_cast.proofs.makers.copied_items.Given as goal
 

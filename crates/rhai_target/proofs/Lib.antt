@@ -7,7 +7,5 @@ pub mod ReadBack
 pub mod Kept
 pub mod MarkedTexts
 pub mod SameChanges
-pub mod Owned
 pub mod Fields
 pub mod MadeTargets
-pub mod TargetMarks

@@ -1,5 +1,5 @@
 -- What a target refers to, what is taken of it, and what its calls leave.
-use Rattle.std.specs.Prelude.{◌≡◌, ◌<◌, ℕ, Bool, true, false, List, [], codes, length, Option, Some, None, IfSome, MatchOption, is_some, Result, Ok, OnOk, OnErr}
+use Rattle.std.specs.Prelude.{◌≡◌, ◌<◌, ℕ, ℤ, Bool, true, false, List, [], codes, length, Option, Some, None, IfSome, MatchOption, is_some, Result, Ok}
 use Rattle.std.specs.Borrow.{MutBor}
 use Rattle.rhai_text.specs.declared.error.EvalAltResult.{EvalAltResult}
 use Rattle.rhai_text.specs.declared.position.Position.{Position}
@@ -197,27 +197,6 @@ abbrev pub IsWrittenBack : List Cell → Position → Option WriteBack → Resul
 IsWrittenBack s place None result = result ≡ Ok tt
 IsWrittenBack s place (Some w) result = IsAnswer w.wants_memory w.change w.wanted (end_name (end s [] w.value)) place result
 
--- What a write-back answers and leaves; after an `Err` all is as before.
-abbrev pub IsPropagated : List Cell → Target → Position → Result (Unit {0}) EvalAltResult → List Cell → Target → Type 0
-IsPropagated s t place result z u =
-    IsWrittenBack s place (write_back_of s t) result × OnOk result (u ≡ target_written s (write_back_of s t) t)
-    × OnOk result (z ≡ store_written (write_back_of s t) s) × OnErr result ((u ≡ t) × (z ≡ s))
-
--- which part of its source a target is, if it is one
-pub data Kind : Type 0 where
-  whole : Kind
-  a_bit : Kind
-  a_field : Kind
-  a_byte : Kind
-  a_character : Kind
-  a_slice : Kind
-
-abbrev pub kind_of : Target → Kind
-kind_of (RefMut r) = whole
-kind_of (SharedValue c v) = whole
-kind_of (TempValue v) = whole
-kind_of (Bit r v place) = a_bit
-kind_of (BitField r v mask shift) = a_field
-kind_of (BlobByte r v index) = a_byte
-kind_of (StringChar r v index) = a_character
-kind_of (StringSlice r v start end exclusive) = a_slice
+-- it is some bits of an int
+abbrev pub IsField : Target → Type 0
+IsField t = (r : MutBor Tree) × (v : Tree) × (mask : ℤ) × (shift : ℕ) × (t ≡ BitField r v mask shift)

@@ -1,11 +1,11 @@
 //! What a target is made of.
-ghost use Rattle.std.specs.Prelude.{◌≡◌, true, is_some, IfOk, IfErr, Some, None};
+ghost use Rattle.std.specs.Prelude.{◌≡◌, true, IfOk, IfErr, Some, None};
 ghost use Rattle.std.specs.Borrow.{sem, follows_if, name_if_ok};
 ghost use Rattle.rhai_text.specs.declared.error.EvalAltResult.TheVariants.{ErrorDataRace};
 ghost use Rattle.rhai_value.specs.contracts.dynamic.Dynamic as dynamic_type;
 ghost use Rattle.rhai_value.specs.End.{first_cell};
 ghost use Rattle.rhai_value.specs.Store.{marked_with, is_marked_at};
-ghost use Rattle.rhai_value.specs.Tree.{cell_of, copy};
+ghost use Rattle.rhai_value.specs.Tree.{copy};
 ghost use Rattle.rhai_target.specs.Found.{IsFound, IsMarkedFound, made_of};
 
 use crate::target::Target;
@@ -41,25 +41,24 @@ pub(crate) fn found<'a>(
     }
 }
 
-/// Marks the cell of a holder.
-pub(crate) fn mark_cell(holder: &Dynamic, m: &mut Store) -> Result<Marked, EvalAltResult>
-    requires { is_some (cell_of holder.now) ≡ true }
-    ensures ok { IfOk result (λ p. (first_cell m.old holder.now ≡ Some p.token) × (p.shared_value ≡ copy holder.now)) }
-    ensures err { IfErr result (λ e. (first_cell m.old holder.now ≡ None) × (e ≡ ErrorDataRace Position.NONE)) }
-    ensures marks { m.new ≡ marked_with (first_cell m.old holder.now) m.old }
+/// Marks the cell of a holder, of which it makes a copy. `ErrorDataRace`, with nothing changed, exactly where there is no cell to
+/// mark: of a value that is no holder, and of a cell that is marked or no cell of the store.
+pub(crate) fn mark_cell(value: &Dynamic, m: &mut Store) -> Result<Marked, EvalAltResult>
+    ensures ok { IfOk result (λ p. (first_cell m.old value.now ≡ Some p.token) × (p.shared_value ≡ copy value.now)) }
+    ensures err { IfErr result (λ e. (first_cell m.old value.now ≡ None) × (e ≡ ErrorDataRace Position.NONE)) }
+    ensures marks { m.new ≡ marked_with (first_cell m.old value.now) m.old }
     ensures marked { IfOk result (λ p. is_marked_at m.new p.token ≡ true) }
 {
-    let Union::Shared(tag, _, cell) = holder.parts() else {
-        unreachable!()
-    };
-    let shared_value = Dynamic::from_parts(Union::Shared(*tag, AccessMode::ReadWrite, *cell));
-    match m.mark(holder) {
-        Some(token) => Ok(Marked {
-            token,
-            shared_value,
-        }),
-        None => Err(EvalAltResult::ErrorDataRace(Position::NONE)),
+    if let Union::Shared(tag, _, cell) = value.parts() {
+        let shared_value = Dynamic::from_parts(Union::Shared(*tag, AccessMode::ReadWrite, *cell));
+        if let Some(token) = m.mark(value) {
+            return Ok(Marked {
+                token,
+                shared_value,
+            });
+        }
     }
+    Err(EvalAltResult::ErrorDataRace(Position::NONE))
 }
 
 /// The target that is made of what was found.

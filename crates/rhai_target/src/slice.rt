@@ -9,7 +9,7 @@ ghost use Rattle.rhai_target.specs.Change.{on_text, sliced as sliced_text, slice
 use rhai_show::display_text;
 use rhai_text::ImmutableString;
 use rhai_value::laws::{mark_is_cleared, sites_are_read};
-use rhai_value::{Dynamic, Part, Store, WriteToken};
+use rhai_value::{Dynamic, Store, WriteToken};
 use std::alloc::{AllocError, Global};
 
 /// The places of a slice, in characters; past a text a place means its end.
@@ -26,6 +26,7 @@ pub struct Slice {
 /// The characters of a slice of the held text become the text that the working value prints as. The text is taken while the cell
 /// in which the held text stands is marked, so that a holder of it prints as `<shared>`. Where the slice ends before it starts, the
 /// characters between stand twice. Makes that text and one new text; goes over both once.
+#[inline(never)]
 pub fn write_slice(
     source: &mut Dynamic,
     alloc: Global,
@@ -86,18 +87,13 @@ fn sliced(
     ensures { IfOk result (λ new. IfSome (text_of held.now) (λ cs. new ≡ sliced_text s.now value.now slice cs)) }
 {
     let printed = display_text(alloc, value, s)?;
-    match ImmutableString::own(held) {
-        Some(text) => {
-            text.with_slice(
-                alloc,
-                slice.start,
-                slice.end,
-                slice.exclusive,
-                printed.as_str(),
-            )
-        }
-        None => unreachable!(),
-    }
+    held.own_part::<ImmutableString>().with_slice(
+        alloc,
+        slice.start,
+        slice.end,
+        slice.exclusive,
+        printed.as_str(),
+    )
 }
 
 /// A text becomes another, tag and mode staying.
@@ -105,8 +101,5 @@ fn put_text(held: &mut Dynamic, new: ImmutableString)
     requires { is_some (text_of held.old) ≡ true }
     ensures { held.new ≡ with_content (leaf (text new)) held.old }
 {
-    match ImmutableString::own_mut(held) {
-        Some(text) => *text = new,
-        None => unreachable!(),
-    }
+    *held.own_part_mut::<ImmutableString>() = new;
 }

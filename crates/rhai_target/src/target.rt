@@ -358,7 +358,6 @@ impl<'a> Target<'a> {
 
     /// A reference and a shared value become a value of their own, which is what `take_or_clone` gives, and a mark is cleared; any
     /// other target stays. An `Err` hands the target back with nothing changed. (`Target::into_owned`)
-    #[tactic(auto, using(crate::proofs::Owned::owned_reference, crate::proofs::Owned::owned_already, crate::proofs::Owned::marks_nothing, crate::proofs::Owned::refers_to_nothing))]
     pub fn into_owned(self, alloc: Global, m: &mut Store) -> Result<Target<'a>, Target<'a>>
         requires { IsMarkedIn m.old self }
         ensures ok { IfOk result (λ t. t ≡ owned self.entry) }
@@ -367,12 +366,17 @@ impl<'a> Target<'a> {
         ensures stays { OnErr result (m.new ≡ m.old) }
         ensures free { MatchOption (reference_in self.entry) (IsOk result) (λ r. TakesNoMemory r.now → IsOk result) }
     {
-        if !self.is_ref() {
-            return Ok(self);
-        }
-        match self.take_or_clone(alloc, m) {
-            Ok(value) => Ok(Target::TempValue(value)),
-            Err(target) => Err(target),
+        match self {
+            Target::RefMut(_) | Target::SharedValue { .. } => match self.take_or_clone(alloc, m) {
+                Ok(value) => Ok(Target::TempValue(value)),
+                Err(target) => Err(target),
+            },
+            Target::TempValue(_)
+            | Target::Bit { .. }
+            | Target::BitField { .. }
+            | Target::BlobByte { .. }
+            | Target::StringChar { .. }
+            | Target::StringSlice { .. } => Ok(self),
         }
     }
 }

@@ -34,10 +34,8 @@ pub fn write_bit(
         value: source,
         store: m,
     };
-    match place.part_mut::<INT>() {
-        Ok(number) => *number = with_bit(*number, bit, is_set),
-        Err(_) => unreachable!(),
-    }
+    let number = place.held_part_mut::<INT>();
+    *number = with_bit(*number, bit, is_set);
     Ok(())
 }
 
@@ -77,10 +75,8 @@ pub(crate) fn put_field(source: &mut Dynamic, m: &mut Store, mask: INT, shift: u
         value: source,
         store: m,
     };
-    match place.part_mut::<INT>() {
-        Ok(number) => *number = with_field(*number, mask, shift, bits),
-        Err(_) => unreachable!(),
-    }
+    let number = place.held_part_mut::<INT>();
+    *number = with_field(*number, mask, shift, bits);
 }
 
 /// One byte of the held blob becomes the int that the working value holds, modulo 256. Takes no memory.
@@ -107,15 +103,13 @@ pub fn write_byte(
         value: source,
         store: m,
     };
-    match place.part_mut::<Blob>() {
-        Ok(bytes) => bytes[index] = byte,
-        Err(_) => unreachable!(),
-    }
+    place.held_part_mut::<Blob>()[index] = byte;
     Ok(())
 }
 
 /// One character of the held text becomes the one that the working value holds; past the end of the text nothing changes. Makes one
 /// new text, and goes over the old one once.
+#[inline(never)]
 pub fn write_char(
     source: &mut Dynamic,
     alloc: Global,
@@ -138,14 +132,12 @@ pub fn write_char(
         value: source,
         store: m,
     };
-    match place.part_mut::<ImmutableString>() {
-        Ok(text) => match text.with_char(alloc, index, character) {
-            Ok(changed) => {
-                *text = changed;
-                Ok(())
-            }
-            Err(refused) => Err(EvalAltResult::ErrorMemory(refused)),
-        },
-        Err(_) => unreachable!(),
+    let text = place.held_part_mut::<ImmutableString>();
+    match text.with_char(alloc, index, character) {
+        Ok(changed) => {
+            *text = changed;
+            Ok(())
+        }
+        Err(refused) => Err(EvalAltResult::ErrorMemory(refused)),
     }
 }

@@ -1,10 +1,12 @@
 -- An operator and its assignment come to the same content.
-use Rattle.std.proofs.Common.{◌≡◌, ℕ, ℤ, Bool, true, false, ◌||◌, ◌&&◌, List, [], ◌∷◌, ◌++◌, Option, Some, None, IsTrue, unwrap_or, if◌then◌else◌, refl, sym, ap, ◌∙◌, subst}
+use Rattle.std.proofs.Common.{◌≡◌, ℕ, ℤ, Bool, true, false, ◌||◌, ◌&&◌, List, [], ◌∷◌, ◌++◌, Option, Some, None, IsTrue, is_some, unwrap_or, if◌then◌else◌, refl, sym, ap, ◌∙◌, subst}
+use denote.Enum.Bare.{same_true}
 use Rattle.std.proofs.lemmas.List.{append-nil}
 use Rattle.std.proofs.lemmas.Option.{same_Some}
 use Rattle.rhai_text.specs.declared.error.SizeKind.{SizeKind}
 use Rattle.rhai_text.specs.declared.error.SizeKind.TheVariants as size
 use Rattle.rhai_text.specs.declared.limits.Limits.{Limits}
+use Rattle.rhai_text.specs.contracts.token.Token as token
 use Rattle.rhai_text.specs.declared.token.Token.{Token}
 use Rattle.rhai_text.specs.declared.token.Token.TheVariants as op
 use Rattle.rhai_value.specs.declared.access_mode.AccessMode.{AccessMode}
@@ -20,12 +22,11 @@ use Rattle.rhai_ops.specs.declared.builtin.FnBuiltin.{FnBuiltin}
 use Rattle.rhai_ops.specs.declared.builtin.FnBuiltin.TheVariants as row
 use Rattle.rhai_ops.specs.declared.own.Own.{Own}
 use Rattle.rhai_ops.specs.declared.own.Own.TheVariants as is
-use Rattle.rhai_ops.specs.declared.role.Role.{Role}
 use Rattle.rhai_ops.specs.AssignTable.{assign_row, assign_line}
 use Rattle.rhai_ops.specs.Outcome.{Outcome, answers, too_large, limited_text, limited_blob}
 use Rattle.rhai_ops.specs.Results.{of_ints, outcome, joined_texts, joined_blobs}
 use Rattle.rhai_ops.specs.Table.{own, own_leaf, row_of, own_pair, pair_row, type_line, pick, Line, is_numeric, is_range_type}
-use Rattle.rhai_ops.specs.Tokens.{role, done_by, is_number, is_plus, without_assign}
+use Rattle.rhai_ops.specs.Tokens.{role, arithmetic, base_operation, is_assignment, is_token, without_assign}
 use Rattle.rhai_ops.specs.Ways.{Way, operator, assignment, way, writes, rewritten, first_left, takes_nothing}
 use Rattle.rhai_ops.proofs.Roles.{assignments}
 use Rattle.rhai_ops.proofs.Suited.{leaf_end, own_part}
@@ -72,7 +73,7 @@ no_rows : (b : Bool) (k l : Line) → pick k ≡ None → pick l ≡ None → pi
 no_rows true k l e f = e
 no_rows false k l e f = f
 
-no_plus : (a b : TypeId) → pick (type_line (role op.Plus) a b) ≡ None
+no_plus : (a b : TypeId) → pick (type_line op.Plus a b) ≡ None
 no_plus a b =
     no_rows (is_type a id.Shared || is_type b id.Shared) _ _ refl
     (no_rows (is_range_type a && is_range_type b) _ _ (no_rows (is_type a b) _ _ refl refl)
@@ -86,7 +87,7 @@ one true r a e = (refl, e)
 one false r a e = cc
 
 -- what an assignment does before it writes is what its operator does
-same_role : (t : Token) → is_number (done_by (role t)) ≡ true → role (without_assign t) ≡ done_by (role t)
+same_role : (t : Token) → is_assignment t ≡ true → arithmetic (role (without_assign t)) ≡ base_operation (role t)
 same_role op.PlusAssign e = refl
 same_role op.MinusAssign e = refl
 same_role op.MultiplyAssign e = refl
@@ -114,10 +115,10 @@ module _ (l : Limits) (s : List Cell) (g h : ℤ) (m n : AccessMode) (b a : FnBu
 
   ints : (t : Token) (i j : ℤ) → Leaves t (int i) (int j)
   ints t i j e f k =
-      let p = one (is_number (done_by (role t))) (row.IntAssign t) a f in
-      let same : role (without_assign t) ≡ done_by (role t) = same_role t p.0 in
+      let p = one (is_assignment t) (row.IntAssign t) a f in
+      let same : arithmetic (role (without_assign t)) ≡ base_operation (role t) = same_role t p.0 in
       rows (row.Int (without_assign t)) (row.IntAssign t) (int i) (int j)
-      (λ v w x y. one_outcome _ v w (subst (λ r. (of_ints r).comes_to l s (node (leaf (int i)) g m) (node (leaf (int j)) h n) ≡ answers v) same x) y) (first_row _ _ b _ (ap is_number same ∙ p.0) e) p.1
+      (λ v w x y. one_outcome _ v w (subst (λ r. (of_ints r).comes_to l s (node (leaf (int i)) g m) (node (leaf (int j)) h n) ≡ answers v) same x) y) (first_row _ _ b _ (ap is_some same ∙ p.0) e) p.1
 
   bools : (t : Token) (i j : Bool) → Leaves t (bool i) (bool j)
   bools op.AndAssign i j e f k = rows (row.Bool op.Ampersand) (row.BoolAssign op.AndAssign) (bool i) (bool j) (λ v w. one_outcome _ v w) e f
@@ -180,33 +181,32 @@ module _ (l : Limits) (s : List Cell) (g h : ℤ) (m n : AccessMode) (b a : FnBu
   leaves t _ _ = λ e f k. cc
 
 -- of an array only `+=` has rows, and `+` has none; of other values no assignment has
-array_plus : (t : Token) (k : Role) (o : Own) (a : FnBuiltin) → pick (assign_line t k is.Array o) ≡ Some a → is_plus k ≡ true
-array_plus t k is.Array a e = (one (is_plus k) row.ArrayAppend a e).0
-array_plus t k _ a e = (one (is_plus k) row.ArrayPush a e).0
+array_plus : (t : Token) (o : Own) (a : FnBuiltin) → pick (assign_line t is.Array o) ≡ Some a → is_token t op.PlusAssign ≡ true
+array_plus t is.Array a e = (one (is_token t op.PlusAssign) row.ArrayAppend a e).0
+array_plus t _ a e = (one (is_token t op.PlusAssign) row.ArrayPush a e).0
 
-plus_is : (t : Token) → is_plus (done_by (role t)) ≡ true → t ≡ op.PlusAssign
-plus_is op.PlusAssign e = refl
-plus_is _ e = cc
+plus_is : (t : Token) → is_token t op.PlusAssign ≡ true → t ≡ op.PlusAssign
+plus_is t e = same_true token.the_type tt t op.PlusAssign e
 
-array_none : (o : Own) (a b : TypeId) → pair_row (own_pair op.Plus (role op.Plus) is.Array o) (type_line (role op.Plus) a b) ≡ None
+array_none : (o : Own) (a b : TypeId) → pair_row (own_pair op.Plus is.Array o) (type_line op.Plus a b) ≡ None
 array_none _ a b = no_plus a b
 
 arrays : (t : Token) (s : List Cell) (ts : Trees) (g : ℤ) (m : AccessMode) (y : Tree) (b a : FnBuiltin) → row_of (without_assign t) s (node (branch array ts) g m) y ≡ Some b → assign_row t (node (branch array ts) g m) y ≡ Some a → ⊥
 arrays t s ts g m y b a e f =
-    let plus : t ≡ op.PlusAssign = plus_is t (array_plus t (done_by (role t)) (own y) a f) in
+    let plus : t ≡ op.PlusAssign = plus_is t (array_plus t (own y) a f) in
     none_is_some (row_of op.Plus s (node (branch array ts) g m) y) b (array_none (own y) (end_type (end s [] (node (branch array ts) g m))) (end_type (end s [] y))) (subst (λ k. row_of (without_assign k) s (node (branch array ts) g m) y ≡ Some b) plus e)
 
-other_none : (t : Token) (k : Role) (o : Own) → pick (assign_line t k is.Other o) ≡ None
-other_none t k _ = refl
+other_none : (t : Token) (o : Own) → pick (assign_line t is.Other o) ≡ None
+other_none t _ = refl
 
-beside : (t : Token) (k : Role) (i : Leaf) → (pick (assign_line t k (own_leaf i) is.Array) ≡ None) × (pick (assign_line t k (own_leaf i) is.Other) ≡ None)
-beside t k unit = (refl, refl)
-beside t k (bool b) = (refl, refl)
-beside t k (int n) = (refl, refl)
-beside t k (char c) = (refl, refl)
-beside t k (text v) = (refl, refl)
-beside t k (blob v) = (refl, refl)
-beside t k (host h) = (refl, refl)
+beside : (t : Token) (i : Leaf) → (pick (assign_line t (own_leaf i) is.Array) ≡ None) × (pick (assign_line t (own_leaf i) is.Other) ≡ None)
+beside t unit = (refl, refl)
+beside t (bool b) = (refl, refl)
+beside t (int n) = (refl, refl)
+beside t (char c) = (refl, refl)
+beside t (text v) = (refl, refl)
+beside t (blob v) = (refl, refl)
+beside t (host h) = (refl, refl)
 
 -- the content of a value that isn't shared, once another value was written there
 written : (w : Way) (v : Tree) (s : List Cell) (i : Leaf) (g : ℤ) (m : AccessMode) → IsTrue (writes w) → content_of (first_left w (answers v) s (node (leaf i) g m)) ≡ content_of v
@@ -219,14 +219,14 @@ agree t l s (node (leaf i) g m) (node (leaf j) h n) b a v w e f p q k =
     ap (λ o. content_of (first_left (way a) o s (node (leaf i) g m))) q
     ∙ written (way a) w s i g m (assignments t (node (leaf i) g m) (node (leaf j) h n) a f)
     ∙ leaves l s g h m n b a t i j e f k v w p q
-agree t l s (node (leaf i) g m) (node (branch array us) h n) b a v w e f p q k = absurd (none_is_some _ a (beside t (done_by (role t)) i).0 f)
-agree t l s (node (leaf i) g m) (node (branch (function j) us) h n) b a v w e f p q k = absurd (none_is_some _ a (beside t (done_by (role t)) i).1 f)
-agree t l s (node (leaf i) g m) (node (fields fs) h n) b a v w e f p q k = absurd (none_is_some _ a (beside t (done_by (role t)) i).1 f)
-agree t l s (node (leaf i) g m) (node (holder c) h n) b a v w e f p q k = absurd (none_is_some _ a (beside t (done_by (role t)) i).1 f)
+agree t l s (node (leaf i) g m) (node (branch array us) h n) b a v w e f p q k = absurd (none_is_some _ a (beside t i).0 f)
+agree t l s (node (leaf i) g m) (node (branch (function j) us) h n) b a v w e f p q k = absurd (none_is_some _ a (beside t i).1 f)
+agree t l s (node (leaf i) g m) (node (fields fs) h n) b a v w e f p q k = absurd (none_is_some _ a (beside t i).1 f)
+agree t l s (node (leaf i) g m) (node (holder c) h n) b a v w e f p q k = absurd (none_is_some _ a (beside t i).1 f)
 agree t l s (node (branch array ts) g m) y b a v w e f p q k = absurd (arrays t s ts g m y b a e f)
-agree t l s (node (branch (function j) ts) g m) y b a v w e f p q k = absurd (none_is_some _ a (other_none t (done_by (role t)) (own y)) f)
-agree t l s (node (fields fs) g m) y b a v w e f p q k = absurd (none_is_some _ a (other_none t (done_by (role t)) (own y)) f)
-agree t l s (node (holder c) g m) y b a v w e f p q k = absurd (none_is_some _ a (other_none t (done_by (role t)) (own y)) f)
+agree t l s (node (branch (function j) ts) g m) y b a v w e f p q k = absurd (none_is_some _ a (other_none t (own y)) f)
+agree t l s (node (fields fs) g m) y b a v w e f p q k = absurd (none_is_some _ a (other_none t (own y)) f)
+agree t l s (node (holder c) g m) y b a v w e f p q k = absurd (none_is_some _ a (other_none t (own y)) f)
 
 -- a character that takes an empty text
 pub stays : (l : Limits) (s : List Cell) (x y : Tree) → takes_nothing x y ≡ true → first_left (way row.CharTextAssign) (outcome row.CharTextAssign l s x y) s x ≡ x

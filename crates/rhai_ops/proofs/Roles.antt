@@ -10,10 +10,8 @@ use Rattle.rhai_value.specs.Types.{is_type}
 use Rattle.rhai_ops.specs.declared.builtin.FnBuiltin.{FnBuiltin}
 use Rattle.rhai_ops.specs.declared.own.Own.{Own}
 use Rattle.rhai_ops.specs.declared.own.Own.TheVariants as is
-use Rattle.rhai_ops.specs.declared.role.Role.{Role}
 use Rattle.rhai_ops.specs.AssignTable.{assign_line, assign_row}
 use Rattle.rhai_ops.specs.Table.{own, row_of, own_pair, type_line, is_numeric, is_range_type}
-use Rattle.rhai_ops.specs.Tokens.{role, done_by}
 use Rattle.rhai_ops.specs.Ways.{way, operator, writes}
 use Rattle.rhai_ops.proofs.Lines.{LineAll, PairAll, pick_all, pair_all, if_all}
 
@@ -24,34 +22,34 @@ abbrev Writes : FnBuiltin → Type 0
 Writes r = IsTrue (writes (way r))
 
 -- pair by pair; a row more is found without a line more
-own_answers : (t : Token) (k : Role) (a b : Own) → PairAll Answers (own_pair t k a b)
-own_answers t k is.Unit is.Unit = search refl
-own_answers t k is.Bool is.Bool = search refl
-own_answers t k is.Int is.Int = search refl
-own_answers t k is.Str is.Str = search refl
-own_answers t k is.Char is.Char = search refl
-own_answers t k is.Blob is.Blob = search refl
-own_answers t k is.Array is.Array = search refl
-own_answers t k a b = search refl
+own_answers : (t : Token) (a b : Own) → PairAll Answers (own_pair t a b)
+own_answers t is.Unit is.Unit = search refl
+own_answers t is.Bool is.Bool = search refl
+own_answers t is.Int is.Int = search refl
+own_answers t is.Str is.Str = search refl
+own_answers t is.Char is.Char = search refl
+own_answers t is.Blob is.Blob = search refl
+own_answers t is.Array is.Array = search refl
+own_answers t a b = search refl
 
-types_answer : (k : Role) (a b : TypeId) → LineAll Answers (type_line k a b)
-types_answer k a b =
+types_answer : (t : Token) (a b : TypeId) → LineAll Answers (type_line t a b)
+types_answer t a b =
     if_all Answers (is_type a id.Shared || is_type b id.Shared) _ _ (λ e. tt) (λ e.
     if_all Answers (is_range_type a && is_range_type b) _ _ (λ r. if_all Answers (is_type a b) _ _ (λ i. (λ d. refl, (λ d. refl, tt))) (λ i. (λ d. refl, (λ d. refl, tt))))
     (λ r. if_all Answers (is_type a b || (is_numeric a && is_numeric b)) _ _ (λ i. tt) (λ i. (λ d. refl, (λ d. refl, tt)))))
 
 pub operators : (t : Token) (s : List Cell) (x y : Tree) (r : FnBuiltin) → row_of t s x y ≡ Some r → way r ≡ operator
-operators t s x y r e = pair_all Answers (own_pair t (role t) (own x) (own y)) _ r (own_answers t (role t) (own x) (own y)) (types_answer (role t) (end_type (end s [] x)) (end_type (end s [] y))) e
+operators t s x y r e = pair_all Answers (own_pair t (own x) (own y)) _ r (own_answers t (own x) (own y)) (types_answer t (end_type (end s [] x)) (end_type (end s [] y))) e
 
-own_writes : (t : Token) (k : Role) (a b : Own) → LineAll Writes (assign_line t k a b)
-own_writes t k is.Unit is.Unit = search refl
-own_writes t k is.Bool is.Bool = search refl
-own_writes t k is.Int is.Int = search refl
-own_writes t k is.Str is.Str = search refl
-own_writes t k is.Char is.Char = search refl
-own_writes t k is.Blob is.Blob = search refl
-own_writes t k is.Array is.Array = search refl
-own_writes t k a b = search refl
+own_writes : (t : Token) (a b : Own) → LineAll Writes (assign_line t a b)
+own_writes t is.Unit is.Unit = search refl
+own_writes t is.Bool is.Bool = search refl
+own_writes t is.Int is.Int = search refl
+own_writes t is.Str is.Str = search refl
+own_writes t is.Char is.Char = search refl
+own_writes t is.Blob is.Blob = search refl
+own_writes t is.Array is.Array = search refl
+own_writes t a b = search refl
 
 pub assignments : (t : Token) (x y : Tree) (r : FnBuiltin) → assign_row t x y ≡ Some r → IsTrue (writes (way r))
-assignments t x y r e = pick_all Writes (assign_line t (done_by (role t)) (own x) (own y)) r (own_writes t (done_by (role t)) (own x) (own y)) e
+assignments t x y r e = pick_all Writes (assign_line t (own x) (own y)) r (own_writes t (own x) (own y)) e

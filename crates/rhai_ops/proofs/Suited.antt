@@ -19,7 +19,6 @@ use Rattle.rhai_ops.specs.declared.builtin.FnBuiltin.{FnBuiltin}
 use Rattle.rhai_ops.specs.declared.builtin.FnBuiltin.TheVariants as row
 use Rattle.rhai_ops.specs.declared.own.Own.{Own}
 use Rattle.rhai_ops.specs.declared.own.Own.TheVariants as is
-use Rattle.rhai_ops.specs.Tokens.{role, done_by}
 use Rattle.rhai_ops.specs.Table.{own, own_leaf, row_of, own_pair, type_line, pick, is_numeric, is_range_type}
 use Rattle.rhai_ops.specs.AssignTable.{assign_line, assign_row}
 use Rattle.rhai_ops.specs.Results.{part, Holds, Suits, range_type}
@@ -90,7 +89,7 @@ module _ (t : Token) (s : List Cell) (x y : Tree) where
   Fit r = Suits r s x y
 
   -- pair by pair; a row more is found without a line more
-  own_suits : (a b : Own) → HoldsOwn a (end s [] x) → HoldsOwn b (end s [] y) → PairAll Fit (own_pair t (role t) a b)
+  own_suits : (a b : Own) → HoldsOwn a (end s [] x) → HoldsOwn b (end s [] y) → PairAll Fit (own_pair t a b)
   own_suits is.Unit is.Unit h k = search refl
   own_suits is.Bool is.Bool h k = search refl
   own_suits is.Int is.Int h k = search refl
@@ -123,13 +122,13 @@ module _ (t : Token) (s : List Cell) (x y : Tree) where
       let self : is_type first_type first_type ≡ true = ap (is_type first_type) same ∙ e in
       subst (λ k. Holds (typed_host_of k) s x × Holds (typed_host_of k) s y) (sym h.1) (holds_host first_type (end s [] x) h.0 self, holds_host first_type (end s [] y) h.0 e)
 
-  types_suit : LineAll Fit (type_line (role t) first_type second_type)
+  types_suit : LineAll Fit (type_line t first_type second_type)
   types_suit =
       if_all Fit (is_type first_type id.Shared || is_type second_type id.Shared) _ _ (λ e. tt) (λ e.
       if_all Fit (is_range_type first_type && is_range_type second_type) _ _ (λ b. if_all Fit (is_type first_type second_type) _ _ (λ i. (λ d. ranges_suit false (both_true _ _ b).0 i, (λ d. ranges_suit true (both_true _ _ b).0 i, tt))) (λ i. (λ d. tt, (λ d. tt, tt))))
       (λ b. if_all Fit (is_type first_type second_type || (is_numeric first_type && is_numeric second_type)) _ _ (λ i. tt) (λ i. (λ d. tt, (λ d. tt, tt)))))
 
-  assign_suits : (a b : Own) → HoldsOwn a (end s [] x) → HoldsOwn b (end s [] y) → LineAll Fit (assign_line t (done_by (role t)) a b)
+  assign_suits : (a b : Own) → HoldsOwn a (end s [] x) → HoldsOwn b (end s [] y) → LineAll Fit (assign_line t a b)
   assign_suits is.Unit is.Unit h k = search refl
   assign_suits is.Bool is.Bool h k = search refl
   assign_suits is.Int is.Int h k = search refl
@@ -140,11 +139,11 @@ module _ (t : Token) (s : List Cell) (x y : Tree) where
   assign_suits a b h k = search refl
 
   -- the first operand holds what its first content is by its own constructor
-  assign_row_suits : (a : Own) (r : FnBuiltin) → HoldsOwn a (end s [] x) → pick (assign_line t (done_by (role t)) a (own y)) ≡ Some r → Suits r s x y
-  assign_row_suits a r h e = pick_all Fit (assign_line t (done_by (role t)) a (own y)) r (assign_suits a (own y) h (holds_own s [] y)) e
+  assign_row_suits : (a : Own) (r : FnBuiltin) → HoldsOwn a (end s [] x) → pick (assign_line t a (own y)) ≡ Some r → Suits r s x y
+  assign_row_suits a r h e = pick_all Fit (assign_line t a (own y)) r (assign_suits a (own y) h (holds_own s [] y)) e
 
   pub row_suits : (r : FnBuiltin) → row_of t s x y ≡ Some r → Suits r s x y
-  row_suits r e = pair_all Fit (own_pair t (role t) (own x) (own y)) (type_line (role t) first_type second_type) r (own_suits (own x) (own y) (holds_own s [] x) (holds_own s [] y)) types_suit e
+  row_suits r e = pair_all Fit (own_pair t (own x) (own y)) (type_line t first_type second_type) r (own_suits (own x) (own y) (holds_own s [] x) (holds_own s [] y)) types_suit e
 
 -- the row that is looked up for the first content of x may be called on x
 own_first : (s : List Cell) (x v : Tree) → Some x ≡ Some v → HoldsOwn (own v) (end s [] x)

@@ -1,17 +1,17 @@
--- What the operators answer on two numbers, on two booleans, and on the order of two contents. Of an operator that does something else there is nothing.
-use Rattle.std.specs.Prelude.{Option, Some, None, ℕ, ℤ, pos, negsuc, zero, suc, ◌+ℤ◌, ◌-ℤ◌, ◌*ℤ◌, ◌^◌, Bool, Result, Ok, Err, nat_lt, not, ◌&&◌, ◌||◌, bit_and, bit_or, bit_xor, int_div, int_rem, if◌then◌else◌}
+-- What the operators answer on two numbers, on two booleans, and on the order of two contents.
+use Rattle.std.specs.Prelude.{Option, option_map, ℕ, ℤ, pos, negsuc, zero, suc, ◌+ℤ◌, ◌-ℤ◌, ◌*ℤ◌, ◌^◌, Bool, Result, Ok, Err, nat_lt, not, ◌&&◌, ◌||◌, bit_and, bit_or, bit_xor, int_div, int_rem, if◌then◌else◌}
 use Rattle.std.specs.Int.{w64, int_pow, int_wrap, int_shr, cast_signed, cast_unsigned}
 use Rattle.std.specs.Ordering.{is_eq, is_ne, is_lt, is_gt, is_le, is_ge}
 use Rattle.std.specs.declared.cmp.Ordering.{Ordering}
 use Rattle.rhai_text.specs.declared.error.ArithmeticFault.{ArithmeticFault}
 use Rattle.rhai_text.specs.declared.error.ArithmeticFault.TheVariants.{Overflow, DivisionByZero, NegativePower, PowerTooLarge}
-use Rattle.rhai_ops.specs.declared.role.Arithmetic.TheVariants.{Plus, Minus, Scale, Bits}
-use Rattle.rhai_ops.specs.declared.role.Bits.TheVariants as bits
-use Rattle.rhai_ops.specs.declared.role.Comparison.TheVariants.{Equal, Unequal, Order}
-use Rattle.rhai_ops.specs.declared.role.Order.TheVariants as order
-use Rattle.rhai_ops.specs.declared.role.Role.{Role}
-use Rattle.rhai_ops.specs.declared.role.Role.TheVariants.{Arithmetic, Compare}
-use Rattle.rhai_ops.specs.declared.role.Scale.TheVariants as scale
+use Rattle.rhai_ops.specs.declared.role.Arithmetic.{Arithmetic}
+use Rattle.rhai_ops.specs.declared.role.Arithmetic.TheVariants.{Plus, Minus, Multiplicative, Bits}
+use Rattle.rhai_ops.specs.declared.role.Bits.{Bits as BitOperation}
+use Rattle.rhai_ops.specs.declared.role.Bits.TheVariants.{And, Or, XOr}
+use Rattle.rhai_ops.specs.declared.role.Comparison.{Comparison}
+use Rattle.rhai_ops.specs.declared.role.Comparison.TheVariants.{Equal, Unequal, Greater, GreaterOrEqual, Less, LessOrEqual}
+use Rattle.rhai_ops.specs.declared.role.Multiplicative.TheVariants.{Multiply, Divide, Modulo, PowerOf, RightShift, LeftShift}
 
 -- a number, or why there is none
 abbrev pub Number : Type 0
@@ -55,33 +55,40 @@ abbrev pub by_bits : (ℕ → ℕ → ℕ) → ℤ → ℤ → ℤ
 by_bits f x y = cast_signed w64 (f (cast_unsigned w64 x) (cast_unsigned w64 y))
 
 -- whole numbers, and one test of the range at the end
-abbrev pub number : Role → ℤ → ℤ → Option Number
-number (Arithmetic Plus) x y = Some (ranged (x +ℤ y))
-number (Arithmetic Minus) x y = Some (ranged (x -ℤ y))
-number (Arithmetic (Scale scale.Multiply)) x y = Some (ranged (x *ℤ y))
-number (Arithmetic (Scale scale.Divide)) x y = Some (by_divisor y (ranged (int_div x y)))
-number (Arithmetic (Scale scale.Modulo)) x y = Some (by_divisor y (if in_range (int_div x y) then Ok (int_rem x y) else Err Overflow))
-number (Arithmetic (Scale scale.PowerOf)) x y = Some (powered x y)
-number (Arithmetic (Scale scale.RightShift)) x y = Some (Ok (shifted_right x y))
-number (Arithmetic (Scale scale.LeftShift)) x y = Some (Ok (shifted_left x y))
-number (Arithmetic (Bits bits.And)) x y = Some (Ok (by_bits bit_and x y))
-number (Arithmetic (Bits bits.Or)) x y = Some (Ok (by_bits bit_or x y))
-number (Arithmetic (Bits bits.XOr)) x y = Some (Ok (by_bits bit_xor x y))
-number _ x y = None
+abbrev pub number : Arithmetic → ℤ → ℤ → Number
+number Plus x y = ranged (x +ℤ y)
+number Minus x y = ranged (x -ℤ y)
+number (Multiplicative Multiply) x y = ranged (x *ℤ y)
+number (Multiplicative Divide) x y = by_divisor y (ranged (int_div x y))
+number (Multiplicative Modulo) x y = by_divisor y (if in_range (int_div x y) then Ok (int_rem x y) else Err Overflow)
+number (Multiplicative PowerOf) x y = powered x y
+number (Multiplicative RightShift) x y = Ok (shifted_right x y)
+number (Multiplicative LeftShift) x y = Ok (shifted_left x y)
+number (Bits And) x y = Ok (by_bits bit_and x y)
+number (Bits Or) x y = Ok (by_bits bit_or x y)
+number (Bits XOr) x y = Ok (by_bits bit_xor x y)
 
 -- of two booleans
-abbrev pub both_bits : Role → Bool → Bool → Option Bool
-both_bits (Arithmetic (Bits bits.And)) a b = Some (a && b)
-both_bits (Arithmetic (Bits bits.Or)) a b = Some (a || b)
-both_bits (Arithmetic (Bits bits.XOr)) a b = Some (if a then not b else b)
-both_bits _ a b = None
+abbrev pub both_bits : BitOperation → Bool → Bool → Bool
+both_bits And a b = a && b
+both_bits Or a b = a || b
+both_bits XOr a b = if a then not b else b
 
 -- of the order of two contents
-abbrev pub compared : Role → Ordering → Option Bool
-compared (Compare Equal) o = Some (is_eq o)
-compared (Compare Unequal) o = Some (is_ne o)
-compared (Compare (Order order.Greater)) o = Some (is_gt o)
-compared (Compare (Order order.GreaterOrEqual)) o = Some (is_ge o)
-compared (Compare (Order order.Less)) o = Some (is_lt o)
-compared (Compare (Order order.LessOrEqual)) o = Some (is_le o)
-compared _ o = None
+abbrev pub compared : Comparison → Ordering → Bool
+compared Equal o = is_eq o
+compared Unequal o = is_ne o
+compared Greater o = is_gt o
+compared GreaterOrEqual o = is_ge o
+compared Less o = is_lt o
+compared LessOrEqual o = is_le o
+
+-- The same of what an operator does. Of one that does something else there is nothing.
+abbrev pub number_by : Option Arithmetic → ℤ → ℤ → Option Number
+number_by o x y = option_map (λ n. number n x y) o
+
+abbrev pub bits_by : Option BitOperation → Bool → Bool → Option Bool
+bits_by o a b = option_map (λ f. both_bits f a b) o
+
+abbrev pub compared_by : Option Comparison → Ordering → Option Bool
+compared_by o order = option_map (λ c. compared c order) o

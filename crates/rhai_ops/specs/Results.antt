@@ -1,5 +1,5 @@
 -- What each row asks for, what it answers, and what it may want: one line a row.
-use Rattle.std.specs.Prelude.{ℕ, ℤ, pos, suc, ◌-◌, ◌^◌, Bool, true, false, not, ◌&&◌, List, [], ◌∷◌, ◌++◌, Option, Some, None, option_map, nat_eq, IsTrue, IsSome, if◌then◌else◌}
+use Rattle.std.specs.Prelude.{ℕ, ℤ, pos, suc, ◌-◌, ◌^◌, Bool, true, false, not, ◌&&◌, List, [], ◌∷◌, ◌++◌, Option, Some, None, is_some, option_map, nat_eq, IsTrue, IsSome, if◌then◌else◌}
 use Rattle.std.specs.Cmp.Lexicographic.{slice_cmp, pointwise}
 use Rattle.std.specs.Ordering.{bool_cmp, int_cmp, int_eq, nat_cmp}
 use Rattle.std.specs.Char.{encode_utf8}
@@ -19,9 +19,11 @@ use Rattle.rhai_value.specs.Parts.{unit_of, bool_of, int_of, char_of, text_of, b
 use Rattle.rhai_value.specs.End.{end, held_part, flat, array_moved}
 use Rattle.rhai_ops.specs.declared.builtin.FnBuiltin.{FnBuiltin}
 use Rattle.rhai_ops.specs.declared.builtin.FnBuiltin.TheVariants as row
-use Rattle.rhai_ops.specs.declared.role.Role.{Role}
-use Rattle.rhai_ops.specs.Tokens.{role, done_by, is_number, is_bits, is_cmp}
-use Rattle.rhai_ops.specs.Numbers.{number, both_bits, compared}
+use Rattle.rhai_ops.specs.declared.role.Arithmetic.{Arithmetic}
+use Rattle.rhai_ops.specs.declared.role.Bits.{Bits}
+use Rattle.rhai_ops.specs.declared.role.Comparison.{Comparison}
+use Rattle.rhai_ops.specs.Tokens.{role, arithmetic, base_operation, bits, comparison}
+use Rattle.rhai_ops.specs.Numbers.{number_by, bits_by, compared_by}
 use Rattle.rhai_ops.specs.Outcome.{Outcome, answers, too_large, both, number_answer, bool_answer, is_allowed, limited_text, limited_blob}
 
 -- what is held of a kind
@@ -148,19 +150,19 @@ abbrev pub limited : Rule → Rule
 limited r = record r { wants = λ x y. Unit {0}; looks = true }
 
 -- a comparison, by the order of such parts
-abbrev pub comparing : {A B : Type 0} → Role → (Tree → Option A) → (Tree → Option B) → (A → B → Ordering) → Rule
-comparing r first second order = only_if (is_cmp r) (of_parts first second (λ l a b. bool_answer (compared r (order a b))))
+abbrev pub comparing : {A B : Type 0} → Option Comparison → (Tree → Option A) → (Tree → Option B) → (A → B → Ordering) → Rule
+comparing c first second order = only_if (is_some c) (of_parts first second (λ l a b. bool_answer (compared_by c (order a b))))
 
 -- two blobs as one
 abbrev pub blob_join : Rule
 blob_join = record (limited (of_parts blob_of blob_of appended)) { comes_to = λ l s x y. both (joined_blobs l (flat s x) (flat s y)) (part blob_of s x) (part blob_of s y) }
 
 -- what an operator and its assignment have alike
-abbrev pub of_ints : Role → Rule
-of_ints r = only_if (is_number r) (of_parts int_of int_of (λ l m n. number_answer (number r m n)))
+abbrev pub of_ints : Option Arithmetic → Rule
+of_ints o = only_if (is_some o) (of_parts int_of int_of (λ l m n. number_answer (number_by o m n)))
 
-abbrev pub of_bools : Role → Rule
-of_bools r = only_if (is_bits r) (of_parts bool_of bool_of (λ l a b. bool_answer (both_bits r a b)))
+abbrev pub of_bools : Option Bits → Rule
+of_bools o = only_if (is_some o) (of_parts bool_of bool_of (λ l a b. bool_answer (bits_by o a b)))
 
 abbrev pub text_minus : Rule
 text_minus = making (of_parts text_of text_of (λ l v w. answers (fresh (text (minus v w)))))
@@ -176,16 +178,16 @@ blob_and_char = limited (of_read blob_of (Holds char_of) (λ s y. option_map enc
 
 -- each row's rule
 abbrev pub rule : FnBuiltin → Rule
-rule (row.Int t) = of_ints (role t)
-rule (row.IntCompare t) = comparing (role t) int_of int_of int_cmp
+rule (row.Int t) = of_ints (arithmetic (role t))
+rule (row.IntCompare t) = comparing (comparison (role t)) int_of int_of int_cmp
 rule (row.IntRange i) = of_parts int_of int_of (λ l m n. answers (fresh (host (range i m n))))
-rule (row.BoolCompare t) = comparing (role t) bool_of bool_of bool_cmp
-rule (row.Bool t) = of_bools (role t)
+rule (row.BoolCompare t) = comparing (comparison (role t)) bool_of bool_of bool_cmp
+rule (row.Bool t) = of_bools (bits (arithmetic (role t)))
 rule row.TextJoin = limited (of_parts text_of text_of (λ l v w. limited_text l (v ++ w)))
 rule row.TextMinus = text_minus
-rule (row.TextCompare t) = comparing (role t) text_of text_of text_order
+rule (row.TextCompare t) = comparing (comparison (role t)) text_of text_of text_order
 rule row.CharJoin = limited (of_parts char_of char_of (λ l c d. limited_text l (c ∷ d ∷ [])))
-rule (row.CharCompare t) = comparing (role t) char_of char_of nat_cmp
+rule (row.CharCompare t) = comparing (comparison (role t)) char_of char_of nat_cmp
 rule row.BlobJoin = blob_join
 rule (row.BlobEqual n) = of_parts blob_of blob_of (λ l v w. bool_answer (Some (unless n (pointwise nat_eq v w))))
 rule row.ConstTrue = of_any (λ x y. answers (fresh (bool true)))
@@ -193,16 +195,16 @@ rule row.ConstFalse = of_any (λ x y. answers (fresh (bool false)))
 rule (row.RangeFrom i) = of_parts int_of unit_of (λ l m u. answers (fresh (host (range i m int_max))))
 rule (row.RangeTo i) = of_parts unit_of int_of (λ l u n. answers (fresh (host (range i (pos 0) n))))
 rule row.CharText = limited (of_parts char_of text_of (λ l c w. limited_text l (c ∷ w)))
-rule (row.CharTextCompare t) = comparing (role t) char_of text_of (λ c w. text_order (c ∷ []) w)
+rule (row.CharTextCompare t) = comparing (comparison (role t)) char_of text_of (λ c w. text_order (c ∷ []) w)
 rule row.TextChar = text_and_char
 rule row.TextMinusChar = text_minus_char
-rule (row.TextCharCompare t) = comparing (role t) text_of char_of (λ v d. text_order v (d ∷ []))
+rule (row.TextCharCompare t) = comparing (comparison (role t)) text_of char_of (λ v d. text_order v (d ∷ []))
 rule row.FirstCopy = record (of_any (λ x y. answers (copy x))) { wants = λ x y. TakesNoMemory x → ⊥ }
 rule row.SecondCopy = record (of_any (λ x y. answers (copy y))) { wants = λ x y. TakesNoMemory y → ⊥ }
 rule row.BlobChar = blob_and_char
 rule (row.RangeEqual i n) = of_parts (typed_host_of (range_type i)) (typed_host_of (range_type i)) (λ l a b. range_answer n (same_range a b))
-rule (row.IntAssign t) = of_ints (done_by (role t))
-rule (row.BoolAssign t) = of_bools (done_by (role t))
+rule (row.IntAssign t) = of_ints (base_operation (role t))
+rule (row.BoolAssign t) = of_bools (bits (base_operation (role t)))
 rule row.CharJoinAssign = making (of_parts char_of char_of (λ l c d. answers (fresh (text (c ∷ d ∷ [])))))
 rule row.TextJoinAssign = limited (of_parts text_of text_of joined_texts)
 rule row.TextMinusAssign = text_minus

@@ -1,6 +1,7 @@
 -- The table of binary operators: which row an operator has on two operands.
 use Rattle.std.specs.Prelude.{Bool, true, false, ◌||◌, ◌&&◌, List, [], ◌∷◌, Option, Some, None, if◌then◌else◌}
 use Rattle.rhai_text.specs.declared.token.Token.{Token}
+use Rattle.rhai_text.specs.declared.token.Token.TheVariants as op
 use Rattle.rhai_value.specs.declared.store.Cell.{Cell}
 use Rattle.rhai_value.specs.declared.type_id.TypeId.{TypeId}
 use Rattle.rhai_value.specs.declared.type_id.TypeId.TheVariants as id
@@ -11,8 +12,7 @@ use Rattle.rhai_ops.specs.declared.builtin.FnBuiltin.{FnBuiltin}
 use Rattle.rhai_ops.specs.declared.builtin.FnBuiltin.TheVariants as row
 use Rattle.rhai_ops.specs.declared.own.Own.{Own}
 use Rattle.rhai_ops.specs.declared.own.Own.TheVariants as is
-use Rattle.rhai_ops.specs.declared.role.Role.{Role}
-use Rattle.rhai_ops.specs.Tokens.{role, is_number, is_bits, is_cmp, is_range, is_plus, is_minus, is_equal, is_unequal, is_inclusive}
+use Rattle.rhai_ops.specs.Tokens.{is_number, is_bits, is_cmp, is_token}
 
 -- the constructor of a value, as far as the table tells constructors apart
 abbrev pub own_leaf : Leaf → Own
@@ -49,22 +49,22 @@ pub data Pair : Type 0 where
   only : Line → Pair
   first : Line → Pair
 
--- the questions are about what the operator t is, r
-abbrev pub own_pair : Token → Role → Own → Own → Pair
-own_pair t r is.Int is.Int = only ((is_number r, row.Int t) ∷ (is_cmp r, row.IntCompare t) ∷ (is_range r, row.IntRange (is_inclusive r)) ∷ [])
-own_pair t r is.Bool is.Bool = only ((is_cmp r, row.BoolCompare t) ∷ (is_bits r, row.Bool t) ∷ [])
-own_pair t r is.Str is.Str = only ((is_plus r, row.TextJoin) ∷ (is_minus r, row.TextMinus) ∷ (is_cmp r, row.TextCompare t) ∷ [])
-own_pair t r is.Char is.Char = only ((is_plus r, row.CharJoin) ∷ (is_cmp r, row.CharCompare t) ∷ [])
-own_pair t r is.Blob is.Blob = only ((is_plus r, row.BlobJoin) ∷ (is_equal r, row.BlobEqual false) ∷ (is_unequal r, row.BlobEqual true) ∷ [])
-own_pair t r is.Unit is.Unit = only ((is_equal r, row.ConstTrue) ∷ (is_cmp r, row.ConstFalse) ∷ [])
-own_pair t r is.Int is.Unit = first ((is_range r, row.RangeFrom (is_inclusive r)) ∷ [])
-own_pair t r is.Unit is.Int = first ((is_range r, row.RangeTo (is_inclusive r)) ∷ [])
-own_pair t r is.Char is.Str = only ((is_plus r, row.CharText) ∷ (is_cmp r, row.CharTextCompare t) ∷ [])
-own_pair t r is.Str is.Char = only ((is_plus r, row.TextChar) ∷ (is_minus r, row.TextMinusChar) ∷ (is_cmp r, row.TextCharCompare t) ∷ [])
-own_pair t r is.Unit is.Str = only ((is_plus r, row.SecondCopy) ∷ (is_unequal r, row.ConstTrue) ∷ (is_cmp r, row.ConstFalse) ∷ [])
-own_pair t r is.Str is.Unit = only ((is_plus r, row.FirstCopy) ∷ (is_unequal r, row.ConstTrue) ∷ (is_cmp r, row.ConstFalse) ∷ [])
-own_pair t r is.Blob is.Char = only ((is_plus r, row.BlobChar) ∷ [])
-own_pair t r _ _ = first []
+-- the questions are about the operator t
+abbrev pub own_pair : Token → Own → Own → Pair
+own_pair t is.Int is.Int = only ((is_number t, row.Int t) ∷ (is_cmp t, row.IntCompare t) ∷ (is_token t op.ExclusiveRange, row.IntRange false) ∷ (is_token t op.InclusiveRange, row.IntRange true) ∷ [])
+own_pair t is.Bool is.Bool = only ((is_cmp t, row.BoolCompare t) ∷ (is_bits t, row.Bool t) ∷ [])
+own_pair t is.Str is.Str = only ((is_token t op.Plus, row.TextJoin) ∷ (is_token t op.Minus, row.TextMinus) ∷ (is_cmp t, row.TextCompare t) ∷ [])
+own_pair t is.Char is.Char = only ((is_token t op.Plus, row.CharJoin) ∷ (is_cmp t, row.CharCompare t) ∷ [])
+own_pair t is.Blob is.Blob = only ((is_token t op.Plus, row.BlobJoin) ∷ (is_token t op.EqualsTo, row.BlobEqual false) ∷ (is_token t op.NotEqualsTo, row.BlobEqual true) ∷ [])
+own_pair t is.Unit is.Unit = only ((is_token t op.EqualsTo, row.ConstTrue) ∷ (is_cmp t, row.ConstFalse) ∷ [])
+own_pair t is.Int is.Unit = first ((is_token t op.ExclusiveRange, row.RangeFrom false) ∷ (is_token t op.InclusiveRange, row.RangeFrom true) ∷ [])
+own_pair t is.Unit is.Int = first ((is_token t op.ExclusiveRange, row.RangeTo false) ∷ (is_token t op.InclusiveRange, row.RangeTo true) ∷ [])
+own_pair t is.Char is.Str = only ((is_token t op.Plus, row.CharText) ∷ (is_cmp t, row.CharTextCompare t) ∷ [])
+own_pair t is.Str is.Char = only ((is_token t op.Plus, row.TextChar) ∷ (is_token t op.Minus, row.TextMinusChar) ∷ (is_cmp t, row.TextCharCompare t) ∷ [])
+own_pair t is.Unit is.Str = only ((is_token t op.Plus, row.SecondCopy) ∷ (is_token t op.NotEqualsTo, row.ConstTrue) ∷ (is_cmp t, row.ConstFalse) ∷ [])
+own_pair t is.Str is.Unit = only ((is_token t op.Plus, row.FirstCopy) ∷ (is_token t op.NotEqualsTo, row.ConstTrue) ∷ (is_cmp t, row.ConstFalse) ∷ [])
+own_pair t is.Blob is.Char = only ((is_token t op.Plus, row.BlobChar) ∷ [])
+own_pair t _ _ = first []
 
 -- the nine numbers of the host and i64
 abbrev pub is_numeric : TypeId → Bool
@@ -86,14 +86,14 @@ is_range_type id.InclusiveRange = true
 is_range_type _ = false
 
 -- by the held types; `Shared` is the type where a chain is stuck or closed
-abbrev pub type_line : Role → TypeId → TypeId → Line
-type_line r a b =
+abbrev pub type_line : Token → TypeId → TypeId → Line
+type_line t a b =
     if is_type a id.Shared || is_type b id.Shared then []
     else (if is_range_type a && is_range_type b then
-    (if is_type a b then (is_equal r, row.RangeEqual (is_type a id.InclusiveRange) false) ∷ (is_unequal r, row.RangeEqual (is_type a id.InclusiveRange) true) ∷ []
-    else (is_equal r, row.ConstFalse) ∷ (is_unequal r, row.ConstTrue) ∷ [])
+    (if is_type a b then (is_token t op.EqualsTo, row.RangeEqual (is_type a id.InclusiveRange) false) ∷ (is_token t op.NotEqualsTo, row.RangeEqual (is_type a id.InclusiveRange) true) ∷ []
+    else (is_token t op.EqualsTo, row.ConstFalse) ∷ (is_token t op.NotEqualsTo, row.ConstTrue) ∷ [])
     else (if is_type a b || (is_numeric a && is_numeric b) then []
-    else (is_unequal r, row.ConstTrue) ∷ (is_cmp r, row.ConstFalse) ∷ []))
+    else (is_token t op.NotEqualsTo, row.ConstTrue) ∷ (is_cmp t, row.ConstFalse) ∷ []))
 
 abbrev pub or_else : Option FnBuiltin → Option FnBuiltin → Option FnBuiltin
 or_else (Some r) q = Some r
@@ -105,4 +105,4 @@ pair_row (first l) types = or_else (pick l) (pick types)
 
 -- the row of the operator on x and y in the store s
 abbrev pub row_of : Token → List Cell → Tree → Tree → Option FnBuiltin
-row_of t s x y = pair_row (own_pair t (role t) (own x) (own y)) (type_line (role t) (end_type (end s [] x)) (end_type (end s [] y)))
+row_of t s x y = pair_row (own_pair t (own x) (own y)) (type_line t (end_type (end s [] x)) (end_type (end s [] y)))

@@ -1,93 +1,93 @@
--- What each operator is to the tables, and the questions that their lines ask.
-use Rattle.std.specs.Prelude.{Bool, true, false}
+-- What each operator does, and the questions that the lines of the tables ask of it.
+use Rattle.std.specs.Prelude.{Bool, Option, Some, None, is_some}
+use denote.Enum.Bare.{sameb}
+use Rattle.rhai_text.specs.contracts.token.Token as token
 use Rattle.rhai_text.specs.declared.token.Token.{Token}
 use Rattle.rhai_text.specs.declared.token.Token.TheVariants as op
-use Rattle.rhai_ops.specs.declared.role.Arithmetic.TheVariants.{Plus, Minus, Scale, Bits}
-use Rattle.rhai_ops.specs.declared.role.Bits.TheVariants as bits
-use Rattle.rhai_ops.specs.declared.role.Comparison.TheVariants.{Equal, Unequal, Order}
-use Rattle.rhai_ops.specs.declared.role.Order.TheVariants as order
+use Rattle.rhai_ops.specs.declared.role.Arithmetic.{Arithmetic as Operation}
+use Rattle.rhai_ops.specs.declared.role.Arithmetic.TheVariants.{Plus, Minus, Multiplicative, Bits}
+use Rattle.rhai_ops.specs.declared.role.Bits.{Bits as BitOperation}
+use Rattle.rhai_ops.specs.declared.role.Bits.TheVariants.{And, Or, XOr}
+use Rattle.rhai_ops.specs.declared.role.Comparison.{Comparison}
+use Rattle.rhai_ops.specs.declared.role.Comparison.TheVariants.{Equal, Unequal, Greater, GreaterOrEqual, Less, LessOrEqual}
+use Rattle.rhai_ops.specs.declared.role.Multiplicative.TheVariants.{Multiply, Divide, Modulo, PowerOf, RightShift, LeftShift}
 use Rattle.rhai_ops.specs.declared.role.Role.{Role}
-use Rattle.rhai_ops.specs.declared.role.Role.TheVariants.{Arithmetic, Compare, Range, Assign, Nothing}
-use Rattle.rhai_ops.specs.declared.role.Scale.TheVariants as scale
+use Rattle.rhai_ops.specs.declared.role.Role.TheVariants.{Arithmetic, Compare, Assign, Other}
 
--- eleven make a number, six compare, two make a range, without its end or with it, and `=` has no row; eleven do what the first do, and write
+-- eleven make a number, six compare, and eleven do what the first do, and write; two make a range, and `=` has no row
 abbrev pub role : Token → Role
 role op.Plus = Arithmetic Plus
 role op.Minus = Arithmetic Minus
-role op.Multiply = Arithmetic (Scale scale.Multiply)
-role op.Divide = Arithmetic (Scale scale.Divide)
-role op.Modulo = Arithmetic (Scale scale.Modulo)
-role op.PowerOf = Arithmetic (Scale scale.PowerOf)
-role op.RightShift = Arithmetic (Scale scale.RightShift)
-role op.LeftShift = Arithmetic (Scale scale.LeftShift)
-role op.Ampersand = Arithmetic (Bits bits.And)
-role op.Pipe = Arithmetic (Bits bits.Or)
-role op.XOr = Arithmetic (Bits bits.XOr)
+role op.Multiply = Arithmetic (Multiplicative Multiply)
+role op.Divide = Arithmetic (Multiplicative Divide)
+role op.Modulo = Arithmetic (Multiplicative Modulo)
+role op.PowerOf = Arithmetic (Multiplicative PowerOf)
+role op.RightShift = Arithmetic (Multiplicative RightShift)
+role op.LeftShift = Arithmetic (Multiplicative LeftShift)
+role op.Ampersand = Arithmetic (Bits And)
+role op.Pipe = Arithmetic (Bits Or)
+role op.XOr = Arithmetic (Bits XOr)
 role op.EqualsTo = Compare Equal
 role op.NotEqualsTo = Compare Unequal
-role op.GreaterThan = Compare (Order order.Greater)
-role op.GreaterThanEqualsTo = Compare (Order order.GreaterOrEqual)
-role op.LessThan = Compare (Order order.Less)
-role op.LessThanEqualsTo = Compare (Order order.LessOrEqual)
-role op.ExclusiveRange = Range false
-role op.InclusiveRange = Range true
-role op.Equals = Nothing
+role op.GreaterThan = Compare Greater
+role op.GreaterThanEqualsTo = Compare GreaterOrEqual
+role op.LessThan = Compare Less
+role op.LessThanEqualsTo = Compare LessOrEqual
+role op.ExclusiveRange = Other
+role op.InclusiveRange = Other
+role op.Equals = Other
 role op.PlusAssign = Assign Plus
 role op.MinusAssign = Assign Minus
-role op.MultiplyAssign = Assign (Scale scale.Multiply)
-role op.DivideAssign = Assign (Scale scale.Divide)
-role op.ModuloAssign = Assign (Scale scale.Modulo)
-role op.PowerOfAssign = Assign (Scale scale.PowerOf)
-role op.RightShiftAssign = Assign (Scale scale.RightShift)
-role op.LeftShiftAssign = Assign (Scale scale.LeftShift)
-role op.AndAssign = Assign (Bits bits.And)
-role op.OrAssign = Assign (Bits bits.Or)
-role op.XOrAssign = Assign (Bits bits.XOr)
+role op.MultiplyAssign = Assign (Multiplicative Multiply)
+role op.DivideAssign = Assign (Multiplicative Divide)
+role op.ModuloAssign = Assign (Multiplicative Modulo)
+role op.PowerOfAssign = Assign (Multiplicative PowerOf)
+role op.RightShiftAssign = Assign (Multiplicative RightShift)
+role op.LeftShiftAssign = Assign (Multiplicative LeftShift)
+role op.AndAssign = Assign (Bits And)
+role op.OrAssign = Assign (Bits Or)
+role op.XOrAssign = Assign (Bits XOr)
 
--- what an assignment does before it writes
-abbrev pub done_by : Role → Role
-done_by (Assign n) = Arithmetic n
-done_by _ = Nothing
+-- what an operator makes of two ints, what an assignment makes of them before it writes, what of these works on bits, and so on two
+-- booleans too, and what a comparison asks
+abbrev pub arithmetic : Role → Option Operation
+arithmetic (Arithmetic n) = Some n
+arithmetic _ = None
+
+abbrev pub base_operation : Role → Option Operation
+base_operation (Assign n) = Some n
+base_operation _ = None
+
+abbrev pub bits : Option Operation → Option BitOperation
+bits (Some (Bits b)) = Some b
+bits _ = None
+
+abbrev pub comparison : Role → Option Comparison
+comparison (Compare c) = Some c
+comparison _ = None
+
+-- one operator alone
+abbrev pub is_token : Token → Token → Bool
+is_token t u = sameb token.the_type t u
 
 -- arithmetic, power, shifts and bits
-abbrev pub is_number : Role → Bool
-is_number (Arithmetic n) = true
-is_number _ = false
+abbrev pub is_number : Token → Bool
+is_number t = is_some (arithmetic (role t))
 
 -- `&`, `|` and `^`
-abbrev pub is_bits : Role → Bool
-is_bits (Arithmetic (Bits b)) = true
-is_bits _ = false
-
-abbrev pub is_plus : Role → Bool
-is_plus (Arithmetic Plus) = true
-is_plus _ = false
-
-abbrev pub is_minus : Role → Bool
-is_minus (Arithmetic Minus) = true
-is_minus _ = false
+abbrev pub is_bits : Token → Bool
+is_bits t = is_some (bits (arithmetic (role t)))
 
 -- the six comparisons
-abbrev pub is_cmp : Role → Bool
-is_cmp (Compare c) = true
-is_cmp _ = false
+abbrev pub is_cmp : Token → Bool
+is_cmp t = is_some (comparison (role t))
 
-abbrev pub is_equal : Role → Bool
-is_equal (Compare Equal) = true
-is_equal _ = false
+-- the eleven that write, and of these `&=`, `|=` and `^=`
+abbrev pub is_assignment : Token → Bool
+is_assignment t = is_some (base_operation (role t))
 
-abbrev pub is_unequal : Role → Bool
-is_unequal (Compare Unequal) = true
-is_unequal _ = false
-
--- `..` and `..=`, and whether it is the second
-abbrev pub is_range : Role → Bool
-is_range (Range i) = true
-is_range _ = false
-
-abbrev pub is_inclusive : Role → Bool
-is_inclusive (Range i) = i
-is_inclusive _ = false
+abbrev pub is_bits_assignment : Token → Bool
+is_bits_assignment t = is_some (bits (base_operation (role t)))
 
 -- the operator that does what an assignment does before it writes; any other operator is itself
 abbrev pub without_assign : Token → Token

@@ -4,11 +4,11 @@ ghost use Rattle.rhai_text.specs.Text.{minus, minus_char};
 ghost use Rattle.rhai_value.specs.End.{end, value_after, store_after};
 ghost use Rattle.rhai_value.specs.Parts.{bool_of, char_of, text_of};
 ghost use Rattle.rhai_value.specs.Tree.{fresh, text, unit};
-ghost use Rattle.rhai_ops.specs.Numbers.{both_bits};
+ghost use Rattle.rhai_ops.specs.Numbers.{bits_by};
 ghost use Rattle.rhai_ops.specs.Outcome.{answers, bool_answer, both, limited_text};
 ghost use Rattle.rhai_ops.specs.Results.{Holds, joined_texts, joined_to_char, part as part_in};
 ghost use Rattle.rhai_ops.specs.Tokens as asked;
-ghost use Rattle.rhai_ops.specs.Tokens.{is_bits};
+ghost use Rattle.rhai_ops.specs.Tokens.{is_bits_assignment};
 ghost use Rattle.rhai_ops.specs.Ways.{IsAssigned, rewritten};
 
 use crate::answer::{part, value};
@@ -27,10 +27,10 @@ pub(crate) fn bits(
     x: &mut Dynamic,
     y: &Dynamic,
 ) -> Result<Dynamic, EvalAltResult>
-    requires bits { IsTrue (is_bits (asked.done_by (asked.role op))) }
+    requires bits { IsTrue (is_bits_assignment op) }
     requires first { Holds bool_of m.old x.old }
     requires second { Holds bool_of m.old y.now }
-    ensures { IsAssigned ⊥ result (both (λ a b. bool_answer (both_bits (asked.done_by (asked.role op)) a b)) (part_in bool_of m.old x.old) (part_in bool_of m.old y.now)) x.old x.new m.old m.new }
+    ensures { IsAssigned ⊥ result (both (λ a b. bool_answer (bits_by (asked.bits (asked.base_operation (asked.role op))) a b)) (part_in bool_of m.old x.old) (part_in bool_of m.old y.now)) x.old x.new m.old m.new }
 {
     put(bools::assigned(op, value(x, m), value(y, m))?, m, x)
 }

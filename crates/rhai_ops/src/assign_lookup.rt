@@ -5,9 +5,9 @@ ghost use Rattle.rhai_ops.specs.Table.{pick};
 ghost use Rattle.rhai_ops.specs.Tokens as asked;
 
 use crate::builtin::FnBuiltin;
-use crate::lookup::plus_row;
+use crate::lookup::{one_of, row_if};
 use crate::own::{Own, own_of};
-use crate::role::{Arithmetic, Role, done_by, is_minus, is_plus, role_of};
+use crate::role::{base_operation, bits_of, is_assignment};
 use rhai_text::Token;
 use rhai_value::Dynamic;
 
@@ -17,73 +17,55 @@ use rhai_value::Dynamic;
 pub fn get_builtin_op_assignment_fn(op: &Token, x: &Dynamic, y: &Dynamic) -> Option<FnBuiltin>
     ensures { result ≡ assign_row op.now x.now y.now }
 {
-    assigned_row(*op, done_by(role_of(*op)), own_of(x), own_of(y))
+    assigned_row(*op, own_of(x), own_of(y))
 }
 
-/// The row of `+=`, or that of `-=`.
-fn text_row(role: Role, plus: FnBuiltin, minus: FnBuiltin) -> Option<FnBuiltin>
-    ensures { result ≡ pick ((asked.is_plus role, plus) ∷ (asked.is_minus role, minus) ∷ []) }
-{
-    if is_plus(role) {
-        Some(plus)
-    } else if is_minus(role) {
-        Some(minus)
-    } else {
-        None
-    }
-}
-
-fn assigned_row(t: Token, role: Role, a: Own, b: Own) -> Option<FnBuiltin>
-    ensures { result ≡ pick (assign_line t role a b) }
+fn assigned_row(t: Token, a: Own, b: Own) -> Option<FnBuiltin>
+    ensures { result ≡ pick (assign_line t a b) }
 {
     match a {
         Own::Bool => match b {
-            Own::Bool => match role {
-                Role::Arithmetic(Arithmetic::Bits(_)) => Some(FnBuiltin::BoolAssign(t)),
-                Role::Arithmetic(Arithmetic::Plus)
-                | Role::Arithmetic(Arithmetic::Minus)
-                | Role::Arithmetic(Arithmetic::Scale(_))
-                | Role::Compare(_)
-                | Role::Range(_)
-                | Role::Assign(_)
-                | Role::Nothing => None,
-            },
+            Own::Bool => row_if(
+                bits_of(base_operation(t)).is_some(),
+                FnBuiltin::BoolAssign(t),
+            ),
             Own::Unit | Own::Int | Own::Str | Own::Char | Own::Blob | Own::Array | Own::Other =>
                 None,
         },
         Own::Int => match b {
-            Own::Int => match role {
-                Role::Arithmetic(_) => Some(FnBuiltin::IntAssign(t)),
-                Role::Compare(_) | Role::Range(_) | Role::Assign(_) | Role::Nothing => None,
-            },
+            Own::Int => row_if(is_assignment(t), FnBuiltin::IntAssign(t)),
             Own::Unit | Own::Bool | Own::Str | Own::Char | Own::Blob | Own::Array | Own::Other =>
                 None,
         },
         Own::Str => match b {
-            Own::Str => text_row(role, FnBuiltin::TextJoinAssign, FnBuiltin::TextMinusAssign),
-            Own::Char => text_row(
-                role,
-                FnBuiltin::TextCharAssign,
-                FnBuiltin::TextMinusCharAssign,
+            Own::Str => one_of(
+                t,
+                (Token::PlusAssign, FnBuiltin::TextJoinAssign),
+                (Token::MinusAssign, FnBuiltin::TextMinusAssign),
+            ),
+            Own::Char => one_of(
+                t,
+                (Token::PlusAssign, FnBuiltin::TextCharAssign),
+                (Token::MinusAssign, FnBuiltin::TextMinusCharAssign),
             ),
             Own::Unit | Own::Bool | Own::Int | Own::Blob | Own::Array | Own::Other => None,
         },
         Own::Char => match b {
-            Own::Str => plus_row(role, FnBuiltin::CharTextAssign),
-            Own::Char => plus_row(role, FnBuiltin::CharJoinAssign),
+            Own::Str => row_if(t == Token::PlusAssign, FnBuiltin::CharTextAssign),
+            Own::Char => row_if(t == Token::PlusAssign, FnBuiltin::CharJoinAssign),
             Own::Unit | Own::Bool | Own::Int | Own::Blob | Own::Array | Own::Other => None,
         },
         Own::Blob => match b {
-            Own::Int => plus_row(role, FnBuiltin::BlobPush),
-            Own::Str => plus_row(role, FnBuiltin::BlobTextAssign),
-            Own::Char => plus_row(role, FnBuiltin::BlobCharAssign),
-            Own::Blob => plus_row(role, FnBuiltin::BlobAppend),
+            Own::Int => row_if(t == Token::PlusAssign, FnBuiltin::BlobPush),
+            Own::Str => row_if(t == Token::PlusAssign, FnBuiltin::BlobTextAssign),
+            Own::Char => row_if(t == Token::PlusAssign, FnBuiltin::BlobCharAssign),
+            Own::Blob => row_if(t == Token::PlusAssign, FnBuiltin::BlobAppend),
             Own::Unit | Own::Bool | Own::Array | Own::Other => None,
         },
         Own::Array => match b {
-            Own::Array => plus_row(role, FnBuiltin::ArrayAppend),
+            Own::Array => row_if(t == Token::PlusAssign, FnBuiltin::ArrayAppend),
             Own::Unit | Own::Bool | Own::Int | Own::Str | Own::Char | Own::Blob | Own::Other =>
-                plus_row(role, FnBuiltin::ArrayPush),
+                row_if(t == Token::PlusAssign, FnBuiltin::ArrayPush),
         },
         Own::Unit | Own::Other => None,
     }

@@ -9,9 +9,9 @@ ghost use Rattle.rhai_ops.specs.Results.{joined_to_char, text_order};
 ghost use Rattle.rhai_ops.specs.Tokens as asked;
 ghost use Rattle.rhai_ops.specs.Tokens.{is_cmp};
 
-use crate::answer::is_allowed;
+use crate::answer::{is_allowed, known};
 use crate::compare::compared;
-use crate::role::role_of;
+use crate::role::comparison_of;
 use rhai_text::laws::byte_order_is_character_order;
 use rhai_text::{EvalAltResult, ImmutableString, Limits, Position, SizeKind, Token};
 use rhai_value::Dynamic;
@@ -56,10 +56,10 @@ pub(crate) fn append(alloc: Global, a: char, b: char) -> Result<Dynamic, EvalAlt
 
 /// A comparison of two characters.
 pub(crate) fn compare(op: Token, a: char, b: char) -> Result<Dynamic, EvalAltResult>
-    requires { IsTrue (is_cmp (asked.role op)) }
-    ensures { IsOutcome ⊥ result (bool_answer (specs.compared (asked.role op) (nat_cmp a b))) }
+    requires { IsTrue (is_cmp op) }
+    ensures { IsOutcome ⊥ result (bool_answer (specs.compared_by (asked.comparison (asked.role op)) (nat_cmp a b))) }
 {
-    Ok(Dynamic::from_bool(compared(role_of(op), a.cmp(&b))))
+    Ok(Dynamic::from_bool(compared(known(comparison_of(op)), a.cmp(&b))))
 }
 
 /// A text behind a character.
@@ -101,11 +101,11 @@ pub(crate) fn compare_text(
     a: char,
     b: &ImmutableString,
 ) -> Result<Dynamic, EvalAltResult>
-    requires { IsTrue (is_cmp (asked.role op)) }
-    ensures { IsOutcome ⊥ result (bool_answer (specs.compared (asked.role op) (text_order (a ∷ []) b.now))) }
+    requires { IsTrue (is_cmp op) }
+    ensures { IsOutcome ⊥ result (bool_answer (specs.compared_by (asked.comparison (asked.role op)) (text_order (a ∷ []) b.now))) }
 {
     let mut buffer = [0; 4];
     let a = spelled(a, &mut buffer);
     byte_order_is_character_order();
-    Ok(Dynamic::from_bool(compared(role_of(op), a.cmp(b.as_str()))))
+    Ok(Dynamic::from_bool(compared(known(comparison_of(op)), a.cmp(b.as_str()))))
 }

@@ -10,11 +10,11 @@ ghost use Rattle.rhai_ops.specs.Outcome.{IsOutcome, answers, bool_answer, both, 
 ghost use Rattle.rhai_ops.specs.Results.{Holds, part};
 ghost use Rattle.rhai_ops.specs.Ways.{IsAssigned, answered, assignment, stays};
 ghost use Rattle.rhai_ops.specs.Tokens as asked;
-ghost use Rattle.rhai_ops.specs.Tokens.{is_cmp, is_number};
+ghost use Rattle.rhai_ops.specs.Tokens.{is_assignment, is_cmp, is_number};
 
-use crate::answer::value;
+use crate::answer::{known, value};
 use crate::compare::compared;
-use crate::role::{Arithmetic, Bits, Role, Scale, done_by, role_of};
+use crate::role::{Arithmetic, Bits, Multiplicative, arithmetic_of, base_operation, comparison_of};
 use rhai_text::{ArithmeticFault, EvalAltResult, Position, Token};
 use rhai_value::{Dynamic, INT, InStore, Store};
 
@@ -26,10 +26,10 @@ pub(crate) fn answer(
     x: &Dynamic,
     y: &Dynamic,
 ) -> Result<Dynamic, EvalAltResult>
-    requires number { IsTrue (is_number (asked.role op)) }
+    requires number { IsTrue (is_number op) }
     requires first { Holds int_of s.now x.now }
     requires second { Holds int_of s.now y.now }
-    ensures { IsOutcome ⊥ result (both (λ i j. number_answer (specs.number (asked.role op) i j)) (part int_of s.now x.now) (part int_of s.now y.now)) }
+    ensures { IsOutcome ⊥ result (both (λ i j. number_answer (specs.number_by (asked.arithmetic (asked.role op)) i j)) (part int_of s.now x.now) (part int_of s.now y.now)) }
 {
     answer_numbers(op, value(x, s), value(y, s))
 }
@@ -37,10 +37,10 @@ pub(crate) fn answer(
 /// The same of two numbers.
 #[inline(always)]
 pub(crate) fn answer_numbers(op: Token, i: INT, j: INT) -> Result<Dynamic, EvalAltResult>
-    requires { IsTrue (is_number (asked.role op)) }
-    ensures { IsOutcome ⊥ result (number_answer (specs.number (asked.role op) i j)) }
+    requires { IsTrue (is_number op) }
+    ensures { IsOutcome ⊥ result (number_answer (specs.number_by (asked.arithmetic (asked.role op)) i j)) }
 {
-    match number(role_of(op), i, j) {
+    match number(known(arithmetic_of(op)), i, j) {
         Ok(n) => Ok(Dynamic::from_int(n)),
         Err(fault) => Err(EvalAltResult::ErrorArithmetic(fault, Position::NONE)),
     }
@@ -54,10 +54,10 @@ pub(crate) fn compare(
     x: &Dynamic,
     y: &Dynamic,
 ) -> Result<Dynamic, EvalAltResult>
-    requires comparison { IsTrue (is_cmp (asked.role op)) }
+    requires comparison { IsTrue (is_cmp op) }
     requires first { Holds int_of s.now x.now }
     requires second { Holds int_of s.now y.now }
-    ensures { IsOutcome ⊥ result (both (λ i j. bool_answer (specs.compared (asked.role op) (int_cmp i j))) (part int_of s.now x.now) (part int_of s.now y.now)) }
+    ensures { IsOutcome ⊥ result (both (λ i j. bool_answer (specs.compared_by (asked.comparison (asked.role op)) (int_cmp i j))) (part int_of s.now x.now) (part int_of s.now y.now)) }
 {
     compare_numbers(op, value(x, s), value(y, s))
 }
@@ -65,10 +65,10 @@ pub(crate) fn compare(
 /// The same of two numbers.
 #[inline(always)]
 pub(crate) fn compare_numbers(op: Token, i: INT, j: INT) -> Result<Dynamic, EvalAltResult>
-    requires { IsTrue (is_cmp (asked.role op)) }
-    ensures { IsOutcome ⊥ result (bool_answer (specs.compared (asked.role op) (int_cmp i j))) }
+    requires { IsTrue (is_cmp op) }
+    ensures { IsOutcome ⊥ result (bool_answer (specs.compared_by (asked.comparison (asked.role op)) (int_cmp i j))) }
 {
-    Ok(Dynamic::from_bool(compared(role_of(op), i.cmp(&j))))
+    Ok(Dynamic::from_bool(compared(known(comparison_of(op)), i.cmp(&j))))
 }
 
 /// An assignment of one of these operators to the int at a place. The place and the second operand are each looked up once.
@@ -79,10 +79,10 @@ pub(crate) fn assign(
     x: &mut Dynamic,
     y: &Dynamic,
 ) -> Result<Dynamic, EvalAltResult>
-    requires number { IsTrue (is_number (asked.done_by (asked.role op))) }
+    requires assignment { IsTrue (is_assignment op) }
     requires first { Holds int_of m.old x.old }
     requires second { Holds int_of m.old y.now }
-    ensures { IsAssigned ⊥ result (both (λ i j. number_answer (specs.number (asked.done_by (asked.role op)) i j)) (part int_of m.old x.old) (part int_of m.old y.now)) x.old x.new m.old m.new }
+    ensures { IsAssigned ⊥ result (both (λ i j. number_answer (specs.number_by (asked.base_operation (asked.role op)) i j)) (part int_of m.old x.old) (part int_of m.old y.now)) x.old x.new m.old m.new }
 {
     let number = value(y, m);
     assign_number(op, m, x, number)
@@ -96,26 +96,26 @@ pub(crate) fn assign_number(
     x: &mut Dynamic,
     number: INT,
 ) -> Result<Dynamic, EvalAltResult>
-    requires number { IsTrue (is_number (asked.done_by (asked.role op))) }
+    requires assignment { IsTrue (is_assignment op) }
     requires first { Holds int_of m.old x.old }
-    ensures { IsAssigned ⊥ result (both (λ i j. number_answer (specs.number (asked.done_by (asked.role op)) i j)) (part int_of m.old x.old) (Some number)) x.old x.new m.old m.new }
+    ensures { IsAssigned ⊥ result (both (λ i j. number_answer (specs.number_by (asked.base_operation (asked.role op)) i j)) (part int_of m.old x.old) (Some number)) x.old x.new m.old m.new }
 {
     let mut place = InStore { value: x, store: m };
-    match place.part_mut::<INT>() {
-        Ok(held) => write_number(done_by(role_of(op)), held, number),
-        Err(_) => unreachable!(),
-    }
+    write_number(
+        known(base_operation(op)),
+        place.held_part_mut::<INT>(),
+        number,
+    )
 }
 
 /// The same of an int that is held and a number.
 #[inline(always)]
-fn write_number(role: Role, held: &mut INT, y: INT) -> Result<Dynamic, EvalAltResult>
-    requires { IsTrue (is_number role) }
-    ensures result { IsOutcome ⊥ result (answered (assignment stays) (number_answer (specs.number role held.old y))) }
-    ensures ok { OnOk result (number_answer (specs.number role held.old y) ≡ answers (fresh (int held.new))) }
+fn write_number(operation: Arithmetic, held: &mut INT, y: INT) -> Result<Dynamic, EvalAltResult>
+    ensures result { IsOutcome ⊥ result (answered (assignment stays) (number_answer (Some (specs.number operation held.old y)))) }
+    ensures ok { OnOk result (number_answer (Some (specs.number operation held.old y)) ≡ answers (fresh (int held.new))) }
     ensures err { OnErr result (held.new ≡ held.old) }
 {
-    match number(role, *held, y) {
+    match number(operation, *held, y) {
         Ok(n) => {
             *held = n;
             Ok(Dynamic::UNIT)
@@ -126,32 +126,30 @@ fn write_number(role: Role, held: &mut INT, y: INT) -> Result<Dynamic, EvalAltRe
 
 /// The number that the operator answers, or why there is none.
 #[inline(always)]
-fn number(role: Role, x: INT, y: INT) -> Result<INT, ArithmeticFault>
-    requires { IsTrue (is_number role) }
-    ensures { specs.number role x y ≡ Some result }
+fn number(operation: Arithmetic, x: INT, y: INT) -> Result<INT, ArithmeticFault>
+    ensures { result ≡ specs.number operation x y }
 {
-    match role {
-        Role::Arithmetic(Arithmetic::Plus) => ranged(x.checked_add(y)),
-        Role::Arithmetic(Arithmetic::Minus) => ranged(x.checked_sub(y)),
-        Role::Arithmetic(Arithmetic::Scale(scale)) => scaled(scale, x, y),
-        Role::Arithmetic(Arithmetic::Bits(Bits::And)) => Ok(x & y),
-        Role::Arithmetic(Arithmetic::Bits(Bits::Or)) => Ok(x | y),
-        Role::Arithmetic(Arithmetic::Bits(Bits::XOr)) => Ok(x ^ y),
-        Role::Compare(_) | Role::Range(_) | Role::Assign(_) | Role::Nothing => unreachable!(),
+    match operation {
+        Arithmetic::Plus => ranged(x.checked_add(y)),
+        Arithmetic::Minus => ranged(x.checked_sub(y)),
+        Arithmetic::Multiplicative(operation) => scaled(operation, x, y),
+        Arithmetic::Bits(Bits::And) => Ok(x & y),
+        Arithmetic::Bits(Bits::Or) => Ok(x | y),
+        Arithmetic::Bits(Bits::XOr) => Ok(x ^ y),
     }
 }
 
 #[inline(always)]
-fn scaled(scale: Scale, x: INT, y: INT) -> Result<INT, ArithmeticFault>
-    ensures { specs.number (Role.Arithmetic (Arithmetic.Scale scale)) x y ≡ Some result }
+fn scaled(operation: Multiplicative, x: INT, y: INT) -> Result<INT, ArithmeticFault>
+    ensures { result ≡ specs.number (Arithmetic.Multiplicative operation) x y }
 {
-    match scale {
-        Scale::Multiply => ranged(x.checked_mul(y)),
-        Scale::Divide => quotient(x, y),
-        Scale::Modulo => rest(x, y),
-        Scale::PowerOf => power(x, y),
-        Scale::RightShift => Ok(shifted_right(x, y)),
-        Scale::LeftShift => Ok(shifted_left(x, y)),
+    match operation {
+        Multiplicative::Multiply => ranged(x.checked_mul(y)),
+        Multiplicative::Divide => quotient(x, y),
+        Multiplicative::Modulo => remainder(x, y),
+        Multiplicative::PowerOf => power(x, y),
+        Multiplicative::RightShift => Ok(shifted_right(x, y)),
+        Multiplicative::LeftShift => Ok(shifted_left(x, y)),
     }
 }
 
@@ -163,7 +161,7 @@ fn ranged(value: Option<INT>) -> Result<INT, ArithmeticFault>
 }
 
 fn quotient(x: INT, y: INT) -> Result<INT, ArithmeticFault>
-    ensures { specs.number (Role.Arithmetic (Arithmetic.Scale Scale.Divide)) x y ≡ Some result }
+    ensures { result ≡ specs.number (Arithmetic.Multiplicative Multiplicative.Divide) x y }
 {
     if y == 0 {
         return Err(ArithmeticFault::DivisionByZero);
@@ -171,8 +169,8 @@ fn quotient(x: INT, y: INT) -> Result<INT, ArithmeticFault>
     ranged(x.checked_div(y))
 }
 
-fn rest(x: INT, y: INT) -> Result<INT, ArithmeticFault>
-    ensures { specs.number (Role.Arithmetic (Arithmetic.Scale Scale.Modulo)) x y ≡ Some result }
+fn remainder(x: INT, y: INT) -> Result<INT, ArithmeticFault>
+    ensures { result ≡ specs.number (Arithmetic.Multiplicative Multiplicative.Modulo) x y }
 {
     if y == 0 {
         return Err(ArithmeticFault::DivisionByZero);

@@ -1,12 +1,13 @@
 //! Laws of the operators, each the contract of a function that does nothing.
-ghost use Rattle.std.specs.Prelude.{◌≡◌, ℕ, ℤ, true, false, [], ◌∷◌, List, Option, Some, IsTrue};
+ghost use Rattle.std.specs.Prelude.{◌≡◌, ℕ, ℤ, true, false, [], ◌∷◌, List, Some, option_map, IsTrue};
 ghost use Rattle.rhai_text.specs.declared.limits.Limits.{Limits};
 ghost use Rattle.rhai_text.specs.declared.token.Token.{Token};
 ghost use Rattle.rhai_value.specs.declared.access_mode.AccessMode.{AccessMode};
 ghost use Rattle.rhai_value.specs.declared.store.Cell.{Cell};
 ghost use Rattle.rhai_value.specs.End.{first};
 ghost use Rattle.rhai_value.specs.Relation.{Renaming, Related, IsOneToOne, RelatedCells};
-ghost use Rattle.rhai_value.specs.Tree.{Tree, node, leaf, char as character, text, content_of};
+ghost use Rattle.rhai_value.specs.Store.{content_at};
+ghost use Rattle.rhai_value.specs.Tree.{Tree, node, leaf, char as character, text, content_of, tag_of, mode_of};
 ghost use Rattle.rhai_ops.specs.declared.builtin.FnBuiltin.{FnBuiltin as Row};
 ghost use Rattle.rhai_ops.specs.declared.builtin.FnBuiltin.TheVariants as row;
 ghost use Rattle.rhai_ops.specs.AssignTable.{assign_row};
@@ -30,6 +31,17 @@ pub fn rows_suit()
 pub fn operators_write_nothing()
     ensures operator { (t : Token) (s : List Cell) (x y : Tree) (b : Row) → row_of t s x y ≡ Some b → way b ≡ operator }
     ensures assignment { (t : Token) (x y : Tree) (b : Row) → assign_row t x y ≡ Some b → IsTrue (writes (way b)) }
+{}
+
+/// A call keeps the tag and the mode of whatever it writes to: of the first operand, and of what each cell has.
+#[tactic(auto, using(crate::proofs::Labels::tag_stays, crate::proofs::Labels::mode_stays, crate::proofs::Labels::cell_tag_stays, crate::proofs::Labels::cell_mode_stays))]
+pub fn assignments_keep_tag_and_mode()
+    ensures tag { (w : Way) (o : Outcome) (s : List Cell) (x : Tree) → tag_of (first_left w o s x) ≡ tag_of x }
+    ensures mode { (w : Way) (o : Outcome) (s : List Cell) (x : Tree) → mode_of (first_left w o s x) ≡ mode_of x }
+    ensures cell_tag { (w : Way) (o : Outcome) (s : List Cell) (x : Tree) (c : ℕ)
+        → option_map tag_of (content_at (store_left w o s x) c) ≡ option_map tag_of (content_at s c) }
+    ensures cell_mode { (w : Way) (o : Outcome) (s : List Cell) (x : Tree) (c : ℕ)
+        → option_map mode_of (content_at (store_left w o s x) c) ≡ option_map mode_of (content_at s c) }
 {}
 
 /// The row of an operator or an assignment, what it comes to, and what its call leaves don't depend on the numbers of cells.

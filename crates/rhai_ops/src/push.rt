@@ -40,10 +40,7 @@ pub(crate) fn push_bytes(
     ensures { IsAssigned (Unit {0}) result (both (appended limits.now) (part_in blob_of m.old x.old) (Some more.now)) x.old x.new m.old m.new }
 {
     let mut place = InStore { value: x, store: m };
-    match place.part_mut::<Blob>() {
-        Ok(bytes) => extend(limits, bytes, more),
-        Err(_) => unreachable!(),
-    }
+    extend(limits, place.held_part_mut::<Blob>(), more)
 }
 
 /// An item behind an array, and unit where the item was, or both as they were.
@@ -76,10 +73,7 @@ pub(crate) fn push_item(
     ensures kept { IfErr result (λ e. y.new ≡ y.old) }
 {
     let mut place = InStore { value: x, store: m };
-    match place.part_mut::<Array>() {
-        Ok(items) => push(limits, items, y),
-        Err(_) => unreachable!(),
-    }
+    push(limits, place.held_part_mut::<Array>(), y)
 }
 
 /// Items behind an array, where none are left, or both as they were.
@@ -122,10 +116,7 @@ fn append_at(
     ensures kept { IfErr result (λ e. more.new.items ≡ more.old.items) }
 {
     let mut place = InStore { value: x, store: m };
-    match place.part_mut::<Array>() {
-        Ok(items) => append(limits, items, more),
-        Err(_) => unreachable!(),
-    }
+    append(limits, place.held_part_mut::<Array>(), more)
 }
 
 /// Copies of the items of an array, if the limit allows them behind the others; it is tested before anything is copied.
@@ -240,10 +231,11 @@ pub(crate) fn push_byte(
 {
     let number = value::<INT>(y, m);
     let mut place = InStore { value: x, store: m };
-    match place.part_mut::<Blob>() {
-        Ok(bytes) => extend_by_one(limits, bytes, number.rem_euclid(256) as u8),
-        Err(_) => unreachable!(),
-    }
+    extend_by_one(
+        limits,
+        place.held_part_mut::<Blob>(),
+        number.rem_euclid(256) as u8,
+    )
 }
 
 /// A byte behind a blob, or the blob as it was.

@@ -4,31 +4,29 @@ ghost use Rattle.rhai_ops.specs.Tokens as specs;
 
 use rhai_text::Token;
 
-/// What an operator does. The lines of the tables ask for it, and never for the operator itself.
+/// What an operator does.
 #[derive(Clone, Copy)]
 pub(crate) enum Role {
     /// A number of two ints; on booleans bits alone, on texts `+` and `-` alone.
     Arithmetic(Arithmetic),
     Compare(Comparison),
-    /// The range between two ints; with its end where the flag is set.
-    Range(bool),
-    /// The same of two ints, written.
+    /// A number of two ints, written where the first one stands.
     Assign(Arithmetic),
-    /// It has no row.
-    Nothing,
+    /// A range, or it has no row.
+    Other,
 }
 
 #[derive(Clone, Copy)]
 pub(crate) enum Arithmetic {
     Plus,
     Minus,
-    Scale(Scale),
+    Multiplicative(Multiplicative),
     Bits(Bits),
 }
 
 /// Products and quotients, those by powers too.
 #[derive(Clone, Copy)]
-pub(crate) enum Scale {
+pub(crate) enum Multiplicative {
     Multiply,
     Divide,
     Modulo,
@@ -48,11 +46,6 @@ pub(crate) enum Bits {
 pub(crate) enum Comparison {
     Equal,
     Unequal,
-    Order(Order),
-}
-
-#[derive(Clone, Copy)]
-pub(crate) enum Order {
     Greater,
     GreaterOrEqual,
     Less,
@@ -65,74 +58,119 @@ pub(crate) fn role_of(op: Token) -> Role
     match op {
         Token::Plus => Role::Arithmetic(Arithmetic::Plus),
         Token::Minus => Role::Arithmetic(Arithmetic::Minus),
-        Token::Multiply => Role::Arithmetic(Arithmetic::Scale(Scale::Multiply)),
-        Token::Divide => Role::Arithmetic(Arithmetic::Scale(Scale::Divide)),
-        Token::Modulo => Role::Arithmetic(Arithmetic::Scale(Scale::Modulo)),
-        Token::PowerOf => Role::Arithmetic(Arithmetic::Scale(Scale::PowerOf)),
-        Token::RightShift => Role::Arithmetic(Arithmetic::Scale(Scale::RightShift)),
-        Token::LeftShift => Role::Arithmetic(Arithmetic::Scale(Scale::LeftShift)),
+        Token::Multiply => Role::Arithmetic(Arithmetic::Multiplicative(Multiplicative::Multiply)),
+        Token::Divide => Role::Arithmetic(Arithmetic::Multiplicative(Multiplicative::Divide)),
+        Token::Modulo => Role::Arithmetic(Arithmetic::Multiplicative(Multiplicative::Modulo)),
+        Token::PowerOf => Role::Arithmetic(Arithmetic::Multiplicative(Multiplicative::PowerOf)),
+        Token::RightShift => Role::Arithmetic(Arithmetic::Multiplicative(
+            Multiplicative::RightShift,
+        )),
+        Token::LeftShift => Role::Arithmetic(Arithmetic::Multiplicative(Multiplicative::LeftShift)),
         Token::Ampersand => Role::Arithmetic(Arithmetic::Bits(Bits::And)),
         Token::Pipe => Role::Arithmetic(Arithmetic::Bits(Bits::Or)),
         Token::XOr => Role::Arithmetic(Arithmetic::Bits(Bits::XOr)),
         Token::EqualsTo => Role::Compare(Comparison::Equal),
         Token::NotEqualsTo => Role::Compare(Comparison::Unequal),
-        Token::GreaterThan => Role::Compare(Comparison::Order(Order::Greater)),
-        Token::GreaterThanEqualsTo => Role::Compare(Comparison::Order(Order::GreaterOrEqual)),
-        Token::LessThan => Role::Compare(Comparison::Order(Order::Less)),
-        Token::LessThanEqualsTo => Role::Compare(Comparison::Order(Order::LessOrEqual)),
-        Token::ExclusiveRange => Role::Range(false),
-        Token::InclusiveRange => Role::Range(true),
-        Token::Equals => Role::Nothing,
+        Token::GreaterThan => Role::Compare(Comparison::Greater),
+        Token::GreaterThanEqualsTo => Role::Compare(Comparison::GreaterOrEqual),
+        Token::LessThan => Role::Compare(Comparison::Less),
+        Token::LessThanEqualsTo => Role::Compare(Comparison::LessOrEqual),
+        Token::ExclusiveRange | Token::InclusiveRange | Token::Equals => Role::Other,
         Token::PlusAssign => Role::Assign(Arithmetic::Plus),
         Token::MinusAssign => Role::Assign(Arithmetic::Minus),
-        Token::MultiplyAssign => Role::Assign(Arithmetic::Scale(Scale::Multiply)),
-        Token::DivideAssign => Role::Assign(Arithmetic::Scale(Scale::Divide)),
-        Token::ModuloAssign => Role::Assign(Arithmetic::Scale(Scale::Modulo)),
-        Token::PowerOfAssign => Role::Assign(Arithmetic::Scale(Scale::PowerOf)),
-        Token::RightShiftAssign => Role::Assign(Arithmetic::Scale(Scale::RightShift)),
-        Token::LeftShiftAssign => Role::Assign(Arithmetic::Scale(Scale::LeftShift)),
+        Token::MultiplyAssign => Role::Assign(Arithmetic::Multiplicative(Multiplicative::Multiply)),
+        Token::DivideAssign => Role::Assign(Arithmetic::Multiplicative(Multiplicative::Divide)),
+        Token::ModuloAssign => Role::Assign(Arithmetic::Multiplicative(Multiplicative::Modulo)),
+        Token::PowerOfAssign => Role::Assign(Arithmetic::Multiplicative(Multiplicative::PowerOf)),
+        Token::RightShiftAssign => Role::Assign(Arithmetic::Multiplicative(
+            Multiplicative::RightShift,
+        )),
+        Token::LeftShiftAssign => Role::Assign(Arithmetic::Multiplicative(
+            Multiplicative::LeftShift,
+        )),
         Token::AndAssign => Role::Assign(Arithmetic::Bits(Bits::And)),
         Token::OrAssign => Role::Assign(Arithmetic::Bits(Bits::Or)),
         Token::XOrAssign => Role::Assign(Arithmetic::Bits(Bits::XOr)),
     }
 }
 
-/// What an assignment does before it writes; nothing of an operator.
-pub(crate) fn done_by(role: Role) -> Role
-    ensures { result ≡ specs.done_by role }
+/// What an operator makes of two ints.
+pub(crate) fn arithmetic_of(op: Token) -> Option<Arithmetic>
+    ensures { result ≡ specs.arithmetic (specs.role op) }
 {
-    match role {
-        Role::Assign(arithmetic) => Role::Arithmetic(arithmetic),
-        Role::Arithmetic(_) | Role::Compare(_) | Role::Range(_) | Role::Nothing => Role::Nothing,
+    match role_of(op) {
+        Role::Arithmetic(arithmetic) => Some(arithmetic),
+        Role::Compare(_) | Role::Assign(_) | Role::Other => None,
     }
 }
 
-pub(crate) fn is_plus(role: Role) -> bool
-    ensures { result ≡ specs.is_plus role }
+/// What an assignment makes of two ints before it writes.
+pub(crate) fn base_operation(op: Token) -> Option<Arithmetic>
+    ensures { result ≡ specs.base_operation (specs.role op) }
 {
-    matches!(role, Role::Arithmetic(Arithmetic::Plus))
+    match role_of(op) {
+        Role::Assign(arithmetic) => Some(arithmetic),
+        Role::Arithmetic(_) | Role::Compare(_) | Role::Other => None,
+    }
 }
 
-pub(crate) fn is_minus(role: Role) -> bool
-    ensures { result ≡ specs.is_minus role }
+/// What a comparison asks.
+pub(crate) fn comparison_of(op: Token) -> Option<Comparison>
+    ensures { result ≡ specs.comparison (specs.role op) }
 {
-    matches!(role, Role::Arithmetic(Arithmetic::Minus))
+    match role_of(op) {
+        Role::Compare(comparison) => Some(comparison),
+        Role::Arithmetic(_) | Role::Assign(_) | Role::Other => None,
+    }
 }
 
-pub(crate) fn is_cmp(role: Role) -> bool
-    ensures { result ≡ specs.is_cmp role }
+/// Of these, what works on bits, and so on two booleans too.
+pub(crate) fn bits_of(arithmetic: Option<Arithmetic>) -> Option<Bits>
+    ensures { result ≡ specs.bits arithmetic }
 {
-    matches!(role, Role::Compare(_))
+    match arithmetic {
+        Some(Arithmetic::Bits(bits)) => Some(bits),
+        Some(Arithmetic::Plus)
+        | Some(Arithmetic::Minus)
+        | Some(Arithmetic::Multiplicative(Multiplicative::Multiply))
+        | Some(Arithmetic::Multiplicative(Multiplicative::Divide))
+        | Some(Arithmetic::Multiplicative(Multiplicative::Modulo))
+        | Some(Arithmetic::Multiplicative(Multiplicative::PowerOf))
+        | Some(Arithmetic::Multiplicative(Multiplicative::RightShift))
+        | Some(Arithmetic::Multiplicative(Multiplicative::LeftShift))
+        | None => None,
+    }
 }
 
-pub(crate) fn is_equal(role: Role) -> bool
-    ensures { result ≡ specs.is_equal role }
+pub(crate) fn is_cmp(op: Token) -> bool
+    ensures { result ≡ specs.is_cmp op }
 {
-    matches!(role, Role::Compare(Comparison::Equal))
+    matches!(
+        op,
+        Token::EqualsTo
+            | Token::NotEqualsTo
+            | Token::GreaterThan
+            | Token::GreaterThanEqualsTo
+            | Token::LessThan
+            | Token::LessThanEqualsTo
+    )
 }
 
-pub(crate) fn is_unequal(role: Role) -> bool
-    ensures { result ≡ specs.is_unequal role }
+pub(crate) fn is_assignment(op: Token) -> bool
+    ensures { result ≡ specs.is_assignment op }
 {
-    matches!(role, Role::Compare(Comparison::Unequal))
+    matches!(
+        op,
+        Token::PlusAssign
+            | Token::MinusAssign
+            | Token::MultiplyAssign
+            | Token::DivideAssign
+            | Token::ModuloAssign
+            | Token::PowerOfAssign
+            | Token::RightShiftAssign
+            | Token::LeftShiftAssign
+            | Token::AndAssign
+            | Token::OrAssign
+            | Token::XOrAssign
+    )
 }

@@ -9,10 +9,10 @@ ghost use Rattle.rhai_ops.specs.Results.{Holds, joined_texts, part as part_in, t
 ghost use Rattle.rhai_ops.specs.Tokens as asked;
 ghost use Rattle.rhai_ops.specs.Tokens.{is_cmp};
 
-use crate::answer::{is_allowed, part, value};
+use crate::answer::{is_allowed, known, part, value};
 use crate::chars::spelled;
 use crate::compare::compared;
-use crate::role::{is_equal, role_of};
+use crate::role::{Comparison, comparison_of};
 use rhai_text::laws::byte_order_is_character_order;
 use rhai_text::{EvalAltResult, ImmutableString, Limits, Position, SizeKind, Token};
 use rhai_value::{Dynamic, Store};
@@ -95,10 +95,10 @@ pub(crate) fn compare(
     x: &Dynamic,
     y: &Dynamic,
 ) -> Result<Dynamic, EvalAltResult>
-    requires comparison { IsTrue (is_cmp (asked.role op)) }
+    requires comparison { IsTrue (is_cmp op) }
     requires first { Holds text_of s.now x.now }
     requires second { Holds text_of s.now y.now }
-    ensures { IsOutcome ⊥ result (both (λ v w. bool_answer (specs.compared (asked.role op) (text_order v w))) (part_in text_of s.now x.now) (part_in text_of s.now y.now)) }
+    ensures { IsOutcome ⊥ result (both (λ v w. bool_answer (specs.compared_by (asked.comparison (asked.role op)) (text_order v w))) (part_in text_of s.now x.now) (part_in text_of s.now y.now)) }
 {
     compare_two(op, part(x, s), part(y, s))
 }
@@ -110,24 +110,22 @@ pub(crate) fn compare_two(
     a: &ImmutableString,
     b: &ImmutableString,
 ) -> Result<Dynamic, EvalAltResult>
-    requires { IsTrue (is_cmp (asked.role op)) }
-    ensures { IsOutcome ⊥ result (bool_answer (specs.compared (asked.role op) (text_order a.now b.now))) }
+    requires { IsTrue (is_cmp op) }
+    ensures { IsOutcome ⊥ result (bool_answer (specs.compared_by (asked.comparison (asked.role op)) (text_order a.now b.now))) }
 {
-    Ok(Dynamic::from_bool(compared_texts(op, a, b)))
+    Ok(Dynamic::from_bool(compared_texts(known(comparison_of(op)), a, b)))
 }
 
 /// Whether the comparison holds of two texts. Whether they are equal is told by their lengths first.
 #[inline(never)]
 #[tactic(auto, using(crate::proofs::Characters::equal_by_order))]
-fn compared_texts(op: Token, a: &ImmutableString, b: &ImmutableString) -> bool
-    requires { IsTrue (is_cmp (asked.role op)) }
-    ensures { specs.compared (asked.role op) (text_order a.now b.now) ≡ Some result }
+fn compared_texts(comparison: Comparison, a: &ImmutableString, b: &ImmutableString) -> bool
+    ensures { result ≡ specs.compared comparison (text_order a.now b.now) }
 {
-    let role = role_of(op);
-    if is_equal(role) {
+    if matches!(comparison, Comparison::Equal) {
         return a == b;
     }
-    compared(role, a.cmp(b))
+    compared(comparison, a.cmp(b))
 }
 
 /// A character behind a text.
@@ -174,14 +172,14 @@ pub(crate) fn compare_char(
     x: &Dynamic,
     y: &Dynamic,
 ) -> Result<Dynamic, EvalAltResult>
-    requires comparison { IsTrue (is_cmp (asked.role op)) }
+    requires comparison { IsTrue (is_cmp op) }
     requires first { Holds text_of s.now x.now }
     requires second { Holds char_of s.now y.now }
-    ensures { IsOutcome ⊥ result (both (λ v d. bool_answer (specs.compared (asked.role op) (text_order v (d ∷ [])))) (part_in text_of s.now x.now) (part_in char_of s.now y.now)) }
+    ensures { IsOutcome ⊥ result (both (λ v d. bool_answer (specs.compared_by (asked.comparison (asked.role op)) (text_order v (d ∷ [])))) (part_in text_of s.now x.now) (part_in char_of s.now y.now)) }
 {
     let a = part::<ImmutableString>(x, s);
     let mut buffer = [0; 4];
     let b = spelled(value(y, s), &mut buffer);
     byte_order_is_character_order();
-    Ok(Dynamic::from_bool(compared(role_of(op), a.as_str().cmp(b))))
+    Ok(Dynamic::from_bool(compared(known(comparison_of(op)), a.as_str().cmp(b))))
 }

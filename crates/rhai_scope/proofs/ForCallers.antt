@@ -9,5 +9,7 @@ pub use Rattle.rhai_scope.proofs.SameEntries.{same_copied, same_copies, same_ext
 pub use Rattle.rhai_scope.proofs.SamePrints.{same_bytes, same_flat_values, same_names_text, same_shown_flat, same_shown_raw, same_text}
 -- an entry that is found
 pub use Rattle.rhai_scope.proofs.Found.{position_within}
+-- an entry whose value changes where it stands, or that goes
+pub use Rattle.rhai_scope.proofs.MovedOut.{kept_there, length_changed, taken, value_changed, written_there}
 -- what calls of `next` of an iterator gave
 pub use Rattle.rhai_scope.proofs.FlatItems.{flat_gone}

@@ -37,6 +37,12 @@ taken t [] i = refl
 taken t (e ∷ es) zero = refl
 taken t (e ∷ es) (suc i) = ap (λ xs. e ∷ xs) (taken t es i)
 
+-- another value stands there
+pub value_changed : (t u : Tree) (es : List Entry) (i : ℕ) → option_map (λ (e : Entry). e.value) (slice_get es i) ≡ Some t → option_map (λ (e : Entry). e.value) (slice_get (changed_at (with_value u) es i) i) ≡ Some u
+value_changed t u [] i h = cc
+value_changed t u (e ∷ es) zero h = refl
+value_changed t u (e ∷ es) (suc i) h = value_changed t u es i h
+
 -- a value that comes back
 pub put_back : (t u : Tree) (es : List Entry) (i : ℕ) → option_map (λ (e : Entry). e.value) (slice_get es i) ≡ Some t → changed_at (with_value t) (changed_at (with_value u) es i) i ≡ es
 put_back t u [] i h = refl
@@ -44,7 +50,7 @@ put_back t u (e ∷ es) zero h = let same : e.value ≡ t = cc in ap (λ x. with
 put_back t u (e ∷ es) (suc i) h = ap (λ xs. e ∷ xs) (put_back t u es i h)
 
 -- a value that is written where it stands
-written_there : (k : TypeId) (w t : Tree) (es : List Entry) (i : ℕ) → option_map (λ (e : Entry). e.value) (slice_get es i) ≡ Some t → changed_at (with_value (written_as k w t)) es i ≡ changed_at (written_entry k w) es i
+pub written_there : (k : TypeId) (w t : Tree) (es : List Entry) (i : ℕ) → option_map (λ (e : Entry). e.value) (slice_get es i) ≡ Some t → changed_at (with_value (written_as k w t)) es i ≡ changed_at (written_entry k w) es i
 written_there k w t [] i h = refl
 written_there k w t (e ∷ es) zero h = let same : e.value ≡ t = cc in ap (λ x. with_value (written_as k w x) e ∷ es) (sym same)
 written_there k w t (e ∷ es) (suc i) h = ap (λ xs. e ∷ xs) (written_there k w t es i h)
@@ -54,7 +60,7 @@ written_at k w t es None h = refl
 written_at k w t es (Some i) h = written_there k w t es i (sym h)
 
 -- and one that is written over itself
-kept_there : (t : Tree) (es : List Entry) (i : ℕ) → option_map (λ (e : Entry). e.value) (slice_get es i) ≡ Some t → changed_at (with_value t) es i ≡ es
+pub kept_there : (t : Tree) (es : List Entry) (i : ℕ) → option_map (λ (e : Entry). e.value) (slice_get es i) ≡ Some t → changed_at (with_value t) es i ≡ es
 kept_there t [] i h = refl
 kept_there t (e ∷ es) zero h = let same : e.value ≡ t = cc in ap (λ x. with_value x e ∷ es) (sym same)
 kept_there t (e ∷ es) (suc i) h = ap (λ xs. e ∷ xs) (kept_there t es i h)

@@ -27,9 +27,9 @@ impl Scope {
         let items = items.into_iter();
         self.reserve(items.size_hint().0)?;
         for (name, value) in items {
-            if let Err(refused) = self.push_moved(name, AccessMode::ReadWrite, value) {
+            if self.push_entry(name, AccessMode::ReadWrite, value).is_err() {
                 self.rewind(len);
-                return Err(refused);
+                return Err(AllocError);
             }
         }
         Ok(())
@@ -50,9 +50,12 @@ impl Scope {
         let items = items.into_iter();
         self.reserve(items.size_hint().0)?;
         for (name, is_constant, value) in items {
-            if let Err(refused) = self.push_moved(name, mode_of_flag(is_constant), value) {
+            if self
+                .push_entry(name, mode_of_flag(is_constant), value)
+                .is_err()
+            {
                 self.rewind(len);
-                return Err(refused);
+                return Err(AllocError);
             }
         }
         Ok(())

@@ -34,18 +34,28 @@ impl Scope {
     }
 
     /// The position of the last entry of a name, if its value may be written.
+    #[tactic(auto, using(crate::proofs::Found::position_within))]
     pub(crate) fn writable(&self, name: &str) -> Option<usize>
         ensures { result ≡ writable_position (chars name.now) self.now }
     {
         let i = self.search(name)?;
-        match self.records.get(i)?.value().access_mode() {
-            AccessMode::ReadWrite => Some(i),
-            AccessMode::ReadOnly => None,
+        if self.is_constant_at(i) {
+            None
+        } else {
+            Some(i)
         }
     }
 
-    /// The value at a place, to write to.
-    pub(crate) fn value_at_mut(&mut self, i: usize) -> &mut Dynamic
+    /// The value at a position: `Scope::search` gives that of a name.
+    pub fn at(&self, i: usize) -> &Dynamic
+        requires { i < length self.now }
+        ensures { option_map (λ e. e.value) (slice_get self.now i) ≡ Some result.now }
+    {
+        self.records[i].value()
+    }
+
+    /// The value at a position, to write to, also of a constant. No cell is written.
+    pub fn at_mut(&mut self, i: usize) -> &mut Dynamic
         requires { i < length self.old }
         ensures* writes_back { sem 𝓛 (Lends scope_type.the_row dynamic_type.the_row self.entry result (λ w. changed_at (with_value w) self.old i)) }
         ensures value { option_map (λ e. e.value) (slice_get self.old i) ≡ Some result.now }
@@ -77,7 +87,7 @@ impl Scope {
         ensures value { option_copied_mut result ≡ value_at self.old (writable_position (chars name.now) self.old) }
     {
         match self.writable(name) {
-            Some(i) => Some(self.value_at_mut(i)),
+            Some(i) => Some(self.at_mut(i)),
             None => None,
         }
     }
@@ -89,19 +99,26 @@ impl Scope {
         ensures value { option_copied_mut result ≡ value_at self.old (last_position (chars name.now) self.old) }
     {
         match self.search(name) {
-            Some(i) => Some(self.value_at_mut(i)),
+            Some(i) => Some(self.at_mut(i)),
             None => None,
         }
     }
 
     /// Whether the last entry of a name is a constant by its own mode, at the cost of `search`. (`Scope::is_constant`)
+    #[tactic(auto, using(crate::proofs::Found::position_within))]
     pub fn is_constant(&self, name: &str) -> Option<bool>
         ensures { result ≡ option_map is_constant_entry (last_entry (chars name.now) self.now) }
     {
-        match self.get(name) {
-            Some(value) => Some(is_read_only(value.access_mode())),
-            None => None,
-        }
+        let i = self.search(name)?;
+        Some(self.is_constant_at(i))
+    }
+
+    /// Whether the entry at a position is a constant by its own mode.
+    pub fn is_constant_at(&self, i: usize) -> bool
+        requires { i < length self.now }
+        ensures { option_map is_constant_entry (slice_get self.now i) ≡ Some result }
+    {
+        is_read_only(self.at(i).access_mode())
     }
 }
 

@@ -6,8 +6,6 @@ ghost use Rattle.rhai_value.specs.Tree.{mode_of, paint};
 ghost use Rattle.rhai_value.specs.declared.access_mode.AccessMode.TheVariants.{ReadOnly};
 ghost use Rattle.rhai_scope.specs.Entry.{pushed, popped};
 ghost use Rattle.rhai_scope.specs.Index.{IsIndexOf, names_of};
-ghost use Rattle.rhai_scope.specs.Lookup.{last_position};
-ghost use Rattle.rhai_scope.specs.Typed.{removed_at};
 
 use crate::index::Index;
 use crate::records::Record;
@@ -142,6 +140,7 @@ impl Scope {
 
     /// Adds an entry behind the others, its value painted with a mode; name and value come back where memory is refused.
     /// (`Scope::push_entry`, which is private in rhai)
+    #[inline(always)]
     pub fn push_entry(
         &mut self,
         name: ImmutableString,
@@ -198,22 +197,10 @@ impl Scope {
         ensures err { OnErr result (self.new ≡ self.old) }
     {
         let name = ImmutableString::from_str(self.alloc, name)?;
-        self.push_moved(name, access, value)
-    }
-
-    pub(crate) fn push_moved(
-        &mut self,
-        name: ImmutableString,
-        access: AccessMode,
-        value: Dynamic,
-    ) -> Result<(), AllocError>
-        ensures ok { OnOk result (self.new ≡ pushed access name value self.old) }
-        ensures err { OnErr result (self.new ≡ self.old) }
-    {
-        let alloc = self.alloc;
-        admit(alloc, &mut self.records, &mut self.index)?;
-        push_in_room(alloc, &mut self.records, name, access, value);
-        Ok(())
+        match self.push_entry(name, access, value) {
+            Ok(()) => Ok(()),
+            Err(_) => Err(AllocError),
+        }
     }
 
     /// Drops the last entry with its aliases. (`Scope::pop`, which panics without an entry)
@@ -226,9 +213,9 @@ impl Scope {
         drop(self.records.pop());
     }
 
-    /// Takes the entry at a place out, and drops it.
+    /// Drops the entry at a position with its aliases.
     #[tactic(auto, using(crate::proofs::MovedOut::last_taken))]
-    pub(crate) fn remove_at(&mut self, i: usize)
+    pub(crate) fn drop_at(&mut self, i: usize)
         requires { i < length self.old }
         ensures { self.new ≡ remove self.old i }
     {
@@ -237,17 +224,6 @@ impl Scope {
         }
         let gone = self.records.remove(i);
         self.index.remove(gone.name().as_str(), i);
-    }
-
-    /// Drops the last entry of a name with its aliases, if there is one, whatever its value is. It takes no memory; the time is that
-    /// of `search`, and the number of entries behind it.
-    #[tactic(auto, using(crate::proofs::Found::position_within))]
-    pub fn drop_entry(&mut self, name: &str)
-        ensures { self.new ≡ removed_at (last_position (chars name.now) self.old) self.old }
-    {
-        if let Some(i) = self.search(name) {
-            self.remove_at(i);
-        }
     }
 
     /// Keeps the first `size` entries with their aliases, and all where there are no more. The time is in the number of the

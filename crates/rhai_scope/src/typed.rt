@@ -1,5 +1,5 @@
 //! Entries by types of Rust.
-ghost use Rattle.std.specs.Prelude.{◌≡◌, ◌<◌, true, false, is_some, None, Some, length, option_map, option_and_then, slice_get, IfSome, IfOk, IfErr, OnOk, OnErr, IsOk};
+ghost use Rattle.std.specs.Prelude.{◌≡◌, ◌<◌, true, false, is_some, None, Some, length, option_map, option_and_then, remove, slice_get, IfSome, IfOk, OnOk, OnErr, IsOk};
 ghost use Rattle.std.specs.Borrow.{LendsIf, sem};
 ghost use Rattle.std.specs.Str.{chars};
 ghost use Rattle.rhai_value.specs.declared.access_mode.AccessMode.TheVariants.{ReadWrite, ReadOnly};
@@ -14,9 +14,9 @@ ghost use Rattle.rhai_scope.specs.Typed.{set_or_pushed, removed_at, written_entr
 ghost use Rattle.rhai_scope.specs.contracts.scope.Scope as scope_type;
 
 use crate::scope::Scope;
-use rhai_cast::{DynamicCast, is_castable};
+use rhai_cast::{DynamicCast, cast_or_give_back, is_castable};
 use rhai_value::{AccessMode, Dynamic, Store};
-use rhai_variant::{CastError, Variant};
+use rhai_variant::Variant;
 use std::alloc::{AllocError, Global};
 
 /// The value that is made of one of Rust's.
@@ -43,31 +43,26 @@ fn read_flat<T: Variant>(alloc: Global, value: &Dynamic, s: &Store) -> Result<Op
     }
 }
 
-/// What is read of a value without its holders, if it is of the type; the value as it was where memory is refused.
-fn cast_out<T: Variant>(alloc: Global, value: Dynamic, s: &Store) -> Result<Option<T>, Dynamic>
-    ensures ok { IfOk result (λ found. option_map T.tree found ≡ read T.KIND (flattened s.now value)) }
-    ensures err { IfErr result (λ back. back ≡ value) }
-    ensures unread { read T.KIND (flattened s.now value) ≡ None → IsOk result }
-    ensures own { cell_of value ≡ None → is_type T.KIND type_id.String ≡ false → IsOk result }
-    ensures free { TakesNoMemory (flattened s.now value) → is_type T.KIND type_id.String ≡ false → IsOk result }
-{
-    if !is_castable::<T>(&value, s) {
-        return Ok(None);
-    }
-    match value.try_cast_result::<T>(alloc, s) {
-        Ok(found) => Ok(Some(found)),
-        Err(CastError::Mismatch(_)) => unreachable!(),
-        Err(CastError::Memory(back)) => Err(back),
-    }
-}
-
 impl Scope {
+    /// Takes the entry at a position out with its aliases, and answers its value as it is. It takes no memory; the time is in the
+    /// number of entries behind it.
+    #[tactic(auto, using(crate::proofs::MovedOut::taken, crate::proofs::MovedOut::length_changed))]
+    pub fn remove_at(&mut self, i: usize) -> Dynamic
+        requires { i < length self.old }
+        ensures value { option_map (λ e. e.value) (slice_get self.old i) ≡ Some result }
+        ensures left { self.new ≡ remove self.old i }
+    {
+        let value = self.lift(i);
+        self.drop_at(i);
+        value
+    }
+
     /// Sets the value at a place.
     fn put(&mut self, i: usize, value: Dynamic)
         requires { i < length self.old }
         ensures { self.new ≡ changed_at (with_value value) self.old i }
     {
-        *self.value_at_mut(i) = value;
+        *self.at_mut(i) = value;
     }
 
     /// Moves the value at a place out, and leaves unit.
@@ -76,7 +71,7 @@ impl Scope {
         ensures value { option_map (λ e. e.value) (slice_get self.old i) ≡ Some result }
         ensures left { self.new ≡ changed_at (with_value (fresh unit)) self.old i }
     {
-        self.value_at_mut(i).take()
+        self.at_mut(i).take()
     }
 
     /// Takes the entry at a place out, if there is one, and casts its value; the entry stays where memory is refused.
@@ -99,9 +94,9 @@ impl Scope {
             return Ok(None);
         };
         let value = self.lift(i);
-        match cast_out(self.alloc, value, s) {
+        match cast_or_give_back(self.alloc, value, s) {
             Ok(found) => {
-                self.remove_at(i);
+                self.drop_at(i);
                 Ok(found)
             }
             Err(back) => {

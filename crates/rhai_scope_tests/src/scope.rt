@@ -7,6 +7,7 @@ mod callers;
 mod iterators;
 mod look_ups;
 mod makers;
+mod positions;
 mod typed;
 
 use rhai_scope::Scope;

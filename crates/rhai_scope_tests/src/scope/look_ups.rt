@@ -63,11 +63,19 @@ fn last_of(numbers: &[usize], number: usize) -> Option<usize> {
     numbers.iter().rposition(|own| *own == number)
 }
 
+/// Drops the last entry of a name, if there is one.
+fn drop_last(scope: &mut Scope, name: &ImmutableString) {
+    match scope.search(name.as_str()) {
+        Some(i) if i < scope.len() => drop(scope.remove_at(i)),
+        Some(_) | None => {}
+    }
+}
+
 /// Drops the last entry of every seventh name.
 fn drop_some(scope: &mut Scope, names: &[ImmutableString], numbers: &mut Vec<usize>) {
     for (number, name) in names.iter().enumerate() {
         if number % 7 == 0 {
-            scope.drop_entry(name.as_str());
+            drop_last(scope, name);
             match last_of(numbers, number) {
                 Some(place) if place < numbers.len() => {
                     numbers.remove(place);

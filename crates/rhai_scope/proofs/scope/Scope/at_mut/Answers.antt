@@ -3,7 +3,7 @@ use Rattle.std.proofs.lemmas.Option.{slice_get_read}
 use Rattle.rhai_scope.specs.Entry.{Entry, with_value}
 use Rattle.rhai_scope.proofs.EntryNames.{indexed_written}
 use Rattle.rhai_scope.proofs.MovedOut.{set_changed}
-use Rattle.rhai_scope.proofs.scope.Scope.value_at_mut.Goals as goal
+use Rattle.rhai_scope.proofs.scope.Scope.at_mut.Goals as goal
 
 pub invariant_of-self-lent : goal.invariant_of-self-lent
 invariant_of-self-lent c w =

@@ -2,7 +2,7 @@ use Rattle.std.proofs.Common.{◌<◌, suc, length, take, drop, ◌∙◌, arith
 use Rattle.std.specs.Str.{chars}
 use Rattle.rhai_scope.specs.Index.{names_of}
 use Rattle.rhai_scope.proofs.EntryNames.{indexed_around, indexed_without, length_before}
-use Rattle.rhai_scope.proofs.scope.Scope.remove_at.Goals as goal
+use Rattle.rhai_scope.proofs.scope.Scope.drop_at.Goals as goal
 
 pub invariant_of-self : goal.invariant_of-self
 invariant_of-self c =

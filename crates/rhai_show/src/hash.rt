@@ -73,6 +73,7 @@ fn add_held(
     ensures path { OnOk result (path.new ≡ path.old) }
 {
     match path.enter(store, value)? {
+        // Whether a cell opens is told by the store and by the path, which the search before has gone through.
         None => unreachable!(),
         Some(content) => {
             add_value(store, path, content, out)?;

@@ -1,5 +1,5 @@
 -- The call of an assignment's row.
-use Rattle.std.proofs.Common.{◌<◌, length, length-set, IsOkAnd, ◌≡◌, ℕ, zero, suc, false, List, [], ◌∷◌, slice_get, slice_set, Some, Result, Ok, Err, IfOk, OnOk, OnErr, refl, sym, ap, ◌∙◌, subst, arith}
+use Rattle.std.proofs.Common.{◌<◌, length, length-set, IsSomeAnd, ◌≡◌, ℕ, zero, suc, false, List, [], ◌∷◌, slice_get, slice_set, Some, Result, Ok, Err, IfSome, OnOk, OnErr, refl, sym, ap, ◌∙◌, subst, arith}
 use Rattle.std.proofs.lemmas.Bool.Decides.{nat_tests}
 use Rattle.std.proofs.lemmas.List.{set-set}
 use Rattle.std.proofs.lemmas.Option.{same_Some, slice_get_within}
@@ -16,13 +16,16 @@ use Rattle.rhai_ops.specs.Results.{MayWant, Suits, outcome}
 use Rattle.rhai_ops.specs.Ways.{Way, operator, assignment, way, answered, first_left, second_left, store_left}
 use Rattle.rhai_ops.specs.declared.builtin.FnBuiltin.{FnBuiltin}
 use Rattle.rhai_run.specs.declared.command.Place.{Place}
-use Rattle.rhai_run.specs.declared.command.Place.TheVariants as place
+use Rattle.rhai_run.specs.declared.slot.Slot.{Slot}
+use Rattle.rhai_run.specs.declared.slot.Slot.TheVariants as slot
 use Rattle.rhai_run.specs.State.{State, with_hand}
 use Rattle.rhai_run.specs.Reply.{done}
 use Rattle.rhai_run.specs.Outcome.{growing}
 use Rattle.rhai_run.specs.Does.{Calls, IsError, not_done_of}
-use Rattle.rhai_run.specs.Operators.{assigned, assigned_at, called, called_at, step_assign, HasOperands}
-use Rattle.rhai_run.specs.Places.{source, is_at, is_beyond}
+use Rattle.rhai_run.specs.Operators.{called, step_assign}
+use Rattle.rhai_run.specs.Places.{source, is_at}
+use Rattle.rhai_run.specs.Slots.{assigned_in, both_assigned, called_in, is_in, slot_of, value_in, HasOperands}
+use Rattle.rhai_run.proofs.Slots.{same_put}
 use Rattle.rhai_run.proofs.Called.{refusal_of}
 use Rattle.rhai_run.proofs.Moves.{set_own}
 
@@ -35,15 +38,15 @@ set_other (t ∷ ts) (suc i) zero x y d e = refl
 set_other (t ∷ ts) (suc i) (suc j) x y d e = ap (λ us. t ∷ us) (set_other ts i j x y d (λ k. e (ap suc k)))
 
 -- the value at a place while another one of the hand is moved
-pub source_apart : (ts : List Tree) (es : List Entry) (p : Place) (j : ℕ) (d : Tree) → is_at p j ≡ false → source (slice_set ts j d) es p ≡ source ts es p
-source_apart ts es (place.Hand i) j d e = let n : i ≡ j → ⊥ = grind (arith, nat_tests, e) in rw (get_set_other ts j i d n) refl
-source_apart ts es (place.Entry name) j d e = refl
+pub value_apart : (ts : List Tree) (es : List Entry) (q : Slot) (j : ℕ) (d : Tree) → is_in q j ≡ false → value_in (slice_set ts j d) es q ≡ value_in ts es q
+value_apart ts es (slot.Hand i) j d e = let n : i ≡ j → ⊥ = grind (arith, nat_tests, e) in get_set_other ts j i d n
+value_apart ts es (slot.Entry k) j d e = refl
 
 -- what the other one becomes is put back
-put_back : (w : State) (p : Place) (j : ℕ) (how : Way) (t d y : Tree) (o : call.Outcome) → is_at p j ≡ false
-    → with_hand (assigned_at (with_hand w (slice_set w.hand j d)) p how t o) (slice_set (assigned_at (with_hand w (slice_set w.hand j d)) p how t o).hand j y) ≡ assigned_at (with_hand w (slice_set w.hand j y)) p how t o
-put_back w (place.Hand i) j how t d y o e = ap (λ ts. record w { store = store_left how o w.store t; hand = ts }) (set_other w.hand i j (first_left how o w.store t) y d (let n : i ≡ j → ⊥ = grind (arith, nat_tests, e) in n))
-put_back w (place.Entry name) j how t d y o e = ap (λ ts. (record (assigned_at w (place.Entry name) how t o) { hand = ts })) (set-set w.hand j d y)
+put_back : (w : State) (p : Slot) (j : ℕ) (how : Way) (t d y : Tree) (o : call.Outcome) → is_in p j ≡ false
+    → with_hand (assigned_in (with_hand w (slice_set w.hand j d)) p how t o) (slice_set (assigned_in (with_hand w (slice_set w.hand j d)) p how t o).hand j y) ≡ assigned_in (with_hand w (slice_set w.hand j y)) p how t o
+put_back w (slot.Hand i) j how t d y o e = ap (λ ts. record w { store = store_left how o w.store t; hand = ts }) (set_other w.hand i j (first_left how o w.store t) y d (let n : i ≡ j → ⊥ = grind (arith, nat_tests, e) in n))
+put_back w (slot.Entry k) j how t d y o e = ap (λ ts. (record (assigned_in w (slot.Entry k) how t o) { hand = ts })) (set-set w.hand j d y)
 
 -- what a call that is done comes to
 answered_value : (w : State) (how : Way) (after : State) (d : Tree) (o : call.Outcome) → answered how o ≡ call.answers d → called w (λ _. after) o ≡ growing done after
@@ -54,70 +57,74 @@ answered_value w (assignment q) after d (call.too_large k2) e = cc
 answered_value w (assignment q) after d call.unsuited e = cc
 
 -- the step of a row that was looked up
-pub assign_is : (w : State) (op : Token) (p : Place) (j : ℕ) (t u x : Tree) (row : FnBuiltin) → is_beyond w.hand p ≡ false → slice_get w.hand j ≡ Some u → is_at p j ≡ false → source w.hand w.entries p ≡ Ok t
-    → first w.store t ≡ Some x → assign_row op x u ≡ Some row → step_assign w op p j ≡ called_at w p j row
-assign_is w op p j t u x row a b c d e f = rw (a, b, c, d, e, f) refl
+pub assign_is : (w : State) (op : Token) (p : Place) (q : Slot) (j : ℕ) (t u x : Tree) (row : FnBuiltin) → slice_get w.hand j ≡ Some u → is_at p j ≡ false → slot_of w.entries p ≡ Some q
+    → source w.hand w.entries p ≡ Ok t → value_in w.hand w.entries q ≡ Some t → first w.store t ≡ Some x → assign_row op x u ≡ Some row → step_assign w op p j ≡ called_in w q j row
+assign_is w op p q j t u x row b c is d v e f =
+    let how = way row in
+    let o = outcome row w.limits w.store t u in
+    let z = with_hand w (slice_set w.hand j (second_left how o u)) in
+    rw (b, c, d, v, e, f) (ap (λ y. called w (λ _. y) o) (same_put z (store_left how o w.store t) p q (first_left how o w.store t) is))
 
 -- the call, the second operand being moved out of the hand meanwhile
-pub assign_called : (w v : State) (p : Place) (j : ℕ) (row : FnBuiltin) (t u d y : Tree) (ts : List Tree) (r : Result Tree EvalAltResult)
-    → is_at p j ≡ false → source w.hand w.entries p ≡ Ok t → slice_get w.hand j ≡ Some u → ts ≡ slice_set w.hand j d
-    → IfOk (source ts w.entries p) (λ x. IsOutcome (MayWant row x u) r (answered (way row) (outcome row w.limits w.store x u)))
-    → OnOk r (IfOk (source ts w.entries p) (λ x. assigned_at (with_hand w ts) p (way row) x (outcome row w.limits w.store x u) ≡ v))
-    → OnOk r (IfOk (source ts w.entries p) (λ x. y ≡ second_left (way row) (outcome row w.limits w.store x u) u))
+pub assign_called : (w v : State) (p : Slot) (j : ℕ) (row : FnBuiltin) (t u d y : Tree) (ts : List Tree) (r : Result Tree EvalAltResult)
+    → is_in p j ≡ false → value_in w.hand w.entries p ≡ Some t → slice_get w.hand j ≡ Some u → ts ≡ slice_set w.hand j d
+    → IfSome (value_in ts w.entries p) (λ x. IsOutcome (MayWant row x u) r (answered (way row) (outcome row w.limits w.store x u)))
+    → OnOk r (IfSome (value_in ts w.entries p) (λ x. assigned_in (with_hand w ts) p (way row) x (outcome row w.limits w.store x u) ≡ v))
+    → OnOk r (IfSome (value_in ts w.entries p) (λ x. y ≡ second_left (way row) (outcome row w.limits w.store x u) u))
     → OnErr r ((v ≡ with_hand w ts) × (y ≡ u))
-    → Calls r w (with_hand v (slice_set v.hand j y)) (called_at w p j row)
+    → Calls r w (with_hand v (slice_set v.hand j y)) (called_in w p j row)
 assign_called w v p j row t u d y ts r apart at other moved result written second kept = by r result written second kept
   where
     o : call.Outcome
     o = outcome row w.limits w.store t u
 
-    same : source ts w.entries p ≡ Ok t
-    same = ap (λ us. source us w.entries p) moved ∙ source_apart w.hand w.entries p j d apart ∙ at
+    same : value_in ts w.entries p ≡ Some t
+    same = ap (λ us. value_in us w.entries p) moved ∙ value_apart w.hand w.entries p j d apart ∙ at
 
-    is : called_at w p j row ≡ assigned w p j (way row) t u o
+    is : called_in w p j row ≡ both_assigned w p j (way row) t u o
     is = rw (at, other) refl
 
-    of_found : (P : Tree → Type 0) → IfOk (source ts w.entries p) P → P t
-    of_found P h = subst (λ s. IfOk s P) same h
+    of_found : (P : Tree → Type 0) → IfSome (value_in ts w.entries p) P → P t
+    of_found P h = subst (λ s. IfSome s P) same h
 
-    by : (q : Result Tree EvalAltResult) → IfOk (source ts w.entries p) (λ x. IsOutcome (MayWant row x u) q (answered (way row) (outcome row w.limits w.store x u)))
-        → OnOk q (IfOk (source ts w.entries p) (λ x. assigned_at (with_hand w ts) p (way row) x (outcome row w.limits w.store x u) ≡ v))
-        → OnOk q (IfOk (source ts w.entries p) (λ x. y ≡ second_left (way row) (outcome row w.limits w.store x u) u))
-        → OnErr q ((v ≡ with_hand w ts) × (y ≡ u)) → Calls q w (with_hand v (slice_set v.hand j y)) (called_at w p j row)
+    by : (q : Result Tree EvalAltResult) → IfSome (value_in ts w.entries p) (λ x. IsOutcome (MayWant row x u) q (answered (way row) (outcome row w.limits w.store x u)))
+        → OnOk q (IfSome (value_in ts w.entries p) (λ x. assigned_in (with_hand w ts) p (way row) x (outcome row w.limits w.store x u) ≡ v))
+        → OnOk q (IfSome (value_in ts w.entries p) (λ x. y ≡ second_left (way row) (outcome row w.limits w.store x u) u))
+        → OnErr q ((v ≡ with_hand w ts) × (y ≡ u)) → Calls q w (with_hand v (slice_set v.hand j y)) (called_in w p j row)
     by (Ok a) h k l m =
-        let left : v ≡ assigned_at (with_hand w (slice_set w.hand j d)) p (way row) t o =
-        sym (of_found (λ x. assigned_at (with_hand w ts) p (way row) x (outcome row w.limits w.store x u) ≡ v) k) ∙ ap (λ us. assigned_at (with_hand w us) p (way row) t o) moved in
+        let left : v ≡ assigned_in (with_hand w (slice_set w.hand j d)) p (way row) t o =
+        sym (of_found (λ x. assigned_in (with_hand w ts) p (way row) x (outcome row w.limits w.store x u) ≡ v) k) ∙ ap (λ us. assigned_in (with_hand w us) p (way row) t o) moved in
         let what : y ≡ second_left (way row) o u = of_found (λ x. y ≡ second_left (way row) (outcome row w.limits w.store x u) u) l in
         is ∙ answered_value w (way row) _ a o (of_found (λ x. IsOutcome (MayWant row x u) (Ok a) (answered (way row) (outcome row w.limits w.store x u))) h)
-        ∙ ap (growing done) (sym (ap (λ z. with_hand z (slice_set z.hand j y)) left ∙ put_back w p j (way row) t d y o apart ∙ ap (λ z. assigned_at (with_hand w (slice_set w.hand j z)) p (way row) t o) what))
+        ∙ ap (growing done) (sym (ap (λ z. with_hand z (slice_set z.hand j y)) left ∙ put_back w p j (way row) t d y o apart ∙ ap (λ z. assigned_in (with_hand w (slice_set w.hand j z)) p (way row) t o) what))
     by (Err e) h k l m =
         let back : with_hand v (slice_set v.hand j y) ≡ w =
         ap (λ z. with_hand z (slice_set z.hand j y)) m.0 ∙ ap (λ us. with_hand w (slice_set us j y)) moved ∙ ap (with_hand w) (set-set w.hand j d y ∙ ap (slice_set w.hand j) m.1 ∙ set_own w.hand j u other) in
         (subst (IsError (not_done_of e) w) (sym is) (refusal_of (MayWant row t u) w (way row) _ e o (of_found (λ x. IsOutcome (MayWant row x u) (Err e) (answered (way row) (outcome row w.limits w.store x u))) h)), back)
 
 -- the operands, as the code finds them in memory
-pub operands_moved : (w v : State) (row : FnBuiltin) (p : Place) (j : ℕ) (y d : Tree) (ts : List Tree) → v ≡ w → HasOperands row w p j → slice_get v.hand j ≡ Some y → ts ≡ slice_set v.hand j d
-    → IsOkAnd (source ts v.entries p) (λ x. Suits row v.store x y)
-operands_moved w v row p j y d ts same k at moved = subst (λ (z : State). IsOkAnd (source ts z.entries p) (λ x. Suits row z.store x y)) (sym same) (of_w (ap (λ (z : State). slice_get z.hand j) (sym same) ∙ at) (moved ∙ ap (λ (z : State). slice_set z.hand j d) same))
+pub operands_moved : (w v : State) (row : FnBuiltin) (p : Slot) (j : ℕ) (y d : Tree) (ts : List Tree) → v ≡ w → HasOperands row w p j → slice_get v.hand j ≡ Some y → ts ≡ slice_set v.hand j d
+    → IsSomeAnd (value_in ts v.entries p) (λ x. Suits row v.store x y)
+operands_moved w v row p j y d ts same k at moved = subst (λ (z : State). IsSomeAnd (value_in ts z.entries p) (λ x. Suits row z.store x y)) (sym same) (of_w (ap (λ (z : State). slice_get z.hand j) (sym same) ∙ at) (moved ∙ ap (λ (z : State). slice_set z.hand j d) same))
   where
-    of_w : slice_get w.hand j ≡ Some y → ts ≡ slice_set w.hand j d → IsOkAnd (source ts w.entries p) (λ x. Suits row w.store x y)
+    of_w : slice_get w.hand j ≡ Some y → ts ≡ slice_set w.hand j d → IsSomeAnd (value_in ts w.entries p) (λ x. Suits row w.store x y)
     of_w at moved =
-        let there : source ts w.entries p ≡ Ok k.0 = ap (λ us. source us w.entries p) moved ∙ source_apart w.hand w.entries p j d k.2 ∙ k.3 in
+        let there : value_in ts w.entries p ≡ Some k.0 = ap (λ us. value_in us w.entries p) moved ∙ value_apart w.hand w.entries p j d k.2 ∙ k.3 in
         let it : k.1 ≡ y = same_Some k.1 y (sym k.4 ∙ at) in
-        subst (λ o. IsOkAnd o (λ x. Suits row w.store x y)) (sym there) (subst (Suits row w.store k.0) it k.5)
+        subst (λ o. IsSomeAnd o (λ x. Suits row w.store x y)) (sym there) (subst (Suits row w.store k.0) it k.5)
 
-pub assign_moved : (w v x z : State) (p : Place) (j : ℕ) (row : FnBuiltin) (u d y : Tree) (ts us : List Tree) (r : Result Tree EvalAltResult) → v ≡ w → HasOperands row w p j
+pub assign_moved : (w v x z : State) (p : Slot) (j : ℕ) (row : FnBuiltin) (u d y : Tree) (ts us : List Tree) (r : Result Tree EvalAltResult) → v ≡ w → HasOperands row w p j
     → slice_get v.hand j ≡ Some u → ts ≡ slice_set v.hand j d
-    → IfOk (source ts v.entries p) (λ t. IsOutcome (MayWant row t u) r (answered (way row) (outcome row v.limits v.store t u)))
-    → OnOk r (IfOk (source ts v.entries p) (λ t. assigned_at (with_hand v ts) p (way row) t (outcome row v.limits v.store t u) ≡ x))
-    → OnOk r (IfOk (source ts v.entries p) (λ t. y ≡ second_left (way row) (outcome row v.limits v.store t u) u))
+    → IfSome (value_in ts v.entries p) (λ t. IsOutcome (MayWant row t u) r (answered (way row) (outcome row v.limits v.store t u)))
+    → OnOk r (IfSome (value_in ts v.entries p) (λ t. assigned_in (with_hand v ts) p (way row) t (outcome row v.limits v.store t u) ≡ x))
+    → OnOk r (IfSome (value_in ts v.entries p) (λ t. y ≡ second_left (way row) (outcome row v.limits v.store t u) u))
     → OnErr r ((x ≡ with_hand v ts) × (y ≡ u)) → z ≡ x → us ≡ slice_set z.hand j y
-    → Calls r w (with_hand z us) (called_at w p j row)
+    → Calls r w (with_hand z us) (called_in w p j row)
 assign_moved w v x z p j row u d y ts us r same k at moved result written second kept is put =
-    let there : source v.hand v.entries p ≡ Ok k.0 = ap (λ (q : State). source q.hand q.entries p) same ∙ k.3 in
-    let done : Calls r v (with_hand x (slice_set x.hand j y)) (called_at v p j row) = assign_called v x p j row k.0 u d y ts r k.2 there at moved result written second kept in
-    subst (λ q. Calls r q (with_hand z us) (called_at q p j row)) same
-    (subst (λ q. Calls r v q (called_at v p j row)) (sym (ap (with_hand z) put ∙ ap (λ (q : State). with_hand q (slice_set q.hand j y)) is)) done)
+    let there : value_in v.hand v.entries p ≡ Some k.0 = ap (λ (q : State). value_in q.hand q.entries p) same ∙ k.3 in
+    let done : Calls r v (with_hand x (slice_set x.hand j y)) (called_in v p j row) = assign_called v x p j row k.0 u d y ts r k.2 there at moved result written second kept in
+    subst (λ q. Calls r q (with_hand z us) (called_in q p j row)) same
+    (subst (λ q. Calls r v q (called_in v p j row)) (sym (ap (with_hand z) put ∙ ap (λ (q : State). with_hand q (slice_set q.hand j y)) is)) done)
 
 -- the hand keeps its length
 pub hand_stays : (v : State) (j : ℕ) (u d : Tree) (ts us : List Tree) → slice_get v.hand j ≡ Some u → ts ≡ slice_set v.hand j d → length us ≡ length ts → j < length us

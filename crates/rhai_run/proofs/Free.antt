@@ -6,7 +6,7 @@ use Rattle.rhai_target.specs.Change.{Change}
 use Rattle.rhai_run.specs.declared.command.Place.{Place}
 use Rattle.rhai_run.specs.declared.pieces.Piece.{Piece}
 use Rattle.rhai_run.specs.Outcome.{Outcome, unless, given, with_value, with_two}
-use Rattle.rhai_run.specs.Places.{source, found, with_place_and, is_beyond}
+use Rattle.rhai_run.specs.Places.{source, found, with_place_and}
 use Rattle.rhai_run.specs.Reply.{Reason, no_value, same_value}
 use Rattle.rhai_run.specs.State.{State}
 use Rattle.rhai_run.specs.WriteBack.{lack, change, makes_text, changed_or_refused, lacking, written_back, step_write_back}
@@ -37,7 +37,7 @@ free_found (Ok t) w go h = h t
 free_found (Err why) w go h = refl
 
 free_place_and : (w : State) (p : Place) (j : ℕ) (go : Tree → Tree → Outcome) → ((t u : Tree) → IsFree (go t u)) → IsFree (with_place_and w p j go)
-free_place_and w p j go h = free_unless (is_beyond w.hand p) no_value w _ (free_value w j _ (λ u. free_found (source w.hand w.entries p) w _ (λ t. h t u)))
+free_place_and w p j go h = free_value w j _ (λ u. free_found (source w.hand w.entries p) w _ (λ t. h t u))
 
 free_lacking : (o : Option Reason) (w : State) (x : Outcome) → IsFree x → IsFree (lacking o w x)
 free_lacking None w x h = h

@@ -1,99 +1,70 @@
 -- The last entry of a name.
-use Rattle.std.proofs.Common.{◌≡◌, ℕ, suc, nat_eq, Bool, true, false, List, [], ◌∷◌, slice_get, Option, Some, None, option_map, option_and_then, is_some, refl, ap, ◌∙◌, subst}
-use Rattle.std.specs.Cmp.Lexicographic.{pointwise}
+use Rattle.std.proofs.Common.{◌≡◌, ℕ, ℤ, Bool, true, false, if◌then◌else◌, List, slice_get, Option, Some, None, option_map, option_and_then, is_some, refl, ap, ◌∙◌}
 use Rattle.std.proofs.lemmas.Option.{same_Some}
-use Rattle.rhai_value.specs.Tree.{Tree, cell_of, copy}
+use Rattle.std.specs.Prelude.{remove}
+use Rattle.rhai_value.specs.End.{flattened}
+use Rattle.rhai_value.specs.Tree.{Tree, cell_of, copy, fresh, int}
 use Rattle.rhai_value.specs.declared.type_id.TypeId.{TypeId}
+use Rattle.rhai_value.specs.declared.type_id.TypeId.TheVariants as id
 use Rattle.rhai_scope.specs.Entry.{Entry, is_constant_entry, with_value as holding}
-use Rattle.rhai_scope.specs.Typed.{set_or_pushed}
-use Rattle.rhai_scope.specs.Lookup.{later_or_here, last_position, last_entry, value_named, unless_constant, writable_position, value_at, changed_if, changed_named, with_value_at}
-use Rattle.rhai_run.specs.Entries.{viewed_as, appended_or_nothing, step_get_ref}
-use Rattle.rhai_run.specs.Outcome.{Outcome}
-use Rattle.rhai_run.specs.State.{State}
+use Rattle.rhai_scope.specs.Lookup.{last_position, value_named, unless_constant, changed_at}
+use Rattle.rhai_scope.proofs.ForCallers.{written_there}
+use Rattle.rhai_variant.specs.Reads.{viewed, written_as}
+use Rattle.rhai_run.specs.Entries.{viewed_as, appended_or_nothing, set_at, is_there_constant, step_get_ref, step_remove, step_set_entry, step_set_or_push, step_set_ref, step_set_value}
+use Rattle.rhai_run.specs.Hand.{read_as}
+use Rattle.rhai_run.specs.Outcome.{Outcome, free, given, unless}
+use Rattle.rhai_run.specs.Reply.{done, nothing, no_entry, constant_entry, shared_entry}
+use Rattle.rhai_run.specs.State.{State, with_entries, with_scope, moved_from}
 
 -- something is made where a value is found
 pub appended_makes : (w : State) (o : Option Tree) → is_some o ≡ true → (appended_or_nothing w o).wants ≡ true
 appended_makes w None h = cc
 appended_makes w (Some t) h = refl
 
--- it may be written
-is_writable : (es : List Entry) (o : Option ℕ) → option_map is_constant_entry (option_and_then (slice_get es) o) ≡ Some false
-    → (option_and_then (λ k. option_and_then (unless_constant k) (slice_get es k)) o ≡ o) × (is_some (value_at es o) ≡ true)
-is_writable es None h = cc
-is_writable es (Some k) h = at (slice_get es k) h
+-- what is written to the entry at the last position of a name, and what becomes of it where it is taken out
+pub set_ref_is : (w : State) (name : List ℕ) (n : ℤ) (k : ℕ) (t : Tree) → last_position name w.entries ≡ Some k → option_map (λ e. e.value) (slice_get w.entries k) ≡ Some t
+    → step_set_ref w name n ≡ unless (is_some (cell_of t)) shared_entry w
+    (if is_some (viewed id.Int t) then free done (with_entries w (changed_at (holding (written_as id.Int (fresh (int n)) t)) w.entries k)) else free nothing w)
+set_ref_is w name n k t p h = rw (p, h, ← written_there id.Int (fresh (int n)) t w.entries k h) refl
+
+pub set_ref_written : (w : State) (name : List ℕ) (n : ℤ) (k : ℕ) (t u : Tree) → last_position name w.entries ≡ Some k → option_map (λ e. e.value) (slice_get w.entries k) ≡ Some t
+    → is_some (cell_of t) ≡ false → is_some (viewed id.Int t) ≡ true → u ≡ written_as id.Int (fresh (int n)) t
+    → step_set_ref w name n ≡ free done (with_entries w (changed_at (holding u) w.entries k))
+set_ref_written w name n k t u p h own there is = set_ref_is w name n k t p h ∙ rw (own, there, is) refl
+
+pub remove_is : (w : State) (name : List ℕ) (kind : TypeId) (k : ℕ) (t : Tree) → last_position name w.entries ≡ Some k → option_map (λ e. e.value) (slice_get w.entries k) ≡ Some t
+    → step_remove w name kind ≡ appended_or_nothing (with_entries w (remove w.entries k)) (read_as kind (flattened w.store t))
+remove_is w name kind k t p h = rw (p, h) refl
+
+-- A value of the hand is moved into the entry at the last position of a name, if that is no constant.
+pub set_entry_is : (w : State) (name : List ℕ) (i k : ℕ) (t : Tree) (b : Bool) → slice_get w.hand i ≡ Some t → last_position name w.entries ≡ Some k
+    → option_map is_constant_entry (slice_get w.entries k) ≡ Some b
+    → step_set_entry w name i ≡ unless b constant_entry w (free done (with_scope w (changed_at (holding t) w.entries k) (moved_from w.hand i)))
+set_entry_is w name i k t b h p c = rw (h, p) (at (slice_get w.entries k) c)
   where
-    at : (x : Option Entry) → option_map is_constant_entry x ≡ Some false → (option_and_then (unless_constant k) x ≡ Some k) × (is_some (option_map (λ e. e.value) x) ≡ true)
-    at None h = cc
-    at (Some e) h = (rw (same_Some (is_constant_entry e) false h) refl, refl)
+    at : (o : Option Entry) → option_map is_constant_entry o ≡ Some b
+        → given o no_entry w (λ e. unless (is_constant_entry e) constant_entry w (free done (with_scope w (changed_at (holding t) w.entries k) (moved_from w.hand i))))
+        ≡ unless b constant_entry w (free done (with_scope w (changed_at (holding t) w.entries k) (moved_from w.hand i)))
+    at None c = cc
+    at (Some e) c = rw (same_Some (is_constant_entry e) b c) refl
 
-pub written_entry : (name : List ℕ) (es : List Entry) (t : Tree) → option_map is_constant_entry (last_entry name es) ≡ Some false → with_value_at es (writable_position name es) t ≡ changed_named (holding t) name es
-written_entry name es t h = ap (changed_if (holding t) es) (is_writable es (last_position name es) h).0
-
--- a value is set there
-pub set_over : (name : List ℕ) (es : List Entry) (t : Tree) → option_map is_constant_entry (last_entry name es) ≡ Some false
-    → changed_named (holding t) name es ≡ set_or_pushed (writable_position name es) name t es
-set_over name es t h = at (last_position name es) h
+-- the same, where a new entry is pushed in place of a constant
+pub set_or_push_is : (w : State) (name : List ℕ) (i k : ℕ) (t : Tree) (b : Bool) → slice_get w.hand i ≡ Some t → last_position name w.entries ≡ Some k
+    → option_map is_constant_entry (slice_get w.entries k) ≡ Some b → step_set_or_push w name i ≡ set_at (if b then None else Some k) w name i t
+set_or_push_is w name i k t b h p c = rw (h, p) (at (slice_get w.entries k) c)
   where
-    at : (o : Option ℕ) → option_map is_constant_entry (option_and_then (slice_get es) o) ≡ Some false
-        → changed_if (holding t) es o ≡ set_or_pushed (option_and_then (λ k. option_and_then (unless_constant k) (slice_get es k)) o) name t es
-    at None h = cc
-    at (Some k) h = rw (is_writable es (Some k) h).0 refl
+    at : (o : Option Entry) → option_map is_constant_entry o ≡ Some b → set_at (option_and_then (unless_constant k) o) w name i t ≡ set_at (if b then None else Some k) w name i t
+    at None c = cc
+    at (Some e) c = rw (same_Some (is_constant_entry e) b c) refl
 
-pub set_there : (name : List ℕ) (es : List Entry) (t : Tree) → option_map is_constant_entry (last_entry name es) ≡ Some false
-    → changed_named (holding t) name es ≡ set_or_pushed (last_position name es) name t es
-set_there name es t h = at (last_position name es) h
+-- the same, where a constant is refused
+pub set_value_is : (w : State) (name : List ℕ) (i k : ℕ) (t : Tree) (b : Bool) → slice_get w.hand i ≡ Some t → last_position name w.entries ≡ Some k
+    → option_map is_constant_entry (slice_get w.entries k) ≡ Some b → step_set_value w name i ≡ unless b constant_entry w (set_at (Some k) w name i t)
+set_value_is w name i k t b h p c = rw (h, p) (at (slice_get w.entries k) c)
   where
-    at : (o : Option ℕ) → option_map is_constant_entry (option_and_then (slice_get es) o) ≡ Some false → changed_if (holding t) es o ≡ set_or_pushed o name t es
-    at None h = cc
-    at (Some k) h = refl
-
--- an entry is there
-pub entry_is_there : (name : List ℕ) (es : List Entry) → option_map is_constant_entry (last_entry name es) ≡ Some false → is_some (value_at es (writable_position name es)) ≡ true
-entry_is_there name es h = rw (is_writable es (last_position name es) h).0 (is_writable es (last_position name es) h).1
-
--- no position may be written where there is a constant or no entry
-pub not_over_constant : (name : List ℕ) (es : List Entry) → option_map is_constant_entry (last_entry name es) ≡ Some true → writable_position name es ≡ None
-not_over_constant name es h = at (last_position name es) h
-  where
-    at : (o : Option ℕ) → option_map is_constant_entry (option_and_then (slice_get es) o) ≡ Some true → option_and_then (λ k. option_and_then (unless_constant k) (slice_get es k)) o ≡ None
-    at None h = refl
-    at (Some k) h = here (slice_get es k) h
-      where
-        here : (x : Option Entry) → option_map is_constant_entry x ≡ Some true → option_and_then (unless_constant k) x ≡ None
-        here None h = refl
-        here (Some e) h = rw (same_Some (is_constant_entry e) true h) refl
-
-pub not_over_none : (name : List ℕ) (es : List Entry) → option_map is_constant_entry (last_entry name es) ≡ None → writable_position name es ≡ None
-not_over_none name es h = at (last_position name es) h
-  where
-    at : (o : Option ℕ) → option_map is_constant_entry (option_and_then (slice_get es) o) ≡ None → option_and_then (λ k. option_and_then (unless_constant k) (slice_get es k)) o ≡ None
-    at None h = refl
-    at (Some k) h = here (slice_get es k) h
-      where
-        here : (x : Option Entry) → option_map is_constant_entry x ≡ None → option_and_then (unless_constant k) x ≡ None
-        here None h = refl
-        here (Some e) h = cc
-
--- an entry stands at the last position of a name
-there : (name : List ℕ) (es : List Entry) (k : ℕ) → last_position name es ≡ Some k → is_some (slice_get es k) ≡ true
-there name [] k h = cc
-there name (e ∷ es) k h = later (last_position name es) (pointwise nat_eq e.name name) (there name es) h
-  where
-    later : (o : Option ℕ) (b : Bool) → ((j : ℕ) → o ≡ Some j → is_some (slice_get es j) ≡ true) → later_or_here o b ≡ Some k → is_some (slice_get (e ∷ es) k) ≡ true
-    later (Some j) b m h = subst (λ n. is_some (slice_get (e ∷ es) n) ≡ true) (same_Some (suc j) k h) (m j refl)
-    later None true m h = subst (λ n. is_some (slice_get (e ∷ es) n) ≡ true) (same_Some 0 k h) refl
-    later None false m h = cc
-
-pub no_position : (name : List ℕ) (es : List Entry) → option_map is_constant_entry (last_entry name es) ≡ None → last_position name es ≡ None
-no_position name es h = at (last_position name es) (there name es) h
-  where
-    at : (o : Option ℕ) → ((k : ℕ) → o ≡ Some k → is_some (slice_get es k) ≡ true) → option_map is_constant_entry (option_and_then (slice_get es) o) ≡ None → o ≡ None
-    at None m h = refl
-    at (Some k) m h = here (slice_get es k) (m k refl) h
-      where
-        here : (x : Option Entry) → is_some x ≡ true → option_map is_constant_entry x ≡ None → Some k ≡ None
-        here None n h = cc
-        here (Some e) n h = cc
+    at : (o : Option Entry) → option_map is_constant_entry o ≡ Some b → unless (is_there_constant o) constant_entry w (set_at (Some k) w name i t) ≡ unless b constant_entry w (set_at (Some k) w name i t)
+    at None c = cc
+    at (Some e) c = rw (same_Some (is_constant_entry e) b c) refl
 
 -- what becomes of an entry that is no holder
 pub get_ref_is : (w : State) (name : List ℕ) (kind : TypeId) (t : Tree) (o : Option Tree) → value_named name w.entries ≡ Some t → is_some (cell_of t) ≡ false → option_map copy (viewed_as kind t) ≡ o

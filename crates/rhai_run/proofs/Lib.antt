@@ -3,7 +3,8 @@ pub mod Outcome
 pub mod Free
 pub mod MarkLists
 pub mod WorkingValues
-pub mod PlaceValues
+pub mod SlotValues
+pub mod Slots
 pub mod Assigns
 pub mod HandSteps
 pub mod Kept
@@ -23,11 +24,13 @@ pub mod Step
 pub mod Fitting
 pub mod KeptWorlds
 pub mod Collecting
+pub mod Refusals
 pub mod Runs
 pub mod GoingOn
 pub mod Wents
 pub mod Meant
 pub mod StandsAlike
+pub mod LastRows
 pub mod Left
 pub mod Moves
 pub mod MapRows

@@ -1,11 +1,11 @@
 -- What is done at a place, on two states that are the same up to a renaming.
-use Rattle.std.proofs.Common.{◌≡◌, ℕ, Bool, true, false, cond, nat_le, List, length, Option, Some, None, Result, Ok, Err, refl, ap}
+use Rattle.std.proofs.Common.{◌≡◌, ℕ, Bool, true, false, cond, List, length, Option, Some, None, Result, Ok, Err, refl, ap}
 use Rattle.std.specs.List.{AllZip}
 use Rattle.rhai_value.specs.declared.store.Cell.{Cell}
 use Rattle.rhai_value.specs.Tree.{Tree}
 use Rattle.rhai_value.specs.Store.{is_marked_at}
 use Rattle.rhai_value.specs.Relation.{Renaming, Related, RelatedCells, Alike}
-use Rattle.rhai_value.proofs.ForCallers.{zip_get, zip_length}
+use Rattle.rhai_value.proofs.ForCallers.{zip_get}
 use Rattle.rhai_scope.specs.Entry.{Entry, is_constant_entry, with_value as holding}
 use Rattle.rhai_scope.specs.Relation.{RelatedEntry}
 use Rattle.rhai_scope.proofs.ForCallers.{same_last_entry, same_constant, same_changed_named, same_with_value}
@@ -13,10 +13,10 @@ use Rattle.rhai_run.specs.declared.command.Place.{Place}
 use Rattle.rhai_run.specs.declared.command.Place.TheVariants as place
 use Rattle.rhai_run.specs.Correspondence.{RelatedStates}
 use Rattle.rhai_run.specs.Outcome.{Outcome, growing_if}
-use Rattle.rhai_run.specs.Places.{value_found, entry_found, source, found, with_place, is_beyond, with_place_and, put_at}
-use Rattle.rhai_run.specs.Reply.{Reason, done, refused, no_value, constant_entry}
+use Rattle.rhai_run.specs.Places.{value_found, entry_found, source, found, with_place, with_place_and, put_at}
+use Rattle.rhai_run.specs.Reply.{Reason, done, refused, constant_entry}
 use Rattle.rhai_run.specs.State.{State, with_hand}
-use Rattle.rhai_run.proofs.Outcome.{Matches, no_cell, same_marked, m_stays, m_unless, m_value, m_cells, set_hand}
+use Rattle.rhai_run.proofs.Outcome.{Matches, no_cell, same_marked, m_stays, m_value, m_cells, set_hand}
 
 -- both are there and related, or both are missing for the same reason
 abbrev SameFound : Renaming → Result Tree Reason → Result Tree Reason → Type 0
@@ -57,14 +57,9 @@ module _ (r : Renaming) (w v : State) (h : RelatedStates r w v) where
   pub m_place : (p : Place) (f g : Tree → Outcome) → ((t u : Tree) → Related r t u → Matches r w v (f t) (g u)) → Matches r w v (with_place w p f) (with_place v p g)
   m_place p f g k = m_found _ _ f g (same_source p) k
 
-  same_beyond : (p : Place) → is_beyond w.hand p ≡ is_beyond v.hand p
-  same_beyond (place.Hand i) = ap (λ n. nat_le n i) (zip_length (Related r) w.hand v.hand h.hand)
-  same_beyond (place.Entry name) = refl
-
   pub m_place_and : (p : Place) (j : ℕ) (f g : Tree → Tree → Outcome) → ((t u x y : Tree) → Related r t u → Related r x y → Matches r w v (f t x) (g u y))
       → Matches r w v (with_place_and w p j f) (with_place_and v p j g)
-  m_place_and p j f g k =
-      m_unless r w v h no_value _ _ _ _ (same_beyond p) (m_value r w v h j _ _ (λ x y d. m_place p _ _ (λ t u e. k t u x y e d)))
+  m_place_and p j f g k = m_value r w v h j _ _ (λ x y d. m_place p _ _ (λ t u e. k t u x y e d))
 
   -- another store of as many cells and the same marks, and another value at a place
   pub m_put : {a b : Bool} (p : Place) (s z : List Cell) (t u : Tree) → length s ≡ length w.store → length z ≡ length v.store → ((c : ℕ) → is_marked_at s c ≡ is_marked_at w.store c)

@@ -23,6 +23,7 @@ pub mod Ask
 pub mod Step
 pub mod Machine
 pub mod Operators
+pub mod Slots
 pub mod Fits
 pub mod Correspondence
 pub mod KeptWorld

@@ -1,23 +1,20 @@
 -- Steps that call operators and assignments.
-use Rattle.std.specs.Prelude.{◌≡◌, ℕ, false, List, slice_get, slice_index_or, slice_set, Some, Result, Ok, Err}
+use Rattle.std.specs.Prelude.{ℕ, List, slice_index_or, slice_set}
 use Rattle.rhai_text.specs.declared.token.Token.{Token}
 use Rattle.rhai_ops.specs.Outcome as call
 use Rattle.rhai_ops.specs.Outcome.{no_place}
-use Rattle.rhai_ops.specs.Results.{outcome, Suits}
+use Rattle.rhai_ops.specs.Results.{outcome}
 use Rattle.rhai_ops.specs.AssignTable.{assign_row}
 use Rattle.rhai_ops.specs.Table.{row_of}
 use Rattle.rhai_ops.specs.Ways.{Way, way, first_left, second_left, store_left}
-use Rattle.rhai_ops.specs.declared.builtin.FnBuiltin.{FnBuiltin}
 use Rattle.rhai_value.specs.End.{first}
 use Rattle.rhai_value.specs.Tree.{Tree, fresh, unit}
 use Rattle.rhai_run.specs.State.{State, with_hand, appended}
-use Rattle.rhai_run.specs.Reply.{reason_of, done, same_value, no_builtin, fault, data_race, arithmetic, too_large}
-use Rattle.rhai_run.specs.Outcome.{Outcome, growing, refuse, unless, given, with_value, with_two}
+use Rattle.rhai_run.specs.Reply.{done, same_value, no_builtin, fault, data_race, arithmetic, too_large}
+use Rattle.rhai_run.specs.Outcome.{Outcome, growing, refuse, unless, given, with_two}
 use Rattle.rhai_run.specs.declared.command.Place.{Place}
-use Rattle.rhai_run.specs.declared.not_done.NotDone.{NotDone}
-use Rattle.rhai_run.specs.declared.not_done.NotDone.TheVariants.{Refused, Memory}
 use Rattle.rhai_run.specs.Change.{nowhere}
-use Rattle.rhai_run.specs.Places.{source, with_place, with_place_and, is_at, put_at}
+use Rattle.rhai_run.specs.Places.{with_place_and, is_at, put_at}
 
 -- the value at a place that there is
 abbrev pub value_at : List Tree → ℕ → Tree
@@ -48,18 +45,3 @@ abbrev pub step_assign : State → Token → Place → ℕ → Outcome
 step_assign w op place j =
     with_place_and w place j (λ t u. unless (is_at place j) same_value w (given (first w.store t) (fault (data_race nowhere)) w (λ x.
     given (assign_row op x u) no_builtin w (λ row. assigned w place j (way row) t u (outcome row w.limits w.store t u)))))
-
--- the call of a row on these operands
-abbrev pub called_at : State → Place → ℕ → FnBuiltin → Outcome
-called_at w place j row = with_place w place (λ t. with_value w j (λ u. assigned w place j (way row) t u (outcome row w.limits w.store t u)))
-
--- the place isn't the hand position, both have values, and the row is for them
-abbrev pub HasOperands : FnBuiltin → State → Place → ℕ → Type 0
-HasOperands row w place j =
-    (t u : Tree) × (is_at place j ≡ false) × (source w.hand w.entries place ≡ Ok t) × (slice_get w.hand j ≡ Some u) × Suits row w.store t u
-
--- a row that is looked up has its operands, and the step is its call; or the step is the refusal
-abbrev pub Looks : Result FnBuiltin NotDone → State → Token → Place → ℕ → Type 0
-Looks (Ok row) w op place j = HasOperands row w place j × (step_assign w op place j ≡ called_at w place j row)
-Looks (Err (Refused why)) w op place j = step_assign w op place j ≡ refuse (reason_of why) w
-Looks (Err Memory) w op place j = ⊥

@@ -1,5 +1,5 @@
 -- Places that commands write to: a hand position, or the last entry of a name.
-use Rattle.std.specs.Prelude.{ℕ, Bool, false, nat_eq, nat_le, if◌then◌else◌, List, length, slice_get, slice_set, Option, Some, None, Result, Ok, Err}
+use Rattle.std.specs.Prelude.{ℕ, Bool, false, nat_eq, if◌then◌else◌, List, slice_get, slice_set, Option, Some, None, Result, Ok, Err}
 use Rattle.rhai_value.specs.declared.store.Cell.{Cell}
 use Rattle.rhai_value.specs.Tree.{Tree}
 use Rattle.rhai_scope.specs.Entry.{Entry, is_constant_entry, with_value as holding}
@@ -8,7 +8,7 @@ use Rattle.rhai_run.specs.declared.command.Place.{Place}
 use Rattle.rhai_run.specs.declared.command.Place.TheVariants as place
 use Rattle.rhai_run.specs.State.{State, with_cells}
 use Rattle.rhai_run.specs.Reply.{Reason, no_value, no_entry, constant_entry}
-use Rattle.rhai_run.specs.Outcome.{Outcome, refuse, unless, with_value}
+use Rattle.rhai_run.specs.Outcome.{Outcome, refuse, with_value}
 
 -- the value at a place, or why there is none to write to
 abbrev pub value_found : Option Tree → Result Tree Reason
@@ -31,14 +31,9 @@ found (Err why) w go = refuse why w
 abbrev pub with_place : State → Place → (Tree → Outcome) → Outcome
 with_place w place go = found (source w.hand w.entries place) w go
 
--- whether the place is a hand position without a value
-abbrev pub is_beyond : List Tree → Place → Bool
-is_beyond hand (place.Hand i) = nat_le (length hand) i
-is_beyond hand (place.Entry name) = false
-
--- the value at a place and the one at a hand position; whether hand positions have values is tested first
+-- the value at a place and the one at a hand position; that a hand position has no value is said before anything of an entry
 abbrev pub with_place_and : State → Place → ℕ → (Tree → Tree → Outcome) → Outcome
-with_place_and w place j go = unless (is_beyond w.hand place) no_value w (with_value w j (λ u. with_place w place (λ t. go t u)))
+with_place_and w place j go = with_value w j (λ u. with_place w place (λ t. go t u))
 
 -- whether the place is this hand position
 abbrev pub is_at : Place → ℕ → Bool

@@ -108,6 +108,7 @@ pub(crate) fn cast_to(
         TypeId::ExclusiveRange => cast_as::<ExclusiveRange>(value, alloc, s),
         TypeId::InclusiveRange => cast_as::<InclusiveRange>(value, alloc, s),
         TypeId::Dynamic => cast_as::<Dynamic>(value, alloc, s),
+        // `TypeId` names what is held too, of which this one is the type of what can't be looked into.
         TypeId::Shared => unreachable!(),
     }
 }

@@ -9,7 +9,7 @@ use crate::lent::write_over;
 use crate::not_done::NotDone;
 use crate::place::differ;
 use crate::scanners::Visits;
-use crate::vectors::{put_back, replace_at};
+use crate::vectors::replace_at;
 use rhai_text::{EvalAltResult, Position};
 use rhai_value::{AccessMode, Dynamic, INT, Tag};
 
@@ -17,24 +17,16 @@ impl Desk {
     pub(crate) fn share(&mut self, i: usize) -> Result<Answer, NotDone>
         ensures { Does result self.old self.new (step_share self.old i) }
     {
-        if self.value(i)?.is_shared() {
-            return Ok(Answer::Done);
-        }
-        let value = replace_at(&mut self.hand, i, Dynamic::UNIT);
-        let holder = value.into_shared(&mut self.store);
-        put_back(&mut self.hand, i, holder)?;
+        self.value(i)?;
+        self.hand[i].share_in_place(&mut self.store)?;
         Ok(Answer::Done)
     }
 
     pub(crate) fn flatten(&mut self, i: usize) -> Result<Answer, NotDone>
         ensures { Does result self.old self.new (step_flatten self.old i) }
     {
-        if !self.value(i)?.is_shared() {
-            return Ok(Answer::Done);
-        }
-        let value = replace_at(&mut self.hand, i, Dynamic::UNIT);
-        let flat = value.flatten(self.alloc, &self.store);
-        put_back(&mut self.hand, i, flat)?;
+        self.value(i)?;
+        self.hand[i].flatten_in_place(self.alloc, &self.store)?;
         Ok(Answer::Done)
     }
 

@@ -1,35 +1,79 @@
 //! Commands on the last entry of a name.
+ghost use Rattle.std.specs.Prelude.{◌≡◌, ◌<◌, true, false, is_some, length, option_map, remove, slice_get, IfSome, IfOk, OnOk, OnErr};
+ghost use Rattle.rhai_value.specs.End.{flattened};
+ghost use Rattle.rhai_value.specs.Tree.{fresh, int};
+ghost use Rattle.rhai_value.specs.declared.type_id.TypeId.TheVariants as type_id;
+ghost use Rattle.rhai_variant.specs.Reads.{viewed, written_as};
+ghost use Rattle.rhai_scope.specs.Entry.{with_value as holding};
+ghost use Rattle.rhai_scope.specs.Lookup.{changed_at};
+ghost use Rattle.rhai_run.specs.State.{with_scope, moved_from};
 ghost use Rattle.rhai_run.specs.Entries.{step_set_entry, step_set_or_push, step_set_value, step_get, step_get_value, step_get_ref, step_set_ref, step_remove, step_set_alias, step_aliases};
 ghost use Rattle.rhai_run.specs.Does.{Does, GivesIfAny};
 
 use crate::answer::{Answer, Refusal};
 use crate::cast::{can_cast, can_move, cast_to, moved_as};
 use crate::desk::Desk;
-use crate::lent::write_entry;
 use crate::not_done::NotDone;
 use crate::vectors::replace_at;
-use rhai_scope::aliases_shown;
+use rhai_scope::{Scope, aliases_shown};
 use rhai_text::ImmutableString;
-use rhai_value::{Dynamic, INT, TypeId};
+use rhai_value::{Dynamic, INT, Store, TypeId};
+use rhai_variant::Variant;
+use std::alloc::{AllocError, Global};
+
+/// Takes the entry at a position out, and answers its value without its holders; the entry stays where memory is refused.
+#[tactic(auto, using(rhai_scope::proofs::ForCallers::length_changed, rhai_scope::proofs::ForCallers::value_changed, rhai_scope::proofs::ForCallers::taken, rhai_scope::proofs::ForCallers::kept_there))]
+fn take_flat(scope: &mut Scope, k: usize, alloc: Global, s: &Store) -> Result<Dynamic, AllocError>
+    requires { k < length scope.old }
+    ensures value { IfOk result (λ d. IfSome (option_map (λ e. e.value) (slice_get scope.old k)) (λ t. d ≡ flattened s.now t)) }
+    ensures left { OnOk result (scope.new ≡ remove scope.old k) }
+    ensures err { OnErr result (scope.new ≡ scope.old) }
+{
+    scope.at_mut(k).flatten_in_place(alloc, s)?;
+    Ok(scope.remove_at(k))
+}
+
+/// Writes over the int that a value itself is, and answers whether it is one.
+fn overwrite_int(value: &mut Dynamic, n: INT) -> bool
+    ensures own { result ≡ is_some (viewed type_id.Int value.old) }
+    ensures written { result ≡ true → value.new ≡ written_as type_id.Int (fresh (int n)) value.old }
+    ensures kept { result ≡ false → value.new ≡ value.old }
+{
+    match INT::view_mut(value) {
+        Some(own) => {
+            *own = n;
+            true
+        }
+        None => false,
+    }
+}
 
 impl Desk {
+    /// Moves a value of the hand into the entry at a position of the scope.
+    fn set_at(&mut self, k: usize, i: usize)
+        requires entry { k < length self.old.entries }
+        requires value { i < length self.old.hand }
+        ensures { IfSome (slice_get self.old.hand i) (λ t.
+            self.new ≡ with_scope self.old (changed_at (holding t) self.old.entries k) (moved_from self.old.hand i)) }
+    {
+        let value = replace_at(&mut self.hand, i, Dynamic::UNIT);
+        *self.scope.at_mut(k) = value;
+    }
+
+    #[tactic(auto, using(rhai_scope::proofs::ForCallers::position_within, crate::proofs::LastEntry::set_entry_is))]
     pub(crate) fn set_entry(&mut self, name: &ImmutableString, i: usize) -> Result<Answer, NotDone>
         ensures { Does result self.old self.new (step_set_entry self.old name.now i) }
     {
         self.value(i)?;
-        if self
-            .scope
-            .is_constant(name.as_str())
-            .ok_or(Refusal::NoEntry)?
-        {
+        let k = self.scope.search(name.as_str()).ok_or(Refusal::NoEntry)?;
+        if self.scope.is_constant_at(k) {
             return Err(NotDone::Refused(Refusal::ConstantEntry));
         }
-        let value = replace_at(&mut self.hand, i, Dynamic::UNIT);
-        write_entry(&mut self.scope, name.as_str(), value);
+        self.set_at(k, i);
         Ok(Answer::Done)
     }
 
-    #[tactic(auto, using(crate::proofs::LastEntry::set_over, crate::proofs::LastEntry::not_over_constant, crate::proofs::LastEntry::not_over_none))]
+    #[tactic(auto, using(rhai_scope::proofs::ForCallers::position_within, crate::proofs::LastEntry::set_or_push_is))]
     pub(crate) fn set_or_push(
         &mut self,
         name: &ImmutableString,
@@ -38,30 +82,28 @@ impl Desk {
         ensures { Does result self.old self.new (step_set_or_push self.old name.now i) }
     {
         self.value(i)?;
-        match self.scope.is_constant(name.as_str()) {
-            None | Some(true) => self.push(name, i),
-            Some(false) => {
-                let value = replace_at(&mut self.hand, i, Dynamic::UNIT);
-                write_entry(&mut self.scope, name.as_str(), value);
+        match self.scope.search(name.as_str()) {
+            Some(k) if !self.scope.is_constant_at(k) => {
+                self.set_at(k, i);
                 Ok(Answer::Done)
             }
+            Some(_) | None => self.push(name, i),
         }
     }
 
-    #[tactic(auto, using(crate::proofs::LastEntry::set_there, crate::proofs::LastEntry::no_position))]
+    #[tactic(auto, using(rhai_scope::proofs::ForCallers::position_within, crate::proofs::LastEntry::set_value_is))]
     pub(crate) fn set_value(&mut self, name: &ImmutableString, i: usize) -> Result<Answer, NotDone>
         ensures { Does result self.old self.new (step_set_value self.old name.now i) }
     {
         self.value(i)?;
-        match self.scope.is_constant(name.as_str()) {
-            None => self.push(name, i),
-            Some(true) => Err(NotDone::Refused(Refusal::ConstantEntry)),
-            Some(false) => {
-                let value = replace_at(&mut self.hand, i, Dynamic::UNIT);
-                write_entry(&mut self.scope, name.as_str(), value);
-                Ok(Answer::Done)
-            }
+        let Some(k) = self.scope.search(name.as_str()) else {
+            return self.push(name, i);
+        };
+        if self.scope.is_constant_at(k) {
+            return Err(NotDone::Refused(Refusal::ConstantEntry));
         }
+        self.set_at(k, i);
+        Ok(Answer::Done)
     }
 
     pub(crate) fn get(&mut self, name: &ImmutableString) -> Result<Answer, NotDone>
@@ -124,34 +166,31 @@ impl Desk {
         }
     }
 
+    #[tactic(auto, using(rhai_scope::proofs::ForCallers::position_within, rhai_scope::proofs::ForCallers::kept_there, crate::proofs::LastEntry::set_ref_is, crate::proofs::LastEntry::set_ref_written))]
     pub(crate) fn set_ref(&mut self, name: &ImmutableString, value: INT) -> Result<Answer, NotDone>
         ensures { Does result self.old self.new (step_set_ref self.old name.now value) }
     {
-        let entry = self.scope.get(name.as_str()).ok_or(Refusal::NoEntry)?;
-        if entry.is_shared() {
+        let k = self.scope.search(name.as_str()).ok_or(Refusal::NoEntry)?;
+        if self.scope.at(k).is_shared() {
             return Err(NotDone::Refused(Refusal::SharedEntry));
         }
-        match self.scope.get_value_mut::<INT>(name.as_str()) {
-            Some(place) => {
-                *place = value;
-                Ok(Answer::Done)
-            }
-            None => Ok(Answer::Nothing),
+        if !overwrite_int(self.scope.at_mut(k), value) {
+            return Ok(Answer::Nothing);
         }
+        Ok(Answer::Done)
     }
 
+    #[tactic(auto, using(rhai_scope::proofs::ForCallers::position_within, crate::proofs::LastEntry::remove_is))]
     pub(crate) fn remove(&mut self, name: &ImmutableString, kind: TypeId) -> Result<Answer, NotDone>
         ensures { Does result self.old self.new (step_remove self.old name.now kind) }
     {
-        let value = self.scope.get(name.as_str()).ok_or(Refusal::NoEntry)?;
-        if !can_move(value, &self.store, kind) {
-            self.scope.drop_entry(name.as_str());
+        let k = self.scope.search(name.as_str()).ok_or(Refusal::NoEntry)?;
+        if !can_move(self.scope.at(k), &self.store, kind) {
+            drop(self.scope.remove_at(k));
             return Ok(Answer::Nothing);
         }
         self.hand.reserve(1)?;
-        let Some(value) = self.scope.remove::<Dynamic>(name.as_str(), &self.store)? else {
-            unreachable!();
-        };
+        let value = take_flat(&mut self.scope, k, self.alloc, &self.store)?;
         self.hand.push_reserved(moved_as(value, kind));
         Ok(Answer::Done)
     }

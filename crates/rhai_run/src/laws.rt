@@ -1,6 +1,12 @@
 //! Laws of the machine: each is the contract of a function that does nothing.
-ghost use Rattle.std.specs.Prelude.{◌≡◌, ℕ, ℤ, ◌+◌, ◌<◌, ◌↔◌, Bool, nat_eq, List, [], ◌∷◌, ◌++◌, length, drop, Some, None};
-ghost use Rattle.std.specs.List.{Contains, IsDistinct};
+ghost use Rattle.std.specs.Prelude.{◌≡◌, ℕ, ℤ, ◌+◌, ◌<◌, ◌↔◌, Bool, nat_eq, List, [], ◌∷◌, ◌++◌, length, drop, map, reverse, Some, None, true, Vec, Box};
+ghost use Rattle.std.specs.declared.alloc.Global.{Global};
+ghost use Rattle.std.specs.BTreeMap.{is_at};
+ghost use Rattle.std.specs.List.{Contains, IsDistinct, zip};
+ghost use Rattle.std.specs.Map.{lookup};
+ghost use Rattle.std.specs.Str.{encode_utf8_all};
+ghost use Rattle.rhai_value.specs.Rows.{bytes_cmp};
+ghost use Rattle.rhai_run.specs.Made.{rows_with};
 ghost use Rattle.rhai_text.specs.declared.limits.Limits.{Limits};
 ghost use Rattle.rhai_value.specs.Tree.{Tree};
 ghost use Rattle.rhai_value.specs.Store.{added};
@@ -11,11 +17,16 @@ ghost use Rattle.rhai_run.specs.declared.command.Command.{Command};
 ghost use Rattle.rhai_run.specs.declared.command.Command.TheVariants as command;
 ghost use Rattle.rhai_run.specs.declared.command.Place.{Place};
 ghost use Rattle.rhai_run.specs.declared.command.Scanner.{Scanner};
+ghost use Rattle.rhai_run.specs.declared.command.Literal.{Literal};
+ghost use Rattle.rhai_run.specs.declared.command.Literal.TheVariants as literal;
+ghost use Rattle.rhai_run.specs.declared.command.Place.TheVariants as place;
 ghost use Rattle.rhai_run.specs.declared.expr.Expr.{Expr};
+ghost use Rattle.rhai_run.specs.declared.expr.Expr.TheVariants as expr;
+ghost use Rattle.rhai_text.specs.declared.token.Token.{Token};
 ghost use Rattle.rhai_run.specs.Bindings.{bindings};
-ghost use Rattle.rhai_run.specs.Stands.{refusal, stands};
+ghost use Rattle.rhai_run.specs.Stands.{all, capture, in_order, last_of, operate, part_of, refusal, set, stands};
 ghost use Rattle.rhai_run.specs.State.{State, empty_state, with_store};
-ghost use Rattle.rhai_run.specs.Reply.{Reply, Reason};
+ghost use Rattle.rhai_run.specs.Reply.{Reply, Reason, refused, fault, out_of_memory, not_hashable};
 ghost use Rattle.rhai_run.specs.Step.{step};
 ghost use Rattle.rhai_run.specs.Machine.{replies, state_after};
 ghost use Rattle.rhai_run.specs.Stop.{NeverWants, StopsAfter};
@@ -32,6 +43,14 @@ pub fn empty_state_fits()
 /// Each command keeps a state fitting.
 pub fn steps_fit()
     ensures { (w : State) (c : Command) → Fits w → Fits (step w c).after }
+{}
+
+/// A refused command leaves the state as it was, and wants no memory but where a hash is asked for of what has none; want of memory
+/// itself is the reason of no refusal.
+pub fn refusals_change_nothing()
+    ensures state { (w : State) (c : Command) (why : Reason) → (step w c).reply ≡ refused why → (step w c).after ≡ w }
+    ensures named { (w : State) (c : Command) → (step w c).reply ≡ refused (fault out_of_memory) → ⊥ }
+    ensures memory { (w : State) (c : Command) (why : Reason) → (step w c).reply ≡ refused why → (step w c).wants ≡ true → why ≡ not_hashable }
 {}
 
 /// A state that fits corresponds to itself, each cell being paired with itself.
@@ -119,6 +138,32 @@ pub fn free_commands_are_granted()
 #[tactic(auto, using(crate::proofs::StandsAlike::stands_alike))]
 pub fn expressions_stand_alike()
     ensures { (r : Renaming) (w v : State) (e : Expr) → Corresponds r w v → stands w e ≡ stands v e }
+{}
+
+/// A map that a command makes has at each key, by its bytes, the value that is given last for it, and nothing at any other key.
+#[tactic(auto, using(crate::proofs::LastRows::last_found))]
+pub fn maps_have_the_last_values()
+    ensures { (keys : List (List ℕ)) (values : List Tree) (key : List ℕ)
+        → lookup (is_at (bytes_cmp key)) (rows_with [] keys values) ≡ lookup (is_at (bytes_cmp key)) (reverse (zip (map encode_utf8_all keys) values)) }
+{}
+
+/// What each kind of expression does on a state: its parts one after another, each on what those before it have left.
+pub fn expressions_by_kind()
+    ensures literal { (l : Literal) (w : State) → part_of (expr.Literal l) w ≡ all (command.Put l ∷ []) w }
+    ensures variable { (x : List ℕ) (w : State) → part_of (expr.Var x) w ≡ all (command.Get x ∷ command.Flatten (length w.hand) ∷ []) w }
+    ensures operator { (t : Token) (a b : Box Expr Global) (w : State) → part_of (expr.Op t a b) w ≡ in_order (part_of a.value ∷ part_of b.value ∷ all (operate t (length w.hand)) ∷ []) w }
+    ensures array { (items : Vec Expr Global) (w : State)
+        → part_of (expr.Array items) w ≡ in_order (in_order (map part_of items.items) ∷ all (command.MakeArray (length items.items) ∷ []) ∷ []) w }
+    ensures variable_made { (x : List ℕ) (e : Box Expr Global) (w : State) → part_of (expr.Let x e) w ≡ in_order (part_of e.value ∷ all (command.Push x (length w.hand) ∷ []) ∷ []) w }
+    ensures constant_made { (x : List ℕ) (e : Box Expr Global) (w : State) → part_of (expr.Const x e) w ≡ in_order (part_of e.value ∷ all (command.PushConstant x (length w.hand) ∷ []) ∷ []) w }
+    ensures written { (x : List ℕ) (e : Box Expr Global) (w : State) → part_of (expr.Set x e) w ≡ in_order (part_of e.value ∷ set x (length w.hand) ∷ []) w }
+    ensures updated { (t : Token) (x : List ℕ) (e : Box Expr Global) (w : State)
+        → part_of (expr.Update t x e) w ≡ in_order (part_of e.value ∷ all (command.Assign t (place.Entry x) (length w.hand) ∷ command.Drop ∷ command.Put literal.Unit ∷ []) ∷ []) w }
+    ensures captured { (x : List ℕ) (w : State) → part_of (expr.Capture x) w ≡ capture x w }
+    ensures closure { (f : List ℕ) (names : Vec (List ℕ) Global) (w : State)
+        → part_of (expr.Closure f names) w ≡ in_order (in_order (map capture names.items) ∷ all (command.MakeFn f (length names.items) ∷ []) ∷ []) w }
+    ensures block { (parts : Vec Expr Global) (w : State)
+        → part_of (expr.Block parts) w ≡ in_order (in_order (last_of (map part_of parts.items)) ∷ all (command.Rewind (length w.entries) ∷ []) ∷ []) w }
 {}
 
 /// A run, or the commands of an expression, that stopped goes on with the rest of its list: the answers so far and those of the rest are the machine's on the whole list,

@@ -1,14 +1,12 @@
 //! Values that are written where they stand.
-ghost use Rattle.std.specs.Prelude.{◌≡◌, is_some, Some, option_map, true, false};
-ghost use Rattle.std.specs.Borrow.{sem, LendsIf};
-ghost use Rattle.std.specs.Str.{chars};
+ghost use Rattle.std.specs.Prelude.{◌≡◌, is_some, Some, true};
+ghost use Rattle.std.specs.Borrow.{sem, Lends};
 ghost use Rattle.rhai_value.specs.contracts.dynamic.Dynamic as dynamic_type;
 ghost use Rattle.rhai_value.specs.End.{first, value_with_first, store_with_first};
-ghost use Rattle.rhai_scope.specs.Entry.{is_constant_entry, with_value as holding};
-ghost use Rattle.rhai_scope.specs.Lookup.{last_entry, changed_named};
-ghost use Rattle.rhai_run.specs.Lent.{lent, placed, places_row};
+ghost use Rattle.rhai_run.specs.Lent.{placed_in, places_row};
+ghost use Rattle.rhai_run.specs.Slots.{value_in};
 
-use crate::command::Place;
+use crate::slot::Slot;
 use rhai_scope::Scope;
 use rhai_value::{Dynamic, InStore, Store};
 
@@ -24,17 +22,6 @@ pub(crate) fn write_over(value: &mut Dynamic, store: &mut Store, content: Dynami
     }
 }
 
-/// Writes over the value of the last entry of a name, which is no constant.
-#[tactic(auto, using(crate::proofs::LastEntry::written_entry, crate::proofs::LastEntry::entry_is_there))]
-pub(crate) fn write_entry(scope: &mut Scope, name: &str, value: Dynamic)
-    requires { option_map is_constant_entry (last_entry (chars name.now) scope.old) ≡ Some false }
-    ensures { scope.new ≡ changed_named (holding value) (chars name.now) scope.old }
-{
-    if let Some(entry) = scope.get_mut(name) {
-        *entry = value;
-    }
-}
-
 /// What commands write to: the hand and the scope.
 #[derive(Drop)]
 pub(crate) struct Places<'a> {
@@ -43,15 +30,15 @@ pub(crate) struct Places<'a> {
 }
 
 impl<'a> Places<'a> {
-    /// The value at a place, to write.
-    pub(crate) fn get_mut(&mut self, place: &Place) -> Option<&mut Dynamic>
-        ensures* writes_back { sem 𝓛 (LendsIf places_row dynamic_type.the_row self.entry result (placed self.old place.now) self.old) }
-        ensures value { option_map (λ d. d.now) result ≡ lent self.old place.now }
+    /// The value in a slot, to write.
+    pub(crate) fn at_mut(&mut self, slot: Slot) -> &mut Dynamic
+        requires { is_some (value_in self.old.hand.now.items self.old.scope.now slot) ≡ true }
+        ensures* writes_back { sem 𝓛 (Lends places_row dynamic_type.the_row self.entry result (placed_in self.old slot)) }
+        ensures value { value_in self.old.hand.now.items self.old.scope.now slot ≡ Some result.now }
     {
-        match place {
-            Place::Hand(i) if *i < self.hand.len() => Some(&mut self.hand[*i]),
-            Place::Hand(_) => None,
-            Place::Entry(name) => self.scope.get_mut(name.as_str()),
+        match slot {
+            Slot::Hand(i) => return &mut self.hand[i],
+            Slot::Entry(k) => return self.scope.at_mut(k),
         }
     }
 }

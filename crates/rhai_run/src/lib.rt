@@ -28,6 +28,7 @@ mod pieces;
 mod place;
 mod scanners;
 mod scope;
+mod slot;
 mod vectors;
 pub mod world;
 mod write_back;

@@ -12,7 +12,7 @@ use crate::answer::{Answer, Refusal};
 use crate::command::Place;
 use crate::desk::Desk;
 use crate::not_done::NotDone;
-use crate::place::source;
+use crate::slot::Slot;
 use crate::vectors::replace_at;
 use rhai_text::{EvalAltResult, Position};
 use rhai_value::laws::mark_is_cleared;
@@ -64,11 +64,12 @@ fn token(marks: &[WriteToken], k: usize) -> Result<&WriteToken, NotDone>
 }
 
 impl Desk {
-    #[tactic(auto, using(crate::proofs::MarkLists::first_is_free))]
+    #[tactic(auto, using(crate::proofs::MarkLists::first_is_free, crate::proofs::Slots::source_is))]
     pub(crate) fn mark(&mut self, place: &Place) -> Result<Answer, NotDone>
         ensures { Does result self.old self.new (step_mark self.old place.now) }
     {
-        let holder = source(&self.hand, &self.scope, place)?;
+        let slot = Slot::of(&self.hand, &self.scope, place)?;
+        let holder = slot.value(&self.hand, &self.scope);
         if !holder.is_shared() {
             return Err(NotDone::Refused(Refusal::WrongSource));
         }

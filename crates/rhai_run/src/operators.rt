@@ -1,10 +1,10 @@
 //! Commands that call operators and assignments.
-ghost use Rattle.std.specs.Prelude.{◌≡◌, ◌<◌, false, nat_eq, length, vec_len, IfOk, IsOkAnd, OnOk, OnErr};
+ghost use Rattle.std.specs.Prelude.{◌≡◌, ◌<◌, false, nat_eq, length, vec_len, IfSome, IsSomeAnd, OnOk, OnErr};
 ghost use Rattle.rhai_ops.specs.Outcome.{IsOutcome};
 ghost use Rattle.rhai_ops.specs.Results.{MayWant, Suits, outcome};
 ghost use Rattle.rhai_ops.specs.Ways.{answered, operator, second_left, way};
-ghost use Rattle.rhai_run.specs.Operators.{assigned_at, called_at, value_at, step_assign, step_binary, HasOperands, Looks};
-ghost use Rattle.rhai_run.specs.Places.{source};
+ghost use Rattle.rhai_run.specs.Operators.{value_at, step_assign, step_binary};
+ghost use Rattle.rhai_run.specs.Slots.{assigned_in, called_in, value_in, HasOperands, Looks};
 ghost use Rattle.rhai_run.specs.Does.{Calls, Does, Gives};
 
 use crate::answer::{Answer, Refusal};
@@ -12,7 +12,8 @@ use crate::command::Place;
 use crate::desk::Desk;
 use crate::lent::Places;
 use crate::not_done::NotDone;
-use crate::place::{differ, is_apart, is_within, source};
+use crate::place::{differ, is_apart};
+use crate::slot::Slot;
 use crate::vectors::replace_at;
 use rhai_ops::laws::{operators_write_nothing, rows_suit};
 use rhai_ops::{FnBuiltin, get_builtin_binary_op_fn, get_builtin_op_assignment_fn};
@@ -98,20 +99,20 @@ impl Desk {
         Ok(Answer::Done)
     }
 
-    /// Calls a row of an assignment on the value at a place and on another one, which is at no place.
-    #[tactic(auto, using(crate::proofs::PlaceValues::found_lent, crate::proofs::PlaceValues::hand_kept, crate::proofs::PlaceValues::scope_kept, crate::proofs::PlaceValues::placed_length))]
+    /// Calls a row of an assignment on the value in a slot and on another one, which is in none.
+    #[tactic(auto, using(crate::proofs::SlotValues::hand_kept, crate::proofs::SlotValues::scope_kept, crate::proofs::SlotValues::placed_length))]
     fn call_at(
         &mut self,
         row: FnBuiltin,
-        place: &Place,
+        slot: Slot,
         y: &mut Dynamic,
     ) -> Result<Dynamic, EvalAltResult>
-        requires suits { IsOkAnd (source self.old.hand self.old.entries place.now) (λ x. Suits row self.old.store x y.old) }
-        ensures result { IfOk (source self.old.hand self.old.entries place.now) (λ x.
+        requires suits { IsSomeAnd (value_in self.old.hand self.old.entries slot) (λ x. Suits row self.old.store x y.old) }
+        ensures result { IfSome (value_in self.old.hand self.old.entries slot) (λ x.
             IsOutcome (MayWant row x y.old) result (answered (way row) (outcome row self.old.limits self.old.store x y.old))) }
-        ensures written { OnOk result (IfOk (source self.old.hand self.old.entries place.now) (λ x.
-            assigned_at self.old place.now (way row) x (outcome row self.old.limits self.old.store x y.old) ≡ self.new)) }
-        ensures second { OnOk result (IfOk (source self.old.hand self.old.entries place.now) (λ x.
+        ensures written { OnOk result (IfSome (value_in self.old.hand self.old.entries slot) (λ x.
+            assigned_in self.old slot (way row) x (outcome row self.old.limits self.old.store x y.old) ≡ self.new)) }
+        ensures second { OnOk result (IfSome (value_in self.old.hand self.old.entries slot) (λ x.
             y.new ≡ second_left (way row) (outcome row self.old.limits self.old.store x y.old) y.old)) }
         ensures err { OnErr result ((self.new ≡ self.old) × (y.new ≡ y.old)) }
         ensures len { length self.new.hand ≡ length self.old.hand }
@@ -120,49 +121,43 @@ impl Desk {
             hand: &mut self.hand,
             scope: &mut self.scope,
         };
-        match places.get_mut(place) {
-            Some(x) => row.call(self.alloc, &mut self.store, &self.limits, x, y),
-            None => unreachable!(),
-        }
+        let x = places.at_mut(slot);
+        row.call(self.alloc, &mut self.store, &self.limits, x, y)
     }
 
-    /// Calls a row of an assignment on the value at a place and on the one at another hand position.
-    fn assign_by(
-        &mut self,
-        row: FnBuiltin,
-        place: &Place,
-        j: usize,
-    ) -> Result<Dynamic, EvalAltResult>
-        requires { HasOperands row self.old place.now j }
-        ensures { Calls result self.old self.new (called_at self.old place.now j row) }
+    /// Calls a row of an assignment on the value in a slot and on the one at another hand position.
+    fn assign_by(&mut self, row: FnBuiltin, slot: Slot, j: usize) -> Result<Dynamic, EvalAltResult>
+        requires { HasOperands row self.old slot j }
+        ensures { Calls result self.old self.new (called_in self.old slot j row) }
     {
         let mut y = replace_at(&mut self.hand, j, Dynamic::UNIT);
-        let result = self.call_at(row, place, &mut y);
+        let result = self.call_at(row, slot, &mut y);
         replace_at(&mut self.hand, j, y);
         result
     }
 
-    /// The row of an assignment on the first content of the value at a place and on the one at a hand position.
-    fn assignment(&self, op: Token, place: &Place, j: usize) -> Result<FnBuiltin, NotDone>
+    /// The row of an assignment on the first content of the value at a place and on the one at a hand position, and the slot of the
+    /// place.
+    fn assignment(&self, op: Token, place: &Place, j: usize) -> Result<(FnBuiltin, Slot), NotDone>
         ensures { Looks result self.now op place.now j }
     {
-        is_within(&self.hand, place)?;
         let y = self.value(j)?;
+        let slot = Slot::of(&self.hand, &self.scope, place)?;
         is_apart(place, j)?;
-        let x = source(&self.hand, &self.scope, place)?;
+        let x = slot.value(&self.hand, &self.scope);
         let first = x.read_whole(&self.store).ok_or(Refusal::Fault(EvalAltResult::ErrorDataRace(
             Position::NONE,
         )))?;
         let row = get_builtin_op_assignment_fn(&op, first, y).ok_or(Refusal::NoBuiltin)?;
         rows_suit();
-        Ok(row)
+        Ok((row, slot))
     }
 
     pub(crate) fn assign(&mut self, op: Token, place: &Place, j: usize) -> Result<Answer, NotDone>
         ensures { Does result self.old self.new (step_assign self.old op place.now j) }
     {
-        let row = self.assignment(op, place, j)?;
-        self.assign_by(row, place, j)?;
+        let (row, slot) = self.assignment(op, place, j)?;
+        self.assign_by(row, slot, j)?;
         Ok(Answer::Done)
     }
 }

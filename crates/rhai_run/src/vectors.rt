@@ -1,5 +1,5 @@
 //! Values that are moved in, out of and between vectors.
-ghost use Rattle.std.specs.Prelude.{◌≡◌, ◌<◌, ◌++◌, ◌+◌, ◌≤◌, slice_get, slice_set, vec_len, vec_capacity, Some, IfOk, IfErr, OnOk, OnErr, IsOk, IsErr};
+ghost use Rattle.std.specs.Prelude.{◌≡◌, ◌<◌, ◌++◌, ◌+◌, ◌≤◌, slice_get, slice_set, vec_len, vec_capacity, Some, IfOk, OnOk, OnErr};
 ghost use Rattle.rhai_run.specs.State.{last_values, values_before};
 
 use rhai_value::Dynamic;
@@ -15,28 +15,6 @@ pub(crate) fn replace_at(values: &mut Vec<Dynamic>, i: usize, left: Dynamic) -> 
     ensures capacity { vec_capacity values.new ≡ vec_capacity values.old }
 {
     mem::replace(&mut values[i], left)
-}
-
-/// Puts what became of a value into the place that it was taken from: another value, or itself where memory was refused.
-pub(crate) fn put_back(
-    values: &mut Vec<Dynamic>,
-    i: usize,
-    changed: Result<Dynamic, Dynamic>,
-) -> Result<(), AllocError>
-    requires { i < vec_len values.old }
-    ensures ok { IfOk changed (λ value. IsOk result × (values.new.items ≡ slice_set values.old.items i value)) }
-    ensures err { IfErr changed (λ value. IsErr result × (values.new.items ≡ slice_set values.old.items i value)) }
-{
-    match changed {
-        Ok(value) => {
-            values[i] = value;
-            Ok(())
-        }
-        Err(value) => {
-            values[i] = value;
-            Err(AllocError)
-        }
-    }
 }
 
 /// Takes the last values off, and leaves room for one.
@@ -64,11 +42,11 @@ pub(crate) fn split_last(values: &mut Vec<Dynamic>, n: usize) -> Result<Vec<Dyna
 }
 
 /// Puts values at the end, where there is room for them.
-pub(crate) fn append_in_room(values: &mut Vec<Dynamic>, mut last: Vec<Dynamic>)
+pub(crate) fn append_in_room(values: &mut Vec<Dynamic>, last: Vec<Dynamic>)
     requires { vec_len values.old + vec_len last ≤ vec_capacity values.old }
     ensures { values.new.items ≡ values.old.items ++ last.items }
 {
-    if values.append(&mut last).is_err() {
-        unreachable!();
+    for value in last {
+        values.push_reserved(value);
     }
 }

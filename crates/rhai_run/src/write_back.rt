@@ -1,9 +1,9 @@
 //! Commands that write back one part of a value.
-ghost use Rattle.std.specs.Prelude.{◌≡◌, [], true, is_some, None, IfOk, IsOkAnd, OnOk, OnErr};
+ghost use Rattle.std.specs.Prelude.{◌≡◌, [], true, is_some, None, IfSome, IsSomeAnd, OnOk, OnErr};
 ghost use Rattle.rhai_value.specs.End.{end};
 ghost use Rattle.rhai_run.specs.declared.pieces.Piece.TheVariants.{Bit, Field, Byte, Character};
-ghost use Rattle.rhai_run.specs.Places.{source};
-ghost use Rattle.rhai_run.specs.WriteBack.{lack, change, makes_text, changed_by, slice_from, step_write_back};
+ghost use Rattle.rhai_run.specs.Slots.{changed_in, value_in};
+ghost use Rattle.rhai_run.specs.WriteBack.{lack, change, makes_text, slice_from, step_write_back};
 ghost use Rattle.rhai_run.specs.Does.{Does};
 
 use crate::answer::Answer;
@@ -12,41 +12,39 @@ use crate::desk::Desk;
 use crate::lent::Places;
 use crate::not_done::NotDone;
 use crate::pieces::Piece;
-use crate::place::{is_within, source};
+use crate::slot::Slot;
 use rhai_target::Slice;
 use rhai_value::{Dynamic, INT};
 use std::alloc::AllocError;
 
 impl Desk {
-    /// Writes a working value to a piece of the value at a place.
-    #[tactic(auto, using(crate::proofs::PlaceValues::hand_kept, crate::proofs::PlaceValues::scope_kept))]
-    fn put_piece(&mut self, place: &Place, piece: Piece, value: &Dynamic) -> Result<(), AllocError>
-        requires suits { IsOkAnd (source self.old.hand self.old.entries place.now) (λ t.
+    /// Writes a working value to a piece of the value in a slot.
+    #[tactic(auto, using(crate::proofs::SlotValues::hand_kept, crate::proofs::SlotValues::scope_kept))]
+    fn put_piece(&mut self, slot: Slot, piece: Piece, value: &Dynamic) -> Result<(), AllocError>
+        requires suits { IsSomeAnd (value_in self.old.hand self.old.entries slot) (λ t.
             (lack piece (end self.old.store [] t) ≡ None) × (is_some (change piece self.old.store t value.now) ≡ true)) }
-        ensures ok { OnOk result (IfOk (source self.old.hand self.old.entries place.now) (λ t.
-            self.new ≡ changed_by self.old place.now (change piece self.old.store t value.now) t)) }
+        ensures ok { OnOk result (IfSome (value_in self.old.hand self.old.entries slot) (λ t.
+            self.new ≡ changed_in self.old slot (change piece self.old.store t value.now) t)) }
         ensures err { OnErr result ((self.new ≡ self.old) × (makes_text piece ≡ true)) }
     {
         let mut places = Places {
             hand: &mut self.hand,
             scope: &mut self.scope,
         };
-        match places.get_mut(place) {
-            Some(source) => piece.write(source, self.alloc, &mut self.store, value),
-            None => unreachable!(),
-        }
+        let source = places.at_mut(slot);
+        piece.write(source, self.alloc, &mut self.store, value)
     }
 
     /// Writes the value at a hand position to a piece of the one at a place.
+    #[tactic(auto, using(crate::proofs::Slots::source_is, crate::proofs::Slots::same_change))]
     fn write_back(&mut self, place: &Place, piece: Piece, j: usize) -> Result<Answer, NotDone>
         ensures { Does result self.old self.new (step_write_back self.old place.now piece j) }
     {
-        is_within(&self.hand, place)?;
         let value = self.value(j)?;
-        let source = source(&self.hand, &self.scope, place)?;
-        piece.is_in(source, &self.store)?;
+        let slot = Slot::of(&self.hand, &self.scope, place)?;
+        piece.is_in(slot.value(&self.hand, &self.scope), &self.store)?;
         let value = piece.working(value, self.alloc, &self.store)?;
-        self.put_piece(place, piece, &value)?;
+        self.put_piece(slot, piece, &value)?;
         Ok(Answer::Done)
     }
 

@@ -1,0 +1,71 @@
+-- Where the value of a place stands: at a hand position, or in the entry at a position of the scope.
+use Rattle.std.specs.Prelude.{◌≡◌, [], ℕ, Bool, false, nat_eq, List, slice_get, slice_set, Option, Some, option_map, Result, Ok, Err}
+use Rattle.rhai_text.specs.declared.token.Token.{Token}
+use Rattle.rhai_ops.specs.Outcome as call
+use Rattle.rhai_ops.specs.Results.{outcome, Suits}
+use Rattle.rhai_ops.specs.Ways.{Way, way, first_left, second_left, store_left}
+use Rattle.rhai_ops.specs.declared.builtin.FnBuiltin.{FnBuiltin}
+use Rattle.rhai_value.specs.declared.store.Cell.{Cell}
+use Rattle.rhai_value.specs.End.{end}
+use Rattle.rhai_value.specs.Tree.{Tree}
+use Rattle.rhai_target.specs.Change.{Change, value_changed, store_changed}
+use Rattle.rhai_scope.specs.Entry.{Entry, with_value as holding}
+use Rattle.rhai_scope.specs.Lookup.{changed_at, last_position}
+use Rattle.rhai_run.specs.declared.command.Place.{Place}
+use Rattle.rhai_run.specs.declared.command.Place.TheVariants as place
+use Rattle.rhai_run.specs.declared.not_done.NotDone.{NotDone}
+use Rattle.rhai_run.specs.declared.not_done.NotDone.TheVariants.{Refused, Memory}
+use Rattle.rhai_run.specs.declared.slot.Slot.{Slot}
+use Rattle.rhai_run.specs.declared.slot.Slot.TheVariants as slot
+use Rattle.rhai_run.specs.State.{State, with_hand, with_cells}
+use Rattle.rhai_run.specs.Reply.{no_value, reason_of}
+use Rattle.rhai_run.specs.Outcome.{Outcome, given, refuse, with_value}
+use Rattle.rhai_run.specs.Operators.{called, step_assign}
+
+-- where the value of a place stands, if there is one
+abbrev pub slot_of : List Entry → Place → Option Slot
+slot_of es (place.Hand i) = Some (slot.Hand i)
+slot_of es (place.Entry name) = option_map slot.Entry (last_position name es)
+
+-- the value there
+abbrev pub value_in : List Tree → List Entry → Slot → Option Tree
+value_in hand es (slot.Hand i) = slice_get hand i
+value_in hand es (slot.Entry k) = option_map (λ e. e.value) (slice_get es k)
+
+-- whether it is this hand position
+abbrev pub is_in : Slot → ℕ → Bool
+is_in (slot.Hand i) j = nat_eq i j
+is_in (slot.Entry k) j = false
+
+-- the state with these cells, and another value there
+abbrev pub put_in : State → List Cell → Slot → Tree → State
+put_in w s (slot.Hand i) t = with_cells w s (slice_set w.hand i t)
+put_in w s (slot.Entry k) t = record w { store = s; entries = changed_at (holding t) w.entries k }
+
+-- the state after a change of what is held where the chain from t, which stands there, ends
+abbrev pub changed_in : State → Slot → Change → Tree → State
+changed_in w q c t = put_in w (store_changed c (end w.store [] t) w.store) q (value_changed c (end w.store [] t) t)
+
+-- the state once an assignment, that comes to this on the value t there, has written
+abbrev pub assigned_in : State → Slot → Way → Tree → call.Outcome → State
+assigned_in w q how t o = put_in w (store_left how o w.store t) q (first_left how o w.store t)
+
+-- the same with what is left of the second operand, u, at its hand position
+abbrev pub both_assigned : State → Slot → ℕ → Way → Tree → Tree → call.Outcome → Outcome
+both_assigned w q j how t u o = called w (λ d. assigned_in (with_hand w (slice_set w.hand j (second_left how o u))) q how t o) o
+
+-- the call of a row on these operands
+abbrev pub called_in : State → Slot → ℕ → FnBuiltin → Outcome
+called_in w q j row =
+    given (value_in w.hand w.entries q) no_value w (λ t. with_value w j (λ u. both_assigned w q j (way row) t u (outcome row w.limits w.store t u)))
+
+-- the slot isn't the hand position, both have values, and the row is for them
+abbrev pub HasOperands : FnBuiltin → State → Slot → ℕ → Type 0
+HasOperands row w q j =
+    (t u : Tree) × (is_in q j ≡ false) × (value_in w.hand w.entries q ≡ Some t) × (slice_get w.hand j ≡ Some u) × Suits row w.store t u
+
+-- a row that is looked up has its operands, and the step is its call; or the step is the refusal
+abbrev pub Looks : Result (FnBuiltin × Slot) NotDone → State → Token → Place → ℕ → Type 0
+Looks (Ok found) w op place j = HasOperands found.0 w found.1 j × (step_assign w op place j ≡ called_in w found.1 j found.0)
+Looks (Err (Refused why)) w op place j = step_assign w op place j ≡ refuse (reason_of why) w
+Looks (Err Memory) w op place j = ⊥

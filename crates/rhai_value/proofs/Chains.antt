@@ -133,7 +133,7 @@ chain_alone zero s site (node (holder c) g a) e = cc
 chain_alone (suc n) s site (node (holder c) g a) e = cc
 
 -- a value that is no holder is held
-end_alone : (s : List Cell) (t : Tree) → None ≡ cell_of t → held Own t ≡ end s [] t
+pub end_alone : (s : List Cell) (t : Tree) → None ≡ cell_of t → held Own t ≡ end s [] t
 end_alone s t e = chain_alone (length s) s Own t e ∙ chain-end s t
 
 -- nothing is held by a holder whose cell is marked or no cell of the store

@@ -15,6 +15,10 @@ pub use Rattle.rhai_value.proofs.RelatedCells.{get_unchanged}
 pub use Rattle.rhai_value.proofs.SameFlat.{length_with_first, same_first, same_first_cell, same_flat, same_flattened, same_held_cell, same_locked, same_store_with_first, same_value_with_first}
 -- a held value that is written over itself
 pub use Rattle.rhai_value.proofs.InStores.{kept_written}
+-- a held part that is written over itself
+pub use Rattle.rhai_value.proofs.Unchanged.{held_over, written_over}
+-- what a value and its store lend of what is held, and what a cell has that is written over itself
+pub use Rattle.rhai_value.proofs.LentPart.{own_at, far_at, found, put_back, read_at}
 -- what is found after an insertion
 pub use Rattle.rhai_value.proofs.Inserted.{found_inserted}
 -- renamings that grow
@@ -24,11 +28,11 @@ pub use Rattle.rhai_value.proofs.MarkedCells.{mark_stands, marked_with_first, ot
 -- walks
 pub use Rattle.rhai_value.proofs.Walks.{unopened, unopened-entry, walk_opens}
 -- walks over related values
-pub use Rattle.rhai_value.proofs.SameWalks.{AlikeVisit, Keeps, Paired, by_visits, same_end, same_walk}
+pub use Rattle.rhai_value.proofs.SameWalks.{AlikeVisit, Keeps, Paired, by_visits, same_end, same_end_from, same_walk_from}
 -- scans of related values
 pub use Rattle.rhai_value.proofs.SameScans.{RelatedVisits, same_nodes, same_scan, same_visits}
 -- options that are alike, and lists that are related place by place
-pub use Rattle.rhai_value.proofs.Zips.{by_alike, by_zip, get_append, get_set_other, zip_append, zip_drop, zip_get, zip_length, zip_set, zip_take, zip_weaker}
+pub use Rattle.rhai_value.proofs.Zips.{by_alike, by_zip, get_append, get_last, get_set_other, zip_append, zip_drop, zip_get, zip_length, zip_set, zip_take, zip_weaker}
 -- booleans
 pub use Rattle.rhai_value.proofs.Slots.{or_false}
 -- the list of the cell numbers in a value

@@ -103,7 +103,7 @@ own_held part s (node (fields fs) g m) a none h = ap (held_part part) (end_opens
 own_held part s (node (holder c) g m) a none h = let e : None ≡ Some a = sym (none c g m) ∙ h in cc
 
 -- a holder has no part that is the content of values of one type
-none_of_holder : {A : Type 0} (content : A → Content) (part : Tree → Option A) (k : TypeId) → is_content_type k ≡ true → ((t : Tree) → option_map content (part t) ≡ typed_content k t)
+pub none_of_holder : {A : Type 0} (content : A → Content) (part : Tree → Option A) (k : TypeId) → is_content_type k ≡ true → ((t : Tree) → option_map content (part t) ≡ typed_content k t)
     → (c : ℕ) (g : ℤ) (m : AccessMode) → part (node (holder c) g m) ≡ None
 none_of_holder {A = A} content part k constructs reads c g m = here (is_type k id.Shared) refl (part (node (holder c) g m)) (reads (node (holder c) g m))
   where
@@ -144,7 +144,7 @@ pub put_own_part : {A : Type 0} (content : A → Content) (part : Tree → Optio
 put_own_part content part k constructs reads d s t a h = put_own part d s t a (none_of_holder content part k constructs reads) h
 
 -- a value with a part that no holder has is no holder
-part_alone : {A : Type 0} (part : Tree → Option A) (t : Tree) (a : A) → ((c : ℕ) (g : ℤ) (m : AccessMode) → part (node (holder c) g m) ≡ None) → part t ≡ Some a → None ≡ cell_of t
+pub part_alone : {A : Type 0} (part : Tree → Option A) (t : Tree) (a : A) → ((c : ℕ) (g : ℤ) (m : AccessMode) → part (node (holder c) g m) ≡ None) → part t ≡ Some a → None ≡ cell_of t
 part_alone part (node (leaf l) g m) a none h = refl
 part_alone part (node (branch k ts) g m) a none h = refl
 part_alone part (node (fields fs) g m) a none h = refl

@@ -11,9 +11,14 @@ pub mod ForCallers
 pub mod Grow
 pub mod InStores
 pub mod Inserted
+pub mod Items
 pub mod KeptCells
 pub mod KeptPlaces
 pub mod Labels
+pub mod Lent
+pub mod LentHeld
+pub mod LentPart
+pub mod MapTexts
 pub mod MarkedCells
 pub mod Meetings
 pub mod Paints
@@ -30,5 +35,7 @@ pub mod Stores
 pub mod Traced
 pub mod Trees
 pub mod Trues
+pub mod Unchanged
 pub mod Walks
+pub mod WrittenEnds
 pub mod Zips

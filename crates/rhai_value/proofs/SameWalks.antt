@@ -6,7 +6,7 @@ use Rattle.rhai_value.specs.Tree.{Tree, node, holder}
 use Rattle.rhai_value.specs.Store.{at, unmarked}
 use Rattle.rhai_value.specs.Walk.{Visit, entered, barred, revisited, is_open, visit, visit_of, visit_map, unentered, walk_in, walk}
 use Rattle.rhai_value.specs.End.{End, end_at, site_after, end_of, end}
-use Rattle.rhai_value.specs.Relation.{Renaming, paired, Related, Alike, IsOneToOne, RelatedSite, RelatedCells, RelatedEnds}
+use Rattle.rhai_value.specs.Relation.{Renaming, paired, Related, Alike, IsOneToOne, RelatedPaths, RelatedSite, RelatedCells, RelatedEnds}
 use Rattle.rhai_value.proofs.SameTrees.{by_trees}
 use Rattle.rhai_value.proofs.Zips.{by_alike, by_zip, zip_get}
 use Rattle.rhai_value.proofs.Walks.{more_room_by}
@@ -71,14 +71,14 @@ module _ {A B : Type 0} (r : Renaming) (shape : List ℕ → (ℕ → Visit A) �
       (λ x y e. same_walk_in keeps one cells n (c ∷ path) (d ∷ road) x y (p, same) e)
       (visit_of_alike r (at s c) (at z d) _ _ (same_open r c d path road one p same) (same_at r s z c d cells p))) h
 
-  -- A walk takes related values to related ones, in stores of different lengths.
-  pub same_walk : Keeps r shape form R → IsOneToOne r → RelatedCells r s z → (t u : Tree) → Related r t u → R (walk shape s [] t) (walk form z [] u)
-  same_walk keeps one cells t u h =
+  -- A walk takes related values to related ones, in stores of different lengths, from open cells that are paired place by place.
+  pub same_walk_from : Keeps r shape form R → IsOneToOne r → RelatedCells r s z → (path road : List ℕ) → RelatedPaths r path road → (t u : Tree) → Related r t u → R (walk shape s path t) (walk form z road u)
+  same_walk_from keeps one cells path road same t u h =
       let e : length s + length z ≡ length z + length s = omega arith in
       subst₂ R
-      (sym (more_room_by shape (length z) (length s) s [] t (omega arith)))
-      (ap (λ n. walk_in form n z [] u) (sym e) ∙ sym (more_room_by form (length s) (length z) z [] u (omega arith)))
-      (same_walk_in keeps one cells (length z + length s) [] [] t u tt h)
+      (sym (more_room_by shape (length z) (length s) s path t (omega arith)))
+      (ap (λ n. walk_in form n z road u) (sym e) ∙ sym (more_room_by form (length s) (length z) z road u (omega arith)))
+      (same_walk_in keeps one cells (length z + length s) path road t u same h)
 
 end_at_alike : (r : Renaming) (t u : Tree) (o q : Visit End) → Related r t u → AlikeVisit (RelatedEnds r) o q → RelatedEnds r (end_at t o) (end_at u q)
 end_at_alike r t u o q h k = by_visits (RelatedEnds r) (λ o q. RelatedEnds r (end_at t o) (end_at u q)) (λ e f same. same) h tt o q k
@@ -91,7 +91,10 @@ end_kept r path road h k t u same to = by_trees r (λ t u. RelatedEnds r (end_of
     (λ l g m. (site_alike r _ _ (zip_get (Paired r) path road 0 same), (refl, refl, refl))) (λ i ts us g m e. (site_alike r _ _ (zip_get (Paired r) path road 0 same), ((refl, e), refl, refl))) (λ fs hs g m e. (site_alike r _ _ (zip_get (Paired r) path road 0 same), (e, refl, refl)))
     (λ c d g m p. end_at_alike r (node (holder c) g m) (node (holder d) g m) (h c) (k d) (p, refl, refl) (to c d p)) t u
 
--- the ends of the chains from related values are the same
-pub same_end : (r : Renaming) (s z : List Cell) (t u : Tree) → IsOneToOne r → RelatedCells r s z → Related r t u → RelatedEnds r (end s [] t) (end z [] u)
+-- the ends of the chains from related values are the same, whichever paired cells were passed
+pub same_end_from : (r : Renaming) (s z : List Cell) (path road : List ℕ) (t u : Tree) → IsOneToOne r → RelatedCells r s z → RelatedPaths r path road → Related r t u → RelatedEnds r (end s path t) (end z road u)
 unfolding end
-same_end r s z t u one cells h = same_walk r end_of end_of (RelatedEnds r) s z (end_kept r) one cells t u h
+same_end_from r s z path road t u one cells same h = same_walk_from r end_of end_of (RelatedEnds r) s z (end_kept r) one cells path road same t u h
+
+pub same_end : (r : Renaming) (s z : List Cell) (t u : Tree) → IsOneToOne r → RelatedCells r s z → Related r t u → RelatedEnds r (end s [] t) (end z [] u)
+same_end r s z t u one cells h = same_end_from r s z [] [] t u one cells tt h

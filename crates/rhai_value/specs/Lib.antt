@@ -10,6 +10,7 @@ pub mod Falls
 pub mod Store
 pub mod Walk
 pub mod End
+pub mod Items
 pub mod Types
 pub mod Kinds
 pub mod Opened
@@ -22,3 +23,4 @@ pub mod Scan
 pub mod Reach
 pub mod Meetings
 pub mod Renumbers
+pub mod Lent

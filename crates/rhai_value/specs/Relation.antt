@@ -1,5 +1,6 @@
 -- Values and stores that are equal up to the numbers of their cells.
 use Rattle.std.specs.Prelude.{◌≡◌, ℕ, zero, suc, ◌+◌, Bool, true, false, nat_eq, ◌||◌, ◌&&◌, List, [], ◌∷◌, length, slice_get, Option, Some, None}
+use Rattle.std.specs.List.{AllZip}
 use Rattle.rhai_value.specs.declared.chain.Site.{Site}
 use Rattle.rhai_value.specs.declared.chain.Site.TheVariants.{Own, InCell}
 use Rattle.rhai_value.specs.declared.store.Cell.{Cell}
@@ -62,6 +63,10 @@ RelatedCell r x y = (x.is_marked ≡ y.is_marked) × Related r x.content y.conte
 -- Each pair of r is a cell of s and one of z, marked in both or in neither, with related contents.
 abbrev pub RelatedCells : Renaming → List Cell → List Cell → Type 0
 RelatedCells r s z = (c d : ℕ) → paired r c d ≡ true → (x : Cell) × (y : Cell) × (slice_get s c ≡ Some x) × (slice_get z d ≡ Some y) × RelatedCell r x y
+
+-- Two lists of cells, as those that are open on two walks, are paired place by place.
+abbrev pub RelatedPaths : Renaming → List ℕ → List ℕ → Type 0
+RelatedPaths r path road = AllZip (λ c d. paired r c d ≡ true) path road
 
 -- the pairs (a, b), (a + 1, b + 1) and so on, k of them
 abbrev pub new_pairs : ℕ → ℕ → ℕ → Renaming

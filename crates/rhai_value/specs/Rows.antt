@@ -1,10 +1,11 @@
 -- A map as a list of rows: each key, as its bytes, with its value, by rising keys.
 use Rattle.std.specs.Prelude.{ℕ, List, [], ◌∷◌, map}
 use Rattle.std.specs.Cmp.Lexicographic.{slice_cmp}
+use Rattle.std.specs.List.{All}
 use Rattle.std.specs.List.Sorted.{IsStrictlySortedBy}
 use Rattle.std.specs.Map.{keys_of}
 use Rattle.std.specs.Ordering.{nat_cmp}
-use Rattle.std.specs.Str.{chars}
+use Rattle.std.specs.Str.{chars, IsUtf8}
 use Rattle.std.specs.declared.cmp.Ordering.{Ordering}
 use Rattle.rhai_value.specs.Tree.{Tree, Trees, no_trees, tree_then, Fields, no_fields, field_then, copy}
 
@@ -18,6 +19,10 @@ bytes_cmp = slice_cmp nat_cmp
 -- each key is above the one before it
 abbrev pub AreRising : Rows → Type 0
 AreRising rs = IsStrictlySortedBy bytes_cmp (keys_of rs)
+
+-- each key is the UTF-8 of some characters
+abbrev pub AreTexts : Rows → Type 0
+AreTexts rs = All IsUtf8 (keys_of rs)
 
 -- a list of trees, as children
 abbrev pub trees_of : List Tree → Trees

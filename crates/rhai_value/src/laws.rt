@@ -11,8 +11,9 @@ ghost use Rattle.rhai_value.specs.End.{first, value_with_first, store_with_first
 ghost use Rattle.rhai_value.specs.Locked.{is_locked};
 ghost use Rattle.rhai_value.specs.Walk.{is_open, visit, visit_map};
 ghost use Rattle.rhai_value.specs.Types.{is_type};
-ghost use Rattle.rhai_value.specs.Relation.{Renaming, paired, Related, RelatedContent, AllRelated, RelatedFields, RelatedFunctions, Alike, Respect, IsOneToOne, RelatedCells, RelatedEnds, shared_pairs};
+ghost use Rattle.rhai_value.specs.Relation.{Renaming, paired, Related, RelatedContent, AllRelated, RelatedFields, RelatedFunctions, Alike, Respect, IsOneToOne, RelatedCells, RelatedPaths, RelatedEnds, shared_pairs};
 
+pub mod parts;
 pub mod scans;
 
 /// Where a chain ends, by its parts: a value that is no holder is held, a holder is stuck, closes, or leads on to its cell's content.
@@ -33,11 +34,14 @@ pub fn end_by_cases()
     ensures goes_on { (s : List Cell) (path : List ℕ) (t u : Tree) (c : ℕ) → cell_of t ≡ Some c → at s c ≡ Some u → is_open c path ≡ false → end s path t ≡ end s (c ∷ path) u }
 {}
 
-/// Chains from related values, in stores that are the same up to the numbers of their cells, end alike.
-#[tactic(auto, using(crate::proofs::SameWalks::same_end))]
+/// Chains from related values, in stores that are the same up to the numbers of their cells, end alike: where no cell was passed,
+/// and where those that were passed are paired.
+#[tactic(auto, using(crate::proofs::SameWalks::same_end, crate::proofs::SameWalks::same_end_from))]
 pub fn end_is_renamed()
-    ensures { (r : Renaming) (s z : List Cell) (t u : Tree)
+    ensures whole { (r : Renaming) (s z : List Cell) (t u : Tree)
         → IsOneToOne r → RelatedCells r s z → Related r t u → RelatedEnds r (end s [] t) (end z [] u) }
+    ensures passed { (r : Renaming) (s z : List Cell) (path road : List ℕ) (t u : Tree)
+        → IsOneToOne r → RelatedCells r s z → RelatedPaths r path road → Related r t u → RelatedEnds r (end s path t) (end z road u) }
 {}
 
 /// A copy has the contents and the tags of the value, and its holders name the same cells; every mode is ReadWrite.

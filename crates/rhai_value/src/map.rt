@@ -68,7 +68,7 @@ impl Map {
     ghost use Rattle.std.specs.List.Sorted.{IsStrictlySortedBy};
     ghost use Rattle.std.specs.Map.{keys_of, lookup, remove_entry, set_value, values_of};
     ghost use Rattle.std.specs.Option.{option_copied_mut};
-    ghost use Rattle.rhai_value.specs.Rows.{bytes_cmp, AreRising};
+    ghost use Rattle.rhai_value.specs.Rows.{bytes_cmp, AreRising, AreTexts};
     ghost use Rattle.rhai_value.specs.contracts.dynamic.Dynamic as dynamic_type;
     ghost use Rattle.rhai_value.specs.contracts.map.Map as map_type;
 
@@ -83,6 +83,7 @@ impl Map {
     pub fn len(&self) -> usize
         ensures len { result ≡ length self.now }
         ensures ordered { AreRising self.now }
+        ensures texts { AreTexts self.now }
     {
         match &self.parts {
             Some(parts) => parts.len(),
@@ -108,6 +109,7 @@ impl Map {
     pub fn get(&self, key: &str) -> Option<&Dynamic>
         ensures value { option_copied result ≡ lookup (is_at (bytes_cmp key.now)) self.now }
         ensures ordered { AreRising self.now }
+        ensures texts { AreTexts self.now }
     {
         match &self.parts {
             Some(parts) => parts.get(key),
@@ -145,6 +147,7 @@ impl Map {
         ensures err { IfErr result (λ back. (back ≡ (key, value)) × (self.new ≡ self.old)) }
         ensures absent { OnErr result (lookup (is_at (bytes_cmp (string_bytes key))) self.old ≡ None) }
         ensures ordered { AreRising self.new }
+        ensures texts { AreTexts self.new }
     {
         if self.parts.is_none() {
             self.prepare();
@@ -203,6 +206,7 @@ impl Map {
     pub fn iter(&self) -> Entries<'_>
         ensures entries { result ≡ self.now }
         ensures ordered { AreRising self.now }
+        ensures texts { AreTexts self.now }
     {
         match &self.parts {
             Some(parts) => Entries::of_parts(parts),

@@ -134,8 +134,11 @@ impl Dynamic {
         }
     }
 
-    /// What is held, if it is of this kind, to write, or the name of the held type. Takes no memory. What value and store are once
-    /// it was written is said by `InStore::part_mut`.
+    /// Lends what is held, if it is of this kind, to write, or names the held type. Takes no memory.
+    ///
+    /// This is one call of `lent_part_mut`, which says what value and store are once it was written. There are two, since a proof
+    /// that the check writes by itself can't call a method of the value with a clause on two lenders; such a proof reads it of
+    /// `InStore::part_mut`, which lends from the pair of the two.
     #[inline(always)]
     pub fn as_part_mut<'s, T: Part>(
         &'s mut self,
@@ -145,25 +148,8 @@ impl Dynamic {
         ensures err { IfErr result (λ name. (held_part T.part_of (end m.old [] self.old) ≡ None)
             × (name.now ≡ end_name (end m.old [] self.old))) }
     {
-        match T::own(self) {
-            Some(_) => Ok(self.own_part_mut::<T>()),
-            None => self.far_part_mut::<T>(m),
-        }
-    }
-
-    /// The same where a chain of holders is followed, in a function of its own, so that writes to what the value itself has stay
-    /// short.
-    #[inline(never)]
-    fn far_part_mut<'s, T: Part>(&'s mut self, m: &'s mut Store) -> Result<&'s mut T, &'static str>
-        ensures ok { IfOk result (λ v. held_part T.part_of (end m.old [] self.old) ≡ Some (T.meaning v.now)) }
-        ensures err { IfErr result (λ name. (held_part T.part_of (end m.old [] self.old) ≡ None)
-            × (name.now ≡ end_name (end m.old [] self.old))) }
-    {
-        let (site, kind) = self.held_site_and_type(m);
-        match self.part_at_mut::<T>(m, site) {
-            Some(part) => Ok(part),
-            None => Err(kind.name()),
-        }
+        let is_own = T::own(self).is_some();
+        Dynamic::lent_part_mut::<T>(is_own, self, m)
     }
 
     /// What is held becomes this, if it is of this kind, tag and mode staying, and what was there comes back; else this comes back,
@@ -230,17 +216,6 @@ impl Dynamic {
             Some(held) => Ok(mem::replace(held, part)),
             None => Err(part),
         }
-    }
-
-    fn part_at_mut<'s, T: Part>(
-        &'s mut self,
-        m: &'s mut Store,
-        site: Option<Site>,
-    ) -> Option<&'s mut T>
-        requires { site ≡ site_of (end m.old [] self.old) }
-        ensures { option_map (λ v. T.meaning v.now) result ≡ held_part T.part_of (end m.old [] self.old) }
-    {
-        T::own_mut(self.held_at_mut(m, site)?)
     }
 }
 

@@ -1,12 +1,17 @@
 //! The first content of a value: the value itself, or what the cell of a holder has.
 ghost use Rattle.std.specs.Prelude.{◌≡◌, [], option_map, option_copied, IfSome, None};
-ghost use Rattle.rhai_value.specs.End.{end, held_in, site_of, first, first_site, constant_in};
+ghost use Rattle.std.specs.Borrow.{sem, follows_if, name_if_some};
+ghost use Rattle.std.specs.Option.{ghost_name_of};
+ghost use Rattle.rhai_value.specs.contracts.dynamic.Dynamic as dynamic_type;
+ghost use Rattle.rhai_value.specs.End.{end, held_in, held_cell, first, first_cell, first_site, constant_in};
+ghost use Rattle.rhai_value.specs.Lent.{LendsFirst, LendsHeld, own_ref, either_of};
 ghost use Rattle.rhai_value.specs.Seen.{near_content, near_site};
 ghost use Rattle.rhai_value.specs.Tree.{cell_of, is_constant, mode_of};
 
 use crate::access_mode::AccessMode;
 use crate::chain::{Near, Site};
 use crate::dynamic::Dynamic;
+use crate::place::Place;
 use crate::store::Store;
 
 impl Dynamic {
@@ -39,44 +44,34 @@ impl Dynamic {
 
     /// The same, to write.
     ///
-    /// The clauses say what is found, and that it is the value itself where this is no holder. What value and store are once it was
-    /// written is said by `InStore::whole_mut`, which lends from the pair of the two.
+    /// Once it was written, the value is the one that was written over it, where it is no holder, or else the store has that in the
+    /// holder's cell; the other is as it was, and both are where there is none. Proofs that the check writes by itself don't read
+    /// that of a call that lends from two: `InStore::whole_mut`, which lends from the pair of them, says it to those.
     pub fn write_whole<'s>(&'s mut self, m: &'s mut Store) -> Option<&'s mut Dynamic>
+        ensures* writes_back { sem 𝓛 (LendsFirst self.entry m.entry (ghost_name_of result)) }
         ensures value { option_map (λ d. d.now) result ≡ first m.old self.old }
         ensures own { IfSome result (λ d. cell_of self.old ≡ None → d.ghost_name ≡ self.entry.ghost_name) }
     {
-        match self.first_site(m)? {
-            Site::Own => Some(self),
-            Site::InCell(index) => Some(m.content_mut(index)),
-        }
+        let place = first_place_of(self, m);
+        let own = own_mut(self);
+        let far = m.content_at_mut(place);
+        either(own, far)
     }
 
     /// The value where the chain of holders ends, to write; `None` where the chain is stuck or closed. Takes no memory.
     ///
-    /// The clauses say what is found, and that it is the value itself where this is no holder. What value and store are once it was
-    /// written is said by `InStore::held_mut`.
+    /// Once it was written, value and store are what they become where what is held is written over, and both are as before where
+    /// there is none. Proofs that the check writes by itself don't read that of a call that lends from two: `InStore::held_mut`, which
+    /// lends from the pair of them, says it to those.
     pub fn held_mut<'s>(&'s mut self, m: &'s mut Store) -> Option<&'s mut Dynamic>
+        ensures* writes_back { sem 𝓛 (LendsHeld dynamic_type.the_row self.entry m.entry (ghost_name_of result) (λ w _. w)) }
         ensures value { option_map (λ d. d.now) result ≡ held_in (end m.old [] self.old) }
         ensures own { IfSome result (λ d. cell_of self.old ≡ None → d.ghost_name ≡ self.entry.ghost_name) }
     {
-        let site = self.held_site(m);
-        self.held_at_mut(m, site)
-    }
-
-    /// The same, where the held value stands being known.
-    pub(crate) fn held_at_mut<'s>(
-        &'s mut self,
-        m: &'s mut Store,
-        site: Option<Site>,
-    ) -> Option<&'s mut Dynamic>
-        requires { site ≡ site_of (end m.old [] self.old) }
-        ensures value { option_map (λ d. d.now) result ≡ held_in (end m.old [] self.old) }
-        ensures own { IfSome result (λ d. cell_of self.old ≡ None → d.ghost_name ≡ self.entry.ghost_name) }
-    {
-        match site? {
-            Site::Own => Some(self),
-            Site::InCell(index) => Some(m.content_mut(index)),
-        }
+        let place = held_place_of(self, m);
+        let own = own_mut(self);
+        let far = m.content_at_mut(place);
+        either(own, far)
     }
 
     /// Where the first content stands.
@@ -108,5 +103,54 @@ impl Dynamic {
             AccessMode::ReadWrite => false,
             AccessMode::ReadOnly => true,
         }
+    }
+}
+
+/// Where the first content stands. A value and a store that are lent to write are asked here, since both are lent on afterwards.
+#[inline(always)]
+fn first_place_of(value: &mut Dynamic, m: &mut Store) -> Place
+    ensures place { result ≡ first_cell m.old value.old }
+    ensures value { value.new ≡ value.old }
+    ensures store { m.new ≡ m.old }
+{
+    value.first_place(m)
+}
+
+/// The same of the held value.
+#[inline(always)]
+fn held_place_of(value: &mut Dynamic, m: &mut Store) -> Place
+    ensures place { result ≡ held_cell (end m.old [] value.old) }
+    ensures value { value.new ≡ value.old }
+    ensures store { m.new ≡ m.old }
+{
+    value.held_place(m)
+}
+
+/// A value that is no holder.
+#[derive(Drop)]
+pub(crate) struct Own<'a> {
+    value: &'a mut Dynamic,
+}
+
+/// A value that is no holder, to write.
+#[inline(always)]
+fn own_mut(value: &mut Dynamic) -> Option<Own<'_>>
+    ensures* stays { sem 𝓛 (follows_if dynamic_type.the_row dynamic_type.the_row value.entry.ghost_name (name_if_some (λ w. w.value.ghost_name) result) (λ w. w) value.old) }
+    ensures which { option_map (λ w. w.value) result ≡ own_ref value.entry }
+{
+    match value.cell() {
+        None => Some(Own { value }),
+        Some(_) => None,
+    }
+}
+
+/// The first of two references, or else the second.
+#[inline(always)]
+fn either<'s>(own: Option<Own<'s>>, far: Option<&'s mut Dynamic>) -> Option<&'s mut Dynamic>
+    ensures { result ≡ either_of (option_map (λ w. w.value) own.entry) far.entry }
+{
+    match own {
+        Some(Own { value }) => Some(value),
+        None => far,
     }
 }

@@ -24,8 +24,9 @@ impl Dynamic {
     }
 }
 
-/// What is held, to write, or the name of the held type. The clauses say what is found; what value and store are once it was
-/// written is said by the calls of `InStore`, which lend from the pair of the two. Each takes no memory.
+/// Lends what is held, to write, or names the held type. Each takes no memory, and is one call of `lent_part_mut` at the type, which
+/// says what value and store are once it was written. There are two, since a proof that the check writes by itself can't call a
+/// method of the value with a clause on two lenders; such a proof reads it of the calls of `InStore`, which lend from the pair.
 impl Dynamic {
     /// The held text. (`Dynamic::as_immutable_string_mut`)
     pub fn as_immutable_string_mut<'s>(

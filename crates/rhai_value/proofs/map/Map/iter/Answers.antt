@@ -1,5 +1,6 @@
 use Rattle.std.proofs.Common.{sym}
 use Rattle.rhai_value.proofs.Edits.{rising_in}
+use Rattle.rhai_value.proofs.MapTexts.{texts_in}
 use Rattle.rhai_value.proofs.map.Map.iter.Goals as goal
 
 pub returns-in-Some-clause-ordered : goal.returns-in-Some-clause-ordered
@@ -7,3 +8,9 @@ returns-in-Some-clause-ordered c = rw (sym c.self.view_is) (rising_in _ c.self.i
 
 pub returns-in-None-clause-ordered : goal.returns-in-None-clause-ordered
 returns-in-None-clause-ordered c = rw (sym c.self.view_is) (rising_in _ c.self.invariant)
+
+pub returns-in-Some-clause-texts : goal.returns-in-Some-clause-texts
+returns-in-Some-clause-texts c = rw (sym c.self.view_is) (texts_in _)
+
+pub returns-in-None-clause-texts : goal.returns-in-None-clause-texts
+returns-in-None-clause-texts c = rw (sym c.self.view_is) (texts_in _)

@@ -1,0 +1,60 @@
+-- What is left of a value and its store, where a reference for writing may have been lent from the one or from the other.
+use Rattle.std.specs.Prelude.{ℕ, List, [], Option, Some, None, slice_get, option_map, option_and_then}
+use Rattle.std.specs.Borrow.{MutBor, GName, Fml, RattleType, fsep, follows_if}
+use mathlib.Core.Option as maybe
+use Rattle.rhai_value.specs.declared.store.Cell.{Cell}
+use Rattle.rhai_value.specs.contracts.dynamic.Dynamic as dynamic
+use Rattle.rhai_value.specs.contracts.store.Store as store
+use Rattle.rhai_value.specs.Tree.{Tree, cell_of}
+use Rattle.rhai_value.specs.Store.{put}
+use Rattle.rhai_value.specs.End.{end, value_after, store_after, value_with_first, store_with_first}
+
+-- The name of what is lent, where the value itself lends it, which is no holder; and where its store lends it.
+abbrev pub own_lent : Option ℕ → maybe.Option GName → maybe.Option GName
+own_lent None n = n
+own_lent (Some c) n = maybe.none
+
+abbrev pub far_lent : Option ℕ → maybe.Option GName → maybe.Option GName
+far_lent None n = maybe.none
+far_lent (Some c) n = n
+
+-- What lends the reference under the name n ends as F, or G, of the last value behind it, and the other as it was; where there is no name both end as they were.
+abbrev pub LendsFrom : (T : RattleType) → MutBor Tree → MutBor (List Cell) → maybe.Option GName → (T.Denot → Tree) → (T.Denot → List Cell) → Fml
+LendsFrom T v s n F G = fsep (follows_if dynamic.the_row T v.ghost_name (own_lent (cell_of v.now) n) F v.now) (follows_if store.the_row T s.ghost_name (far_lent (cell_of v.now) n) G s.now)
+
+-- What is held, or a part of it, is lent: value and store end as after f w was applied to what is held.
+abbrev pub LendsHeld : (T : RattleType) → MutBor Tree → MutBor (List Cell) → maybe.Option GName → (T.Denot → Tree → Tree) → Fml
+LendsHeld T v s n f = LendsFrom T v s n (λ w. value_after (f w) (end s.now [] v.now) v.now) (λ w. store_after (f w) (end s.now [] v.now) s.now)
+
+-- The first content is lent.
+abbrev pub LendsFirst : MutBor Tree → MutBor (List Cell) → maybe.Option GName → Fml
+LendsFirst v s n = LendsFrom dynamic.the_row v s n (λ w. value_with_first w v.now) (λ w. store_with_first w s.now v.now)
+
+-- the reference to a value that is no holder
+abbrev pub own_at : Option ℕ → MutBor Tree → Option (MutBor Tree)
+own_at None v = Some v
+own_at (Some c) v = None
+
+abbrev pub own_ref : MutBor Tree → Option (MutBor Tree)
+own_ref v = own_at (cell_of v.now) v
+
+abbrev pub either_of : {A : Type 0} → Option A → Option A → Option A
+either_of (Some x) o = Some x
+either_of None o = o
+
+-- what a cell has, and a store once w was written there
+abbrev pub content_in : Option ℕ → List Cell → Option Tree
+content_in o s = option_and_then (λ c. option_map (λ x. x.content) (slice_get s c)) o
+
+abbrev pub put_in : Option ℕ → List Cell → Tree → List Cell
+put_in None s w = s
+put_in (Some c) s w = put s c w
+
+-- a store once f was applied to what a cell has
+abbrev pub edited : ℕ → (Tree → Tree) → Option Tree → List Cell → List Cell
+edited c f None s = s
+edited c f (Some t) s = put s c (f t)
+
+abbrev pub edit_in : Option ℕ → (Tree → Tree) → List Cell → List Cell
+edit_in None f s = s
+edit_in (Some c) f s = edited c f (content_in (Some c) s) s

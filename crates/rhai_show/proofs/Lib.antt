@@ -12,6 +12,7 @@ pub mod NoHolders
 pub mod Plains
 pub mod Printed
 pub mod Pushed
+pub mod Ranges
 pub mod SamePlain
 pub mod SamePrinted
 pub mod Searches

@@ -4,8 +4,8 @@ use mathlib.Core.Path.{fun_ext}
 use Rattle.rhai_value.specs.declared.store.Cell.{Cell}
 use Rattle.rhai_value.specs.Tree.{Tree}
 use Rattle.rhai_value.specs.Walk.{Visit, entered}
-use Rattle.rhai_value.specs.Relation.{Renaming, Related, IsOneToOne, RelatedCells}
-use Rattle.rhai_value.proofs.ForCallers.{by_related, AlikeVisit, Keeps, by_visits, same_walk}
+use Rattle.rhai_value.specs.Relation.{Renaming, Related, IsOneToOne, RelatedCells, RelatedPaths}
+use Rattle.rhai_value.proofs.ForCallers.{by_related, AlikeVisit, Keeps, by_visits, same_walk_from}
 use Rattle.rhai_show.specs.declared.form.Form.{Form}
 use Rattle.rhai_show.specs.Text.{field_printed, branch_printed, map_printed, holder_printed, printed_of, all_printed, fields_printed, printed}
 
@@ -18,7 +18,10 @@ printed_kept r path road h k t u same to =
     (λ l g m. refl) (λ i ts us g m e q. ap (λ vs form. branch_printed form i vs) q) (λ fs hs g m e q. ap (λ vs form. map_printed form vs) q) (λ c d g m p. fun_ext (same_holder (h c) (k d) (to c d p)))
     refl (λ t u ts us p q. ap₂ (λ v vs. v ∷ vs) p q) refl (λ n t u fs hs p q. ap₂ (λ v vs. (λ form. field_printed form n (v form)) ∷ vs) p q) t u
 
--- the text of a value doesn't depend on the numbers of cells
-pub same_printed : (r : Renaming) (s z : List Cell) (t u : Tree) → IsOneToOne r → RelatedCells r s z → Related r t u → printed s [] t ≡ printed z [] u
+-- the text of a value doesn't depend on the numbers of cells, whichever paired cells are open
+pub same_printed_from : (r : Renaming) (s z : List Cell) (path road : List ℕ) (t u : Tree) → IsOneToOne r → RelatedCells r s z → RelatedPaths r path road → Related r t u → printed s path t ≡ printed z road u
 unfolding printed
-same_printed r s z t u one cells h = same_walk r printed_of printed_of ◌≡◌ s z (printed_kept r) one cells t u h
+same_printed_from r s z path road t u one cells same h = same_walk_from r printed_of printed_of ◌≡◌ s z (printed_kept r) one cells path road same t u h
+
+pub same_printed : (r : Renaming) (s z : List Cell) (t u : Tree) → IsOneToOne r → RelatedCells r s z → Related r t u → printed s [] t ≡ printed z [] u
+same_printed r s z t u one cells h = same_printed_from r s z [] [] t u one cells tt h

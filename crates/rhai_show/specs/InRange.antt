@@ -1,12 +1,13 @@
 -- Plain values that a program can have: numbers are in the ranges of their types, and lengths fit in eight bytes.
-use Rattle.std.specs.Prelude.{◌≡◌, ◌<◌, ◌^◌, ℕ, true, List, length, ⊤, FitsSigned}
+use Rattle.std.specs.Prelude.{◌≡◌, ◌<◌, ◌^◌, ℕ, true, List, [], length, Some, IfSome, ⊤, FitsSigned}
 use Rattle.std.specs.Int.{w8, w16, w32, w64, w128}
-use Rattle.std.specs.Str.{all_scalars, encode_utf8_all}
+use Rattle.std.specs.Str.{all_scalars, chars, encode_utf8_all}
 use Rattle.rhai_value.specs.declared.host.Host.{Host}
 use Rattle.rhai_value.specs.declared.host.Host.TheVariants as host_kind
-use Rattle.rhai_value.specs.Tree.{Leaf, unit, bool, int, char, text, blob, host, Kind, array, function}
-use Rattle.rhai_show.specs.Plain.{Plain, plain_leaf, plain_branch, plain_map, Plains, no_plains, plain_then, PlainFields, no_plain_fields, plain_field_then}
-use Rattle.rhai_show.specs.HashBytes.{how_many, how_many_fields}
+use Rattle.rhai_value.specs.declared.store.Cell.{Cell}
+use Rattle.rhai_value.specs.Tree.{Tree, Leaf, unit, bool, int, char, text, blob, host, Kind, array, function}
+use Rattle.rhai_show.specs.Plain.{Plain, plain_leaf, plain_branch, plain_map, Plains, no_plains, plain_then, PlainFields, no_plain_fields, plain_field_then, plain}
+use Rattle.rhai_show.specs.HashBytes.{how_many, how_many_fields, plain_bytes}
 
 -- a count that fits in eight bytes
 abbrev pub IsCount : ℕ → Type 0
@@ -56,3 +57,15 @@ abbrev mutual
   pub FieldsInRange : PlainFields → Type 0
   FieldsInRange no_plain_fields = ⊤
   FieldsInRange (plain_field_then k p fs) = IsName k × IsInRange p × FieldsInRange fs
+
+-- what a value is without tags, modes and holders is in range, if it is something
+abbrev pub IsPlainInRange : List Cell → List ℕ → Tree → Type 0
+IsPlainInRange s path t = IfSome (plain s path t) IsInRange
+
+-- the same of the value in a row of a map, whose key is the bytes of a name
+abbrev pub IsRowInRange : List Cell → List ℕ → List ℕ × Tree → Type 0
+IsRowInRange s path r = IsName (chars r.0) × IsPlainInRange s path r.1
+
+-- the hash bytes of a value: those of what it is without tags, modes and holders, which is in range
+abbrev pub IsHashed : List Cell → Tree → List ℕ → Type 0
+IsHashed s t bs = (p : Plain) × (plain s [] t ≡ Some p) × IsInRange p × (bs ≡ plain_bytes p)

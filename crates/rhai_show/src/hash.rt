@@ -1,6 +1,6 @@
 //! The hash bytes of a value.
-ghost use Rattle.std.specs.Prelude.{ℕ, ℤ, ◌≡◌, ◌++◌, ◌∷◌, [], true, IfOk, IsOk, List, None, OnOk, Some, is_some, length, option_map};
-ghost use Rattle.std.specs.List.{flat_map};
+ghost use Rattle.std.specs.Prelude.{ℕ, ℤ, ◌≡◌, ◌++◌, ◌∷◌, [], true, IfOk, IfSome, IsOk, List, None, OnOk, Some, is_some, length, option_map};
+ghost use Rattle.std.specs.List.{All, flat_map};
 ghost use Rattle.rhai_value.specs.declared.access_mode.AccessMode.{AccessMode};
 ghost use Rattle.rhai_value.specs.declared.store.Cell.{Cell};
 ghost use Rattle.rhai_value.specs.Tree.{holder, node};
@@ -10,6 +10,7 @@ ghost use Rattle.rhai_show.specs.Plain.{plain};
 ghost use Rattle.rhai_show.specs.Clean.{are_plain, values_in};
 ghost use Rattle.rhai_show.specs.HashBytes.{count_bytes, name_bytes, plain_bytes, hash_bytes};
 ghost use Rattle.rhai_show.specs.HashRows.{row_bytes};
+ghost use Rattle.rhai_show.specs.InRange.{IsCount, IsPlainInRange, IsRowInRange, IsHashed};
 
 use crate::hash_bytes::{
     add_blob, add_bool, add_bytes, add_char, add_count, add_host, add_int, add_name, add_text,
@@ -34,6 +35,7 @@ fn add_value(
 ) -> Result<(), AllocError>
     requires { is_some (plain store.now path.old value.now) ≡ true }
     ensures bytes { OnOk result (out.new.items ≡ out.old.items ++ hash_bytes store.now path.old value.now) }
+    ensures range { OnOk result (IsPlainInRange store.now path.old value.now) }
     ensures path { OnOk result (path.new ≡ path.old) }
 {
     match value.parts() {
@@ -70,6 +72,7 @@ fn add_held(
     requires plain { is_some (plain store.now path.old value.now) ≡ true }
     requires holder { (c : ℕ) × (g : ℤ) × (m : AccessMode) × (value.now ≡ node (holder c) g m) }
     ensures bytes { OnOk result (out.new.items ≡ out.old.items ++ hash_bytes store.now path.old value.now) }
+    ensures range { OnOk result (IsPlainInRange store.now path.old value.now) }
     ensures path { OnOk result (path.new ≡ path.old) }
 {
     match path.enter(store, value)? {
@@ -95,6 +98,7 @@ fn add_items(
     requires { are_plain store.now path.old (trees_of items.now) ≡ true }
     ensures bytes { OnOk result (out.new.items ≡ out.old.items ++ (count_bytes (length items.now)
         ++ flat_map (hash_bytes store.now path.old) items.now)) }
+    ensures range { OnOk result (IsCount (length items.now) × All (IsPlainInRange store.now path.old) items.now) }
     ensures path { OnOk result (path.new ≡ path.old) }
 {
     add_count(out, items.len())?;
@@ -111,6 +115,7 @@ fn add_map(store: &Store, path: &mut Path, map: &Map, out: &mut Vec<u8>) -> Resu
     requires { are_plain store.now path.old (values_in (fields_of map.now)) ≡ true }
     ensures bytes { OnOk result (out.new.items ≡ out.old.items ++ 7 ∷ (count_bytes (length map.now)
         ++ flat_map (row_bytes (hash_bytes store.now path.old)) map.now)) }
+    ensures range { OnOk result (IsCount (length map.now) × All (IsRowInRange store.now path.old) map.now) }
     ensures path { OnOk result (path.new ≡ path.old) }
 {
     add_bytes(out, &[7])?;
@@ -125,7 +130,8 @@ fn add_map(store: &Store, path: &mut Path, map: &Map, out: &mut Vec<u8>) -> Resu
 /// Adds the hash bytes of a value that holds no other one; false, and nothing is added, for a value that may.
 #[inline(always)]
 fn add_leaf(value: &Dynamic, out: &mut Vec<u8>) -> Result<bool, AllocError>
-    ensures { IfOk result (λ b. b ≡ true → (s : List Cell) (path : List ℕ) → Some out.new.items ≡ option_map (λ p. out.old.items ++ plain_bytes p) (plain s path value.now)) }
+    ensures bytes { IfOk result (λ b. b ≡ true → (s : List Cell) (path : List ℕ) → Some out.new.items ≡ option_map (λ p. out.old.items ++ plain_bytes p) (plain s path value.now)) }
+    ensures range { IfOk result (λ b. b ≡ true → (s : List Cell) (path : List ℕ) → IsPlainInRange s path value.now) }
 {
     match value.parts() {
         Union::Unit(_, _, _) => add_bytes(out, &[0])?,
@@ -148,6 +154,7 @@ fn add_leaf(value: &Dynamic, out: &mut Vec<u8>) -> Result<bool, AllocError>
 #[tactic(auto, using(crate::proofs::Barred::barred_plain))]
 fn hashed_below(alloc: Global, value: &Dynamic, s: &Store) -> Result<Option<Hashed>, AllocError>
     ensures bytes { IfOk result (λ o. o ≡ option_map plain_bytes (plain s.now [] value.now)) }
+    ensures told { IfOk result (λ o. IfSome o (IsHashed s.now value.now)) }
     ensures barred { first s.now value.now ≡ None → IsOk result }
 {
     if !is_hashable(alloc, value, s)? {
@@ -167,6 +174,7 @@ fn hashed_below(alloc: Global, value: &Dynamic, s: &Store) -> Result<Option<Hash
 #[tactic(auto, using(crate::proofs::Barred::barred_plain))]
 pub fn hashed(alloc: Global, value: &Dynamic, s: &Store) -> Result<Option<Hashed>, AllocError>
     ensures bytes { IfOk result (λ o. o ≡ option_map plain_bytes (plain s.now [] value.now)) }
+    ensures told { IfOk result (λ o. IfSome o (IsHashed s.now value.now)) }
     ensures barred { first s.now value.now ≡ None → IsOk result }
 {
     let Some(content) = value.read_whole(s) else {

@@ -1,8 +1,10 @@
 //! The hash bytes of values that hold no other value, and of names and counts. Room for the bytes of a value is made at once.
-ghost use Rattle.std.specs.Prelude.{◌≡◌, ◌++◌, ◌∷◌, OnOk};
+ghost use Rattle.std.specs.Prelude.{◌≡◌, ◌++◌, ◌∷◌, length, FitsSigned, OnOk};
+ghost use Rattle.std.specs.Int.{w64};
 ghost use Rattle.std.specs.Str.{chars};
 ghost use Rattle.rhai_value.specs.Tree.{bool as a_bool, char as a_char, int as an_int, text as a_text, blob as a_blob, host as a_host};
 ghost use Rattle.rhai_show.specs.HashBytes.{count_bytes, int_bytes, sized, name_bytes, leaf_bytes};
+ghost use Rattle.rhai_show.specs.InRange.{IsCount, IsName, IsLeaf};
 
 use rhai_text::ImmutableString;
 use rhai_value::{Host, INT};
@@ -26,7 +28,8 @@ pub(crate) fn add_bool(out: &mut Vec<u8>, value: bool) -> Result<(), AllocError>
 }
 
 pub(crate) fn add_char(out: &mut Vec<u8>, value: char) -> Result<(), AllocError>
-    ensures { OnOk result (out.new.items ≡ out.old.items ++ leaf_bytes (a_char value)) }
+    ensures bytes { OnOk result (out.new.items ≡ out.old.items ++ leaf_bytes (a_char value)) }
+    ensures range { OnOk result (IsLeaf (a_char value)) }
 {
     out.reserve(5)?;
     out.push_reserved(3);
@@ -34,7 +37,8 @@ pub(crate) fn add_char(out: &mut Vec<u8>, value: char) -> Result<(), AllocError>
 }
 
 pub(crate) fn add_int(out: &mut Vec<u8>, value: &INT) -> Result<(), AllocError>
-    ensures { OnOk result (out.new.items ≡ out.old.items ++ leaf_bytes (an_int value.now)) }
+    ensures bytes { OnOk result (out.new.items ≡ out.old.items ++ leaf_bytes (an_int value.now)) }
+    ensures range { OnOk result (IsLeaf (an_int value.now)) }
 {
     out.reserve(9)?;
     out.push_reserved(4);
@@ -42,20 +46,23 @@ pub(crate) fn add_int(out: &mut Vec<u8>, value: &INT) -> Result<(), AllocError>
 }
 
 pub(crate) fn add_text(out: &mut Vec<u8>, value: &ImmutableString) -> Result<(), AllocError>
-    ensures { OnOk result (out.new.items ≡ out.old.items ++ leaf_bytes (a_text value.now)) }
+    ensures bytes { OnOk result (out.new.items ≡ out.old.items ++ leaf_bytes (a_text value.now)) }
+    ensures range { OnOk result (IsLeaf (a_text value.now)) }
 {
     add_kind_sized(out, 2, value.as_str().as_bytes())
 }
 
 pub(crate) fn add_blob(out: &mut Vec<u8>, value: &[u8]) -> Result<(), AllocError>
-    ensures { OnOk result (out.new.items ≡ out.old.items ++ leaf_bytes (a_blob value.now)) }
+    ensures bytes { OnOk result (out.new.items ≡ out.old.items ++ leaf_bytes (a_blob value.now)) }
+    ensures range { OnOk result (IsLeaf (a_blob value.now)) }
 {
     add_kind_sized(out, 6, value)
 }
 
 /// Adds a kind, and bytes behind their number.
 fn add_kind_sized(out: &mut Vec<u8>, kind: u8, bytes: &[u8]) -> Result<(), AllocError>
-    ensures { OnOk result (out.new.items ≡ out.old.items ++ kind ∷ sized bytes.now) }
+    ensures bytes { OnOk result (out.new.items ≡ out.old.items ++ kind ∷ sized bytes.now) }
+    ensures range { OnOk result (IsCount (length bytes.now)) }
 {
     out.reserve(bytes.len() + 9)?;
     out.push_reserved(kind);
@@ -64,7 +71,8 @@ fn add_kind_sized(out: &mut Vec<u8>, kind: u8, bytes: &[u8]) -> Result<(), Alloc
 
 /// Adds bytes behind their number.
 fn add_sized(out: &mut Vec<u8>, bytes: &[u8]) -> Result<(), AllocError>
-    ensures { OnOk result (out.new.items ≡ out.old.items ++ sized bytes.now) }
+    ensures bytes { OnOk result (out.new.items ≡ out.old.items ++ sized bytes.now) }
+    ensures range { OnOk result (IsCount (length bytes.now)) }
 {
     add_count(out, bytes.len())?;
     add_bytes(out, bytes)
@@ -72,27 +80,31 @@ fn add_sized(out: &mut Vec<u8>, bytes: &[u8]) -> Result<(), AllocError>
 
 /// Adds how many bytes, items or entries follow.
 pub(crate) fn add_count(out: &mut Vec<u8>, count: usize) -> Result<(), AllocError>
-    ensures { OnOk result (out.new.items ≡ out.old.items ++ count_bytes count) }
+    ensures bytes { OnOk result (out.new.items ≡ out.old.items ++ count_bytes count) }
+    ensures range { OnOk result (IsCount count) }
 {
     add_bytes(out, &count.to_le_bytes())
 }
 
 /// Adds a key or a name.
 pub(crate) fn add_name(out: &mut Vec<u8>, name: &str) -> Result<(), AllocError>
-    ensures { OnOk result (out.new.items ≡ out.old.items ++ name_bytes (chars name.now)) }
+    ensures bytes { OnOk result (out.new.items ≡ out.old.items ++ name_bytes (chars name.now)) }
+    ensures range { OnOk result (IsName (chars name.now)) }
 {
     add_sized(out, name.as_bytes())
 }
 
 /// Adds the eight bytes of an integer.
 fn add_number(out: &mut Vec<u8>, value: &INT) -> Result<(), AllocError>
-    ensures { OnOk result (out.new.items ≡ out.old.items ++ int_bytes value.now) }
+    ensures bytes { OnOk result (out.new.items ≡ out.old.items ++ int_bytes value.now) }
+    ensures range { OnOk result (FitsSigned w64 value.now) }
 {
     add_bytes(out, &value.to_le_bytes())
 }
 
 pub(crate) fn add_host(out: &mut Vec<u8>, value: &Host) -> Result<(), AllocError>
-    ensures { OnOk result (out.new.items ≡ out.old.items ++ leaf_bytes (a_host value.now)) }
+    ensures bytes { OnOk result (out.new.items ≡ out.old.items ++ leaf_bytes (a_host value.now)) }
+    ensures range { OnOk result (IsLeaf (a_host value.now)) }
 {
     match *value {
         Host::U8(n) => add_width(out, 0, &[n]),
@@ -121,7 +133,8 @@ fn add_width(out: &mut Vec<u8>, kind: u8, number: &[u8]) -> Result<(), AllocErro
 
 /// Adds the kind of a host's value, the kind of a range and its two ends.
 fn add_range(out: &mut Vec<u8>, kind: u8, start: &INT, end: &INT) -> Result<(), AllocError>
-    ensures { OnOk result (out.new.items ≡ out.old.items ++ (9 ∷ kind ∷ int_bytes start.now ++ int_bytes end.now)) }
+    ensures bytes { OnOk result (out.new.items ≡ out.old.items ++ (9 ∷ kind ∷ int_bytes start.now ++ int_bytes end.now)) }
+    ensures range { OnOk result (FitsSigned w64 start.now × FitsSigned w64 end.now) }
 {
     out.reserve(18)?;
     out.push_reserved(9);

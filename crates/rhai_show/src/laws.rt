@@ -6,7 +6,7 @@ ghost use Rattle.rhai_value.specs.Rows.{Rows, trees_of, fields_of};
 ghost use Rattle.rhai_value.specs.Store.{at};
 ghost use Rattle.rhai_value.specs.Tree.{Tree, copy, node, Leaf, leaf, branch, fields, holder, array, function};
 ghost use Rattle.rhai_value.specs.Walk.{is_open, visit, visit_map};
-ghost use Rattle.rhai_value.specs.Relation.{Renaming, Related, IsOneToOne, RelatedCells};
+ghost use Rattle.rhai_value.specs.Relation.{Renaming, Related, IsOneToOne, RelatedCells, RelatedPaths};
 ghost use Rattle.rhai_show.specs.declared.form.Form.{Form};
 ghost use Rattle.rhai_show.specs.declared.form.Form.TheVariants.{Debug};
 ghost use Rattle.rhai_show.specs.Leaves.{in_debug, leaf_printed};
@@ -57,9 +57,11 @@ pub fn copies_print_alike()
     ensures { (s : List Cell) (path : List ℕ) (t : Tree) → printed s path (copy t) ≡ printed s path t }
 {}
 
-/// The text of a value doesn't depend on the numbers of cells.
-#[tactic(auto, using(crate::proofs::SamePrinted::same_printed))]
+/// The text of a value doesn't depend on the numbers of cells: where no cell is open, and where those that are open are paired.
+#[tactic(auto, using(crate::proofs::SamePrinted::same_printed, crate::proofs::SamePrinted::same_printed_from))]
 pub fn printed_is_renamed()
-    ensures { (r : Renaming) (s z : List Cell) (t u : Tree)
+    ensures whole { (r : Renaming) (s z : List Cell) (t u : Tree)
         → IsOneToOne r → RelatedCells r s z → Related r t u → printed s [] t ≡ printed z [] u }
+    ensures opened { (r : Renaming) (s z : List Cell) (path road : List ℕ) (t u : Tree)
+        → IsOneToOne r → RelatedCells r s z → RelatedPaths r path road → Related r t u → printed s path t ≡ printed z road u }
 {}

@@ -5,11 +5,11 @@ ghost use Rattle.rhai_value.specs.declared.store.Cell.{Cell};
 ghost use Rattle.rhai_value.specs.Store.{at};
 ghost use Rattle.rhai_value.specs.Tree.{Tree, Content, node, holder};
 ghost use Rattle.rhai_value.specs.Walk.{visit, visit_map, entered};
-ghost use Rattle.rhai_value.specs.Relation.{Renaming, Related, IsOneToOne, RelatedCells};
+ghost use Rattle.rhai_value.specs.Relation.{Renaming, Related, IsOneToOne, RelatedCells, RelatedPaths};
 ghost use Rattle.rhai_show.specs.Bare.{bare, bare_cell};
 ghost use Rattle.rhai_show.specs.Plain.{Plain, plain_of, plain};
 ghost use Rattle.rhai_show.specs.HashBytes.{plain_bytes};
-ghost use Rattle.rhai_show.specs.InRange.{IsInRange};
+ghost use Rattle.rhai_show.specs.InRange.{IsInRange, IsHashed};
 
 /// A value without tags, modes and holders, by its parts: no length of the store is in it.
 #[tactic(auto, using(crate::proofs::Plains::plain_opens))]
@@ -18,11 +18,14 @@ pub fn plain_opens()
         → plain s path t ≡ plain_of path (λ c. visit_map (plain s (c ∷ path)) (visit s path c)) t }
 {}
 
-/// What a value is without tags, modes and holders doesn't depend on the numbers of cells.
-#[tactic(auto, using(crate::proofs::SamePlain::same_plain))]
+/// What a value is without tags, modes and holders doesn't depend on the numbers of cells: where no cell is open, and where those that
+/// are open are paired.
+#[tactic(auto, using(crate::proofs::SamePlain::same_plain, crate::proofs::SamePlain::same_plain_from))]
 pub fn plain_is_renamed()
-    ensures { (r : Renaming) (s z : List Cell) (t u : Tree)
+    ensures whole { (r : Renaming) (s z : List Cell) (t u : Tree)
         → IsOneToOne r → RelatedCells r s z → Related r t u → plain s [] t ≡ plain z [] u }
+    ensures opened { (r : Renaming) (s z : List Cell) (path road : List ℕ) (t u : Tree)
+        → IsOneToOne r → RelatedCells r s z → RelatedPaths r path road → Related r t u → plain s path t ≡ plain z road u }
 {}
 
 /// What a value is without tags, modes and holders is made of what its parts are, those of a holder being the content of its cell:
@@ -49,4 +52,10 @@ pub fn plain_values_are_bare()
 #[tactic(auto, using(crate::proofs::Distinct::distinct_bytes))]
 pub fn hash_bytes_tell_plain_values_apart()
     ensures { (p q : Plain) → IsInRange p → IsInRange q → (plain_bytes p ≡ plain_bytes q) ↔ (p ≡ q) }
+{}
+
+/// Two values of which `hashed` gave bytes have equal bytes exactly where they are equal without tags, modes and holders, whichever
+/// stores they are in: nothing is asked of the values, since `hashed` says that what it read is in range.
+pub fn hash_bytes_tell_values_apart()
+    ensures { (s z : List Cell) (t u : Tree) (a b : List ℕ) → IsHashed s t a → IsHashed z u b → (a ≡ b) ↔ (plain s [] t ≡ plain z [] u) }
 {}

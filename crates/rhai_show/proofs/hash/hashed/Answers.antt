@@ -1,13 +1,20 @@
-use Rattle.std.proofs.Common.{◌++◌, Some, option_copied, option_map, ap, sym, ◌∙◌}
+use Rattle.std.proofs.Common.{◌++◌, Some, IfSome, option_copied, option_map, ap, sym, ◌∙◌, subst}
 use Rattle.rhai_show.specs.HashBytes.{plain_bytes}
+use Rattle.rhai_show.specs.InRange.{IsInRange}
 use Rattle.rhai_show.specs.Plain.{plain}
 use Rattle.rhai_show.proofs.Barred.{read_plain}
+use Rattle.rhai_show.proofs.Ranges.{is_hashed}
 use Rattle.rhai_show.proofs.hash.hashed.Goals as goal
 
 pub returns-then-branch-clause-bytes : goal.returns-then-branch-clause-bytes
 returns-then-branch-clause-bytes c =
     let read = read_plain c.args.s.now c.args.value.now c.in-Some.content.now (ap option_copied (sym c.in-Some.is) ∙ c.read_whole.ensures) in
     ap Some c.from_bytes.ensures
-    ∙ c.in_ok-add_leaf.ensures c.if-branch.true c.args.s.now read.0
+    ∙ c.in_ok-add_leaf.ensures.bytes c.if-branch.true c.args.s.now read.0
     ∙ ap (λ xs. option_map (λ p. xs ++ plain_bytes p) (plain c.args.s.now read.0 c.in-Some.content.now)) c.new-bytes.ensures.items
     ∙ ap (option_map plain_bytes) read.1
+
+pub returns-then-branch-clause-told : goal.returns-then-branch-clause-told
+returns-then-branch-clause-told c =
+    let read = read_plain c.args.s.now c.args.value.now c.in-Some.content.now (ap option_copied (sym c.in-Some.is) ∙ c.read_whole.ensures) in
+    is_hashed c.args.s.now c.args.value.now (Some c.from_bytes.result) (returns-then-branch-clause-bytes c) (subst (λ o. IfSome o IsInRange) read.1 (c.in_ok-add_leaf.ensures.range c.if-branch.true c.args.s.now read.0))

@@ -1,11 +1,14 @@
 -- Casts of a value in a store to a type of Rust, over what is read of a value as that type.
-use Rattle.std.specs.Prelude.{◌≡◌, Bool, true, List, [], Option, Some, None, option_and_then, is_some, if◌then◌else◌}
+use Rattle.std.specs.Prelude.{◌≡◌, ℕ, Bool, true, List, [], Option, Some, None, option_and_then, is_some, if◌then◌else◌}
+use Rattle.std.specs.Borrow.{MutBor, GName, Fml, RattleType}
+use mathlib.Core.Option as maybe
 use Rattle.rhai_value.specs.declared.in_store.InStore.{InStore}
 use Rattle.rhai_value.specs.declared.store.Cell.{Cell}
 use Rattle.rhai_value.specs.declared.type_id.TypeId.{TypeId}
 use Rattle.rhai_value.specs.declared.type_id.TypeId.TheVariants as id
-use Rattle.rhai_value.specs.End.{End, end, held_in, first, flattened, end_type}
-use Rattle.rhai_value.specs.Tree.{Tree, TakesNoMemory, cell_of}
+use Rattle.rhai_value.specs.End.{End, end, held_in, held_cell, first, first_cell, flattened, end_type}
+use Rattle.rhai_value.specs.Lent.{LendsFrom}
+use Rattle.rhai_value.specs.Tree.{Tree, node, holder, TakesNoMemory, cell_of}
 use Rattle.rhai_value.specs.Types.{is_type}
 use Rattle.rhai_value.specs.Writes.{written, first_written}
 use Rattle.rhai_variant.specs.declared.cast_error.CastError.{CastError}
@@ -42,3 +45,18 @@ locked k s t = option_and_then (viewed k) (held_in (end s [] t))
 abbrev pub lock_written : TypeId → InStore → Tree → InStore
 lock_written id.Dynamic h w = first_written h w
 lock_written k h w = written h (written_as k w)
+
+-- where a value and its store each lend for itself: both end as the last value behind the reference leaves them, which goes under the
+-- name n, and as they were where there is no name
+abbrev pub LendsLock : (T : RattleType) → TypeId → (T.Denot → Tree) → MutBor Tree → MutBor (List Cell) → maybe.Option GName → Fml
+LendsLock T k tree v s n = LendsFrom T v s n (λ w. (lock_written k (record { value = v; store = s }) (tree w)).value.now) (λ w. (lock_written k (record { value = v; store = s }) (tree w)).store.now)
+
+-- the cell in which stands what is lent: of a `Dynamic` the first content, else the held value
+abbrev pub lock_cell : TypeId → List Cell → Tree → Option ℕ
+lock_cell id.Dynamic s t = first_cell s t
+lock_cell k s t = held_cell (end s [] t)
+
+-- what a value has itself that is no holder
+abbrev pub own_viewed : TypeId → Tree → Option Tree
+own_viewed k (node (holder c) g m) = None
+own_viewed k t = viewed k t

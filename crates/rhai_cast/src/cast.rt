@@ -13,6 +13,7 @@ ghost use Rattle.rhai_cast.specs.Makers.{array_made, pairs, keys_alone, IsMapOf}
 ghost use Rattle.rhai_cast.specs.Casts.{is_of, is_castable, cast_whole, locked, IsNotCast};
 
 use crate::arrays::{held_bytes, read_bytes, read_items};
+use crate::lock::lent_lock;
 use crate::makers::{
     copied_items, made_items, map_of_btree_map, map_of_btree_set, map_of_hash_map, map_of_hash_set,
     yielded_items,
@@ -93,8 +94,11 @@ pub trait DynamicCast: Sized {
     fn read_lock<'s, T: Variant>(&'s self, s: &'s Store) -> Option<&'s T>
         ensures { option_map (λ x. T.tree x.now) result ≡ locked T.KIND s.now (tree self.now) };
 
-    /// The same, to write. What value and store are once it was written is said by `write_lock` of this crate, which lends from the
-    /// pair of the two. (`Dynamic::write_lock`, which gives a guard)
+    /// The same, to write. (`Dynamic::write_lock`, which gives a guard)
+    ///
+    /// This is one call of `lent_lock`, which says what value and store are once it was written. There are two, since a proof that
+    /// the check writes by itself can't call a method of the value with a clause on two lenders; such a proof reads it of `write_lock`
+    /// of this crate, which lends from the pair of the two.
     fn write_lock<'s, T: Variant>(&'s mut self, m: &'s mut Store) -> Option<&'s mut T>
         ensures { option_map (λ x. T.tree x.now) result ≡ locked T.KIND m.old (tree self.old) };
 
@@ -231,11 +235,7 @@ impl DynamicCast for Dynamic {
     }
 
     fn write_lock<'s, T: Variant>(&'s mut self, m: &'s mut Store) -> Option<&'s mut T> {
-        if T::KIND == TypeId::Dynamic {
-            T::view_mut(self.write_whole(m)?)
-        } else {
-            T::view_mut(self.held_mut(m)?)
-        }
+        lent_lock::<T>(T::KIND == TypeId::Dynamic, self, m)
     }
 
     fn downcast_ref<T: Variant>(&self) -> Option<&T> {

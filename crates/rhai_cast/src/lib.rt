@@ -8,4 +8,4 @@ mod lock;
 mod makers;
 
 pub use cast::{DynamicCast, cast_or_give_back, is_castable};
-pub use lock::write_lock;
+pub use lock::{lent_lock, write_lock};

@@ -9,3 +9,6 @@ pub mod MarkedTexts
 pub mod SameChanges
 pub mod Fields
 pub mod MadeTargets
+pub mod TargetLends
+pub mod LetGo
+pub mod Steps

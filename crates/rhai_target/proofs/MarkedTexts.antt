@@ -1,5 +1,5 @@
 -- A text that is changed where it is held: in the value itself, or in a cell that is marked meanwhile.
-use Rattle.std.proofs.Common.{◌≡◌, ℕ, zero, suc, Bool, true, false, List, [], ◌∷◌, Option, Some, None, IfSome, MatchOption, is_some, option_map, refl, sym, ap, ◌∙◌, subst}
+use Rattle.std.proofs.Common.{◌≡◌, ℕ, zero, suc, Bool, true, false, List, [], ◌∷◌, Option, Some, None, IfSome, MatchOption, Result, Ok, Err, IfOk, MatchResult, is_some, option_map, refl, sym, ap, ◌∙◌, subst}
 use Rattle.rhai_value.specs.declared.in_store.InStore.{InStore}
 use Rattle.rhai_value.specs.declared.chain.Site.TheVariants.{Own, InCell}
 use Rattle.rhai_value.specs.declared.store.Cell.{Cell}
@@ -20,6 +20,11 @@ text_put : (t : Tree) (o : Option (List ℕ)) (g : List ℕ → List ℕ) (new :
     → with_content (leaf (text new)) t ≡ with_leaf (option_map (λ cs. text (g cs)) o) t
 text_put t None g new h e = cc
 text_put t (Some cs) g new h e = ap (λ x. with_content (leaf (text x)) t) e
+
+-- what is said of an answer that there is, of what that answer equals
+pub of_ok : {A E B : Type 0} (r : Result A E) (f : A → B) (b : B) (P : B → Type 0) → IfOk r (λ x. f x ≡ b) → MatchResult r (λ x. P (f x)) (λ e. ⊥) → P b
+of_ok (Ok x) f b P e h = subst P e h
+of_ok (Err x) f b P e h = absurd h
 
 -- ---- where the value itself has the text
 own_at : (e : End) (h : InStore) → is_some (held_part text_of e) ≡ true → None ≡ held_cell e → ((v : Tree) → Some v ≡ held_in e → written_at e h (λ _. v) ≡ h)

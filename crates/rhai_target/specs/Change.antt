@@ -47,9 +47,13 @@ byte_change s value index = option_map (λ n. on_bytes (λ bs. slice_set bs inde
 abbrev pub char_change : List Cell → Tree → ℕ → Change
 char_change s value index = option_map (λ c. on_text (λ cs. slice_set cs index c)) (held_part char_of (end s [] value))
 
--- the characters with a slice of them replaced by what a value prints as
+-- the characters with a slice of them replaced by a text
+abbrev pub spliced : List ℕ → Slice → List ℕ → List ℕ
+spliced new slice cs = with_slice cs slice.start slice.end slice.exclusive new
+
+-- the same by what a value prints as
 abbrev pub sliced : List Cell → Tree → Slice → List ℕ → List ℕ
-sliced s value slice cs = with_slice cs slice.start slice.end slice.exclusive (printed s [] value Display)
+sliced s value slice = spliced (printed s [] value Display) slice
 
 -- the working value prints while the cell in which the source's text stands is marked
 abbrev pub slice_change : List Cell → Tree → Tree → Slice → Change

@@ -3,3 +3,5 @@ pub mod Bits
 pub mod Change
 pub mod Target
 pub mod Found
+pub mod Lent
+pub mod Spent

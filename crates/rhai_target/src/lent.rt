@@ -1,13 +1,30 @@
 //! What a target lends, with what it leaves.
-ghost use Rattle.std.specs.Prelude.{◌≡◌, Some};
+ghost use Rattle.std.specs.Prelude.{◌≡◌, true, is_some, option_map, Some};
+ghost use Rattle.std.specs.Borrow.{sem, LendsIf};
 ghost use Rattle.std.specs.Fn.{FnOnceReturnsAtMut};
 ghost use Rattle.rhai_value.specs.Tree.{Tree};
+ghost use Rattle.rhai_value.specs.contracts.dynamic.Dynamic as dynamic_type;
+ghost use Rattle.rhai_value.specs.contracts.store.Store as store_type;
+ghost use Rattle.rhai_target.specs.Lent.{LendsTarget, target_row, own_value, marked_value, either_of};
 ghost use Rattle.rhai_target.specs.Target.{mark_in, IsMarkedIn, value_in, with_value, put_marked};
 
 use crate::target::Target;
 use rhai_value::{Dynamic, Store};
 
 impl<'a> Target<'a> {
+    /// Lends what `as_mut` does. Once it was written, the target has that value in the place of what is worked on; or, where it has a
+    /// mark, the store has it in the marked cell. All else is as it was. Takes no memory.
+    #[inline(always)]
+    pub fn lent_mut<'s>(&'s mut self, m: &'s mut Store) -> &'s mut Dynamic
+        requires { IsMarkedIn m.old self.old }
+        ensures* writes_back { sem 𝓛 (LendsTarget self.entry m.entry result.ghost_name) }
+        ensures value { value_in m.old self.old ≡ Some result.now }
+    {
+        let far = marked_mut(m, self);
+        let own = own_value_mut(self);
+        one_of(own, far)
+    }
+
     /// Hands a function what `as_mut` lends, and says what target and store are afterwards: what the function left there is in the
     /// place of what it found, and all else is as before.
     pub fn with_mut<R, F: FnOnce(&mut Dynamic) -> R + Drop>(&mut self, m: &mut Store, f: F) -> R
@@ -26,5 +43,58 @@ impl<'a> Target<'a> {
             Target::StringChar { value, .. } => f(value),
             Target::StringSlice { value, .. } => f(value),
         }
+    }
+}
+
+/// What is in the cell that the target has marked, to write.
+#[inline(always)]
+fn marked_mut<'m>(m: &'m mut Store, target: &mut Target<'_>) -> Option<&'m mut Dynamic>
+    requires { IsMarkedIn m.old target.old }
+    ensures* writes_back { sem 𝓛 (LendsIf store_type.the_row dynamic_type.the_row m.entry result (λ w. put_marked (mark_in target.old) w m.old) m.old) }
+    ensures value { option_map (λ d. d.now) result ≡ marked_value (mark_in target.old) m.old }
+    ensures target { target.new ≡ target.old }
+{
+    match target {
+        Target::SharedValue { token, .. } => Some(m.through_mut(token)),
+        Target::RefMut(_)
+        | Target::TempValue(_)
+        | Target::Bit { .. }
+        | Target::BitField { .. }
+        | Target::BlobByte { .. }
+        | Target::StringChar { .. }
+        | Target::StringSlice { .. } => None,
+    }
+}
+
+/// What the target itself has that is worked on, to write.
+#[inline(always)]
+fn own_value_mut<'s>(target: &'s mut Target<'_>) -> Option<&'s mut Dynamic>
+    ensures* writes_back { sem 𝓛 (LendsIf target_row dynamic_type.the_row target.entry result (λ w. with_value w target.old) target.old) }
+    ensures value { option_map (λ d. d.now) result ≡ own_value target.old }
+{
+    match target {
+        Target::RefMut(r) => Some(r),
+        Target::SharedValue { .. } => None,
+        Target::TempValue(value) => Some(value),
+        Target::Bit { value, .. } => Some(value),
+        Target::BitField { value, .. } => Some(value),
+        Target::BlobByte { value, .. } => Some(value),
+        Target::StringChar { value, .. } => Some(value),
+        Target::StringSlice { value, .. } => Some(value),
+    }
+}
+
+/// The first of two references, or else the second, one of them being there.
+#[inline(always)]
+fn one_of<'s>(own: Option<&'s mut Dynamic>, far: Option<&'s mut Dynamic>) -> &'s mut Dynamic
+    requires { is_some (either_of own far) ≡ true }
+    ensures { either_of own.entry far.entry ≡ Some result }
+{
+    match own {
+        Some(value) => value,
+        None => match far {
+            Some(value) => value,
+            None => unreachable!(),
+        },
     }
 }

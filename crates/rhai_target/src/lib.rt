@@ -8,6 +8,7 @@ mod lent;
 mod offset;
 mod propagate;
 mod slice;
+mod spent;
 mod target;
 mod write_back;
 

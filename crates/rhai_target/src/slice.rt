@@ -1,10 +1,11 @@
 //! Write-back of a slice of a text, whose new characters are printed while the text's cell is marked.
-ghost use Rattle.std.specs.Prelude.{◌≡◌, [], true, is_some, IfOk, IfSome, MatchOption, OnOk, OnErr};
+ghost use Rattle.std.specs.Prelude.{◌≡◌, [], true, is_some, IfOk, IfSome, MatchOption, MatchResult, OnOk, OnErr, string_bytes};
+ghost use Rattle.std.specs.Str.{chars};
 ghost use Rattle.rhai_value.specs.End.{end, held_part};
 ghost use Rattle.rhai_value.specs.Parts.{text_of, with_content};
 ghost use Rattle.rhai_value.specs.Store.{content_at, is_marked_at, put};
 ghost use Rattle.rhai_value.specs.Tree.{leaf, text};
-ghost use Rattle.rhai_target.specs.Change.{on_text, sliced as sliced_text, slice_change, value_changed, store_changed};
+ghost use Rattle.rhai_target.specs.Change.{on_text, spliced, slice_change, value_changed, store_changed};
 
 use rhai_show::display_text;
 use rhai_text::ImmutableString;
@@ -39,61 +40,56 @@ pub fn write_slice(
     ensures store { OnOk result (m.new ≡ store_changed (slice_change m.old source.old value.now slice) (end m.old [] source.old) m.old) }
     ensures err { OnErr result ((source.new ≡ source.old) × (m.new ≡ m.old)) }
 {
-    match m.mark_held(source) {
+    let mark = m.mark_held(source);
+    let printed = display_text(alloc, value, m);
+    match mark {
         None => {
-            let text = sliced(source, alloc, m, value, slice)?;
+            let text = sliced(source, alloc, printed?.as_str(), slice)?;
             put_text(source, text);
             Ok(())
         }
         Some(token) => {
             sites_are_read();
             mark_is_cleared();
-            let done = write_marked_slice(&token, alloc, m, value, slice);
+            let done = write_marked_slice(&token, alloc, m, printed, slice);
             m.release(token);
             done
         }
     }
 }
 
-/// The same for the text in the cell of a token.
+/// The same for the text in the cell of a token, with what the working value printed as.
 #[tactic(auto, using(crate::proofs::MarkedTexts::mark_outlasts))]
 fn write_marked_slice(
     token: &WriteToken,
     alloc: Global,
     m: &mut Store,
-    value: &Dynamic,
+    printed: Result<String, AllocError>,
     slice: Slice,
 ) -> Result<(), AllocError>
     requires marked { is_marked_at m.old token.now ≡ true }
     requires held { MatchOption (content_at m.old token.now) ⊥ (λ t. is_some (text_of t) ≡ true) }
-    ensures ok { OnOk result (IfSome (content_at m.old token.now) (λ t. m.new ≡ put m.old token.now (on_text (sliced_text m.old value.now slice) t))) }
+    ensures ok { OnOk result (MatchResult printed (λ p. IfSome (content_at m.old token.now) (λ t. m.new ≡ put m.old token.now (on_text (spliced (chars (string_bytes p)) slice) t))) (λ e. ⊥)) }
     ensures err { OnErr result (m.new ≡ m.old) }
     ensures marked { is_marked_at m.new token.now ≡ true }
 {
-    let text = sliced(m.through(token), alloc, m, value, slice)?;
+    let text = sliced(m.through(token), alloc, printed?.as_str(), slice)?;
     put_text(m.through_mut(token), text);
     Ok(())
 }
 
-/// The text of a value with the slice replaced by what the working value prints as.
+/// The text of a value with the slice replaced by what the working value printed as.
 fn sliced(
     held: &Dynamic,
     alloc: Global,
-    s: &Store,
-    value: &Dynamic,
+    printed: &str,
     slice: Slice,
 ) -> Result<ImmutableString, AllocError>
     requires { is_some (text_of held.now) ≡ true }
-    ensures { IfOk result (λ new. IfSome (text_of held.now) (λ cs. new ≡ sliced_text s.now value.now slice cs)) }
+    ensures { IfOk result (λ new. IfSome (text_of held.now) (λ cs. new ≡ spliced (chars printed.now) slice cs)) }
 {
-    let printed = display_text(alloc, value, s)?;
-    held.own_part::<ImmutableString>().with_slice(
-        alloc,
-        slice.start,
-        slice.end,
-        slice.exclusive,
-        printed.as_str(),
-    )
+    held.own_part::<ImmutableString>()
+        .with_slice(alloc, slice.start, slice.end, slice.exclusive, printed)
 }
 
 /// A text becomes another, tag and mode staying.

@@ -7,9 +7,11 @@ ghost use Rattle.rhai_value.specs.Store.{marked_with};
 ghost use Rattle.rhai_value.specs.Tree.{cell_of, copy, TakesNoMemory};
 ghost use Rattle.rhai_target.specs.declared.target.Target.TheVariants.{TempValue};
 ghost use Rattle.rhai_target.specs.Found.{IsLeftBy};
+ghost use Rattle.rhai_target.specs.Spent.{LeavesSource, kept_on_err, kept_in};
 ghost use Rattle.rhai_target.specs.Target.{target_of, mark_in, IsMarkedIn, unmarked_from, source_in, value_in, taken, owned, with_value, put_marked, is_reference, is_temporary, is_shared_target, reference_in};
 
 use crate::found::{Marked, found, made, mark_cell};
+use crate::spent::{owned_out, reference_out, source_out, value_out};
 use rhai_text::{EvalAltResult, Position};
 use rhai_value::{Dynamic, INT, Store, WriteToken};
 use std::alloc::Global;
@@ -195,22 +197,16 @@ impl<'a> Target<'a> {
         }
     }
 
-    /// The same, to write. What target and store are once it was written is said by `with_mut`
-    /// and `put`. (`AsMut` and `BorrowMut`)
+    /// The same, to write. (`AsMut` and `BorrowMut`)
+    ///
+    /// `lent_mut` is the same call with a clause on what target and store are once it was written. There are two, since a proof that
+    /// the check writes by itself can't make a call with a clause on two lenders: such a caller takes this one, or `with_mut` or
+    /// `put`, which say in plain clauses what is left.
     pub fn as_mut<'s>(&'s mut self, m: &'s mut Store) -> &'s mut Dynamic
         requires { IsMarkedIn m.old self.old }
         ensures { value_in m.old self.old ≡ Some result.now }
     {
-        match self {
-            Target::RefMut(r) => r,
-            Target::SharedValue { token, .. } => m.through_mut(token),
-            Target::Bit { value, .. }
-            | Target::BitField { value, .. }
-            | Target::BlobByte { value, .. }
-            | Target::StringChar { value, .. }
-            | Target::StringSlice { value, .. }
-            | Target::TempValue(value) => value,
-        }
+        self.lent_mut(m)
     }
 
     /// Writes a whole value over what `as_mut` lends.
@@ -241,142 +237,55 @@ fn write(place: &mut Dynamic, new: Dynamic)
     *place = new;
 }
 
-/// Spending targets.
+/// Spending targets. The value behind the reference that a target is, or behind that to the source of a part, is as it was, unless its
+/// reference is handed back.
 impl<'a> Target<'a> {
     /// A copy of the value that a reference leads to, the holder of a shared value, or the value itself; a mark is cleared. An `Err`,
     /// where memory for a copy is refused, hands the target back with nothing changed. (`Target::take_or_clone`)
     pub fn take_or_clone(self, alloc: Global, m: &mut Store) -> Result<Dynamic, Target<'a>>
         requires { IsMarkedIn m.old self }
+        ensures* leaves { sem 𝓛 (LeavesSource self.entry (kept_on_err result)) }
         ensures ok { IfOk result (λ v. v ≡ taken self.entry) }
         ensures store { OnOk result (m.new ≡ unmarked_from (mark_in self.entry) m.old) }
         ensures err { IfErr result (λ t. t ≡ self.entry) }
         ensures stays { OnErr result (m.new ≡ m.old) }
         ensures free { MatchOption (reference_in self.entry) (IsOk result) (λ r. TakesNoMemory r.now → IsOk result) }
     {
-        match self {
-            Target::RefMut(r) => match r.copy(alloc) {
-                Ok(copy) => Ok(copy),
-                Err(_) => Err(Target::RefMut(r)),
-            },
-            Target::SharedValue {
-                token,
-                shared_value,
-            } => {
-                m.release(token);
-                Ok(shared_value)
-            }
-            Target::TempValue(value) => Ok(value),
-            Target::Bit {
-                source: _source,
-                value,
-                bit: _bit,
-            } => Ok(value),
-            Target::BitField {
-                source: _source,
-                value,
-                mask: _mask,
-                shift: _shift,
-            } => Ok(value),
-            Target::BlobByte {
-                source: _source,
-                value,
-                index: _index,
-            } => Ok(value),
-            Target::StringChar {
-                source: _source,
-                value,
-                index: _index,
-            } => Ok(value),
-            Target::StringSlice {
-                source: _source,
-                value,
-                start: _start,
-                end: _end,
-                exclusive: _exclusive,
-            } => Ok(value),
-        }
+        value_out(self, alloc, m).0
     }
-}
 
-impl<'a> Target<'a> {
     /// The reference that the target is; `None` for any other target, a mark being cleared. Takes no memory. (`Target::take_ref`)
     #[inline(always)]
     pub fn take_ref(self, m: &mut Store) -> Option<&'a mut Dynamic>
         requires { IsMarkedIn m.old self }
+        ensures* leaves { sem 𝓛 (LeavesSource self.entry result) }
         ensures which { result ≡ reference_in self.entry }
         ensures store { m.new ≡ unmarked_from (mark_in self.entry) m.old }
     {
-        match self {
-            Target::RefMut(r) => Some(r),
-            Target::SharedValue {
-                token,
-                shared_value: _holder,
-            } => {
-                m.release(token);
-                None
-            }
-            Target::TempValue(_value) => None,
-            Target::Bit {
-                source: _source,
-                value: _value,
-                bit: _bit,
-            } => None,
-            Target::BitField {
-                source: _source,
-                value: _value,
-                mask: _mask,
-                shift: _shift,
-            } => None,
-            Target::BlobByte {
-                source: _source,
-                value: _value,
-                index: _index,
-            } => None,
-            Target::StringChar {
-                source: _source,
-                value: _value,
-                index: _index,
-            } => None,
-            Target::StringSlice {
-                source: _source,
-                value: _value,
-                start: _start,
-                end: _end,
-                exclusive: _exclusive,
-            } => None,
-        }
+        reference_out(self, m).0
     }
 
     /// Spends the target; a mark is cleared. Takes no memory.
     #[inline(always)]
     pub fn release(self, m: &mut Store)
         requires { IsMarkedIn m.old self }
-        ensures { m.new ≡ unmarked_from (mark_in self.entry) m.old }
+        ensures* leaves { sem 𝓛 (LeavesSource self.entry None) }
+        ensures store { m.new ≡ unmarked_from (mark_in self.entry) m.old }
     {
-        let _reference = self.take_ref(m);
+        let _source = source_out(self, m);
     }
 
     /// A reference and a shared value become a value of their own, which is what `take_or_clone` gives, and a mark is cleared; any
     /// other target stays. An `Err` hands the target back with nothing changed. (`Target::into_owned`)
     pub fn into_owned(self, alloc: Global, m: &mut Store) -> Result<Target<'a>, Target<'a>>
         requires { IsMarkedIn m.old self }
+        ensures* leaves { sem 𝓛 (LeavesSource self.entry (kept_in result)) }
         ensures ok { IfOk result (λ t. t ≡ owned self.entry) }
         ensures store { OnOk result (m.new ≡ unmarked_from (mark_in self.entry) m.old) }
         ensures err { IfErr result (λ t. t ≡ self.entry) }
         ensures stays { OnErr result (m.new ≡ m.old) }
         ensures free { MatchOption (reference_in self.entry) (IsOk result) (λ r. TakesNoMemory r.now → IsOk result) }
     {
-        match self {
-            Target::RefMut(_) | Target::SharedValue { .. } => match self.take_or_clone(alloc, m) {
-                Ok(value) => Ok(Target::TempValue(value)),
-                Err(target) => Err(target),
-            },
-            Target::TempValue(_)
-            | Target::Bit { .. }
-            | Target::BitField { .. }
-            | Target::BlobByte { .. }
-            | Target::StringChar { .. }
-            | Target::StringSlice { .. } => Ok(self),
-        }
+        owned_out(self, alloc, m).0
     }
 }

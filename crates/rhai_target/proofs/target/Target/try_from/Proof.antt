@@ -1,31 +1,7 @@
 -- `try_from` hands on what is found of the value, whose last value follows the reference that the target is, or is as it was.
-use Rattle.std.proofs.Common.{◌≡◌, [], ◌∷◌, Result, IfOk, IfErr, Some, None, refl, sym, ap, ◌∙◌, subst}
-use Rattle.std.proofs.raw_atomic.Walks.{proved}
-use base.Fraction.{full_share}
-use base.Logic.{emp, id⊢}
-use base.Fml.{Lft, ftrue, flft, GName}
-use mir.Syntax.{named}
+use Rattle.rhai_target.proofs.Steps.{◌≡◌, [], ◌∷◌, Result, IfOk, IfErr, Some, None, refl, sym, subst, proved, full_share, emp, id⊢, Lft, ftrue, flft, GName, named, fact, fact_i, tables, lft_new, lft_end, ‵, raw, ◌⊛◌, some, later, given, ◌$◌, ◌∵◌, !, qed, by, move, keep, drop, use0, use1, use2, use3, split, split3, join, fsplit, pick, await, rewrite, suffices, frame, group, enter, addr, stop, no_more, and_then, returns, alloc_all, pass_all, free_all, look_at, get, through, sets, lands_as, no, follows_if, shows, Laws, lends_again, comes_back, LentAgain, MutRef, mut_vals, mut_Tells, RattleType, plain, mut_ref_to, nothing, heard, peeks, calls_at, Lasts, lasts, triple_of, framed, Stays, says, stay_ref, stay_dropped, Goes-ref, Goes-spent_ref, ends_at}
+use Rattle.std.proofs.Common.{ap, ◌∙◌}
 use mathlib.Core.Option as maybe
-use contract.Monad.{fact, fact_i}
-use contract.Running.{tables}
-use types.Tokens.{lft_new, lft_end}
-use types.Kit.{‵, raw, ◌⊛◌, some, later, given, ◌$◌, ◌∵◌, !, qed, by, move, keep, drop, use0, use1, use2, use3, split, split3, join, fsplit, pick, await, rewrite, suffices, frame, group}
-use types.Run.{enter, addr, stop, no_more, and_then, returns}
-use types.ByLocal.{alloc_all, pass_all, free_all, look_at, get, through, sets, lands_as}
-use denote.Exit.{no}
-use denote.Follow.{follows_if}
-use denote.Laws.{shows}
-use denote.Param.Laws.{Laws}
-use denote.Lend.{lends_again, comes_back, LentAgain}
-use denote.Ref.{MutRef, mut_vals, mut_Tells}
-use denote.RattleType.{RattleType}
-use denote.Signature.{plain, mut_ref_to}
-use denote.Steps.{nothing, heard, peeks}
-use denote.Triple.Call.{calls_at}
-use denote.Triple.Clauses.{Lasts, lasts}
-use denote.Triple.Spec.{triple_of}
-use denote.Triple.Table.{framed}
-use denote.Triple.Walked.{Stays, says, stay_ref, stay_dropped, Goes-ref, Goes-spent_ref, ends_at}
 use Rattle.std.specs.Borrow.{name_if_ok}
 use Rattle.std.proofs.result.Result.TheLaws as result_laws
 use Rattle.std.specs.contracts.result.Result as result

@@ -11,7 +11,6 @@ pub mod Trues
 pub mod LastTrue
 pub mod PlaceLists
 pub mod Listed
-pub mod Buckets
 pub mod Placed
 pub mod Headed
 pub mod Indexed

@@ -1,5 +1,5 @@
 -- The index of names, which has those of the first entries.
-use Rattle.std.specs.Prelude.{◌≡◌, ℕ, ◌+◌, ◌<◌, ◌≤◌, List, length, take, map}
+use Rattle.std.specs.Prelude.{ℕ, ◌+◌, ◌≤◌, List, length, take, map}
 use Rattle.rhai_scope.specs.Entry.{Entry}
 use Rattle.rhai_scope.specs.Places.{ListsNames}
 use Rattle.rhai_scope.specs.declared.index.Index.{Index}
@@ -13,12 +13,6 @@ pub record IsIndexOf (x : Index) (ns : List (List ℕ)) : Type 0 where
   pub within : x.indexed ≤ length ns
   pub few : length ns ≤ x.indexed + most_walked
   pub lists : ListsNames x.places (take x.indexed ns)
-
--- All names are listed, and there is a bucket for more.
-pub record ListsAll (x : Index) (ns : List (List ℕ)) : Type 0 where
-  pub indexed : x.indexed ≡ length ns
-  pub lists : ListsNames x.places ns
-  pub bucket : 0 < length x.places.buckets.items
 
 -- the names of entries
 abbrev pub names_of : List Entry → List (List ℕ)

@@ -1,34 +1,17 @@
 -- Where each name stands.
-use Rattle.std.specs.Prelude.{◌≡◌, ℕ, ◌+◌, ◌-◌, ◌*◌, ◌%◌, ◌^◌, nat_eq, nat_lt, Bool, false, not, if◌then◌else◌, List, [], ◌∷◌, ◌++◌, length, take, map, slice_get, option_and_then, Option, Some, None}
+use Rattle.std.specs.Prelude.{◌≡◌, ℕ, ◌-◌, nat_eq, nat_lt, Bool, false, not, if◌then◌else◌, List, [], ◌∷◌, ◌++◌, length, take, map, slice_get, option_and_then, Option, Some, None}
 use Rattle.std.specs.BTreeMap.{get_by_text}
 use Rattle.std.specs.Cmp.Lexicographic.{pointwise}
-use Rattle.std.specs.List.{filter, fold}
+use Rattle.std.specs.List.{filter}
 use Rattle.std.specs.Str.{IsUtf8, bytes_eq, chars}
 use Rattle.rhai_value.specs.Reach.{trues_from}
-use Rattle.rhai_scope.specs.declared.bucket.Bucket.{Bucket}
 use Rattle.rhai_scope.specs.declared.places.Places.{Places}
 
 -- ---- the list of a name
 
--- the list that stands at a text in a bucket, if there is one
-abbrev pub in_bucket : Bucket → List ℕ → Option (List ℕ)
-in_bucket b text = get_by_text b.lists text
-
--- the same in the bucket with this number
-abbrev pub in_slot : List Bucket → ℕ → List ℕ → Option (List ℕ)
-in_slot bs slot text = option_and_then (λ b. in_bucket b text) (slice_get bs slot)
-
--- a number made of a text's bytes, once a byte more is read
-abbrev pub mixed : ℕ → ℕ → ℕ
-mixed number byte = (number * 1000003 + byte) % 2 ^ 32
-
--- the number of the bucket, among so many, where a text is sought
-unfoldable pub slot_of : ℕ → List ℕ → ℕ
-slot_of buckets text = fold mixed 0 text % buckets
-
 -- the list that stands at a text, if there is one
 abbrev pub listed : Places → List ℕ → Option (List ℕ)
-listed p text = in_slot p.buckets.items (slot_of (length p.buckets.items) text) text
+listed p text = get_by_text p.lists text
 
 -- the list of this text became what f makes of it, and no other changed
 abbrev pub Relists : (Option (List ℕ) → Option (List ℕ)) → List ℕ → (List ℕ → Option (List ℕ)) → (List ℕ → Option (List ℕ)) → Type 0

@@ -1,8 +1,9 @@
 //! The index of names.
 ghost use Rattle.std.specs.Prelude.{◌≡◌, ◌+◌, ◌<◌, ◌^◌, ℕ, [], ◌∷◌, ◌++◌, List, length, take, map, OnOk, OnErr};
 ghost use Rattle.std.specs.Str.{chars};
-ghost use Rattle.rhai_scope.specs.Index.{IsIndexOf, ListsAll, names_of};
+ghost use Rattle.rhai_scope.specs.Index.{IsIndexOf, names_of};
 ghost use Rattle.rhai_scope.specs.Lookup.{last_position};
+ghost use Rattle.rhai_scope.specs.Places.{ListsNames};
 
 use crate::heading::Named;
 use crate::places::Places;
@@ -73,49 +74,18 @@ impl Index {
         if walked < WALKED_ENTRIES {
             return Ok(());
         }
-        self.list_all(alloc, entries.len(), entries)
+        self.list_all(alloc, entries)
     }
 
-    /// Lists the names of all entries, and has buckets for so many names then. Where memory is refused, the index stays as it is.
+    /// Lists the names of all entries.
     #[cold]
-    fn list_all(&mut self, alloc: Global, room: usize, entries: &[Record]) -> Result<(), AllocError>
+    fn list_all(&mut self, alloc: Global, entries: &[Record]) -> Result<(), AllocError>
         requires { IsIndexOf self.old (names_of entries.now) }
-        ensures ok { OnOk result (ListsAll self.new (names_of entries.now)) }
-        ensures err { OnErr result (IsIndexOf self.new (names_of entries.now)) }
-    {
-        if self.places.is_wide_for(room) {
-            self.list_others(alloc, entries)
-        } else {
-            self.list_anew(alloc, room, entries)
-        }
-    }
-
-    /// Lists the names of those entries that aren't listed.
-    fn list_others(&mut self, alloc: Global, entries: &[Record]) -> Result<(), AllocError>
-        requires indexed { IsIndexOf self.old (names_of entries.now) }
-        requires buckets { 0 < length self.old.places.buckets.items }
-        ensures ok { OnOk result (ListsAll self.new (names_of entries.now)) }
+        ensures ok { OnOk result ((self.new.indexed ≡ length entries.now) × ListsNames self.new.places (names_of entries.now)) }
         ensures err { OnErr result (IsIndexOf self.new (names_of entries.now)) }
     {
         self.places
             .push_all(alloc, self.indexed, &entries[self.indexed..])?;
-        self.indexed = entries.len();
-        Ok(())
-    }
-
-    /// Lists the names of all entries in a new table, which takes the place of the old one once it is there.
-    fn list_anew(
-        &mut self,
-        alloc: Global,
-        room: usize,
-        entries: &[Record],
-    ) -> Result<(), AllocError>
-        requires { IsIndexOf self.old (names_of entries.now) }
-        ensures ok { OnOk result (ListsAll self.new (names_of entries.now)) }
-        ensures err { OnErr result (IsIndexOf self.new (names_of entries.now)) }
-    {
-        let places = Places::with_names(alloc, room, entries)?;
-        self.places = places;
         self.indexed = entries.len();
         Ok(())
     }
@@ -137,7 +107,7 @@ impl Index {
         if names.len() <= WALKED_ENTRIES - walked {
             return Ok(());
         }
-        self.list_all(alloc, entries.len() + names.len(), entries)?;
+        self.list_all(alloc, entries)?;
         self.places.push_all(alloc, self.indexed, names)?;
         self.indexed += names.len();
         Ok(())
@@ -155,7 +125,7 @@ impl Index {
     }
 
     /// Drops the name of the entry at a place, so that the entries behind it move down by one. It takes no memory. Where that entry's
-    /// name isn't listed, the lists stay as they are; else the time is in the number of all places that are listed, and of the buckets.
+    /// name isn't listed, the lists stay as they are; else the time is in the number of all places that are listed.
     pub(crate) fn remove(&mut self, name: &str, place: usize)
         ensures { (ms ns : List (List ℕ)) → length ms ≡ place → IsIndexOf self.old (ms ++ chars name.now ∷ ns) → IsIndexOf self.new (ms ++ ns) }
     {

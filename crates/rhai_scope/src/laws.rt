@@ -9,6 +9,8 @@ ghost use Rattle.rhai_scope.specs.Entry.{Entry, copied_entry, is_constant_entry}
 ghost use Rattle.rhai_scope.specs.Lookup.{last_position, last_entry, visible};
 ghost use Rattle.rhai_scope.specs.Pushes.{all_pushed};
 
+use crate::scope::MIN_SCOPE_ENTRIES;
+
 pub mod renamed;
 
 /// After pushes alone `rewind` to the number of entries before gives the entries and the aliases from before.
@@ -41,4 +43,9 @@ pub fn copies_keep_entries()
     ensures aliases { (e : Entry) → (copied_entry e).aliases ≡ e.aliases }
     ensures value { (e : Entry) → SameButModes (copied_entry e).value e.value }
     ensures constant { (e : Entry) → is_constant_entry (copied_entry e) ≡ is_constant_entry e }
+{}
+
+/// The room that a scope makes for its first entry is for eight.
+pub fn first_room_is_for_eight()
+    ensures { MIN_SCOPE_ENTRIES ≡ 8 }
 {}

@@ -3,7 +3,6 @@
 
 mod alias;
 mod aliases;
-mod bucket;
 mod copy;
 mod extend;
 mod extend_moved;

@@ -1,139 +1,77 @@
-//! The places of all names.
-ghost use Rattle.std.specs.Prelude.{◌≡◌, ◌+◌, ◌<◌, ◌^◌, ℕ, [], ◌∷◌, ◌++◌, List, length, map, option_map, option_and_then, None, IsTrue, IfOk, OnOk, OnErr};
+//! The places of each name.
+ghost use Rattle.std.specs.Prelude.{◌≡◌, ◌+◌, ◌<◌, ◌^◌, ℕ, [], ◌∷◌, ◌++◌, List, length, map, option_map, option_and_then, None, OnOk, OnErr};
 ghost use Rattle.std.specs.Str.{chars};
-ghost use Rattle.rhai_scope.specs.Places.{in_slot, mixed, slot_of, listed, last_item, with_place, shortened, front, others, lowered, Relists, ListsNames};
+ghost use Rattle.rhai_scope.specs.Places.{listed, last_item, with_place, shortened, front, others, lowered, Relists, ListsNames};
 
-use crate::bucket::Bucket;
 use crate::heading::Named;
+use crate::place_list::PlaceList;
 use std::alloc::{AllocError, Global};
+use std::collections::BTreeMap;
 
-/// How many names there are for each bucket, at the most.
-const MOST_FOR_BUCKET: usize = 8;
-
-/// How many names there are for each bucket of a new table.
-const FIRST_FOR_BUCKET: usize = 4;
-
-/// For each name the rising list of its places; no list is empty. It stands in a bucket that the name's bytes tell.
+/// For each name the rising list of its places; no list is empty.
 #[derive(Drop)]
 pub(crate) struct Places {
-    pub(crate) buckets: Vec<Bucket>,
-}
-
-/// A number made of a name's bytes, once a byte more is read.
-fn mixed(number: usize, byte: u8) -> usize
-    requires { number < 2 ^ 32 }
-    ensures mixed { result ≡ mixed number byte }
-    ensures short { result < 2 ^ 32 }
-{
-    (number * 1_000_003 + byte as usize) % 0x1_0000_0000
-}
-
-/// The number of the bucket, among so many, where a name is sought.
-fn slot_of(name: &str, buckets: usize) -> usize
-    requires { 0 < buckets }
-    ensures slot { result ≡ slot_of buckets name.now }
-    ensures within { result < buckets }
-{
-    let mut number = 0;
-    for byte in name.as_bytes() {
-        number = mixed(number, *byte);
-    }
-    number % buckets
-}
-
-/// So many buckets of no names.
-#[tactic(auto, using(crate::proofs::Buckets::still_empty))]
-fn empty_buckets(alloc: Global, count: usize) -> Result<Vec<Bucket>, AllocError>
-    ensures count { IfOk result (λ bs. length bs.items ≡ count) }
-    ensures empty { IfOk result (λ bs. (slot : ℕ) (q : List ℕ) → in_slot bs.items slot q ≡ None) }
-{
-    let mut buckets = Vec::with_capacity(alloc, count)?;
-    'fill: while buckets.len() < count {
-        buckets.push(Bucket::new(alloc))?;
-    }
-    Ok(buckets)
-}
-
-/// Moves all places behind one that is gone down by one.
-fn lower_all(buckets: &mut Vec<Bucket>, gone: usize)
-    ensures count { length buckets.new.items ≡ length buckets.old.items }
-    ensures lists { (slot : ℕ) (q : List ℕ) → in_slot buckets.new.items slot q ≡ option_map (map (lowered gone)) (in_slot buckets.old.items slot q) }
-{
-    for i in 0..buckets.len() {
-        buckets[i].lower(gone);
-    }
+    pub(crate) lists: BTreeMap<String, PlaceList>,
 }
 
 impl Places {
-    /// It has no bucket, and takes no memory.
     pub(crate) fn new(alloc: Global) -> Places
         ensures { ListsNames result [] }
     {
         Places {
-            buckets: Vec::new(alloc),
+            lists: BTreeMap::new(alloc),
         }
     }
 
-    /// Drops all buckets.
     pub(crate) fn clear(&mut self)
         ensures { ListsNames self.new [] }
     {
-        self.buckets.clear();
+        self.lists.clear();
     }
 
-    /// Whether its buckets are enough for so many names. There is one then.
-    pub(crate) fn is_wide_for(&self, names: usize) -> bool
-        ensures { IsTrue result → 0 < length self.now.buckets.items }
-    {
-        names / MOST_FOR_BUCKET < self.buckets.len()
-    }
-
-    /// The places of these names, the first of them at 0, in a table with buckets for so many names.
-    pub(crate) fn with_names<N: Named>(
-        alloc: Global,
-        room: usize,
-        names: &[N],
-    ) -> Result<Places, AllocError>
-        ensures lists { IfOk result (λ p. ListsNames p (map N.name_of names.now)) }
-        ensures buckets { IfOk result (λ p. 0 < length p.buckets.items) }
-    {
-        let buckets = empty_buckets(alloc, room / FIRST_FOR_BUCKET + 1)?;
-        let mut places = Places { buckets };
-        places.push_all(alloc, 0, names)?;
-        Ok(places)
-    }
-
-    /// The last place of a name. It takes no memory; the time is in the name's bytes and in the logarithm of the number of names in
-    /// its bucket.
+    /// The last place of a name. It takes no memory; the time is in the name's bytes and in the logarithm of the number of names.
     #[inline(never)]
     pub(crate) fn last(&self, name: &str) -> Option<usize>
         ensures { result ≡ option_and_then last_item (listed self.now name.now) }
     {
-        if self.buckets.is_empty() {
-            return None;
+        match self.lists.get(name) {
+            Some(list) => Some(list.last()),
+            None => None,
         }
-        let slot = slot_of(name, self.buckets.len());
-        self.buckets[slot].last(name)
     }
 
     /// Adds a place behind those of its name.
     fn push(&mut self, alloc: Global, name: &str, place: usize) -> Result<(), AllocError>
-        requires { 0 < length self.old.buckets.items }
         ensures ok { OnOk result (Relists (with_place place) name.now (listed self.old) (listed self.new)) }
         ensures err { OnErr result ((q : List ℕ) → listed self.new q ≡ listed self.old q) }
-        ensures buckets { length self.new.buckets.items ≡ length self.old.buckets.items }
     {
-        let slot = slot_of(name, self.buckets.len());
-        self.buckets[slot].push(alloc, name, place)
+        match self.lists.get_mut(name) {
+            Some(list) => list.push(place),
+            None => self.push_first(alloc, name, place),
+        }
+    }
+
+    /// Adds the first place of a name. The last growth is that of the map, which stays as it is where memory is refused.
+    fn push_first(&mut self, alloc: Global, name: &str, place: usize) -> Result<(), AllocError>
+        requires { listed self.old name.now ≡ None }
+        ensures ok { OnOk result (Relists (with_place place) name.now (listed self.old) (listed self.new)) }
+        ensures err { OnErr result ((q : List ℕ) → listed self.new q ≡ listed self.old q) }
+    {
+        let key = String::from_str(alloc, name)?;
+        match self.lists.insert(key, PlaceList::new(alloc, place)) {
+            Ok(_) => Ok(()),
+            Err(_) => Err(AllocError),
+        }
     }
 
     /// Drops the last place of a name, and the name with its only one. It takes no memory.
     fn pop(&mut self, name: &str)
         ensures { Relists (shortened front) name.now (listed self.old) (listed self.new) }
     {
-        if !self.buckets.is_empty() {
-            let slot = slot_of(name, self.buckets.len());
-            self.buckets[slot].pop(name);
+        if let Some(list) = self.lists.get_mut(name) {
+            if !list.pop() {
+                self.lists.remove(name);
+            }
         }
     }
 
@@ -144,11 +82,9 @@ impl Places {
         place: usize,
         names: &[N],
     ) -> Result<(), AllocError>
-        requires countable { place + length names.now < 2 ^ 64 }
-        requires buckets { 0 < length self.old.buckets.items }
+        requires { place + length names.now < 2 ^ 64 }
         ensures ok { OnOk result ((ns : List (List ℕ)) → length ns ≡ place → ListsNames self.old ns → ListsNames self.new (ns ++ map N.name_of names.now)) }
         ensures err { OnErr result ((ns : List (List ℕ)) → length ns ≡ place → ListsNames self.old ns → ListsNames self.new ns) }
-        ensures buckets { OnOk result (0 < length self.new.buckets.items) }
     {
         let mut i = 0;
         while i < names.len() {
@@ -178,9 +114,10 @@ impl Places {
     fn unlist(&mut self, name: &str, place: usize)
         ensures { Relists (shortened (others place)) name.now (listed self.old) (listed self.new) }
     {
-        if !self.buckets.is_empty() {
-            let slot = slot_of(name, self.buckets.len());
-            self.buckets[slot].unlist(name, place);
+        if let Some(list) = self.lists.get_mut(name) {
+            if !list.take_out(place) {
+                self.lists.remove(name);
+            }
         }
     }
 
@@ -188,11 +125,13 @@ impl Places {
     fn lower(&mut self, gone: usize)
         ensures { (q : List ℕ) → listed self.new q ≡ option_map (map (lowered gone)) (listed self.old q) }
     {
-        lower_all(&mut self.buckets, gone);
+        self.lists.retain(move |_, list| {
+            list.lower(gone);
+            true
+        });
     }
 
-    /// Drops a place of a name, and moves all places behind it down by one. It takes no memory; the time is in the number of all places
-    /// and of the buckets.
+    /// Drops a place of a name, and moves all places behind it down by one. It takes no memory; the time is in the number of all places.
     pub(crate) fn remove(&mut self, name: &str, place: usize)
         ensures { (ms ns : List (List ℕ)) → length ms ≡ place → ListsNames self.old (ms ++ chars name.now ∷ ns) → ListsNames self.new (ms ++ ns) }
     {

@@ -1,4 +1,4 @@
-use Rattle.std.proofs.Common.{[], ◌∷◌, arith}
+use Rattle.std.proofs.Common.{[], ◌∷◌, sym, ◌∙◌, arith}
 use Rattle.std.proofs.lemmas.Result.{on_ok_weaker}
 use Rattle.rhai_scope.specs.Index.{names_of}
 use Rattle.rhai_scope.proofs.Indexed.{listed_with, walked_with}
@@ -14,5 +14,5 @@ returns-then-walked-lt-WALKED_ENTRIES-clause-ok c = λ name.
 pub returns-clause-ok : goal.returns-clause-ok
 returns-clause-ok c =
     on_ok_weaker c.list_all.result
-    (λ all name. listed_with c.list_all.new.self.indexed c.list_all.new.self.places (names_of c.args.entries.now) (name ∷ []) all.indexed all.lists (omega arith))
+    (λ all name. listed_with c.list_all.new.self.indexed c.list_all.new.self.places (names_of c.args.entries.now) (name ∷ []) (all.0 ∙ sym (length_names c.args.entries.now)) all.1 (omega arith))
     c.list_all.ensures.ok

@@ -1,10 +1,16 @@
-use Rattle.std.proofs.Common.{◌∙◌}
-use Rattle.rhai_scope.specs.Places.{shortened, front}
-use Rattle.rhai_scope.proofs.Buckets.{relisted_at}
+use Rattle.std.proofs.Common.{rules}
+use Rattle.rhai_scope.specs.Places.{front}
+use Rattle.rhai_scope.proofs.Listed.{some_left, none_left}
 use Rattle.rhai_scope.proofs.places.Places.pop.Goals as goal
 
-pub returns-then-not-is_empty : goal.returns-then-not-is_empty
-returns-then-not-is_empty c =
-    let v = c.args.self.now.buckets in
-    relisted_at v.items c.len.result c.slot_of-slot.result c.index_mut.result.now c.pop.new.self c.args.name.now (c.len.ensures ∙ v.ok.0) c.slot_of-slot.ensures.slot c.slot_of-slot.ensures.within
-    c.index_mut.ensures.value (shortened front) c.pop.ensures
+pub returns-then-not-pop : goal.returns-then-not-pop
+returns-then-not-pop c =
+    let list = c.pop.new.self in
+    none_left front c.args.name.now c.args.self.now.lists (c.get_mut.follows.lender list) c.in-Some.list.now list c.pop.result c.in-Some.ensures.value c.pop.ensures
+    ((c.get_mut.follows.holds list).3 (search rules)) c.remove.new.self c.if-not-pop.true c.remove.ensures.updates
+
+pub returns-else-not-pop : goal.returns-else-not-pop
+returns-else-not-pop c =
+    let list = c.pop.new.self in
+    some_left front c.args.name.now c.args.self.now.lists (c.get_mut.follows.lender list) c.in-Some.list.now list c.pop.result c.in-Some.ensures.value c.pop.ensures
+    ((c.get_mut.follows.holds list).3 (search rules)) c.if-not-pop.false

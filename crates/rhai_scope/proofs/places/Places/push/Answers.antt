@@ -1,21 +1,21 @@
-use Rattle.std.proofs.Common.{◌∙◌}
+use Rattle.std.proofs.Common.{rules, Some}
 use Rattle.std.proofs.lemmas.Result.{on_ok_weaker, on_err_weaker}
 use Rattle.rhai_scope.specs.Places.{with_place}
-use Rattle.rhai_scope.proofs.Buckets.{relisted_at, same_at}
+use Rattle.rhai_scope.proofs.Listed.{changed, pushed_on, same_lists}
 use Rattle.rhai_scope.proofs.places.Places.push.Goals as goal
 
-pub returns-clause-ok : goal.returns-clause-ok
-returns-clause-ok c =
-    let v = c.args.self.now.buckets in
+pub returns-in-Some-clause-ok : goal.returns-in-Some-clause-ok
+returns-in-Some-clause-ok c =
+    let lists = c.args.self.now.lists in
+    let list = c.push.new.self in
     on_ok_weaker c.push.result
-    (relisted_at v.items c.len.result c.slot_of-slot.result c.index_mut.result.now c.push.new.self c.args.name.now (c.len.ensures ∙ v.ok.0) c.slot_of-slot.ensures.slot c.slot_of-slot.ensures.within
-    c.index_mut.ensures.value (with_place c.args.place))
+    (λ more. changed (with_place c.args.place) c.args.name.now lists (c.get_mut.follows.lender list) (Some list) ((c.get_mut.follows.holds list).3 (search rules))
+    (pushed_on c.args.place c.args.name.now lists c.in-Some.list.now list c.in-Some.ensures.value more))
     c.push.ensures.ok
 
-pub returns-clause-err : goal.returns-clause-err
-returns-clause-err c =
-    let v = c.args.self.now.buckets in
+pub returns-in-Some-clause-err : goal.returns-in-Some-clause-err
+returns-in-Some-clause-err c =
+    let list = c.push.new.self in
     on_err_weaker c.push.result
-    (same_at v.items c.len.result c.slot_of-slot.result c.index_mut.result.now c.push.new.self c.args.name.now (c.len.ensures ∙ v.ok.0) c.slot_of-slot.ensures.slot c.slot_of-slot.ensures.within
-    c.index_mut.ensures.value)
+    (λ same. same_lists c.args.name.now c.args.self.now.lists (c.get_mut.follows.lender list) c.in-Some.list.now list c.in-Some.ensures.value same ((c.get_mut.follows.holds list).3 (search rules)))
     c.push.ensures.err

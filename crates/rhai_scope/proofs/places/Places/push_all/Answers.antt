@@ -5,7 +5,7 @@ use Rattle.rhai_scope.proofs.Placed.{names_pushed, same_names}
 use Rattle.rhai_scope.proofs.places.Places.push_all.Goals as goal
 
 pub loop-i-init : goal.loop-i-init
-loop-i-init g c = record { within = omega arith; buckets = c.requires.buckets; lists = λ ns is x. from_none g.N.Named.name_of ns c.args.names.now c.args.self.now x }
+loop-i-init g c = record { within = omega arith; lists = λ ns is x. from_none g.N.Named.name_of ns c.args.names.now c.args.self.now x }
 
 pub loop-i-preserved : goal.loop-i-preserved
 loop-i-preserved g c =
@@ -15,7 +15,6 @@ loop-i-preserved g c =
     let text = c.name_text.result in
     record {
       within = omega arith;
-      buckets = omega (arith, c.push.ensures.buckets, c.loop-i.invariant.buckets);
       lists = λ ns is x.
           one_more name_of ns hs c.push.new.self i c.index-names-i.result (chars text.now) (omega arith) c.index-names-i.is c.name_text.ensures
           (names_pushed text.now c.name_text.utf8 c.loop-i.self c.push.new.self (c.args.place + i) (so_far name_of ns hs i) (length_so_far name_of ns hs c.args.place i is c.loop-i.invariant.within)

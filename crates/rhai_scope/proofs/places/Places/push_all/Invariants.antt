@@ -1,4 +1,4 @@
-use Rattle.std.proofs.Common.{◌≡◌, ℕ, ◌-◌, ◌<◌, ◌≤◌, List, length}
+use Rattle.std.proofs.Common.{◌≡◌, ℕ, ◌-◌, ◌≤◌, List, length}
 use Rattle.rhai_scope.specs.Places.{ListsNames}
 use Rattle.rhai_scope.proofs.Headed.{so_far}
 use Rattle.rhai_scope.proofs.places.Places.push_all.Given as goal
@@ -6,7 +6,6 @@ use Rattle.rhai_scope.proofs.places.Places.push_all.Given as goal
 abbrev pub invariant-loop-i : goal.invariant-loop-i
 invariant-loop-i g l = record {
   within : l.i ≤ length l.names;
-  buckets : 0 < length l.self.buckets.items;
   lists : (ns : List (List ℕ)) → length ns ≡ l.place → ListsNames l.fn.self ns → ListsNames l.self (so_far g.N.Named.name_of ns l.names l.i);
 }
 

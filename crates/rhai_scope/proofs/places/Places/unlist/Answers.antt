@@ -1,10 +1,16 @@
-use Rattle.std.proofs.Common.{◌∙◌}
-use Rattle.rhai_scope.specs.Places.{shortened, others}
-use Rattle.rhai_scope.proofs.Buckets.{relisted_at}
+use Rattle.std.proofs.Common.{rules}
+use Rattle.rhai_scope.specs.Places.{others}
+use Rattle.rhai_scope.proofs.Listed.{some_left, none_left}
 use Rattle.rhai_scope.proofs.places.Places.unlist.Goals as goal
 
-pub returns-then-not-is_empty : goal.returns-then-not-is_empty
-returns-then-not-is_empty c =
-    let v = c.args.self.now.buckets in
-    relisted_at v.items c.len.result c.slot_of-slot.result c.index_mut.result.now c.unlist.new.self c.args.name.now (c.len.ensures ∙ v.ok.0) c.slot_of-slot.ensures.slot c.slot_of-slot.ensures.within
-    c.index_mut.ensures.value (shortened (others c.args.place)) c.unlist.ensures
+pub returns-then-not-take_out : goal.returns-then-not-take_out
+returns-then-not-take_out c =
+    let list = c.take_out.new.self in
+    none_left (others c.args.place) c.args.name.now c.args.self.now.lists (c.get_mut.follows.lender list) c.in-Some.list.now list c.take_out.result c.in-Some.ensures.value c.take_out.ensures
+    ((c.get_mut.follows.holds list).3 (search rules)) c.remove.new.self c.if-not-take_out.true c.remove.ensures.updates
+
+pub returns-else-not-take_out : goal.returns-else-not-take_out
+returns-else-not-take_out c =
+    let list = c.take_out.new.self in
+    some_left (others c.args.place) c.args.name.now c.args.self.now.lists (c.get_mut.follows.lender list) c.in-Some.list.now list c.take_out.result c.in-Some.ensures.value c.take_out.ensures
+    ((c.get_mut.follows.holds list).3 (search rules)) c.if-not-take_out.false

@@ -1,7 +1,7 @@
 use Rattle.std.proofs.Common.{rules, ◌≡◌, string_bytes}
 use Rattle.std.proofs.lemmas.Result.{IfOk-at_ok}
 use Rattle.rhai_scope.proofs.Listed.{pushed_first}
-use Rattle.rhai_scope.proofs.bucket.Bucket.push_first.Goals as goal
+use Rattle.rhai_scope.proofs.places.Places.push_first.Goals as goal
 
 pub returns-in-Ok-clause-ok : goal.returns-in-Ok-clause-ok
 returns-in-Ok-clause-ok c =

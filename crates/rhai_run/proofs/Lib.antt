@@ -35,3 +35,4 @@ pub mod Left
 pub mod Moves
 pub mod MapRows
 pub mod LastEntry
+mod Captured

@@ -33,3 +33,4 @@ pub mod Does
 pub mod Stands
 pub mod Bindings
 pub mod Evaluates
+pub mod Captures

@@ -48,6 +48,7 @@ fn overwrite_int(value: &mut Dynamic, n: INT) -> bool
     }
 }
 
+/// The commands that change entries are calls, so that `apply`, into which most others are inlined, stays short.
 impl Desk {
     /// Moves a value of the hand into the entry at a position of the scope.
     fn set_at(&mut self, k: usize, i: usize)
@@ -60,6 +61,7 @@ impl Desk {
         *self.scope.at_mut(k) = value;
     }
 
+    #[inline(never)]
     #[tactic(auto, using(rhai_scope::proofs::ForCallers::position_within, crate::proofs::LastEntry::set_entry_is))]
     pub(crate) fn set_entry(&mut self, name: &ImmutableString, i: usize) -> Result<Answer, NotDone>
         ensures { Does result self.old self.new (step_set_entry self.old name.now i) }
@@ -73,6 +75,7 @@ impl Desk {
         Ok(Answer::Done)
     }
 
+    #[inline(never)]
     #[tactic(auto, using(rhai_scope::proofs::ForCallers::position_within, crate::proofs::LastEntry::set_or_push_is))]
     pub(crate) fn set_or_push(
         &mut self,
@@ -91,6 +94,7 @@ impl Desk {
         }
     }
 
+    #[inline(never)]
     #[tactic(auto, using(rhai_scope::proofs::ForCallers::position_within, crate::proofs::LastEntry::set_value_is))]
     pub(crate) fn set_value(&mut self, name: &ImmutableString, i: usize) -> Result<Answer, NotDone>
         ensures { Does result self.old self.new (step_set_value self.old name.now i) }
@@ -166,6 +170,7 @@ impl Desk {
         }
     }
 
+    #[inline(never)]
     #[tactic(auto, using(rhai_scope::proofs::ForCallers::position_within, rhai_scope::proofs::ForCallers::kept_there, crate::proofs::LastEntry::set_ref_is, crate::proofs::LastEntry::set_ref_written))]
     pub(crate) fn set_ref(&mut self, name: &ImmutableString, value: INT) -> Result<Answer, NotDone>
         ensures { Does result self.old self.new (step_set_ref self.old name.now value) }
@@ -180,6 +185,7 @@ impl Desk {
         Ok(Answer::Done)
     }
 
+    #[inline(never)]
     #[tactic(auto, using(rhai_scope::proofs::ForCallers::position_within, crate::proofs::LastEntry::remove_is))]
     pub(crate) fn remove(&mut self, name: &ImmutableString, kind: TypeId) -> Result<Answer, NotDone>
         ensures { Does result self.old self.new (step_remove self.old name.now kind) }

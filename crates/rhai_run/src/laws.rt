@@ -1,5 +1,5 @@
 //! Laws of the machine: each is the contract of a function that does nothing.
-ghost use Rattle.std.specs.Prelude.{◌≡◌, ℕ, ℤ, ◌+◌, ◌<◌, ◌↔◌, Bool, nat_eq, List, [], ◌∷◌, ◌++◌, length, drop, map, reverse, Some, None, true, Vec, Box};
+ghost use Rattle.std.specs.Prelude.{◌≡◌, ℕ, ℤ, ◌+◌, ◌<◌, ◌↔◌, Bool, nat_eq, List, [], ◌∷◌, ◌++◌, length, drop, map, reverse, Some, None, option_map, true, false, Vec, Box};
 ghost use Rattle.std.specs.declared.alloc.Global.{Global};
 ghost use Rattle.std.specs.BTreeMap.{is_at};
 ghost use Rattle.std.specs.List.{Contains, IsDistinct, zip};
@@ -8,7 +8,7 @@ ghost use Rattle.std.specs.Str.{encode_utf8_all};
 ghost use Rattle.rhai_value.specs.Rows.{bytes_cmp};
 ghost use Rattle.rhai_run.specs.Made.{rows_with};
 ghost use Rattle.rhai_text.specs.declared.limits.Limits.{Limits};
-ghost use Rattle.rhai_value.specs.Tree.{Tree};
+ghost use Rattle.rhai_value.specs.Tree.{Tree, copy};
 ghost use Rattle.rhai_value.specs.Store.{added};
 ghost use Rattle.rhai_value.specs.Relation.{Renaming, new_pairs};
 ghost use Rattle.rhai_value.specs.Reach.{IsReached};
@@ -23,7 +23,10 @@ ghost use Rattle.rhai_run.specs.declared.command.Place.TheVariants as place;
 ghost use Rattle.rhai_run.specs.declared.expr.Expr.{Expr};
 ghost use Rattle.rhai_run.specs.declared.expr.Expr.TheVariants as expr;
 ghost use Rattle.rhai_text.specs.declared.token.Token.{Token};
+ghost use Rattle.rhai_scope.specs.Entry.{Entry, is_constant_entry};
+ghost use Rattle.rhai_scope.specs.Lookup.{last_entry};
 ghost use Rattle.rhai_run.specs.Bindings.{bindings};
+ghost use Rattle.rhai_run.specs.Captures.{SharesEntry, entry_content};
 ghost use Rattle.rhai_run.specs.Stands.{all, capture, in_order, last_of, operate, part_of, refusal, set, stands};
 ghost use Rattle.rhai_run.specs.State.{State, empty_state, with_store};
 ghost use Rattle.rhai_run.specs.Reply.{Reply, Reason, refused, fault, out_of_memory, not_hashable};
@@ -174,6 +177,17 @@ pub fn stopped_runs_go_on()
         → told ++ replies v (drop (length told) commands) ≡ replies w commands }
     ensures state { (w v : State) (commands : List Command) (told : List Reply) → StopsAfter w commands told v
         → state_after v (drop (length told) commands) ≡ state_after w commands }
+{}
+
+/// A variable that is captured, and whose entry is there, is never refused. The entry's first content stays, but for modes, of which a copy has
+/// ReadWrite alone; and where the entry is no constant, it and the captured value, which is new behind the hand of before, name one cell.
+#[tactic(auto, using(crate::proofs::Captured::granted, crate::proofs::Captured::content_stays, crate::proofs::Captured::cell_shared))]
+pub fn captures_share_a_cell()
+    ensures granted { (w : State) (x : List ℕ) (e : Entry) → last_entry x w.entries ≡ Some e → refusal w (stands w (expr.Capture x)) ≡ None }
+    ensures content { (w : State) (x : List ℕ) (e : Entry) → last_entry x w.entries ≡ Some e
+        → option_map copy (entry_content x (state_after w (stands w (expr.Capture x)))) ≡ option_map copy (entry_content x w) }
+    ensures shared { (w : State) (x : List ℕ) (e : Entry) → last_entry x w.entries ≡ Some e → is_constant_entry e ≡ false
+        → SharesEntry x w (state_after w (stands w (expr.Capture x))) }
 {}
 
 /// Where no command of an expression is refused, the hand has one value more, behind those of before, and the scope one entry more for

@@ -4,7 +4,7 @@
 use crate::page::SECTIONS;
 use crate::rows::{commands_of, input_of, lines_of, row_of, wanted, wanted_of_commands};
 use crate::session::SESSIONS;
-use rhai_lines::{run_lines, write_answer};
+use rhai_lines::{LinesFault, run_lines, write_answer};
 use rhai_run::{Answer, Command, Stopped, StoppedBoth, World, apply, run, run_both};
 use rhai_show::debug_text;
 use rhai_text::Limits;
@@ -73,6 +73,18 @@ int 1 -> ok
 readonly 0 -> ok
 pushdyn x 0 -> ok
 constant x -> true
+";
+
+/// A scope in which a name hides another, and shows it again.
+const SCOPE: &str = "
+# a name that hides another
+int 1 -> ok
+push x 0 -> ok
+int 2 -> ok
+push x 1 -> ok
+rewind 1 -> ok
+get x -> ok
+show 2 -> 1
 ";
 
 /// How the commands of rows are given to the machine.
@@ -174,10 +186,9 @@ fn apply_each(
 /// Collects. Where memory is refused, the world is to be as before, and it is collected once more; then it is to be seen as before.
 fn collect_at_last(rt: &impl Eprint, alloc: Global, world: &mut World) -> Result<bool, AllocError> {
     let before = seen(alloc, world)?;
-    let cells = world.cells();
     if world.collect().is_err() {
         tell(rt, "collect");
-        if world.cells() != cells || !is_seen(alloc, world, &before)? {
+        if !is_seen(alloc, world, &before)? {
             return Ok(false);
         }
         world.collect()?;
@@ -308,10 +319,11 @@ fn run_lines_at_last(
 ) -> Result<bool, AllocError> {
     let input = input_of(alloc, rows)?;
     let mut reader = input.as_bytes();
-    if run_lines(alloc, &mut reader, out).is_ok() {
-        return Ok(true);
+    match run_lines(alloc, &mut reader, out) {
+        Ok(()) => return Ok(true),
+        Err(LinesFault::Memory) => tell(rt, "run_lines"),
+        Err(LinesFault::Read(_) | LinesFault::Write(_)) => return Ok(false),
     }
-    tell(rt, "run_lines");
     if !are_first_answers(rows, out) {
         return Ok(false);
     }
@@ -319,7 +331,8 @@ fn run_lines_at_last(
     out.clear();
     match run_lines(alloc, &mut reader, out) {
         Ok(()) => Ok(true),
-        Err(_) => Err(AllocError),
+        Err(LinesFault::Memory) => Err(AllocError),
+        Err(LinesFault::Read(_) | LinesFault::Write(_)) => Ok(false),
     }
 }
 
@@ -357,7 +370,7 @@ fn run_commands(
 
 /// Asserts that the rows of each section are answered as they say, each section on a new world.
 fn are_answered(rt: &(impl Abort + Eprint), alloc: Global, way: &Way) -> Result<(), Fail> {
-    for sections in [SECTIONS, SESSIONS, FULL] {
+    for sections in [SECTIONS, SESSIONS, FULL, SCOPE] {
         for rows in sections.split("\n# ") {
             let wanted = match way {
                 Way::RunLines => wanted(alloc, rows)?,
@@ -436,5 +449,96 @@ fn refusals_need_no_memory(rt: HostRuntime) -> Result<(), Fail> {
     let is_right = are_refused(&mut world, &commands);
     world.close();
     assert!(rt; is_right);
+    Ok(())
+}
+
+/// What is made before all memory is refused.
+const BEFORE: &str = "
+int 1 -> ok
+int 2 -> ok
+blob 0102 -> ok
+int 7 -> ok
+share 3 -> ok
+mark 3 -> ok
+int 9 -> ok
+push x 4 -> ok
+int 8 -> ok
+push y 5 -> ok
+int 3 -> ok
+int 4 -> ok
+bool true -> ok
+";
+
+/// Each command that never wants memory.
+const FREE: &str = "
+tag 0 5 -> ok
+readonly 0 -> ok
+write 1 6 -> ok
+store 1 0 -> ok
+set x 6 -> ok
+refint y 4 -> ok
+len -> 2
+empty -> false
+contains x -> true
+search y -> 1
+constant x -> false
+writemarked 0 7 -> ok
+unmark 0 -> ok
+bit 1 3 8 -> ok
+field 1 240 4 1 -> ok
+byte 2 0 1 -> ok
+scan 1 zero -> 1
+offset 5 -2 10 -> 3 2
+index 5 -1 true -> 4
+pop -> ok
+rewind 0 -> ok
+clear -> ok
+drop -> ok
+";
+
+/// The commands that rows say.
+fn commands_in(alloc: Global, rows: &str) -> Result<Vec<Command>, AllocError> {
+    let lines = lines_of(alloc, rows)?;
+    commands_of(alloc, &lines)
+}
+
+fn are_applied(world: &mut World, commands: &[Command], out: &mut Vec<u8>) -> bool {
+    for command in commands {
+        match apply(world, command) {
+            Ok(answer) if write_answer(&answer, out).is_ok() => {}
+            _ => return false,
+        }
+    }
+    true
+}
+
+/// Whether commands answer behind others, and behind a request that nothing hangs on: so they do where that one and all later ones are
+/// refused.
+fn are_free(
+    alloc: Global,
+    before: &[Command],
+    commands: &[Command],
+    out: &mut Vec<u8>,
+) -> Result<bool, AllocError> {
+    let mut world = World::new(alloc, UNLIMITED);
+    let is_made = run(&mut world, before).is_ok();
+    drop(room(alloc));
+    let is_right = are_applied(&mut world, commands, out);
+    world.close();
+    if is_made {
+        Ok(is_right)
+    } else {
+        Err(AllocError)
+    }
+}
+
+#[test]
+fn free_commands_need_no_memory(rt: HostRuntime) -> Result<(), Fail> {
+    let before = commands_in(rt.alloc(), BEFORE)?;
+    let free = commands_in(rt.alloc(), FREE)?;
+    let wanted = wanted_of_commands(rt.alloc(), FREE)?;
+    let mut out = room(rt.alloc())?;
+    assert!(rt; are_free(rt.alloc(), &before, &free, &mut out)?);
+    assert_eq!(rt; out.as_slice(), wanted.as_bytes());
     Ok(())
 }

@@ -91,6 +91,13 @@ int 3 -> ok
 assign 2 += 3 -> ok
 show 2 -> [3]
 debug 3 -> ()
+# an array takes an item up to the limit
+int 1 -> ok
+array 1 -> ok
+int 3 -> ok
+assign 0 += 1 -> ok
+show 0 -> [1, 3]
+debug 1 -> ()
 # an empty array takes any number
 array 0 -> ok
 int 1 -> ok

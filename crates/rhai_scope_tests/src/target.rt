@@ -8,6 +8,7 @@ mod lent;
 mod parts;
 mod shared_values;
 mod ways_out;
+mod worked;
 
 use rhai_target::Target;
 use rhai_text::{EvalAltResult, Position};

@@ -9,7 +9,7 @@ mod makers;
 
 use crate::values::{copied, is_named, shared, text_of};
 use readme::cast_or;
-use rhai_cast::DynamicCast;
+use rhai_cast::{DynamicCast, cast_or_give_back};
 use rhai_text::ImmutableString;
 use rhai_value::{Array, Blob, Dynamic, ExclusiveRange, FnPtr, INT, InclusiveRange, Map, Store};
 use rhai_variant::{CastError, Variant};
@@ -194,4 +194,33 @@ fn a_caller_casts_to_any_type(rt: HostRuntime) {
     let holder = shared(Dynamic::ONE, &mut store);
     assert!(rt; is_cast_to_one(rt.alloc(), &store, copied(rt.alloc(), &holder)));
     assert!(rt; is_cast_to_true(rt.alloc(), &store, holder));
+}
+
+/// The int that a value is cast to, if it is one.
+fn int_of(alloc: Global, store: &Store, value: Dynamic) -> Option<INT> {
+    match cast_or_give_back(alloc, value, store) {
+        Ok(found) => found,
+        Err(_) => None,
+    }
+}
+
+/// Whether a value is cast to this text.
+fn is_cast_to_text(alloc: Global, store: &Store, value: Dynamic, text: &str) -> bool {
+    match cast_or_give_back::<String>(alloc, value, store) {
+        Ok(Some(found)) => found.as_str() == text,
+        Ok(None) => false,
+        Err(_) => false,
+    }
+}
+
+#[test]
+fn a_cast_that_may_give_back_reads_through_holders(rt: HostRuntime) {
+    let alloc = rt.alloc();
+    let mut store = Store::new(alloc);
+    let number = shared(Dynamic::TEN, &mut store);
+    let text = shared(text_of(alloc, "hé"), &mut store);
+    assert!(rt; int_of(alloc, &store, Dynamic::ONE) == Some(1));
+    assert!(rt; int_of(alloc, &store, number) == Some(10));
+    assert!(rt; int_of(alloc, &store, copied(alloc, &text)).is_none());
+    assert!(rt; is_cast_to_text(alloc, &store, text, "hé"));
 }

@@ -1,4 +1,5 @@
 //! Texts, where a call alone can show it.
+mod edits;
 mod readme;
 
 use rhai_text::{EvalAltResult, ImmutableString, Position, quoted_char_into, quoted_text_into};

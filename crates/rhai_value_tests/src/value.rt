@@ -1,6 +1,7 @@
 //! Values, where a call alone can show it.
 // Proved callers.
 mod callers;
+mod chained;
 mod readme;
 
 // Tests.

@@ -273,6 +273,9 @@ fn writes_may_fail(rt: HostRuntime) -> Result<(), Fail> {
         };
         assert_eq!(rt; fault(&outcome), wanted, "at {calls}");
         assert!(rt; OUTPUT.starts_with(&writer.bytes), "at {calls}");
+        if wanted == "none" {
+            assert_eq!(rt; writer.bytes.as_slice(), OUTPUT, "at {calls}");
+        }
     }
     Ok(())
 }

@@ -23,6 +23,23 @@ fn is_looked_up(scope: &Scope, store: &Store) -> bool {
         && scope.iter_raw(store).count() == 2
 }
 
+/// Whether a variable `n`, which is the int 3, is lent by its type to read and to write.
+fn is_lent_by_type(scope: &mut Scope, store: &Store) -> bool {
+    match scope.get("n") {
+        Some(value) if !value.is_shared() => {}
+        _ => return false,
+    }
+    let is_read = matches!(scope.get_value_ref::<i64>("n"), Some(3));
+    match scope.get_value_mut::<i64>("n") {
+        Some(n) => *n = 4,
+        None => return false,
+    }
+    is_read
+        && scope
+            .get("n")
+            .is_some_and(|value| value.as_int(store) == Ok(4))
+}
+
 /// Whether entries are lent for writing, and go.
 fn is_emptied(scope: &mut Scope) -> bool {
     let is_lent = scope.get_mut("x").is_some() && scope.get_mut("c").is_none();
@@ -179,5 +196,14 @@ fn calls_without_memory_answer(rt: HostRuntime) -> Result<(), Fail> {
     );
     assert!(rt; calc_offset_len(5, -2, 10) == (3, 2));
     assert!(rt; matches!(calc_index(5, -1, true), Some(4)));
+    Ok(())
+}
+
+#[test]
+fn an_entry_is_lent_by_its_type(rt: HostRuntime) -> Result<(), Fail> {
+    let store = Store::new(rt.alloc());
+    let mut scope = Scope::new(rt.alloc());
+    scope.push("n", 3i64)?;
+    assert!(rt; is_lent_by_type(&mut scope, &store));
     Ok(())
 }

@@ -60,6 +60,32 @@ fn comes_apart(scope: Scope, store: &Store) -> bool {
     is_first && is_second && entries.next().is_none()
 }
 
+/// Whether no entry has an alias.
+fn has_no_alias(scope: &Scope) -> bool {
+    for (_, _, aliases) in scope {
+        if !aliases.is_empty() {
+            return false;
+        }
+    }
+    true
+}
+
+/// Whether an alias goes with its entry, and another entry of the name comes without.
+fn drops_alias(scope: &mut Scope) -> bool {
+    let is_filled = scope.push("x", 1i64).is_ok()
+        && scope.push("y", 2i64).is_ok()
+        && scope.push("x", 3i64).is_ok()
+        && scope.set_alias("x", "z").is_ok();
+    scope.rewind(2);
+    is_filled && scope.push("x", 4i64).is_ok() && scope.len() == 3 && has_no_alias(scope)
+}
+
+#[test]
+fn aliases_go_with_their_entries(rt: HostRuntime) {
+    let mut scope = Scope::new(rt.alloc());
+    assert!(rt; drops_alias(&mut scope));
+}
+
 #[test]
 fn entries_come_one_after_another(rt: HostRuntime) {
     let mut store = Store::new(rt.alloc());

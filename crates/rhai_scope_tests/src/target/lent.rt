@@ -76,6 +76,25 @@ fn write_char(rt: &impl Abort, alloc: Global, store: &mut Store, source: &mut Dy
     propagated(target, alloc, store).is_ok() && is_lent
 }
 
+/// Writes 9 over a value that is lent as a whole.
+fn write_value(rt: &impl Abort, store: &mut Store, value: &mut Dynamic) -> bool {
+    let mut target = Target::RefMut(value);
+    let is_lent = target.as_ref(store).as_int(store) == Ok(7);
+    *target.as_mut(store) = Dynamic::from_int(9);
+    let Target::RefMut(value) = target else {
+        panic!(rt; "a reference becomes another target")
+    };
+    value.as_int(store) == Ok(9) && is_lent
+}
+
+#[test]
+fn what_is_lent_of_a_reference_is_its_value(rt: HostRuntime) {
+    let mut store = Store::new(rt.alloc());
+    let mut value = seven();
+    assert!(rt; write_value(&rt, &mut store, &mut value));
+    assert!(rt; matches!(value.parts(), Union::Int(0, AccessMode::ReadWrite, 9)));
+}
+
 #[test]
 fn what_is_lent_is_the_working_value_of_that_part(rt: HostRuntime) {
     let alloc = rt.alloc();

@@ -1,6 +1,6 @@
 //! Casts of holders, and of chains that are stuck or close.
-use crate::values::{closed, copied, holds, is_shared, shared};
-use rhai_cast::{DynamicCast, write_lock};
+use crate::values::{chain, closed, copied, holds, is_named, is_shared, shared};
+use rhai_cast::{DynamicCast, lent_lock, write_lock};
 use rhai_value::{Dynamic, INT, InStore, Store};
 use std::alloc::Global;
 
@@ -110,6 +110,46 @@ fn write_int(holder: &mut Dynamic, store: &mut Store, int: INT) -> bool {
         }
         None => false,
     }
+}
+
+/// The same, as the value or its store lends it.
+fn write_lent(value: &mut Dynamic, store: &mut Store, int: INT) -> bool {
+    match lent_lock::<INT>(false, value, store) {
+        Some(held) => {
+            *held = int;
+            true
+        }
+        None => false,
+    }
+}
+
+/// Writes over the first content, as the value or its store lends it.
+fn replace_first(value: &mut Dynamic, store: &mut Store, other: Dynamic) -> bool {
+    match lent_lock::<Dynamic>(true, value, store) {
+        Some(content) => {
+            *content = other;
+            true
+        }
+        None => false,
+    }
+}
+
+#[test]
+fn one_of_a_type_is_lent_of_the_value_or_of_its_store(rt: HostRuntime) {
+    let mut store = Store::new(rt.alloc());
+    let mut value = Dynamic::from_int(5);
+    assert!(rt; write_lent(&mut value, &mut store, 6));
+    assert!(rt; holds(&value, &store, 6));
+    let mut outer = chain(&mut store, 2);
+    assert!(rt; write_lent(&mut outer, &mut store, 8));
+    assert!(rt; holds(&outer, &store, 8));
+    let mut truth = shared(Dynamic::TRUE, &mut store);
+    assert!(rt; !write_lent(&mut truth, &mut store, 9));
+    assert!(rt; is_named(&truth, &store, "bool"));
+    assert!(rt; replace_first(&mut outer, &mut store, Dynamic::TWO));
+    assert!(rt; holds(&outer, &store, 2));
+    assert!(rt; replace_first(&mut value, &mut store, Dynamic::from_int(1)));
+    assert!(rt; holds(&value, &store, 1));
 }
 
 /// Writes over the value itself.

@@ -33,7 +33,7 @@ fn arrays_are_made_of_items(rt: HostRuntime) -> Result<(), Fail> {
     Ok(())
 }
 
-/// Whether a value was made, and is a map of one key, "a", with this type at it.
+/// Whether a value was made, is named as a map, and has one key, "a", with this type at it.
 fn has_key<T: Variant>(store: &Store, made: Result<Dynamic, AllocError>) -> bool {
     let Ok(value) = made else {
         return false;
@@ -42,7 +42,7 @@ fn has_key<T: Variant>(store: &Store, made: Result<Dynamic, AllocError>) -> bool
         return false;
     };
     match map.get("a") {
-        Some(item) => map.len() == 1 && item.is::<T>(store),
+        Some(item) => map.len() == 1 && item.is::<T>(store) && value.type_name(store) == "map",
         None => false,
     }
 }

@@ -2,7 +2,7 @@
 use crate::values::holds;
 use rhai_cast::DynamicCast;
 use rhai_text::ImmutableString;
-use rhai_value::{AccessMode, Dynamic, Path, Store, laws};
+use rhai_value::{AccessMode, Blob, Dynamic, ExclusiveRange, Map, Path, Store, laws};
 use std::alloc::{AllocError, Global};
 use std::test::Fail;
 
@@ -80,6 +80,49 @@ fn is_passed_through(holder: &Dynamic, store: &mut Store) -> bool {
     is_seen && !holder.is_locked(store)
 }
 
+/// Whether what isn't held is neither told nor lent.
+fn is_no_other(value: &mut Dynamic, store: &mut Store) -> bool {
+    let is_asked = !value.is_array(store)
+        && !value.is_blob(store)
+        && !value.is_map(store)
+        && !value.is_fnptr(store);
+    is_asked
+        && value.as_array_ref(store).is_err()
+        && value.as_blob_ref(store).is_err()
+        && value.as_map_ref(store).is_err()
+        && value.as_array_mut(store).is_err()
+        && value.as_blob_mut(store).is_err()
+        && value.as_map_mut(store).is_err()
+        && value.as_immutable_string_mut(store).is_err()
+}
+
+/// Whether an array, a blob or a map is told, read and lent.
+fn is_lent(value: &mut Dynamic, store: &mut Store) -> bool {
+    let is_array = value.is_array(store)
+        && value.as_array_ref(store).is_ok()
+        && value.as_array_mut(store).is_ok();
+    let is_blob = value.is_blob(store)
+        && value.as_blob_ref(store).is_ok()
+        && value.as_blob_mut(store).is_ok();
+    let is_map = value.is_map(store)
+        && value.as_map_ref(store).is_ok()
+        && value.as_map_mut(store).is_ok();
+    is_array || is_blob || is_map
+}
+
+/// Whether a copy is of the same type.
+fn is_copied(alloc: Global, value: &Dynamic, store: &Store) -> bool {
+    match value.copy(alloc) {
+        Ok(copy) => copy.type_id(store) == value.type_id(store) && copy.tag() == value.tag(),
+        Err(_) => false,
+    }
+}
+
+/// Whether a value's own constructor and mode are told.
+fn is_own(value: &Dynamic, store: &Store) -> bool {
+    !value.is_shared() && !value.is_read_only(store) && value.access_mode() == AccessMode::ReadWrite
+}
+
 /// A path with the holder's cell open, which is left.
 fn is_left(path: &mut Path, holder: &Dynamic, store: &Store) -> Result<bool, AllocError> {
     if path.enter(store, holder)?.is_none() {
@@ -114,4 +157,43 @@ fn calls_without_memory_answer(rt: HostRuntime) -> Result<(), Fail> {
     assert!(rt; is_passed_through(&holder, &mut store));
     assert!(rt; is_marked_and_taken(&mut text, &store));
     Ok(())
+}
+
+#[test]
+fn containers_are_lent(rt: HostRuntime) -> Result<(), Fail> {
+    let alloc = rt.alloc();
+    let mut store = Store::new(alloc);
+    let mut array = Dynamic::from_array(vec![in alloc; Dynamic::ONE]?);
+    let mut blob = Dynamic::from_blob(Blob::from_slice(alloc, &[1])?);
+    let mut map = Dynamic::from_map(Map::new(alloc));
+    for value in [&mut array, &mut blob, &mut map] {
+        assert!(rt; is_own(value, &store) && is_lent(value, &mut store));
+    }
+    Ok(())
+}
+
+#[test]
+fn what_is_not_held_is_not_lent(rt: HostRuntime) -> Result<(), Fail> {
+    let mut store = Store::new(rt.alloc());
+    let Ok(mut holder) = Dynamic::from_int(7).into_shared(&mut store) else {
+        return Err(Fail::from(AllocError));
+    };
+    assert!(rt; is_no_other(&mut holder, &mut store));
+    assert!(rt; is_copied(rt.alloc(), &holder, &store));
+    Ok(())
+}
+
+#[test]
+fn small_values_are_copied(rt: HostRuntime) {
+    let alloc = rt.alloc();
+    let store = Store::new(alloc);
+    for value in [
+        Dynamic::UNIT,
+        Dynamic::TRUE,
+        Dynamic::from_int(7),
+        Dynamic::from_char('x'),
+        Dynamic::from(ExclusiveRange { start: 1, end: 3 }),
+    ] {
+        assert!(rt; is_copied(alloc, &value, &store));
+    }
 }

@@ -1,9 +1,12 @@
 //! Which values are hashable, where their cells are many, marked or foreign.
 
+ghost use Rattle.std.specs.Prelude.{◌≡◌, ◌↔◌, [], IfOk, IfSome, IsTrue};
+ghost use Rattle.rhai_show.specs.Plain.{plain};
+
 use crate::values::{copied, pair_of, put, shared};
-use rhai_show::{Hashed, hashed, is_hashable};
+use rhai_show::{Hashed, hashed, is_hashable, laws};
 use rhai_value::{Dynamic, Store};
-use std::alloc::Global;
+use std::alloc::{AllocError, Global};
 use std::hash::{DefaultHasher, Hash, Hasher};
 use std::test::Fail;
 
@@ -27,6 +30,35 @@ fn equal_bytes_have_equal_hashes(rt: HostRuntime) -> Result<(), Fail> {
     let third = Hashed::from_bytes(vec![in alloc; 1, 0]?);
     assert!(rt; are_told_apart(&first, &second, &third));
     assert!(rt; first.into_bytes().len() == 2);
+    Ok(())
+}
+
+/// Whether two values are equal without tags, modes and holders, by their hash bytes; `None` where one has none.
+fn are_alike(
+    alloc: Global,
+    value: &Dynamic,
+    other: &Dynamic,
+    s: &Store,
+) -> Result<Option<bool>, AllocError>
+    ensures { IfOk result (λ o. IfSome o (λ same. IsTrue same ↔ (plain s.now [] value.now ≡ plain s.now [] other.now))) }
+{
+    laws::hashes::hash_bytes_tell_values_apart();
+    let Some(first) = hashed(alloc, value, s)? else {
+        return Ok(None);
+    };
+    let Some(second) = hashed(alloc, other, s)? else {
+        return Ok(None);
+    };
+    Ok(Some(first == second))
+}
+
+#[test]
+fn sharing_is_not_seen(rt: HostRuntime) -> Result<(), Fail> {
+    let alloc = rt.alloc();
+    let mut store = Store::new(alloc);
+    let holder = shared(Dynamic::ONE, &mut store);
+    assert!(rt; are_alike(alloc, &holder, &Dynamic::ONE, &store)? == Some(true));
+    assert!(rt; are_alike(alloc, &holder, &Dynamic::ZERO, &store)? == Some(false));
     Ok(())
 }
 

@@ -1,9 +1,9 @@
 //! References for writing: what is lent is written, and where nothing is lent all stays.
 use crate::values::{
-    blob_of, cell_with, closed, copied, holds, is_named, is_shared, shared, text_of,
+    blob_of, cell_with, chain, closed, copied, holds, is_named, is_shared, shared, text_of,
 };
 use rhai_text::ImmutableString;
-use rhai_value::{AccessMode, Dynamic, INT, Map, Store, Union};
+use rhai_value::{AccessMode, Dynamic, INT, Map, Part, Store, Union};
 use std::test::Fail;
 
 /// The name of what is held where no text is lent.
@@ -149,6 +149,35 @@ fn what_is_lent_is_written_where_it_is_held(rt: HostRuntime) -> Result<(), Fail>
     assert!(rt; write_text(&mut text, &mut store, other));
     assert!(rt; has_bytes(&text, &store, 3));
     Ok(())
+}
+
+/// Writes over the int that is held, which the value or its store lends.
+fn write_lent(value: &mut Dynamic, store: &mut Store, wanted: INT) -> bool {
+    let is_own = INT::own(value).is_some();
+    match Dynamic::lent_part_mut::<INT>(is_own, value, store) {
+        Ok(int) => {
+            *int = wanted;
+            true
+        }
+        Err(_) => false,
+    }
+}
+
+#[test]
+fn a_part_is_lent_of_the_value_or_of_its_store(rt: HostRuntime) {
+    let mut store = Store::new(rt.alloc());
+    let mut value = Dynamic::from_int(5).into_read_only();
+    value.set_tag(3);
+    assert!(rt; write_lent(&mut value, &mut store, 7));
+    assert!(rt; is_seven(&value));
+    let mut outer = chain(&mut store, 2);
+    assert!(rt; write_lent(&mut outer, &mut store, 8));
+    assert!(rt; holds(&outer, &store, 8));
+    let mut text = shared(text_of(rt.alloc(), "a"), &mut store);
+    assert!(rt; !write_lent(&mut text, &mut store, 9));
+    assert!(rt; has_bytes(&text, &store, 1));
+    assert!(rt; holds(&outer, &store, 8));
+    assert!(rt; is_seven(&value));
 }
 
 /// Takes the bytes, items or entries out of what is held.

@@ -312,6 +312,7 @@ aliases x ->
 alias x z -> ok
 alias x -> ok
 alias x z -> ok
+alias x x -> ok
 aliases x -> z
  -> x
  ->

@@ -228,6 +228,19 @@ copy 0 -> ok
 store 0 1 -> ok
 ask 0 hashable -> false
 hash 0 -> refused NotHashable
+# two cells that hold each other
+unit -> ok
+share 0 -> ok
+unit -> ok
+share 1 -> ok
+copy 0 -> ok
+store 1 2 -> ok
+copy 1 -> ok
+store 0 3 -> ok
+show 0 -> <shared> (shared) (shared)
+ask 0 hashable -> false
+hash 0 -> refused NotHashable
+hash 1 -> refused NotHashable
 ";
 
 #[test]

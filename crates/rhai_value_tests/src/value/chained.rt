@@ -1,0 +1,59 @@
+//! A call on arrays whose contract says which items the array has, and one that calls it twice, proved from that contract alone.
+ghost use Rattle.std.specs.Prelude.{◌≡◌, ◌++◌, ◌∷◌, [], true, List, Some, IfErr, OnOk};
+ghost use Rattle.rhai_value.specs.End.{end, held_part};
+ghost use Rattle.rhai_value.specs.Items.{items_of};
+ghost use Rattle.rhai_value.specs.Tree.{Tree};
+
+use crate::values::shared;
+use rhai_value::{Array, Dynamic, InStore, Store, laws};
+
+/// Adds an item behind the others. It comes back where no array is held, and where memory is refused; nothing changed then.
+fn push_item(array: &mut Dynamic, m: &mut Store, item: Dynamic) -> Result<(), Dynamic>
+    ensures items { OnOk result ((xs : List Tree) × (held_part items_of (end m.old [] array.old) ≡ Some xs)
+        × (held_part items_of (end m.new [] array.new) ≡ Some (xs ++ item ∷ []))) }
+    ensures err { IfErr result (λ back. (back ≡ item) × (array.new ≡ array.old) × (m.new ≡ m.old)) }
+{
+    laws::parts::part_is_written_over_itself::<Array>();
+    laws::parts::items_are_chained();
+    let mut place = InStore {
+        value: array,
+        store: m,
+    };
+    match place.array_mut() {
+        Ok(items) => match items.push(item) {
+            Ok(()) => Ok(()),
+            Err(refused) => Err(refused.value),
+        },
+        Err(_) => Err(item),
+    }
+}
+
+/// Adds two items.
+fn push_both(array: &mut Dynamic, m: &mut Store, one: Dynamic, other: Dynamic) -> bool
+    ensures { result ≡ true → (xs : List Tree) × (held_part items_of (end m.old [] array.old) ≡ Some xs)
+        × (held_part items_of (end m.new [] array.new) ≡ Some ((xs ++ one ∷ []) ++ other ∷ [])) }
+{
+    match push_item(array, m, one) {
+        Ok(()) => push_item(array, m, other).is_ok(),
+        Err(_) => false,
+    }
+}
+
+/// Whether an array of so many items is held.
+fn has_items(value: &Dynamic, store: &Store, count: usize) -> bool {
+    match value.as_array_ref(store) {
+        Ok(items) => items.len() == count,
+        Err(_) => false,
+    }
+}
+
+#[test]
+fn two_items_are_added(rt: HostRuntime) {
+    let mut store = Store::new(rt.alloc());
+    let empty = Dynamic::from_array(Vec::new(rt.alloc()));
+    let mut array = shared(empty, &mut store);
+    assert!(rt; push_both(&mut array, &mut store, Dynamic::ONE, Dynamic::TRUE));
+    assert!(rt; has_items(&array, &store, 2));
+    let mut int = Dynamic::ONE;
+    assert!(rt; !push_both(&mut int, &mut store, Dynamic::ONE, Dynamic::TRUE));
+}

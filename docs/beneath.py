@@ -6,7 +6,10 @@ they can be read.
 
 With no arguments: beneath the run theorem (`run`, `run_both`, `apply`), and besides beneath `run_lines`, `eval` and `collect`.
 From the clauses of a function it follows each name to its definition in some crate's specs/, and on from there. It counts lines without
-comments, blank lines and imports; types of src/ and definitions of the standard library are not counted.
+comments, blank lines and imports; definitions of the standard library are not counted.
+
+A second number is that of the types of src/ that these functions take and give, and of those that the fields of such a type have: of a
+type with a model the lines that say what contracts see of it, with the definitions that only these name; of another its declaration.
 """
 import collections
 import functools
@@ -154,12 +157,66 @@ def tell(title, seen, without=frozenset()):
             print(f"  {path.replace('.', '/')}.antt {files[path]}")
 
 
+@functools.lru_cache(None)
+def sources(crate):
+    """The types that a crate's src/ declares: for each the imports of its file, its declaration, and what its model sees of it."""
+    types = {}
+    for folder, _, files in sorted(os.walk(f"{TOP}/crates/{crate}/src")):
+        for file in sorted(files):
+            with open(os.path.join(folder, file), encoding="utf-8") as it:
+                text = it.read()
+            uses = {}
+            for path, listed in re.findall(r"^use (rhai_\w+)::\{?([\w, \n]+)\}?;", text, re.M):
+                uses.update({name.strip(): path for name in listed.split(",")})
+            ghost = imports(text, True)
+            for name, block in re.findall(r"^(?:pub(?:\(crate\))? )?(?:struct|enum) (\w+)[^\n]*\{\n(.*?)^\}", text, re.M | re.S):
+                lines = [line for line in block.split("\n") if line.strip() and not re.match(r"\s*(//|#)", line)]
+                model = re.search(rf"^impl(?:<'a>)? Model for {name}\b.*?^\}}", text, re.M | re.S)
+                view = re.findall(r"ghost (?:Value|view) = \{.*?\};", model[0], re.S) if model else None
+                seen = {**ghost, **imports("\n".join(line.strip() for line in model[0].split("\n")), True)} if model else {}
+                types[name] = (uses, lines, view, seen)
+    return types
+
+
+def models(functions, seen):
+    """The lines of the types that these (file, function) take and give, type by type."""
+    left, counts, shown = [], collections.OrderedDict(), set(seen)
+    for file, names in functions:
+        crate = file.split("/")[1]
+        with open(f"{TOP}/{file}", encoding="utf-8") as it:
+            text = it.read()
+        uses = {}
+        for path, listed in re.findall(r"^use (rhai_\w+)::\{?([\w, \n]+)\}?;", text, re.M):
+            uses.update({name.strip(): path for name in listed.split(",")})
+        for name in names:
+            head = re.search(rf"\bfn {name}\b.*?(?=\n    (?:requires|ensures)|\n\{{)", text, re.S)[0]
+            left += [(uses.get(word, crate), word) for word in WORD.findall(head)]
+    while left:
+        crate, name = left.pop(0)
+        if (crate, name) in counts or name not in sources(crate):
+            continue
+        uses, lines, view, ghost = sources(crate)[name]
+        if view is None:
+            counts[crate, name] = len(lines)
+        else:
+            # (what a view doesn't read is no part of the meaning)
+            lines = [line for line in lines if re.search(rf"\.{WORD.findall(line.replace('pub(crate)', ''))[0]}\b", " ".join(view))]
+            seeds = [ghost[word] for word in WORD.findall(" ".join(view)) if word in ghost and ghost[word][1]]
+            more = reach(seeds) - shown
+            shown |= more
+            counts[crate, name] = sum(line.count("\n") + 1 for line in view) + sum(len(module(path)[1][item]) for path, item in more)
+        left += [(uses.get(word, crate), word) for word in WORD.findall("\n".join(lines))]
+    return counts
+
+
 def main(words):
     run = [("crates/rhai_run/src/world.rt", ["run", "apply"]), ("crates/rhai_run/src/both.rt", ["run_both"])]
     if words:
         run = [(words[0], words[1:])]
     seen = reach([it for file, functions in run for it in clauses(file, functions)])
     tell("beneath " + ", ".join(it for _, functions in run for it in functions), seen)
+    types = models(run, seen)
+    print(f"models and enums: {sum(types.values())} lines (" + ", ".join(f"{name} {lines}" for (_, name), lines in types.items()) + ")")
     if not words:
         # what stands on it: the program's own, expressions, and collections
         for file, name in [("crates/rhai_lines/src/lines.rt", "run_lines"), ("crates/rhai_run/src/eval.rt", "eval"), ("crates/rhai_run/src/world.rt", "collect")]:

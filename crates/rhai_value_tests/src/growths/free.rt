@@ -166,9 +166,9 @@ fn containers_are_lent(rt: HostRuntime) -> Result<(), Fail> {
     let mut array = Dynamic::from_array(vec![in alloc; Dynamic::ONE]?);
     let mut blob = Dynamic::from_blob(Blob::from_slice(alloc, &[1])?);
     let mut map = Dynamic::from_map(Map::new(alloc));
-    for value in [&mut array, &mut blob, &mut map] {
-        assert!(rt; is_own(value, &store) && is_lent(value, &mut store));
-    }
+    assert!(rt; is_own(&array, &store) && is_lent(&mut array, &mut store));
+    assert!(rt; is_own(&blob, &store) && is_lent(&mut blob, &mut store));
+    assert!(rt; is_own(&map, &store) && is_lent(&mut map, &mut store));
     Ok(())
 }
 

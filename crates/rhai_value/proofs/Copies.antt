@@ -23,11 +23,11 @@ copied_fields [] = refl
 copied_fields (r ∷ rs) = rw (copied_fields rs) refl
 
 -- a key above all others
-abbrev IsAbove : List ℕ → Rows → Type 0
+abbrev pub IsAbove : List ℕ → Rows → Type 0
 IsAbove k [] = Unit {0}
 IsAbove k (r ∷ rs) = (bytes_cmp k r.0 ≡ Greater) × IsAbove k rs
 
-insert_last : (rs : Rows) (k : List ℕ) (v : Tree) → IsAbove k rs → insert_entry bytes_cmp rs k v ≡ rs ++ (k, v) ∷ []
+pub insert_last : (rs : Rows) (k : List ℕ) (v : Tree) → IsAbove k rs → insert_entry bytes_cmp rs k v ≡ rs ++ (k, v) ∷ []
 insert_last [] k v h = refl
 insert_last (r ∷ rs) k v h = rw h.0 (ap (λ l. r ∷ l) (insert_last rs k v h.1))
 

@@ -59,7 +59,7 @@ lookup_rows k (e ∷ es) ts = rw (lookup_rows k es ts) (pushed (key_test k e.0))
     pushed false = refl
 
 -- what is found is the number of a key's slot
-found_named : (test : String Global → Bool) (es : List KeySlot) (p : ℕ) → lookup test es ≡ Some p → is_named p es ≡ true
+pub found_named : (test : String Global → Bool) (es : List KeySlot) (p : ℕ) → lookup test es ≡ Some p → is_named p es ≡ true
 found_named test [] p h = cc
 found_named test (e ∷ es) p h = here (test e.0) (found_named test es p) h
   where

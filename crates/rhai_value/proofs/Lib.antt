@@ -2,6 +2,8 @@ pub mod CellNumbers
 pub mod CellScans
 pub mod Cells
 pub mod Chains
+pub mod Childrens
+pub mod Coatings
 pub mod Copied
 pub mod Copies
 pub mod Edits
@@ -9,6 +11,7 @@ pub mod Ends
 pub mod Flags
 pub mod ForCallers
 pub mod Grow
+pub mod Hollows
 pub mod InStores
 pub mod Inserted
 pub mod Items
@@ -18,6 +21,7 @@ pub mod Labels
 pub mod Lent
 pub mod LentHeld
 pub mod LentPart
+pub mod Leveled
 pub mod MapTexts
 pub mod MarkedCells
 pub mod Meetings
@@ -30,6 +34,7 @@ pub mod SameScans
 pub mod SameTrees
 pub mod SameWalks
 pub mod Scans
+pub mod Sheds
 pub mod Slots
 pub mod Stores
 pub mod Traced

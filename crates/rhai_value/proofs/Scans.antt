@@ -75,7 +75,7 @@ settled xs ys n e long =
     ap₂ (λ k zs. take k (xs ++ zs)) (e ∙ sym long) (drop_of_length-le ys (omega arith)) ∙ take_at xs [] (length xs) refl
 
 -- a list with item i changed: what comes behind it
-behind : (xs : List Tree) (i : ℕ) (u : Tree) → i < length xs → drop (i + 1) (set xs i u) ≡ drop (i + 1) xs
+pub behind : (xs : List Tree) (i : ℕ) (u : Tree) → i < length xs → drop (i + 1) (set xs i u) ≡ drop (i + 1) xs
 behind [] i u l = absurd (omega arith)
 behind (x ∷ xs) zero u l = refl
 behind (x ∷ xs) (suc i) u l =

@@ -1,5 +1,5 @@
 -- Values that hold a locked cell.
-use Rattle.std.specs.Prelude.{Bool, false, ◌||◌, List, is_none}
+use Rattle.std.specs.Prelude.{Bool, false, ◌||◌, List, [], ◌∷◌, is_none}
 use Rattle.rhai_value.specs.declared.store.Cell.{Cell}
 use Rattle.rhai_value.specs.Tree.{Tree, node, Content, leaf, branch, fields, holder, Trees, no_trees, tree_then, Fields, no_fields, field_then}
 use Rattle.rhai_value.specs.Store.{at}
@@ -23,3 +23,8 @@ abbrev mutual
   pub is_field_locked : List Cell → Fields → Bool
   is_field_locked s no_fields = false
   is_field_locked s (field_then k t fs) = is_locked s t || is_field_locked s fs
+
+-- whether one of a list is locked
+abbrev pub any_locked : List Cell → List Tree → Bool
+any_locked s [] = false
+any_locked s (t ∷ ts) = is_locked s t || any_locked s ts

@@ -126,3 +126,8 @@ copied_slot (Taken t) = Taken (copy t)
 abbrev pub painted_slot : AccessMode → Slot → Slot
 painted_slot m (Vacant next) = Vacant next
 painted_slot m (Taken t) = Taken (paint m t)
+
+-- no slot is taken
+abbrev pub AreVacant : List Slot → Type 0
+AreVacant [] = ⊤
+AreVacant (s ∷ ss) = (is_taken s ≡ false) × AreVacant ss

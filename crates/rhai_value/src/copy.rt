@@ -6,10 +6,12 @@ ghost use Rattle.rhai_value.specs.Tree.{TakesNoMemory, copy};
 ghost use Rattle.rhai_value.specs.View.{tree_of};
 
 use crate::access_mode::AccessMode;
+use crate::copy_far::copied_far;
 use crate::dynamic::Dynamic;
 use crate::fn_ptr::FnPtr;
 use crate::map::{Map, MapParts, Slot};
 use crate::map_parts::value_at;
+use crate::near::NEAR;
 use crate::union::Union;
 use std::alloc::{AllocError, Global};
 use std::collections::BTreeMap;
@@ -17,20 +19,22 @@ use std::collections::BTreeMap;
 impl Dynamic {
     /// The same value once more, with all that it holds, every mode being ReadWrite; the copy of a holder names the same cell.
     /// The time grows with what is copied: a text shares its bytes, an array, a blob or the slots of a map take their room
-    /// once; the keys of a map of which more than half of the slots are vacant are inserted one by one. A text wants memory only where the count of its copies is at its limit. An `Err` comes
-    /// where memory is refused, and what was copied so far is gone then. (`Clone` of rhai's `Dynamic`)
+    /// once; the keys of a map of which more than half of the slots are vacant, or which stands below the 64th level, are inserted
+    /// one by one. A text wants memory only where the count of its copies is at its limit; below the 64th level what is left of each
+    /// level stands in a list. An `Err` comes where memory is refused, and what was copied so far is gone then. (`Clone` of rhai's
+    /// `Dynamic`)
     pub fn copy(&self, alloc: Global) -> Result<Dynamic, AllocError>
         ensures value { IfOk result (λ d. d ≡ copy self.now) }
         ensures free { TakesNoMemory self.now → IsOk result }
     {
-        copied(self, alloc)
+        copied(self, alloc, NEAR)
     }
 }
 
 // The kinds that are copied most often are made by the caller in their place.
 #[inline(always)]
 #[cycle(copy)]
-fn copied(value: &Dynamic, alloc: Global) -> Result<Dynamic, AllocError>
+fn copied(value: &Dynamic, alloc: Global, levels: u32) -> Result<Dynamic, AllocError>
     ensures value { IfOk result (λ d. d ≡ copy value.now) }
     ensures free { TakesNoMemory value.now → IsOk result }
 {
@@ -48,14 +52,14 @@ fn copied(value: &Dynamic, alloc: Global) -> Result<Dynamic, AllocError>
         let union = Union::Str(*tag, mode, text);
         return Ok(Dynamic { union });
     }
-    let union = copied_union(&value.union, alloc)?;
+    let union = copied_union(&value.union, alloc, levels)?;
     Ok(Dynamic { union })
 }
 
 #[inline(never)]
 #[cycle(copy)]
 #[tactic(auto, using(crate::proofs::Copies::copied_trees, crate::proofs::Copies::copied_fields))]
-fn copied_union(union: &Union, alloc: Global) -> Result<Union, AllocError>
+fn copied_union(union: &Union, alloc: Global, levels: u32) -> Result<Union, AllocError>
     ensures value { IfOk result (λ u. tree_of u ≡ copy (tree_of union.now)) }
     ensures free { TakesNoMemory (tree_of union.now) → IsOk result }
 {
@@ -66,10 +70,27 @@ fn copied_union(union: &Union, alloc: Global) -> Result<Union, AllocError>
         Union::Str(tag, _, text) => Ok(Union::Str(*tag, mode, text.copy(alloc)?)),
         Union::Char(tag, _, value) => Ok(Union::Char(*tag, mode, *value)),
         Union::Int(tag, _, value) => Ok(Union::Int(*tag, mode, *value)),
-        Union::Array(tag, _, items) => Ok(Union::Array(*tag, mode, copied_items(items, alloc)?)),
+        Union::Array(tag, _, items) => {
+            if levels == 0 {
+                return copied_far(union, alloc);
+            }
+            let items = copied_items(items, alloc, levels - 1)?;
+            Ok(Union::Array(*tag, mode, items))
+        }
         Union::Blob(tag, _, bytes) => Ok(Union::Blob(*tag, mode, Vec::from_slice(alloc, bytes)?)),
-        Union::Map(tag, _, map) => Ok(Union::Map(*tag, mode, copied_map(map, alloc)?)),
-        Union::FnPtr(tag, _, f) => Ok(Union::FnPtr(*tag, mode, copied_function(f, alloc)?)),
+        Union::Map(tag, _, map) => {
+            if levels == 0 {
+                return copied_far(union, alloc);
+            }
+            Ok(Union::Map(*tag, mode, copied_map(map, alloc, levels - 1)?))
+        }
+        Union::FnPtr(tag, _, f) => {
+            if levels == 0 {
+                return copied_far(union, alloc);
+            }
+            let f = copied_function(f, alloc, levels - 1)?;
+            Ok(Union::FnPtr(*tag, mode, f))
+        }
         Union::Variant(tag, _, host) => Ok(Union::Variant(*tag, mode, *host)),
         Union::Shared(tag, _, cell) => Ok(Union::Shared(*tag, mode, *cell)),
     }
@@ -110,29 +131,33 @@ fn push_short(copies: &mut Vec<Dynamic>, union: &Union, alloc: Global) -> Result
 
 // The copies of the items, for which room is taken once.
 #[cycle(copy)]
-pub(crate) fn copied_items(items: &Vec<Dynamic>, alloc: Global) -> Result<Vec<Dynamic>, AllocError>
+pub(crate) fn copied_items(
+    items: &Vec<Dynamic>,
+    alloc: Global,
+    levels: u32,
+) -> Result<Vec<Dynamic>, AllocError>
     ensures { IfOk result (λ v. v.items ≡ map copy items.now.items) }
 {
     let mut copies = Vec::with_capacity(alloc, items.len())?;
     for item in items {
         if !push_short(&mut copies, &item.union, alloc)? {
-            copies.push_reserved(copied(item, alloc)?);
+            copies.push_reserved(copied(item, alloc, levels)?);
         }
     }
     Ok(copies)
 }
 
 #[cycle(copy)]
-pub(crate) fn copied_function(f: &FnPtr, alloc: Global) -> Result<FnPtr, AllocError>
+pub(crate) fn copied_function(f: &FnPtr, alloc: Global, levels: u32) -> Result<FnPtr, AllocError>
     ensures { IfOk result (λ g. g ≡ (f.now.0, map copy f.now.1)) }
 {
     let name = f.name.copy(alloc)?;
-    let curry = copied_items(&f.curry, alloc)?;
+    let curry = copied_items(&f.curry, alloc, levels)?;
     Ok(FnPtr { name, curry })
 }
 
 #[cycle(copy)]
-pub(crate) fn copied_map(map: &Map, alloc: Global) -> Result<Map, AllocError>
+pub(crate) fn copied_map(map: &Map, alloc: Global, levels: u32) -> Result<Map, AllocError>
     ensures { IfOk result (λ m. m ≡ copied_rows map.now) }
 {
     match &map.parts {
@@ -141,9 +166,9 @@ pub(crate) fn copied_map(map: &Map, alloc: Global) -> Result<Map, AllocError>
             let parts: &MapParts = parts;
             // a map with few keys for its slots is copied without those that are vacant
             if parts.slots.len() / 2 > parts.index.len() {
-                return copied_entries(&parts.index, &parts.slots, alloc);
+                return copied_entries(&parts.index, &parts.slots, alloc, levels);
             }
-            let parts = Box::new(alloc, copied_parts(parts, alloc)?)?;
+            let parts = Box::new(alloc, copied_parts(parts, alloc, levels)?)?;
             Ok(Map {
                 parts: Some(parts),
                 alloc,
@@ -154,13 +179,13 @@ pub(crate) fn copied_map(map: &Map, alloc: Global) -> Result<Map, AllocError>
 
 // The index as a whole, and the slots one by one.
 #[cycle(copy)]
-fn copied_parts(parts: &MapParts, alloc: Global) -> Result<MapParts, AllocError>
+fn copied_parts(parts: &MapParts, alloc: Global, levels: u32) -> Result<MapParts, AllocError>
     requires { IsWhole parts.now }
     ensures rows { IfOk result (λ p. rows_of p ≡ copied_rows (rows_of parts.now)) }
     ensures whole { IfOk result (λ p. IsWhole p) }
 {
     let index = parts.index.clone()?;
-    let slots = copied_slots(&parts.slots, alloc)?;
+    let slots = copied_slots(&parts.slots, alloc, levels)?;
     Ok(MapParts {
         index,
         slots,
@@ -169,13 +194,13 @@ fn copied_parts(parts: &MapParts, alloc: Global) -> Result<MapParts, AllocError>
 }
 
 #[cycle(copy)]
-fn copied_slots(slots: &Vec<Slot>, alloc: Global) -> Result<Vec<Slot>, AllocError>
+fn copied_slots(slots: &Vec<Slot>, alloc: Global, levels: u32) -> Result<Vec<Slot>, AllocError>
     ensures { IfOk result (λ v. v.items ≡ map copied_slot slots.now.items) }
 {
     let mut copies = Vec::with_capacity(alloc, slots.len())?;
     for slot in slots {
         if !push_short_slot(&mut copies, slot, alloc)? {
-            copies.push_reserved(slot_copy(slot, alloc)?);
+            copies.push_reserved(slot_copy(slot, alloc, levels)?);
         }
     }
     Ok(copies)
@@ -218,12 +243,12 @@ fn push_short_slot(copies: &mut Vec<Slot>, slot: &Slot, alloc: Global) -> Result
 }
 
 #[cycle(copy)]
-fn slot_copy(slot: &Slot, alloc: Global) -> Result<Slot, AllocError>
+fn slot_copy(slot: &Slot, alloc: Global, levels: u32) -> Result<Slot, AllocError>
     ensures { IfOk result (λ s. s ≡ copied_slot slot.now) }
 {
     match slot {
         Slot::Vacant(next) => Ok(Slot::Vacant(*next)),
-        Slot::Taken(value) => Ok(Slot::Taken(copied(value, alloc)?)),
+        Slot::Taken(value) => Ok(Slot::Taken(copied(value, alloc, levels)?)),
     }
 }
 
@@ -233,6 +258,7 @@ fn copied_entries(
     index: &BTreeMap<String, usize>,
     slots: &Vec<Slot>,
     alloc: Global,
+    levels: u32,
 ) -> Result<Map, AllocError>
     requires { AreTaken index.now.entries slots.now.items }
     ensures { IfOk result (λ m. m ≡ copied_rows (rows index.now.entries slots.now.items)) }
@@ -240,7 +266,7 @@ fn copied_entries(
     let mut copies = Map::new(alloc);
     for (key, number) in index.iter() {
         let key = String::from_str(alloc, key)?;
-        let value = copied(value_at(slots, *number), alloc)?;
+        let value = copied(value_at(slots, *number), alloc, levels)?;
         match copies.insert(key, value) {
             Ok(old) => drop(old),
             Err(back) => {

@@ -4,6 +4,8 @@ use crate::access_mode::AccessMode;
 use crate::cell_ref::CellRef;
 use crate::map::Map;
 use crate::mode::set_own_mode;
+use crate::near::NEAR;
+use crate::shed::shed;
 use crate::union::{Array, Blob, INT, Tag, Union};
 use rhai_text::ImmutableString;
 use std::alloc::{AllocError, Global};
@@ -12,9 +14,16 @@ use std::marker::Model;
 
 /// A value of a script (`Dynamic` of rhai), which contracts see as a tree.
 #[cycle(dynamic)]
-#[derive(Drop)]
 pub struct Dynamic {
     pub(crate) union: Union,
+}
+
+impl Drop for Dynamic {
+    /// Takes no memory, and a bounded piece of the stack, however deep the value is.
+    #[inline(always)]
+    fn drop(self) {
+        shed(self, NEAR);
+    }
 }
 
 impl Model for Dynamic {
@@ -141,7 +150,8 @@ impl Dynamic {
     pub fn into_parts(self) -> Union
         ensures { tree_of result ≡ self }
     {
-        self.union
+        let Dynamic { union } = self;
+        union
     }
 
     /// The value with this constructor.

@@ -7,6 +7,7 @@ ghost use Rattle.rhai_value.specs.Rows.{trees_of};
 
 use crate::copy::copied_items;
 use crate::dynamic::Dynamic;
+use crate::near::NEAR;
 use crate::part::Part;
 use crate::store::Store;
 use crate::union::{Array, Blob};
@@ -81,7 +82,7 @@ impl Dynamic {
         };
         match value.as_array_ref(s) {
             Err(name) => Err(IntoError::Mismatch(name)),
-            Ok(items) => Ok(copied_items(items, alloc)?),
+            Ok(items) => Ok(copied_items(items, alloc, NEAR)?),
         }
     }
 

@@ -1,46 +1,129 @@
 //! Values that hold a locked cell.
-ghost use Rattle.std.specs.Prelude.{◌≡◌};
+ghost use Rattle.std.specs.Prelude.{◌≡◌, ◌+◌, ◌<◌, ◌∷◌, true, false, None};
 ghost use Rattle.rhai_value.specs.Slots.{AreTaken, rows};
-ghost use Rattle.rhai_value.specs.Locked.{is_locked, is_one_locked, is_field_locked};
+ghost use Rattle.rhai_value.specs.Locked.{is_locked, is_one_locked, is_field_locked, any_locked};
 ghost use Rattle.rhai_value.specs.Rows.{trees_of, fields_of};
+ghost use Rattle.rhai_value.specs.Tree.{cell_of, nodes, nodes_trees};
 
 use crate::dynamic::Dynamic;
 use crate::map::{Map, MapParts, Slot};
 use crate::map_parts::value_at;
+use crate::near::NEAR;
 use crate::store::Store;
 use crate::union::Union;
+use crate::visits::Visits;
+use std::alloc::Global;
 use std::collections::BTreeMap;
 
 impl Dynamic {
     /// Whether the value is, or has inside it at any depth, a holder of a cell that is marked or no cell of the store. What is in
-    /// a cell isn't looked at. Takes no memory; the time grows with the number of values inside. (`Dynamic::is_locked`)
+    /// a cell isn't looked at. Takes no memory for values of up to 64 levels; below, it may ask for a list, and goes on by calls where that
+    /// is refused. The time grows with the number of values inside. (`Dynamic::is_locked`)
     pub fn is_locked(&self, s: &Store) -> bool
         ensures { result ≡ is_locked s.now self.now }
     {
-        locks(self, s)
+        locks(self, s, NEAR)
     }
 }
 
 #[inline(always)]
 #[cycle(locks)]
-fn locks(value: &Dynamic, s: &Store) -> bool
+fn locks(value: &Dynamic, s: &Store, levels: u32) -> bool
     ensures { result ≡ is_locked s.now value.now }
 {
     match &value.union {
-        Union::Array(_, _, items) => locks_items(items, s),
-        Union::Map(_, _, map) => locks_map(map, s),
-        Union::FnPtr(_, _, f) => locks_items(&f.curry, s),
+        Union::Array(_, _, items) => {
+            if levels == 0 {
+                return locks_far(value, s, *items.allocator());
+            }
+            locks_items(items, s, levels - 1)
+        }
+        Union::Map(_, _, map) => {
+            if levels == 0 {
+                return locks_far(value, s, map.alloc);
+            }
+            locks_map(map, s, levels - 1)
+        }
+        Union::FnPtr(_, _, f) => {
+            if levels == 0 {
+                return locks_far(value, s, *f.curry.allocator());
+            }
+            locks_items(&f.curry, s, levels - 1)
+        }
         Union::Shared(_, _, cell) => s.read(*cell).is_none(),
-        _ => false,
+        Union::Unit(_, _, _)
+        | Union::Bool(_, _, _)
+        | Union::Str(_, _, _)
+        | Union::Char(_, _, _)
+        | Union::Int(_, _, _)
+        | Union::Blob(_, _, _)
+        | Union::Variant(_, _, _) => false,
     }
 }
 
+// The same with the values that are yet to be visited in a list, so that the calls don't nest. Where memory for the list is refused,
+// it goes on by calls.
+#[inline(never)]
 #[cycle(locks)]
-fn locks_items(items: &Vec<Dynamic>, s: &Store) -> bool
+fn locks_far(value: &Dynamic, s: &Store, alloc: Global) -> bool
+    requires { cell_of value.now ≡ None }
+    ensures { result ≡ is_locked s.now value.now }
+{
+    let mut visits = Visits::inside(value, alloc);
+    while let Some(found) = visits.next() {
+        match &found.union {
+            Union::Shared(_, _, cell) => {
+                if s.read(*cell).is_none() {
+                    return true;
+                }
+            }
+            Union::Array(_, _, _) => {
+                if is_locked_or_entered(&mut visits, found, s) {
+                    return true;
+                }
+            }
+            Union::Map(_, _, _) => {
+                if is_locked_or_entered(&mut visits, found, s) {
+                    return true;
+                }
+            }
+            Union::FnPtr(_, _, _) => {
+                if is_locked_or_entered(&mut visits, found, s) {
+                    return true;
+                }
+            }
+            Union::Unit(_, _, _)
+            | Union::Bool(_, _, _)
+            | Union::Str(_, _, _)
+            | Union::Char(_, _, _)
+            | Union::Int(_, _, _)
+            | Union::Blob(_, _, _)
+            | Union::Variant(_, _, _) => {}
+        }
+    }
+    false
+}
+
+// Enters a value; where memory for that is refused, says whether it is locked.
+#[cycle(locks)]
+fn is_locked_or_entered<'a>(visits: &mut Visits<'a>, found: &'a Dynamic, s: &Store) -> bool
+    requires { cell_of found.now ≡ None }
+    ensures locked { result ≡ true → is_locked s.now found.now ≡ true }
+    ensures entered { result ≡ false → any_locked s.now visits.new ≡ any_locked s.now (found.now ∷ visits.old) }
+    ensures fewer { nodes_trees (trees_of visits.new) < nodes found.now + nodes_trees (trees_of visits.old) }
+{
+    if visits.enter(found) {
+        return false;
+    }
+    locks(found, s, NEAR)
+}
+
+#[cycle(locks)]
+fn locks_items(items: &Vec<Dynamic>, s: &Store, levels: u32) -> bool
     ensures { result ≡ is_one_locked s.now (trees_of items.now.items) }
 {
     for item in items {
-        if locks(item, s) {
+        if locks(item, s, levels) {
             return true;
         }
     }
@@ -48,25 +131,25 @@ fn locks_items(items: &Vec<Dynamic>, s: &Store) -> bool
 }
 
 #[cycle(locks)]
-fn locks_map(map: &Map, s: &Store) -> bool
+fn locks_map(map: &Map, s: &Store, levels: u32) -> bool
     ensures { result ≡ is_field_locked s.now (fields_of map.now) }
 {
     match &map.parts {
         None => false,
         Some(parts) => {
             let parts: &MapParts = parts;
-            locks_entries(&parts.index, &parts.slots, s)
+            locks_entries(&parts.index, &parts.slots, s, levels)
         }
     }
 }
 
 #[cycle(locks)]
-fn locks_entries(index: &BTreeMap<String, usize>, slots: &Vec<Slot>, s: &Store) -> bool
+fn locks_entries(index: &BTreeMap<String, usize>, slots: &Vec<Slot>, s: &Store, levels: u32) -> bool
     requires { AreTaken index.now.entries slots.now.items }
     ensures { result ≡ is_field_locked s.now (fields_of (rows index.now.entries slots.now.items)) }
 {
     for (_, number) in index.iter() {
-        if locks(value_at(slots, *number), s) {
+        if locks(value_at(slots, *number), s, levels) {
             return true;
         }
     }

@@ -62,13 +62,14 @@ impl Model for Map {
 }
 
 impl Map {
-    ghost use Rattle.std.specs.Prelude.{◌≡◌, ◌↔◌, [], ◌∷◌, length, option_copied, None, is_some, string_bytes, IfOk, IfErr, OnOk, OnErr, IsTrue, MatchOption};
+    ghost use Rattle.std.specs.Prelude.{◌≡◌, ◌<◌, ◌+◌, ◌↔◌, [], ◌∷◌, length, option_copied, None, is_some, string_bytes, IfOk, IfErr, OnOk, OnErr, IsTrue, MatchOption};
     ghost use Rattle.std.specs.BTreeMap.{insert_entry, is_at};
     ghost use Rattle.std.specs.Borrow.{LendsIf, sem};
     ghost use Rattle.std.specs.List.Sorted.{IsStrictlySortedBy};
     ghost use Rattle.std.specs.Map.{keys_of, lookup, remove_entry, set_value, values_of};
     ghost use Rattle.std.specs.Option.{option_copied_mut};
-    ghost use Rattle.rhai_value.specs.Rows.{bytes_cmp, AreRising, AreTexts};
+    ghost use Rattle.rhai_value.specs.Rows.{bytes_cmp, fields_of, AreRising, AreTexts};
+    ghost use Rattle.rhai_value.specs.Tree.{nodes, nodes_fields};
     ghost use Rattle.rhai_value.specs.contracts.dynamic.Dynamic as dynamic_type;
     ghost use Rattle.rhai_value.specs.contracts.map.Map as map_type;
 
@@ -191,6 +192,18 @@ impl Map {
         match &mut self.parts {
             Some(parts) => parts.pop_first(),
             None => None,
+        }
+    }
+
+    /// Takes the value of the last entry out, and puts `with` in its place, if there is an entry. It takes no memory.
+    pub(crate) fn swap_last(&mut self, with: Dynamic) -> Result<Dynamic, Dynamic>
+        ensures ok { IfOk result (λ x. (nodes_fields (fields_of self.new) + nodes x ≡ nodes_fields (fields_of self.old) + nodes with) × (nodes x < 1 + nodes_fields (fields_of self.old))) }
+        ensures err { IfErr result (λ back. (back ≡ with) × (self.new ≡ self.old)) }
+        ensures none { IfErr result (λ _. self.new ≡ []) }
+    {
+        match &mut self.parts {
+            Some(parts) => parts.swap_last(with),
+            None => Err(with),
         }
     }
 

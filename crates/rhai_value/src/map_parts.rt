@@ -1,13 +1,13 @@
 //! The index and the slots of a map that has had an entry.
 
-ghost use Rattle.std.specs.Prelude.{◌≡◌, ◌<◌, true, [], ◌∷◌, None, length, option_copied, IfOk, IfErr, IfSome, IfNone, OnOk, OnErr, MatchOption, slice_set, string_bytes};
+ghost use Rattle.std.specs.Prelude.{◌≡◌, ◌<◌, ◌+◌, true, [], ◌∷◌, None, length, option_copied, IfOk, IfErr, IfSome, IfNone, OnOk, OnErr, MatchOption, slice_set, string_bytes};
 ghost use Rattle.std.specs.BTreeMap.{insert_entry, is_at};
 ghost use Rattle.std.specs.Borrow.{Lends, LendsIf, sem};
 ghost use Rattle.std.specs.Map.{lookup, remove_entry};
 ghost use Rattle.std.specs.Option.{option_copied_mut};
-ghost use Rattle.rhai_value.specs.Rows.{bytes_cmp};
+ghost use Rattle.rhai_value.specs.Rows.{bytes_cmp, fields_of};
 ghost use Rattle.rhai_value.specs.Slots.{rows_of, with_value, with_value_at, IsWhole, IsStored, is_taken, tree_in, slot_at};
-ghost use Rattle.rhai_value.specs.Tree.{Tree};
+ghost use Rattle.rhai_value.specs.Tree.{Tree, nodes, nodes_fields};
 ghost use Rattle.rhai_value.specs.contracts.dynamic.Dynamic as dynamic_type;
 ghost use Rattle.rhai_value.specs.contracts.map.MapParts as parts_type;
 ghost use Rattle.rhai_value.specs.contracts.map.Slot as slot_type;
@@ -17,6 +17,7 @@ use crate::dynamic::Dynamic;
 use crate::map::{MapParts, Slot};
 use std::alloc::Global;
 use std::collections::BTreeMap;
+use std::mem;
 
 /// The value in a slot that has one.
 pub(crate) fn value_in(slot: &Slot) -> &Dynamic
@@ -58,9 +59,11 @@ fn exchange(slot: &mut Slot, with: Slot) -> Dynamic
     ensures taken { result ≡ tree_in slot.old }
     ensures left { slot.new ≡ with }
 {
-    let value = value_in_mut(slot).take();
-    *slot = with;
-    value
+    match mem::replace(slot, with) {
+        Slot::Taken(value) => value,
+        // Which slots are taken is told by the index alone.
+        Slot::Vacant(_) => unreachable!(),
+    }
 }
 
 impl MapParts {
@@ -239,5 +242,19 @@ impl MapParts {
             Some((key, number)) => Some((key, self.vacate(number))),
             None => None,
         }
+    }
+
+    pub(crate) fn swap_last(&mut self, with: Dynamic) -> Result<Dynamic, Dynamic>
+        requires { IsWhole self.old }
+        ensures ok { IfOk result (λ x. (nodes_fields (fields_of (rows_of self.new)) + nodes x ≡ nodes_fields (fields_of (rows_of self.old)) + nodes with) × (nodes x < 1 + nodes_fields (fields_of (rows_of self.old)))) }
+        ensures err { IfErr result (λ back. (back ≡ with) × (self.new ≡ self.old)) }
+        ensures none { IfErr result (λ _. rows_of self.new ≡ []) }
+        ensures whole { IsWhole self.new }
+    {
+        let number = match self.index.last_key_value() {
+            Some((_, number)) => *number,
+            None => return Err(with),
+        };
+        Ok(self.exchange_at(number, Slot::Taken(with)))
     }
 }

@@ -8,16 +8,19 @@ ghost use Rattle.rhai_value.specs.declared.access_mode.AccessMode.TheVariants.{R
 use crate::access_mode::AccessMode;
 use crate::dynamic::Dynamic;
 use crate::map::{Map, Slot};
+use crate::near::NEAR;
+use crate::paint_far::paint_far;
 use crate::union::Union;
 
 impl Dynamic {
     /// Sets the mode of the value and of all that it holds through arrays and maps. Curried values keep their modes, and so
-    /// does what is in a cell. Takes no memory; the time grows with the number of values inside, and of the slots of maps.
+    /// does what is in a cell. Takes no memory for values of up to 64 levels; below, it may ask for a list, and goes on by calls where that is
+    /// refused. The time grows with the number of values inside, and of the slots of maps.
     /// (`Dynamic::set_access_mode`)
     pub fn set_access_mode(&mut self, mode: AccessMode)
         ensures { self.new ≡ paint mode self.old }
     {
-        paint_value(self, mode);
+        paint_value(self, mode, NEAR);
     }
 
     /// The value as a constant, with all that it holds through arrays and maps; at the cost of `set_access_mode`.
@@ -25,7 +28,7 @@ impl Dynamic {
     pub fn into_read_only(mut self) -> Dynamic
         ensures { result ≡ paint ReadOnly self }
     {
-        paint_value(&mut self, AccessMode::ReadOnly);
+        paint_value(&mut self, AccessMode::ReadOnly, NEAR);
         self
     }
 }
@@ -53,53 +56,73 @@ pub(crate) fn set_own_mode(value: &mut Dynamic, mode: AccessMode)
 #[inline(always)]
 #[cycle(paint)]
 #[tactic(auto, using(crate::proofs::Paints::painted_trees))]
-fn paint_value(value: &mut Dynamic, mode: AccessMode)
+fn paint_value(value: &mut Dynamic, mode: AccessMode, levels: u32)
     ensures { value.new ≡ paint mode value.old }
 {
     match &mut value.union {
-        Union::Array(_, _, items) => paint_items(items, mode),
-        Union::Map(_, _, map) => paint_map(map, mode),
-        _ => {}
+        Union::Array(_, _, items) => {
+            if levels == 0 {
+                let alloc = *items.allocator();
+                return paint_far(value, mode, alloc);
+            }
+            paint_items(items, mode, levels - 1);
+        }
+        Union::Map(_, _, map) => {
+            if levels == 0 {
+                let alloc = map.alloc;
+                return paint_far(value, mode, alloc);
+            }
+            paint_map(map, mode, levels - 1);
+        }
+        Union::Unit(_, _, _)
+        | Union::Bool(_, _, _)
+        | Union::Str(_, _, _)
+        | Union::Char(_, _, _)
+        | Union::Int(_, _, _)
+        | Union::Blob(_, _, _)
+        | Union::FnPtr(_, _, _)
+        | Union::Variant(_, _, _)
+        | Union::Shared(_, _, _) => {}
     }
     set_own_mode(value, mode);
 }
 
 #[inline(never)]
 #[cycle(paint)]
-fn paint_items(items: &mut Vec<Dynamic>, mode: AccessMode)
+fn paint_items(items: &mut Vec<Dynamic>, mode: AccessMode, levels: u32)
     ensures { items.new.items ≡ map (paint mode) items.old.items }
 {
     for item in items.iter_mut() {
-        paint_value(item, mode);
+        paint_value(item, mode, levels);
     }
 }
 
 #[inline(never)]
 #[cycle(paint)]
-fn paint_map(map: &mut Map, mode: AccessMode)
+fn paint_map(map: &mut Map, mode: AccessMode, levels: u32)
     ensures { fields_of map.new ≡ paint_fields mode (fields_of map.old) }
 {
     let Some(mut parts) = map.parts.take() else {
         return;
     };
-    paint_slots(&mut parts.slots, mode);
+    paint_slots(&mut parts.slots, mode, levels);
     map.parts = Some(parts);
 }
 
 #[cycle(paint)]
-fn paint_slots(slots: &mut Vec<Slot>, mode: AccessMode)
+fn paint_slots(slots: &mut Vec<Slot>, mode: AccessMode, levels: u32)
     ensures { slots.new.items ≡ map (painted_slot mode) slots.old.items }
 {
     for slot in slots.iter_mut() {
-        paint_slot(slot, mode);
+        paint_slot(slot, mode, levels);
     }
 }
 
 #[cycle(paint)]
-fn paint_slot(slot: &mut Slot, mode: AccessMode)
+fn paint_slot(slot: &mut Slot, mode: AccessMode, levels: u32)
     ensures { slot.new ≡ painted_slot mode slot.old }
 {
     if let Slot::Taken(value) = slot {
-        paint_value(value, mode);
+        paint_value(value, mode, levels);
     }
 }

@@ -11,6 +11,7 @@ use crate::copy::{copied_function, copied_items, copied_map};
 use crate::dynamic::Dynamic;
 use crate::fn_ptr::FnPtr;
 use crate::map::Map;
+use crate::near::NEAR;
 use crate::part::Part;
 use crate::type_id::TypeId;
 use crate::union::{Array, Blob, INT, Union};
@@ -51,7 +52,7 @@ impl Part for () {
     }
 
     fn take_out(value: Dynamic) -> Result<(), Dynamic> {
-        match value.union {
+        match value.into_parts() {
             Union::Unit(_, _, x) => Ok(x),
             union => Err(Dynamic { union }),
         }
@@ -102,7 +103,7 @@ impl Part for bool {
     }
 
     fn take_out(value: Dynamic) -> Result<bool, Dynamic> {
-        match value.union {
+        match value.into_parts() {
             Union::Bool(_, _, x) => Ok(x),
             union => Err(Dynamic { union }),
         }
@@ -153,7 +154,7 @@ impl Part for INT {
     }
 
     fn take_out(value: Dynamic) -> Result<INT, Dynamic> {
-        match value.union {
+        match value.into_parts() {
             Union::Int(_, _, x) => Ok(x),
             union => Err(Dynamic { union }),
         }
@@ -204,7 +205,7 @@ impl Part for char {
     }
 
     fn take_out(value: Dynamic) -> Result<char, Dynamic> {
-        match value.union {
+        match value.into_parts() {
             Union::Char(_, _, x) => Ok(x),
             union => Err(Dynamic { union }),
         }
@@ -255,7 +256,7 @@ impl Part for ImmutableString {
     }
 
     fn take_out(value: Dynamic) -> Result<ImmutableString, Dynamic> {
-        match value.union {
+        match value.into_parts() {
             Union::Str(_, _, x) => Ok(x),
             union => Err(Dynamic { union }),
         }
@@ -306,7 +307,7 @@ impl Part for Blob {
     }
 
     fn take_out(value: Dynamic) -> Result<Blob, Dynamic> {
-        match value.union {
+        match value.into_parts() {
             Union::Blob(_, _, x) => Ok(x),
             union => Err(Dynamic { union }),
         }
@@ -357,7 +358,7 @@ impl Part for Array {
     }
 
     fn take_out(value: Dynamic) -> Result<Array, Dynamic> {
-        match value.union {
+        match value.into_parts() {
             Union::Array(_, _, x) => Ok(x),
             union => Err(Dynamic { union }),
         }
@@ -365,7 +366,7 @@ impl Part for Array {
 
     #[tactic(auto, using(crate::proofs::Copies::copied_trees, crate::proofs::Copies::copied_fields))]
     fn again(&self, alloc: Global) -> Result<Array, AllocError> {
-        copied_items(self, alloc)
+        copied_items(self, alloc, NEAR)
     }
 
     ghost constructs = { refl };
@@ -409,7 +410,7 @@ impl Part for Map {
     }
 
     fn take_out(value: Dynamic) -> Result<Map, Dynamic> {
-        match value.union {
+        match value.into_parts() {
             Union::Map(_, _, x) => Ok(x),
             union => Err(Dynamic { union }),
         }
@@ -417,7 +418,7 @@ impl Part for Map {
 
     #[tactic(auto, using(crate::proofs::Copies::copied_trees, crate::proofs::Copies::copied_fields))]
     fn again(&self, alloc: Global) -> Result<Map, AllocError> {
-        copied_map(self, alloc)
+        copied_map(self, alloc, NEAR)
     }
 
     ghost constructs = { refl };
@@ -461,7 +462,7 @@ impl Part for FnPtr {
     }
 
     fn take_out(value: Dynamic) -> Result<FnPtr, Dynamic> {
-        match value.union {
+        match value.into_parts() {
             Union::FnPtr(_, _, x) => Ok(x),
             union => Err(Dynamic { union }),
         }
@@ -469,7 +470,7 @@ impl Part for FnPtr {
 
     #[tactic(auto, using(crate::proofs::Copies::copied_trees, crate::proofs::Copies::copied_fields))]
     fn again(&self, alloc: Global) -> Result<FnPtr, AllocError> {
-        copied_function(self, alloc)
+        copied_function(self, alloc, NEAR)
     }
 
     ghost constructs = { refl };

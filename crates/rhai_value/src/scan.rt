@@ -1,12 +1,18 @@
 //! Visits to a value and to all that it holds.
-ghost use Rattle.std.specs.Prelude.{◌≡◌};
+ghost use Rattle.std.specs.Prelude.{◌≡◌, ◌+◌, ◌*◌, ◌<◌, ◌≤◌};
+ghost use Rattle.flat_walk.specs.Frames.{unwound, sizes, AreAll};
+ghost use Rattle.rhai_value.specs.Hollow.{hollow_after, hollow_left, hollow_scanned, IsReady, IsWaiting};
 ghost use Rattle.rhai_value.specs.Rows.{trees_of, fields_of};
 ghost use Rattle.rhai_value.specs.Scan.{each_scanned, fields_scanned, children_scanned, scan, slot_scanned};
 ghost use Rattle.rhai_value.specs.Slots.{rows, rows_of, AreMatched, IsWhole};
+ghost use Rattle.rhai_value.specs.Tree.{nodes};
 
 use crate::dynamic::Dynamic;
+use crate::hollow::{Hollow, go_down};
 use crate::map::{Map, MapParts, Slot};
+use crate::near::NEAR;
 use crate::union::Union;
+use std::alloc::Global;
 use std::collections::BTreeMap;
 
 /// What `deep_scan` does with each value that it comes to.
@@ -28,25 +34,29 @@ pub trait Visitor {
 impl Dynamic {
     /// Visits the value, and then the children of what came out, each with all that it holds: the items of an array, the values of
     /// a map in the order of the keys, the curried values of a function pointer, from left to right. A holder is visited, its cell
-    /// isn't entered. Takes no memory of its own; the time grows with the number of values that are visited.
+    /// isn't entered. Takes no memory for values of up to 64 levels; below, it may ask for lists, and goes on by calls where these are
+    /// refused. The time grows with the number of values that are visited.
     /// (`Dynamic::deep_scan`)
     pub fn deep_scan<V: Visitor>(&mut self, visitor: &mut V)
         ensures { (visitor.new, self.new) ≡ scan V.visited visitor.old self.old }
     {
-        scan_value(self, visitor);
+        scan_value(self, visitor, NEAR);
     }
 }
 
+// Most values hold no others, so each caller visits them in their place.
+#[inline(always)]
 #[cycle(scan)]
-fn scan_value<V: Visitor>(value: &mut Dynamic, visitor: &mut V)
+fn scan_value<V: Visitor>(value: &mut Dynamic, visitor: &mut V, levels: u32)
     ensures { (visitor.new, value.new) ≡ scan V.visited visitor.old value.old }
 {
     visitor.visit(value);
-    scan_children(value, visitor);
+    scan_children(value, visitor, levels);
 }
 
+#[inline(always)]
 #[cycle(scan)]
-fn scan_children<V: Visitor>(value: &mut Dynamic, visitor: &mut V)
+fn scan_children<V: Visitor>(value: &mut Dynamic, visitor: &mut V, levels: u32)
     ensures { (visitor.new, value.new) ≡ children_scanned (scan V.visited) visitor.old value.old }
 {
     match &mut value.union {
@@ -55,61 +65,154 @@ fn scan_children<V: Visitor>(value: &mut Dynamic, visitor: &mut V)
         Union::Str(_, _, _) => {}
         Union::Char(_, _, _) => {}
         Union::Int(_, _, _) => {}
-        Union::Array(_, _, items) => scan_items(items, visitor),
+        Union::Array(_, _, items) => {
+            if levels == 0 {
+                let alloc = *items.allocator();
+                scan_far(value, visitor, alloc);
+            } else {
+                scan_items(items, visitor, levels - 1);
+            }
+        }
         Union::Blob(_, _, _) => {}
-        Union::Map(_, _, map) => scan_map(map, visitor),
-        Union::FnPtr(_, _, f) => scan_items(&mut f.curry, visitor),
+        Union::Map(_, _, map) => {
+            if levels == 0 {
+                let alloc = map.alloc;
+                scan_far(value, visitor, alloc);
+            } else {
+                scan_map(map, visitor, levels - 1);
+            }
+        }
+        Union::FnPtr(_, _, f) => {
+            if levels == 0 {
+                let alloc = *f.curry.allocator();
+                scan_far(value, visitor, alloc);
+            } else {
+                scan_items(&mut f.curry, visitor, levels - 1);
+            }
+        }
         Union::Variant(_, _, _) => {}
         Union::Shared(_, _, _) => {}
     }
 }
 
+#[inline(never)]
 #[cycle(scan)]
-fn scan_items<V: Visitor>(items: &mut Vec<Dynamic>, visitor: &mut V)
+fn scan_items<V: Visitor>(items: &mut Vec<Dynamic>, visitor: &mut V, levels: u32)
     ensures { (visitor.new, trees_of items.new.items) ≡ each_scanned (scan V.visited) visitor.old (trees_of items.old.items) }
 {
     for item in items.iter_mut() {
-        scan_value(item, visitor);
+        scan_value(item, visitor, levels);
     }
 }
 
+#[inline(never)]
 #[cycle(scan)]
-fn scan_map<V: Visitor>(map: &mut Map, visitor: &mut V)
+fn scan_map<V: Visitor>(map: &mut Map, visitor: &mut V, levels: u32)
     ensures { (visitor.new, fields_of map.new) ≡ fields_scanned (scan V.visited) visitor.old (fields_of map.old) }
 {
     let Some(mut parts) = map.parts.take() else {
         return;
     };
-    scan_parts(&mut parts, visitor);
+    scan_parts(&mut parts, visitor, levels);
     map.parts = Some(parts);
 }
 
 #[cycle(scan)]
-fn scan_parts<V: Visitor>(parts: &mut MapParts, visitor: &mut V)
+fn scan_parts<V: Visitor>(parts: &mut MapParts, visitor: &mut V, levels: u32)
     requires { IsWhole parts.old }
     ensures scanned { (visitor.new, fields_of (rows_of parts.new)) ≡ fields_scanned (scan V.visited) visitor.old (fields_of (rows_of parts.old)) }
     ensures whole { IsWhole parts.new }
 {
-    scan_entries(&parts.index, &mut parts.slots, visitor);
+    scan_entries(&parts.index, &mut parts.slots, visitor, levels);
 }
 
 // The slots of the keys, in the order of these.
 #[cycle(scan)]
-fn scan_entries<V: Visitor>(index: &BTreeMap<String, usize>, slots: &mut Vec<Slot>, visitor: &mut V)
+fn scan_entries<V: Visitor>(
+    index: &BTreeMap<String, usize>,
+    slots: &mut Vec<Slot>,
+    visitor: &mut V,
+    levels: u32,
+)
     requires { AreMatched index.now.entries slots.old.items }
     ensures scanned { (visitor.new, fields_of (rows index.now.entries slots.new.items)) ≡ fields_scanned (scan V.visited) visitor.old (fields_of (rows index.now.entries slots.old.items)) }
     ensures matched { AreMatched index.now.entries slots.new.items }
 {
     for (_, number) in index.iter() {
-        scan_slot(&mut slots[*number], visitor);
+        scan_slot(&mut slots[*number], visitor, levels);
     }
 }
 
 #[cycle(scan)]
-fn scan_slot<V: Visitor>(slot: &mut Slot, visitor: &mut V)
+fn scan_slot<V: Visitor>(slot: &mut Slot, visitor: &mut V, levels: u32)
     ensures { (visitor.new, slot.new) ≡ slot_scanned (scan V.visited) visitor.old slot.old }
 {
     if let Slot::Taken(value) = slot {
-        scan_value(value, visitor);
+        scan_value(value, visitor, levels);
+    }
+}
+
+// The same with what stands in the value, and in the values below, taken out of them one after another, so that the calls don't nest.
+// Where memory for that is refused, it goes on by calls.
+#[inline(never)]
+#[cycle(scan)]
+fn scan_far<V: Visitor>(value: &mut Dynamic, visitor: &mut V, alloc: Global)
+    ensures { (visitor.new, value.new) ≡ children_scanned (scan V.visited) visitor.old value.old }
+{
+    match Hollow::open(value.take()) {
+        Ok(hollow) => *value = scan_hollow(hollow, visitor, alloc),
+        Err(back) => {
+            *value = back;
+            scan_children(value, visitor, NEAR);
+        }
+    }
+}
+
+#[cycle(scan)]
+fn scan_hollow<V: Visitor>(first: Hollow, visitor: &mut V, alloc: Global) -> Dynamic
+    requires { IsReady first }
+    ensures { (visitor.new, result) ≡ hollow_scanned (scan V.visited) visitor.old first }
+{
+    let mut frames: Vec<Hollow> = Vec::new(alloc);
+    let mut top = first;
+    loop {
+        match top.next() {
+            Some(child) => scan_child(child, &mut frames, &mut top, visitor),
+            None => {
+                let done = top.close();
+                match frames.pop() {
+                    None => return done,
+                    Some(up) => {
+                        top = up;
+                        top.put(done);
+                    }
+                }
+            }
+        }
+    }
+}
+
+// Visits a child for which `top` waits, and goes down into it, or else scans all of it.
+#[cycle(scan)]
+fn scan_child<V: Visitor>(
+    child: Dynamic,
+    frames: &mut Vec<Hollow>,
+    top: &mut Hollow,
+    visitor: &mut V,
+)
+    requires waiting { IsWaiting top.old }
+    requires all { AreAll IsWaiting frames.old.items }
+    ensures comes { unwound (hollow_after (scan V.visited)) frames.new.items (hollow_scanned (scan V.visited) visitor.new top.new)
+        ≡ unwound (hollow_after (scan V.visited)) frames.old.items (hollow_after (scan V.visited) (scan V.visited visitor.old child).0 top.old (scan V.visited visitor.old child).1) }
+    ensures ready { IsReady top.new }
+    ensures all { AreAll IsWaiting frames.new.items }
+    ensures fewer { sizes hollow_left frames.new.items + 2 * hollow_left top.new < sizes hollow_left frames.old.items + 2 * hollow_left top.old + 2 * nodes child }
+{
+    let mut value = child;
+    visitor.visit(&mut value);
+    if let Err(back) = go_down(frames, top, value) {
+        let mut near = back;
+        scan_children(&mut near, visitor, NEAR);
+        top.put(near);
     }
 }

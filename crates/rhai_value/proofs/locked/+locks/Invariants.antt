@@ -1,6 +1,6 @@
-use Rattle.std.proofs.Common.{◌≡◌, ◌+◌, ◌*◌, ◌≤◌, drop}
+use Rattle.std.proofs.Common.{◌≡◌, ◌+◌, ◌*◌, ◌<◌, ◌≤◌, drop}
 use Rattle.rhai_value.specs.Slots.{AreTaken, rows}
-use Rattle.rhai_value.specs.Locked.{is_one_locked, is_field_locked}
+use Rattle.rhai_value.specs.Locked.{any_locked, is_locked, is_one_locked, is_field_locked}
 use Rattle.rhai_value.specs.Rows.{trees_of, fields_of}
 use Rattle.rhai_value.specs.Tree.{nodes, nodes_trees, nodes_fields}
 use Rattle.rhai_value.proofs.locked.+locks.Given as goal
@@ -20,13 +20,28 @@ invariant-locks_entries-loop-number l =
     }
 
 abbrev pub decreases-locks : goal.decreases-locks
-decreases-locks l = 3 * nodes l.value.now
+decreases-locks l = 4 * nodes l.value.now + 1
 
 abbrev pub decreases-locks_items : goal.decreases-locks_items
-decreases-locks_items l = 3 * nodes_trees (trees_of l.items.now.items) + 1
+decreases-locks_items l = 4 * nodes_trees (trees_of l.items.now.items) + 2
 
 abbrev pub decreases-locks_map : goal.decreases-locks_map
-decreases-locks_map l = 3 * nodes_fields (fields_of l.map.now) + 2
+decreases-locks_map l = 4 * nodes_fields (fields_of l.map.now) + 3
 
 abbrev pub decreases-locks_entries : goal.decreases-locks_entries
-decreases-locks_entries l = 3 * nodes_fields (fields_of (rows l.index.now.entries l.slots.now.items)) + 1
+decreases-locks_entries l = 4 * nodes_fields (fields_of (rows l.index.now.entries l.slots.now.items)) + 2
+
+abbrev pub decreases-locks_far : goal.decreases-locks_far
+decreases-locks_far l = 4 * nodes l.value.now
+
+abbrev pub invariant-locks_far-loop-found : goal.invariant-locks_far-loop-found
+invariant-locks_far-loop-found l = record {
+  same : any_locked l.s l.visits ≡ is_locked l.s l.value;
+  fewer : nodes_trees (trees_of l.visits) < nodes l.value;
+}
+
+abbrev pub decreases-locks_far-loop-found : goal.decreases-locks_far-loop-found
+decreases-locks_far-loop-found l = nodes_trees (trees_of l.visits)
+
+abbrev pub decreases-is_locked_or_entered : goal.decreases-is_locked_or_entered
+decreases-is_locked_or_entered l = 4 * nodes l.found.now + 2

@@ -1,10 +1,13 @@
-use Rattle.std.proofs.Common.{◌≡◌, ◌+◌, drop, set, length-set, ap, sym, refl, ◌∙◌, arith, rules}
+use Rattle.std.proofs.Common.{◌≡◌, ◌+◌, ◌*◌, drop, set, length-set, ap, ap₂, sym, refl, ◌∙◌, arith, rules}
+use Rattle.flat_walk.specs.Frames.{unwound, unwound_last, sizes, sizes_last, last_of_all}
+use Rattle.rhai_value.specs.Hollow.{with_children, hollow_scanned, hollow_after, hollow_left, IsWaiting}
 use Rattle.rhai_value.specs.Rows.{trees_of, fields_of}
 use Rattle.rhai_value.specs.Slots.{KeySlot, rows}
 use Rattle.rhai_value.specs.Scan.{scan, children_scanned}
-use Rattle.rhai_value.specs.Tree.{nodes_trees, nodes_fields}
+use Rattle.rhai_value.specs.Tree.{nodes, nodes_trees, nodes_fields}
 use Rattle.rhai_value.proofs.Slots.{matched_taken}
 use Rattle.rhai_value.proofs.Scans.{nodes_drop, scan_opens, items_on, items_rest, items_end, rows_start, rows_on, rows_kept, rows_taken, rows_apart, rows_fewer, rows_end}
+use Rattle.rhai_value.proofs.Hollows.{opened_scanned, scanned_all, put_scanned, put_left, put_ready}
 use Rattle.rhai_value.proofs.scan.+scan.Goals as goal
 
 pub scan_value-returns : goal.scan_value-returns
@@ -66,3 +69,65 @@ scan_entries-loop-number-preserved g t c =
 pub scan_entries-returns-clause-scanned : goal.scan_entries-returns-clause-scanned
 scan_entries-returns-clause-scanned g t c =
     rows_end (scan g.V.Visitor.visited) c.args.visitor.now c.loop-number.visitor c.loop-number.visitor c.args.index.now.entries c.loop-number.number-iterator c.args.slots.now.items c.loop-number.slots.items c.loop-number.invariant.on c.in-None.ensures.steps.0
+
+pub scan_far-returns-in-Ok : goal.scan_far-returns-in-Ok
+scan_far-returns-in-Ok g t c =
+    let f = scan g.V.Visitor.visited in
+    c.scan_hollow.ensures ∙ opened_scanned f c.args.visitor.now c.take.result c.in-Ok.hollow c.in-Ok.ensures.0 c.in-Ok.ensures.1 ∙ ap (children_scanned f c.args.visitor.now) c.take.ensures.value
+
+pub scan_child-returns-in-Err-clause-comes : goal.scan_child-returns-in-Err-clause-comes
+scan_child-returns-in-Err-clause-comes g t c =
+    let f = scan g.V.Visitor.visited in
+    let back = c.in-Err.ensures.err in
+    let did : (c.scan_children.new.visitor, c.scan_children.new.value) ≡ f c.args.visitor.now c.args.child =
+    c.scan_children.ensures ∙ ap (children_scanned f c.visit.new.self) back.0 ∙ ap (λ x. children_scanned f x.0 x.1) c.visit.ensures ∙ sym (scan_opens g.V.Visitor.visited g.V.Visitor.adds_no_nodes c.args.visitor.now c.args.child) in
+    let put = put_scanned f c.scan_children.new.visitor c.go_down.new.top c.put.new.self c.scan_children.new.value c.put.ensures.children c.put.ensures.next c.put.ensures.shell in
+    ap₂ (unwound (hollow_after f)) back.1 put
+    ∙ ap (λ h. unwound (hollow_after f) c.args.frames.now.items (hollow_after f c.scan_children.new.visitor h c.scan_children.new.value)) back.2
+    ∙ ap (λ x. unwound (hollow_after f) c.args.frames.now.items (hollow_after f x.0 c.args.top.now x.1)) did
+
+pub scan_child-returns-in_default-clause-comes : goal.scan_child-returns-in_default-clause-comes
+scan_child-returns-in_default-clause-comes g t c =
+    let f = scan g.V.Visitor.visited in
+    let down = c.in_default.ensures.ok in
+    let top = c.go_down.new.top in
+    let fs = c.args.frames.now.items in
+    let did : hollow_scanned f c.visit.new.self top ≡ f c.args.visitor.now c.args.child =
+    opened_scanned f c.visit.new.self c.visit.new.value top down.1 down.2 ∙ ap (λ x. children_scanned f x.0 x.1) c.visit.ensures ∙ sym (scan_opens g.V.Visitor.visited g.V.Visitor.adds_no_nodes c.args.visitor.now c.args.child) in
+    ap₂ (unwound (hollow_after f)) down.0 did ∙ unwound_last (hollow_after f) fs c.args.top.now (f c.args.visitor.now c.args.child)
+
+pub scan_child-returns-in_default-clause-fewer : goal.scan_child-returns-in_default-clause-fewer
+scan_child-returns-in_default-clause-fewer g t c =
+    let down = c.in_default.ensures.ok in
+    let fs = c.args.frames.now.items in
+    let all : sizes hollow_left c.go_down.new.frames.items ≡ sizes hollow_left fs + (2 * hollow_left c.args.top.now + 1) = ap (sizes hollow_left) down.0 ∙ sizes_last hollow_left fs c.args.top.now in
+    omega (arith, all, down.3, ap (λ x. nodes x.1) c.visit.ensures, g.V.Visitor.adds_no_nodes c.args.visitor.now c.args.child)
+
+pub scan_hollow-loop-child-smaller : goal.scan_hollow-loop-child-smaller
+scan_hollow-loop-child-smaller g t c =
+    let left = c.pop.new.self.items in
+    let up = c.in-Some-pop.up in
+    let waits = last_of_all IsWaiting left up (rw c.in-Some-pop.ensures.items at c.loop-child.invariant.waiting) in
+    let all : sizes hollow_left c.loop-child.frames.items ≡ sizes hollow_left left + (2 * hollow_left up + 1) = ap (sizes hollow_left) c.in-Some-pop.ensures.items ∙ sizes_last hollow_left left up in
+    omega (arith, all, put_left up c.put.new.self c.close-done.result c.put.ensures.children c.put.ensures.next waits.1)
+
+pub scan_hollow-loop-child-preserved : goal.scan_hollow-loop-child-preserved
+scan_hollow-loop-child-preserved g t c =
+    let f = scan g.V.Visitor.visited in
+    let i = c.loop-child.invariant in
+    let v = c.loop-child.visitor in
+    let top = c.loop-child.top in
+    let left = c.pop.new.self.items in
+    let up = c.in-Some-pop.up in
+    let done = c.close-done.result in
+    let waits = last_of_all IsWaiting left up (rw c.in-Some-pop.ensures.items at i.waiting) in
+    let all : sizes hollow_left c.loop-child.frames.items ≡ sizes hollow_left left + (2 * hollow_left up + 1) = ap (sizes hollow_left) c.in-Some-pop.ensures.items ∙ sizes_last hollow_left left up in
+    let ended : hollow_scanned f v top ≡ (v, done) =
+    scanned_all f v top.shell top.children.items top.next c.in-None.ensures.1 ∙ ap (λ h. (v, with_children h.shell h.children.items)) (sym c.in-None.ensures.0) ∙ ap (λ x. (v, x)) (sym c.close-done.ensures) in
+    record {
+      comes = ap (unwound (hollow_after f) left) (put_scanned f v up c.put.new.self done c.put.ensures.children c.put.ensures.next c.put.ensures.shell)
+          ∙ sym (unwound_last (hollow_after f) left up (v, done)) ∙ ap₂ (unwound (hollow_after f)) (sym c.in-Some-pop.ensures.items) (sym ended) ∙ i.comes;
+      waiting = waits.0;
+      ready = put_ready up c.put.new.self done c.put.ensures.children c.put.ensures.next waits.1;
+      below = omega (arith, all, put_left up c.put.new.self done c.put.ensures.children c.put.ensures.next waits.1, i.below);
+    }

@@ -1,0 +1,28 @@
+//! A value that is being painted.
+
+use crate::dynamic::Dynamic;
+use crate::map::MapParts;
+use crate::union::Tag;
+use std::alloc::Global;
+
+/// A value that is being painted: its tag, and what stands in it.
+#[derive(Drop)]
+pub(crate) enum Coat {
+    Array(Tag, CoatedItems),
+    Fields(Tag, CoatedSlots),
+}
+
+/// The items of an array, and how many of these were taken to be painted.
+#[derive(Drop)]
+pub(crate) struct CoatedItems {
+    pub(crate) items: Vec<Dynamic>,
+    pub(crate) next: usize,
+}
+
+/// The parts of a map, and how many of the slots were taken to be painted.
+#[derive(Drop)]
+pub(crate) struct CoatedSlots {
+    pub(crate) parts: Box<MapParts>,
+    pub(crate) alloc: Global,
+    pub(crate) next: usize,
+}

@@ -11,7 +11,7 @@ module _ {A : Type 0} (f : A → List ℕ) where
   listed_more true x xs = refl
   listed_more false x xs = append_assoc comma (f x) (further f xs)
 
-  listed_none : (b : Bool) → listed f b [] ≡ []
+  pub listed_none : (b : Bool) → listed f b [] ≡ []
   listed_none true = refl
   listed_none false = refl
 

@@ -66,6 +66,9 @@ module _ (s : List Cell) (path : List ℕ) where
       ∙ sym (ap some_bytes (by_parts s path t (node (fields (fields_of rs)) g m) e ∙ ap (option_map plain_map) h.1))
 
 -- the bytes of a leaf are added, which are those of the value
+pub leaf_hashed : (new old : List ℕ) (s : List Cell) (path : List ℕ) (t : Tree) (l : Leaf) (g : ℤ) (m : AccessMode) → t ≡ node (leaf l) g m → new ≡ old ++ leaf_bytes l → new ≡ old ++ hash_bytes s path t
+leaf_hashed new old s path t l g m e h = h ∙ ap (λ x. old ++ x) (hashed-leaf s path t l g m e)
+
 pub added_hash : {A E : Type 0} (r : Result A E) (new old : List ℕ) (s : List Cell) (path : List ℕ) (t : Tree) (l : Leaf) (g : ℤ) (m : AccessMode) → t ≡ node (leaf l) g m → OnOk r (new ≡ old ++ leaf_bytes l) → OnOk r (new ≡ old ++ hash_bytes s path t)
 added_hash r new old s path t l g m e h = added_as r new old (leaf_bytes l) (hash_bytes s path t) (hashed-leaf s path t l g m e) h
 

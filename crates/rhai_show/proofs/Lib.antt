@@ -1,11 +1,14 @@
 pub mod Barred
 pub mod Bares
+pub mod CleanRests
 pub mod Cleans
 pub mod Commas
 pub mod Copies
 pub mod Distinct
 pub mod ForCallers
+pub mod Frames
 pub mod Hashes
+pub mod HashRests
 pub mod Heads
 pub mod Measures
 pub mod NoHolders
@@ -13,7 +16,9 @@ pub mod Plains
 pub mod Printed
 pub mod Pushed
 pub mod Ranges
+pub mod Rests
 pub mod SamePlain
 pub mod SamePrinted
 pub mod Searches
 pub mod Unfolded
+pub mod Weights

@@ -52,6 +52,9 @@ printed-opened s path next t u form c g m e some is =
 pub added_leaf : {A E : Type 0} (r : Result A E) (new old : List ℕ) (s : List Cell) (path : List ℕ) (t : Tree) (form : Form) (l : Leaf) (g : ℤ) (m : AccessMode) → t ≡ node (leaf l) g m → OnOk r (new ≡ old ++ leaf_printed form l) → OnOk r (new ≡ old ++ printed s path t form)
 added_leaf r new old s path t form l g m e h = added_as r new old (leaf_printed form l) (printed s path t form) (sym (by_parts s path t (node (leaf l) g m) form e)) h
 
+pub leaf-added : (new old : List ℕ) (s : List Cell) (path : List ℕ) (t : Tree) (form : Form) (l : Leaf) (g : ℤ) (m : AccessMode) → t ≡ node (leaf l) g m → new ≡ old ++ leaf_printed form l → new ≡ old ++ printed s path t form
+leaf-added new old s path t form l g m e h = h ∙ ap (λ x. old ++ x) (sym (by_parts s path t (node (leaf l) g m) form e))
+
 -- the texts of children, and those of a map's fields
 module _ (s : List Cell) (path : List ℕ) where
   each_printed : (xs : List Tree) → map (printed s path) xs ≡ all_printed path (within s path) (trees_of xs)

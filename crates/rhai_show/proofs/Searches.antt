@@ -58,7 +58,7 @@ pub searched_branch : (s : List Cell) (path seen later : List ℕ) (t : Tree) (t
 searched_branch s path seen later t ts named h = record { clean = h.clean; more = h.more; named = (named _ h.named, tt) }
 
 -- one value, and then the others
-searched_more : (s : List Cell) (path seen mid later : List ℕ) (t : Tree) (ts : Trees) → Searched s path seen mid (tree_then t no_trees) → Searched s path mid later ts → Searched s path seen later (tree_then t ts)
+pub searched_more : (s : List Cell) (path seen mid later : List ℕ) (t : Tree) (ts : Trees) → Searched s path seen mid (tree_then t no_trees) → Searched s path mid later ts → Searched s path seen later (tree_then t ts)
 searched_more s path seen mid later t ts h k = record {
   clean = k.clean;
   more = λ c o. k.more c (h.more c o);

@@ -9,4 +9,8 @@ pub mod Bare
 pub mod Clean
 pub mod HashBytes
 pub mod HashRows
+pub mod HashRests
 pub mod InRange
+pub mod Frames
+pub mod Rests
+pub mod Weights

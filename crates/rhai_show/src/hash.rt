@@ -15,8 +15,10 @@ ghost use Rattle.rhai_show.specs.InRange.{IsCount, IsPlainInRange, IsRowInRange,
 use crate::hash_bytes::{
     add_blob, add_bool, add_bytes, add_char, add_count, add_host, add_int, add_name, add_text,
 };
+use crate::hash_far::add_far;
 use crate::hashable::is_hashable;
 use crate::hashed_value::Hashed;
+use crate::rest::NEAR;
 use rhai_value::{Dynamic, Map, Path, Store, Union};
 use std::alloc::{AllocError, Global};
 
@@ -31,6 +33,7 @@ fn add_value(
     store: &Store,
     path: &mut Path,
     value: &Dynamic,
+    levels: u32,
     out: &mut Vec<u8>,
 ) -> Result<(), AllocError>
     requires { is_some (plain store.now path.old value.now) ≡ true }
@@ -45,18 +48,34 @@ fn add_value(
         Union::Char(_, _, value) => add_char(out, *value),
         Union::Int(_, _, value) => add_int(out, value),
         Union::Array(_, _, items) => {
+            if levels == 0 {
+                return add_far(store, path, value, out);
+            }
             add_bytes(out, &[5])?;
-            add_items(store, path, items.as_slice(), out)
+            add_items(store, path, items.as_slice(), levels - 1, out)
         }
         Union::Blob(_, _, bytes) => add_blob(out, bytes.as_slice()),
-        Union::Map(_, _, map) => add_map(store, path, map, out),
+        Union::Map(_, _, map) => {
+            if levels == 0 {
+                return add_far(store, path, value, out);
+            }
+            add_map(store, path, map, levels - 1, out)
+        }
         Union::FnPtr(_, _, function) => {
+            if levels == 0 {
+                return add_far(store, path, value, out);
+            }
             add_bytes(out, &[8])?;
             add_name(out, function.fn_name())?;
-            add_items(store, path, function.curry(), out)
+            add_items(store, path, function.curry(), levels - 1, out)
         }
         Union::Variant(_, _, value) => add_host(out, value),
-        Union::Shared(_, _, _) => add_held(store, path, value, out),
+        Union::Shared(_, _, _) => {
+            if levels == 0 {
+                return add_far(store, path, value, out);
+            }
+            add_held(store, path, value, levels - 1, out)
+        }
     }
 }
 
@@ -67,6 +86,7 @@ fn add_held(
     store: &Store,
     path: &mut Path,
     value: &Dynamic,
+    levels: u32,
     out: &mut Vec<u8>,
 ) -> Result<(), AllocError>
     requires plain { is_some (plain store.now path.old value.now) ≡ true }
@@ -79,7 +99,7 @@ fn add_held(
         // Whether a cell opens is told by the store and by the path, which the search before has gone through.
         None => unreachable!(),
         Some(content) => {
-            add_value(store, path, content, out)?;
+            add_value(store, path, content, levels, out)?;
             path.leave();
             Ok(())
         }
@@ -93,6 +113,7 @@ fn add_items(
     store: &Store,
     path: &mut Path,
     items: &[Dynamic],
+    levels: u32,
     out: &mut Vec<u8>,
 ) -> Result<(), AllocError>
     requires { are_plain store.now path.old (trees_of items.now) ≡ true }
@@ -103,7 +124,7 @@ fn add_items(
 {
     add_count(out, items.len())?;
     for item in items {
-        add_value(store, path, item, out)?;
+        add_value(store, path, item, levels, out)?;
     }
     Ok(())
 }
@@ -111,7 +132,13 @@ fn add_items(
 /// Adds the number of entries, and then each key with its value.
 #[cycle(write)]
 #[inline(never)]
-fn add_map(store: &Store, path: &mut Path, map: &Map, out: &mut Vec<u8>) -> Result<(), AllocError>
+fn add_map(
+    store: &Store,
+    path: &mut Path,
+    map: &Map,
+    levels: u32,
+    out: &mut Vec<u8>,
+) -> Result<(), AllocError>
     requires { are_plain store.now path.old (values_in (fields_of map.now)) ≡ true }
     ensures bytes { OnOk result (out.new.items ≡ out.old.items ++ 7 ∷ (count_bytes (length map.now)
         ++ flat_map (row_bytes (hash_bytes store.now path.old)) map.now)) }
@@ -122,7 +149,7 @@ fn add_map(store: &Store, path: &mut Path, map: &Map, out: &mut Vec<u8>) -> Resu
     add_count(out, map.len())?;
     for (key, value) in map.iter() {
         add_name(out, key)?;
-        add_value(store, path, value, out)?;
+        add_value(store, path, value, levels, out)?;
     }
     Ok(())
 }
@@ -162,7 +189,7 @@ fn hashed_below(alloc: Global, value: &Dynamic, s: &Store) -> Result<Option<Hash
     }
     let mut bytes = Vec::with_capacity(alloc, FIRST_ROOM)?;
     let mut path = Path::new(alloc);
-    add_value(s, &mut path, value, &mut bytes)?;
+    add_value(s, &mut path, value, NEAR, &mut bytes)?;
     Ok(Some(Hashed::from_bytes(bytes)))
 }
 
@@ -170,7 +197,8 @@ fn hashed_below(alloc: Global, value: &Dynamic, s: &Store) -> Result<Option<Hash
 /// boolean, int, character, text, blob or value of the host, also as what a holder's cell has, costs the number of its bytes, for
 /// which memory is asked once. Another value costs what `is_hashable` costs and the number of the bytes, and for each holder on the
 /// way the logarithm of how many cells are open then. A cell that is reached on many ways gives its bytes on each, so that these
-/// can be very many more than the values are.
+/// can be very many more than the values are. Bytes are written down 64 levels of values and cells by calls; each level below takes
+/// memory in a list, and an `Err` comes where that is refused.
 #[tactic(auto, using(crate::proofs::Barred::barred_plain))]
 pub fn hashed(alloc: Global, value: &Dynamic, s: &Store) -> Result<Option<Hashed>, AllocError>
     ensures bytes { IfOk result (λ o. o ≡ option_map plain_bytes (plain s.now [] value.now)) }

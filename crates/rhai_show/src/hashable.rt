@@ -7,8 +7,11 @@ ghost use Rattle.rhai_value.specs.Tree.{holder, node, tree_then, no_trees};
 ghost use Rattle.rhai_show.specs.Plain.{plain};
 ghost use Rattle.rhai_show.specs.Clean.{are_plain, values_in, has_left, Clean, HasNoHolder, HaveNoHolders, FieldsHaveNoHolders, Searched};
 
+use crate::clean_far::{leave_all, opened, opened_holder};
+use crate::rest::{NEAR, Rest};
 use rhai_value::{Dynamic, Map, Path, Store, Union};
 use std::alloc::{AllocError, Global};
+use std::mem;
 
 /// Whether the value is plain, the cells of `path` being open. The cells of `seen` were opened before; of those that are still open
 /// none opens again, and those that were left are known to be clean, so that none of these is looked into a second time. It is inlined in the
@@ -20,6 +23,8 @@ fn is_clean(
     path: &mut Path,
     seen: &mut Path,
     value: &Dynamic,
+    levels: u32,
+    alloc: Global,
 ) -> Result<bool, AllocError>
     requires { Clean store.now (has_left seen.old path.old) }
     ensures answer { IfOk result (λ b. b ≡ is_some (plain store.now path.old value.now)) }
@@ -36,10 +41,30 @@ fn is_clean(
         Union::Int(_, _, _) => Ok(true),
         Union::Blob(_, _, _) => Ok(true),
         Union::Variant(_, _, _) => Ok(true),
-        Union::Array(_, _, items) => are_clean(store, path, seen, items.as_slice()),
-        Union::Map(_, _, map) => is_map_clean(store, path, seen, map),
-        Union::FnPtr(_, _, function) => are_clean(store, path, seen, function.curry()),
-        Union::Shared(_, _, _) => is_held_clean(store, path, seen, value),
+        Union::Array(_, _, items) => {
+            if levels == 0 {
+                return is_far_clean(store, path, seen, value, alloc);
+            }
+            are_clean(store, path, seen, items.as_slice(), levels - 1, alloc)
+        }
+        Union::Map(_, _, map) => {
+            if levels == 0 {
+                return is_far_clean(store, path, seen, value, alloc);
+            }
+            is_map_clean(store, path, seen, map, levels - 1, alloc)
+        }
+        Union::FnPtr(_, _, function) => {
+            if levels == 0 {
+                return is_far_clean(store, path, seen, value, alloc);
+            }
+            are_clean(store, path, seen, function.curry(), levels - 1, alloc)
+        }
+        Union::Shared(_, _, _) => {
+            if levels == 0 {
+                return is_far_clean(store, path, seen, value, alloc);
+            }
+            is_held_clean(store, path, seen, value, levels - 1, alloc)
+        }
     }
 }
 
@@ -52,6 +77,8 @@ fn is_held_clean(
     path: &mut Path,
     seen: &mut Path,
     value: &Dynamic,
+    levels: u32,
+    alloc: Global,
 ) -> Result<bool, AllocError>
     requires clean { Clean store.now (has_left seen.old path.old) }
     requires holder { (c : ℕ) × (g : ℤ) × (m : AccessMode) × (value.now ≡ node (holder c) g m) }
@@ -60,19 +87,72 @@ fn is_held_clean(
     ensures searched { IfOk result (λ b. b ≡ true → Searched store.now path.old seen.old seen.new (tree_then value.now no_trees)) }
     ensures barred { first store.now value.now ≡ None → IsOk result }
 {
-    match path.enter(store, value)? {
-        None => Ok(false),
-        Some(content) => match seen.enter(store, value)? {
+    match opened_holder(store, path, seen, value)? {
+        Ok(is_plain) => Ok(is_plain),
+        Err(content) => {
+            let is_clean = is_clean(store, path, seen, content, levels, alloc)?;
+            path.leave();
+            Ok(is_clean)
+        }
+    }
+}
+
+/// The same of a value of any depth. What is left of each level stands in a list, so that calls don't nest; where memory for the list
+/// is refused, it goes on by calls.
+#[cycle(search)]
+#[inline(never)]
+fn is_far_clean(
+    store: &Store,
+    path: &mut Path,
+    seen: &mut Path,
+    value: &Dynamic,
+    alloc: Global,
+) -> Result<bool, AllocError>
+    requires { Clean store.now (has_left seen.old path.old) }
+    ensures answer { IfOk result (λ b. b ≡ is_some (plain store.now path.old value.now)) }
+    ensures path { OnOk result (path.new ≡ path.old) }
+    ensures searched { IfOk result (λ b. b ≡ true → Searched store.now path.old seen.old seen.new (tree_then value.now no_trees)) }
+    ensures free { HasNoHolder value.now → IsOk result }
+    ensures barred { first store.now value.now ≡ None → IsOk result }
+{
+    let mut top = match opened(store, path, seen, value)? {
+        Ok(is_plain) => return Ok(is_plain),
+        Err(rest) => rest,
+    };
+    let mut frames: Vec<Rest> = Vec::new(alloc);
+    loop {
+        match top.next() {
+            Some(child) => {
+                let inner = child.value();
+                match opened(store, path, seen, inner)? {
+                    Ok(is_plain) => {
+                        if !is_plain {
+                            leave_all(top, frames, path);
+                            return Ok(false);
+                        }
+                    }
+                    Err(rest) => {
+                        if frames.reserve(1).is_ok() {
+                            frames.push_reserved(mem::replace(&mut top, rest));
+                        } else {
+                            rest.close(path);
+                            rest.close(seen);
+                            if !is_clean(store, path, seen, inner, NEAR, alloc)? {
+                                leave_all(top, frames, path);
+                                return Ok(false);
+                            }
+                        }
+                    }
+                }
+            }
             None => {
-                path.leave();
-                Ok(true)
+                top.close(path);
+                match frames.pop() {
+                    None => return Ok(true),
+                    Some(up) => top = up,
+                }
             }
-            Some(_) => {
-                let is_clean = is_clean(store, path, seen, content)?;
-                path.leave();
-                Ok(is_clean)
-            }
-        },
+        }
     }
 }
 
@@ -84,6 +164,8 @@ fn are_clean(
     path: &mut Path,
     seen: &mut Path,
     items: &[Dynamic],
+    levels: u32,
+    alloc: Global,
 ) -> Result<bool, AllocError>
     requires { Clean store.now (has_left seen.old path.old) }
     ensures answer { IfOk result (λ b. b ≡ are_plain store.now path.old (trees_of items.now)) }
@@ -92,7 +174,7 @@ fn are_clean(
     ensures free { HaveNoHolders (trees_of items.now) → IsOk result }
 {
     for item in items {
-        if !is_clean(store, path, seen, item)? {
+        if !is_clean(store, path, seen, item, levels, alloc)? {
             return Ok(false);
         }
     }
@@ -107,6 +189,8 @@ fn is_map_clean(
     path: &mut Path,
     seen: &mut Path,
     map: &Map,
+    levels: u32,
+    alloc: Global,
 ) -> Result<bool, AllocError>
     requires { Clean store.now (has_left seen.old path.old) }
     ensures answer { IfOk result (λ b. b ≡ are_plain store.now path.old (values_in (fields_of map.now))) }
@@ -115,7 +199,7 @@ fn is_map_clean(
     ensures free { FieldsHaveNoHolders (fields_of map.now) → IsOk result }
 {
     for (_, value) in map.iter() {
-        if !is_clean(store, path, seen, value)? {
+        if !is_clean(store, path, seen, value, levels, alloc)? {
             return Ok(false);
         }
     }
@@ -124,8 +208,9 @@ fn is_map_clean(
 
 /// Whether the value can be hashed: not where it has to go through a cell that is marked, no cell of the store, or in a loop
 /// (`Dynamic::is_hashable`). The content of each cell is looked into once, however many holders lead to it; each holder costs
-/// the logarithm of the number of cells that were reached, and memory grows with these: none is wanted where no holder stands in
-/// the value. It goes down a value, and from cell to cell, by calls.
+/// the logarithm of the number of cells that were reached, and memory grows with these. It goes down 64 levels of values and cells by
+/// calls; for deeper ones it asks for memory for a list, and goes on by calls for another 64 levels where that is refused. So a value
+/// in which no holder stands is answered whatever memory does.
 pub fn is_hashable(alloc: Global, value: &Dynamic, s: &Store) -> Result<bool, AllocError>
     ensures answer { IfOk result (λ b. b ≡ is_some (plain s.now [] value.now)) }
     ensures free { HasNoHolder value.now → IsOk result }
@@ -133,5 +218,5 @@ pub fn is_hashable(alloc: Global, value: &Dynamic, s: &Store) -> Result<bool, Al
 {
     let mut path = Path::new(alloc);
     let mut seen = Path::new(alloc);
-    is_clean(s, &mut path, &mut seen, value)
+    is_clean(s, &mut path, &mut seen, value, NEAR, alloc)
 }

@@ -2,16 +2,20 @@
 #![tactic(auto)]
 
 mod blob;
+mod clean_far;
 pub mod form;
 mod hash;
 mod hash_bytes;
+mod hash_far;
 mod hashable;
 mod hashed_value;
 mod host;
 pub mod laws;
 mod leaf;
+mod rest;
 mod shown;
 mod text;
+mod text_far;
 
 pub use form::Form;
 pub use hash::hashed;

@@ -10,6 +10,8 @@ use crate::blob::add_blob;
 use crate::form::Form;
 use crate::host::add_host;
 use crate::leaf::{add_bool, add_char, add_int, add_string, add_text, add_unit};
+use crate::rest::NEAR;
+use crate::text_far::add_far;
 use rhai_text::quoted_text_into;
 use rhai_value::{Dynamic, FnPtr, Map, Path, Store, Union};
 use std::alloc::{AllocError, Global};
@@ -21,6 +23,7 @@ fn add_value(
     path: &mut Path,
     value: &Dynamic,
     form: Form,
+    levels: u32,
     out: &mut String,
 ) -> Result<(), AllocError>
     ensures text { OnOk result (chars (string_bytes out.new)
@@ -35,17 +38,44 @@ fn add_value(
         Union::Str(_, _, value) => add_string(out, value, form),
         Union::Blob(_, _, bytes) => add_blob(out, bytes.as_slice()),
         Union::Variant(_, _, value) => add_host(out, value),
-        Union::Array(_, _, items) => add_array(store, path, items.as_slice(), form.of_items(), out),
-        Union::Map(_, _, map) => add_map(store, path, map, form.of_items(), out),
-        Union::FnPtr(_, _, function) => add_function(store, path, function, form, out),
-        Union::Shared(_, _, _) => match path.enter(store, value)? {
-            None => add_text(out, "<shared>"),
-            Some(content) => {
-                add_value(store, path, content, form.of_content(), out)?;
-                path.leave();
-                add_text(out, " (shared)")
+        Union::Array(_, _, items) => {
+            if levels == 0 {
+                return add_far(store, path, value, form, out);
             }
-        },
+            add_array(
+                store,
+                path,
+                items.as_slice(),
+                form.of_items(),
+                levels - 1,
+                out,
+            )
+        }
+        Union::Map(_, _, map) => {
+            if levels == 0 {
+                return add_far(store, path, value, form, out);
+            }
+            add_map(store, path, map, form.of_items(), levels - 1, out)
+        }
+        Union::FnPtr(_, _, function) => {
+            if levels == 0 {
+                return add_far(store, path, value, form, out);
+            }
+            add_function(store, path, function, form, levels - 1, out)
+        }
+        Union::Shared(_, _, _) => {
+            if levels == 0 {
+                return add_far(store, path, value, form, out);
+            }
+            match path.enter(store, value)? {
+                None => add_text(out, "<shared>"),
+                Some(content) => {
+                    add_value(store, path, content, form.of_content(), levels - 1, out)?;
+                    path.leave();
+                    add_text(out, " (shared)")
+                }
+            }
+        }
     }
 }
 
@@ -55,6 +85,7 @@ fn add_array(
     path: &mut Path,
     items: &[Dynamic],
     form: Form,
+    levels: u32,
     out: &mut String,
 ) -> Result<(), AllocError>
     ensures text { OnOk result (chars (string_bytes out.new) ≡ chars (string_bytes out.old)
@@ -62,7 +93,7 @@ fn add_array(
     ensures path { OnOk result (path.new ≡ path.old) }
 {
     add_text(out, "[")?;
-    add_items(store, path, items, form, true, out)?;
+    add_items(store, path, items, form, true, levels, out)?;
     add_text(out, "]")
 }
 
@@ -74,6 +105,7 @@ fn add_items(
     items: &[Dynamic],
     form: Form,
     are_first: bool,
+    levels: u32,
     out: &mut String,
 ) -> Result<(), AllocError>
     ensures text { OnOk result (chars (string_bytes out.new) ≡ chars (string_bytes out.old)
@@ -83,7 +115,7 @@ fn add_items(
     let mut is_first = are_first;
     for item in items {
         add_comma(out, is_first)?;
-        add_value(store, path, item, form, out)?;
+        add_value(store, path, item, form, levels, out)?;
         is_first = false;
     }
     Ok(())
@@ -95,6 +127,7 @@ fn add_map(
     path: &mut Path,
     map: &Map,
     form: Form,
+    levels: u32,
     out: &mut String,
 ) -> Result<(), AllocError>
     ensures text { OnOk result (chars (string_bytes out.new) ≡ chars (string_bytes out.old)
@@ -102,7 +135,7 @@ fn add_map(
     ensures path { OnOk result (path.new ≡ path.old) }
 {
     add_text(out, "#{")?;
-    add_fields(store, path, map, form, out)?;
+    add_fields(store, path, map, form, levels, out)?;
     add_text(out, "}")
 }
 
@@ -113,6 +146,7 @@ fn add_fields(
     path: &mut Path,
     map: &Map,
     form: Form,
+    levels: u32,
     out: &mut String,
 ) -> Result<(), AllocError>
     ensures text { OnOk result (chars (string_bytes out.new) ≡ chars (string_bytes out.old)
@@ -124,7 +158,7 @@ fn add_fields(
         add_comma(out, is_first)?;
         add_name(out, key, form)?;
         add_text(out, ": ")?;
-        add_value(store, path, value, form, out)?;
+        add_value(store, path, value, form, levels, out)?;
         is_first = false;
     }
     Ok(())
@@ -136,6 +170,7 @@ fn add_function(
     path: &mut Path,
     function: &FnPtr,
     form: Form,
+    levels: u32,
     out: &mut String,
 ) -> Result<(), AllocError>
     ensures text { OnOk result (chars (string_bytes out.new) ≡ chars (string_bytes out.old)
@@ -146,7 +181,7 @@ fn add_function(
 {
     add_text(out, "Fn(")?;
     add_name(out, function.fn_name(), form)?;
-    add_curried(store, path, function.curry(), form, out)?;
+    add_curried(store, path, function.curry(), form, levels, out)?;
     add_text(out, ")")
 }
 
@@ -157,6 +192,7 @@ fn add_curried(
     path: &mut Path,
     items: &[Dynamic],
     form: Form,
+    levels: u32,
     out: &mut String,
 ) -> Result<(), AllocError>
     ensures text { OnOk result (chars (string_bytes out.new) ≡ chars (string_bytes out.old)
@@ -166,12 +202,12 @@ fn add_curried(
     match form {
         Form::Display => Ok(()),
         Form::Inner => Ok(()),
-        Form::Debug => add_items(store, path, items, Form::Debug, false, out),
+        Form::Debug => add_items(store, path, items, Form::Debug, false, levels, out),
     }
 }
 
 /// Adds a key or the name of a function.
-fn add_name(out: &mut String, name: &str, form: Form) -> Result<(), AllocError>
+pub(crate) fn add_name(out: &mut String, name: &str, form: Form) -> Result<(), AllocError>
     ensures { OnOk result (chars (string_bytes out.new) ≡ chars (string_bytes out.old) ++ name_printed form (chars name.now)) }
 {
     match form {
@@ -182,7 +218,7 @@ fn add_name(out: &mut String, name: &str, form: Form) -> Result<(), AllocError>
 }
 
 /// Adds the comma that stands before a text, unless that is the first.
-fn add_comma(out: &mut String, is_first: bool) -> Result<(), AllocError>
+pub(crate) fn add_comma(out: &mut String, is_first: bool) -> Result<(), AllocError>
     ensures { OnOk result (chars (string_bytes out.new) ≡ chars (string_bytes out.old) ++ comma_unless is_first) }
 {
     if is_first {
@@ -197,12 +233,13 @@ fn text_of(alloc: Global, value: &Dynamic, s: &Store, form: Form) -> Result<Stri
 {
     let mut out = String::new(alloc);
     let mut path = Path::new(alloc);
-    add_value(s, &mut path, value, form, &mut out)?;
+    add_value(s, &mut path, value, form, NEAR, &mut out)?;
     Ok(out)
 }
 
 /// The text of a value as `{}` prints it (`Display` of rhai's `Dynamic`). Costs the length of the text, and for each holder on the
-/// way the logarithm of how many cells are open then.
+/// way the logarithm of how many cells are open then. It goes down 64 levels of values and cells by calls; each level below takes
+/// memory in a list, and an `Err` comes where that is refused.
 pub fn display_text(alloc: Global, value: &Dynamic, s: &Store) -> Result<String, AllocError>
     ensures { IfOk result (λ t. chars (string_bytes t) ≡ printed s.now [] value.now Display) }
 {
@@ -210,7 +247,8 @@ pub fn display_text(alloc: Global, value: &Dynamic, s: &Store) -> Result<String,
 }
 
 /// The text of a value as `{:?}` prints it (`Debug` of rhai's `Dynamic`). Costs the length of the text, and for each holder on the
-/// way the logarithm of how many cells are open then.
+/// way the logarithm of how many cells are open then. It goes down 64 levels of values and cells by calls; each level below takes
+/// memory in a list, and an `Err` comes where that is refused.
 pub fn debug_text(alloc: Global, value: &Dynamic, s: &Store) -> Result<String, AllocError>
     ensures { IfOk result (λ t. chars (string_bytes t) ≡ printed s.now [] value.now Debug) }
 {

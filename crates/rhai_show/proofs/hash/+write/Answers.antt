@@ -58,8 +58,8 @@ add_value-returns-in_ok-add_bytes-in-Array-clause-bytes t c =
     ∙ hashed-branch c.args.store.now c.args.path.now c.args.value.now array h.items.items h.field-0 h.field-1 (sym c.parts.ensures ∙ ap tree_of c.in-Array.is) c.requires)
     c.add_items.ensures.bytes
 
-pub add_value-returns-in-Map-clause-bytes : goal.add_value-returns-in-Map-clause-bytes
-add_value-returns-in-Map-clause-bytes t c =
+pub add_value-returns-else-levels-eq0-2-clause-bytes : goal.add_value-returns-else-levels-eq0-2-clause-bytes
+add_value-returns-else-levels-eq0-2-clause-bytes t c =
     let h = c.in-Map in
     added_as c.add_map.result _ _ _ _ (hashed-map c.args.store.now c.args.path.now c.args.value.now h.map h.field-0 h.field-1 (sym c.parts.ensures ∙ ap tree_of c.in-Map.is) c.requires) c.add_map.ensures.bytes
 
@@ -107,8 +107,8 @@ add_value-returns-in_ok-add_bytes-in-Array-clause-range t c =
     on_then c.add_items.result (λ r. branch_ranged c.args.store.now c.args.path.now c.args.value.now array h.items.items h.field-0 h.field-1 (sym c.parts.ensures ∙ ap tree_of c.in-Array.is) tt
     (subst (λ xs. IsCount (length xs) × All (IsPlainInRange c.args.store.now c.args.path.now) xs) c.as_slice.ensures.value r)) c.add_items.ensures.range
 
-pub add_value-returns-in-Map-clause-range : goal.add_value-returns-in-Map-clause-range
-add_value-returns-in-Map-clause-range t c =
+pub add_value-returns-else-levels-eq0-2-clause-range : goal.add_value-returns-else-levels-eq0-2-clause-range
+add_value-returns-else-levels-eq0-2-clause-range t c =
     let h = c.in-Map in
     on_then c.add_map.result (map_ranged c.args.store.now c.args.path.now c.args.value.now h.map h.field-0 h.field-1 (sym c.parts.ensures ∙ ap tree_of c.in-Map.is)) c.add_map.ensures.range
 

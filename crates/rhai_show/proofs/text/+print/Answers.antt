@@ -122,20 +122,20 @@ pub add_value-returns-in-Variant-clause-text : goal.add_value-returns-in-Variant
 add_value-returns-in-Variant-clause-text t c =
     added_leaf c.add_host.result _ _ c.args.store.now c.args.path.now c.args.value.now c.args.form (host c.in-Variant.value) c.in-Variant.field-0 c.in-Variant.field-1 (sym c.parts.ensures ∙ ap tree_of c.in-Variant.is) c.add_host.ensures
 
-pub add_value-returns-in-Array-clause-text : goal.add_value-returns-in-Array-clause-text
-add_value-returns-in-Array-clause-text t c =
+pub add_value-returns-else-levels-eq0-clause-text : goal.add_value-returns-else-levels-eq0-clause-text
+add_value-returns-else-levels-eq0-clause-text t c =
     added_as c.add_array.result _ _ _ _
     (printed-array c.args.store.now c.args.path.now c.args.value.now c.args.form c.of_items.result c.as_slice-in-Array.result.now c.in-Array.items.items c.in-Array.field-0 c.in-Array.field-1 (sym c.parts.ensures ∙ ap tree_of c.in-Array.is) c.of_items.ensures c.as_slice-in-Array.ensures.value)
     c.add_array.ensures.text
 
-pub add_value-returns-in-Map-clause-text : goal.add_value-returns-in-Map-clause-text
-add_value-returns-in-Map-clause-text t c =
+pub add_value-returns-else-levels-eq0-2-clause-text : goal.add_value-returns-else-levels-eq0-2-clause-text
+add_value-returns-else-levels-eq0-2-clause-text t c =
     added_as c.add_map.result _ _ _ _
     (printed-map c.args.store.now c.args.path.now c.args.value.now c.args.form c.of_items-in-Map.result c.in-Map.map c.in-Map.field-0 c.in-Map.field-1 (sym c.parts.ensures ∙ ap tree_of c.in-Map.is) c.of_items-in-Map.ensures)
     c.add_map.ensures.text
 
-pub add_value-returns-in-FnPtr-clause-text : goal.add_value-returns-in-FnPtr-clause-text
-add_value-returns-in-FnPtr-clause-text t c =
+pub add_value-returns-else-levels-eq0-3-clause-text : goal.add_value-returns-else-levels-eq0-3-clause-text
+add_value-returns-else-levels-eq0-3-clause-text t c =
     added_as c.add_function.result _ _ _ _
     (printed-function c.args.store.now c.args.path.now c.args.value.now c.args.form c.in-FnPtr.function.0 c.in-FnPtr.function.1 c.in-FnPtr.field-0 c.in-FnPtr.field-1 (sym c.parts.ensures ∙ ap tree_of c.in-FnPtr.is))
     c.add_function.ensures.text

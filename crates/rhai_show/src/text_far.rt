@@ -1,0 +1,206 @@
+//! The text of a value that is nested deep.
+ghost use Rattle.std.specs.Prelude.{◌≡◌, ◌≤◌, ◌++◌, ◌+◌, ℕ, ℤ, suc, [], List, IfOk, IfSome, MatchOption, OnOk, string_bytes};
+ghost use Rattle.std.specs.Str.{chars};
+ghost use Rattle.rhai_value.specs.declared.access_mode.AccessMode.{AccessMode};
+ghost use Rattle.rhai_value.specs.Tree.{Tree, holder, node};
+ghost use Rattle.rhai_show.specs.declared.form.Form.{Form};
+ghost use Rattle.rhai_show.specs.Frames.{frame_text};
+ghost use Rattle.rhai_show.specs.Leaves.{in_debug};
+ghost use Rattle.rhai_show.specs.Rests.{items_keyed, rest_of, is_held, closed_by, HasOpen, rest_weight};
+ghost use Rattle.rhai_show.specs.Text.{further, printed};
+ghost use Rattle.rhai_show.specs.Weights.{weight};
+
+use crate::blob::add_blob;
+use crate::form::Form;
+use crate::host::add_host;
+use crate::leaf::{add_bool, add_char, add_int, add_string, add_text, add_unit};
+use crate::rest::{Child, Rest};
+use crate::text::{add_comma, add_name};
+use rhai_value::{Dynamic, FnPtr, Path, Store, Union};
+use std::alloc::AllocError;
+use std::mem;
+
+/// A value whose text is under way: the values in it that are left, the form of these, whether the next is the first, and the text
+/// behind them.
+#[derive(Drop)]
+struct Frame<'a> {
+    rest: Rest<'a>,
+    form: Form,
+    is_first: bool,
+    ending: &'a str,
+}
+
+/// Adds the text of a value that holds no others, or else the text before these.
+fn opened<'a>(
+    store: &'a Store,
+    path: &mut Path,
+    value: &'a Dynamic,
+    form: Form,
+    out: &mut String,
+) -> Result<Option<Frame<'a>>, AllocError>
+    ensures text { IfOk result (λ o. MatchOption o
+        (chars (string_bytes out.new) ≡ chars (string_bytes out.old) ++ printed store.now path.old value.now form)
+        (λ f. chars (string_bytes out.new) ++ frame_text (printed store.now path.new) f
+        ≡ chars (string_bytes out.old) ++ printed store.now path.old value.now form)) }
+    ensures path { IfOk result (λ o. MatchOption o (path.new ≡ path.old)
+        (λ f. closed_by (is_held f.rest) path.new ≡ path.old)) }
+    ensures left { IfOk result (λ o. IfSome o (λ f. HasOpen (is_held f.rest) path.new
+        × (rest_weight (weight store.now path.new) (rest_of f.rest) ≤ weight store.now path.old value.now))) }
+{
+    match value.parts() {
+        Union::Unit(_, _, _) => add_unit(out, form)?,
+        Union::Bool(_, _, value) => add_bool(out, *value)?,
+        Union::Int(_, _, value) => add_int(out, value)?,
+        Union::Char(_, _, value) => add_char(out, *value, form)?,
+        Union::Str(_, _, value) => add_string(out, value, form)?,
+        Union::Blob(_, _, bytes) => add_blob(out, bytes.as_slice())?,
+        Union::Variant(_, _, value) => add_host(out, value)?,
+        Union::Array(_, _, items) => {
+            add_text(out, "[")?;
+            return Ok(Some(Frame {
+                rest: Rest::Items(items.as_slice()),
+                form: form.of_items(),
+                is_first: true,
+                ending: "]",
+            }));
+        }
+        Union::Map(_, _, map) => {
+            add_text(out, "#{")?;
+            return Ok(Some(Frame {
+                rest: Rest::Fields(map.iter()),
+                form: form.of_items(),
+                is_first: true,
+                ending: "}",
+            }));
+        }
+        Union::FnPtr(_, _, function) => {
+            add_text(out, "Fn(")?;
+            add_name(out, function.fn_name(), form)?;
+            return Ok(Some(Frame {
+                rest: Rest::Items(shown_curry(function, form)),
+                form: Form::Debug,
+                is_first: false,
+                ending: ")",
+            }));
+        }
+        Union::Shared(_, _, _) => return opened_holder(store, path, value, form, out),
+    }
+    Ok(None)
+}
+
+/// Adds the text of a holder whose cell doesn't open; opens another's.
+fn opened_holder<'a>(
+    store: &'a Store,
+    path: &mut Path,
+    value: &'a Dynamic,
+    form: Form,
+    out: &mut String,
+) -> Result<Option<Frame<'a>>, AllocError>
+    requires { (c : ℕ) × (g : ℤ) × (m : AccessMode) × (value.now ≡ node (holder c) g m) }
+    ensures text { IfOk result (λ o. MatchOption o
+        (chars (string_bytes out.new) ≡ chars (string_bytes out.old) ++ printed store.now path.old value.now form)
+        (λ f. chars (string_bytes out.new) ++ frame_text (printed store.now path.new) f
+        ≡ chars (string_bytes out.old) ++ printed store.now path.old value.now form)) }
+    ensures path { IfOk result (λ o. MatchOption o (path.new ≡ path.old)
+        (λ f. closed_by (is_held f.rest) path.new ≡ path.old)) }
+    ensures left { IfOk result (λ o. IfSome o (λ f. HasOpen (is_held f.rest) path.new
+        × (rest_weight (weight store.now path.new) (rest_of f.rest) ≤ weight store.now path.old value.now))) }
+{
+    match path.enter(store, value)? {
+        None => {
+            add_text(out, "<shared>")?;
+            Ok(None)
+        }
+        Some(content) => Ok(Some(Frame {
+            rest: Rest::Held(Some(content)),
+            form: form.of_content(),
+            is_first: true,
+            ending: " (shared)",
+        })),
+    }
+}
+
+/// The curried values that are printed.
+fn shown_curry<'a>(function: &'a FnPtr, form: Form) -> &'a [Dynamic]
+    ensures text { (f : Tree → List ℕ) → further f result.now ≡ in_debug form (further f function.now.1) [] }
+    ensures left { (w : Tree → ℕ) → rest_weight w (items_keyed result.now) ≤ rest_weight w (items_keyed function.now.1) }
+{
+    match form {
+        Form::Display => &[],
+        Form::Inner => &[],
+        Form::Debug => function.curry(),
+    }
+}
+
+/// Adds what stands before the next value, and gives it.
+fn next_in<'a>(frame: &mut Frame<'a>, out: &mut String) -> Result<Option<&'a Dynamic>, AllocError>
+    ensures text { IfOk result (λ o. MatchOption o
+        ((rest_of frame.new.rest ≡ []) × ((f : Tree → Form → List ℕ) → chars (string_bytes out.new) ++ frame_text f frame.new
+        ≡ chars (string_bytes out.old) ++ frame_text f frame.old))
+        (λ v. (f : Tree → Form → List ℕ) → chars (string_bytes out.new) ++ (f v.now frame.new.form ++ frame_text f frame.new)
+        ≡ chars (string_bytes out.old) ++ frame_text f frame.old)) }
+    ensures left { IfOk result (λ o. IfSome o (λ v. (w : Tree → ℕ) →
+        suc (w v.now) + rest_weight w (rest_of frame.new.rest) ≡ rest_weight w (rest_of frame.old.rest))) }
+    ensures held { IfOk result (λ _. is_held frame.new.rest ≡ is_held frame.old.rest) }
+{
+    match frame.rest.next() {
+        None => Ok(None),
+        Some(child) => {
+            add_comma(out, frame.is_first)?;
+            frame.is_first = false;
+            match child {
+                Child::Item(value) => Ok(Some(value)),
+                Child::Entry(key, value) => {
+                    add_name(out, key, frame.form)?;
+                    add_text(out, ": ")?;
+                    Ok(Some(value))
+                }
+            }
+        }
+    }
+}
+
+/// Adds the text behind the values, and closes the cell in which they stand.
+fn close(frame: &Frame, path: &mut Path, out: &mut String) -> Result<(), AllocError>
+    requires { HasOpen (is_held frame.now.rest) path.old }
+    ensures text { OnOk result (chars (string_bytes out.new) ≡ chars (string_bytes out.old) ++ chars frame.now.ending.now) }
+    ensures path { OnOk result (path.new ≡ closed_by (is_held frame.now.rest) path.old) }
+{
+    frame.rest.close(path);
+    add_text(out, frame.ending)
+}
+
+/// Adds the text of a value, the cells of the path being open. What is left of each level stands in a list, so that calls don't nest.
+#[inline(never)]
+pub(crate) fn add_far(
+    store: &Store,
+    path: &mut Path,
+    value: &Dynamic,
+    form: Form,
+    out: &mut String,
+) -> Result<(), AllocError>
+    ensures text { OnOk result (chars (string_bytes out.new)
+        ≡ chars (string_bytes out.old) ++ printed store.now path.old value.now form) }
+    ensures path { OnOk result (path.new ≡ path.old) }
+{
+    let Some(first) = opened(store, path, value, form, out)? else {
+        return Ok(());
+    };
+    let mut frames: Vec<Frame> = Vec::new(*out.allocator());
+    let mut top = first;
+    loop {
+        match next_in(&mut top, out)? {
+            Some(inner) => match opened(store, path, inner, top.form, out)? {
+                None => {}
+                Some(child) => frames.push(mem::replace(&mut top, child))?,
+            },
+            None => {
+                close(&top, path, out)?;
+                match frames.pop() {
+                    None => return Ok(()),
+                    Some(up) => top = up,
+                }
+            }
+        }
+    }
+}

@@ -29,6 +29,9 @@ pub mod Runs
 pub mod GoingOn
 pub mod Wents
 pub mod Meant
+pub mod Layered
+pub mod Framed
+pub mod Sheds
 pub mod StandsAlike
 pub mod LastRows
 pub mod Left

@@ -32,5 +32,7 @@ pub mod Both
 pub mod Does
 pub mod Stands
 pub mod Bindings
+pub mod Layers
+pub mod Taken
 pub mod Evaluates
 pub mod Captures

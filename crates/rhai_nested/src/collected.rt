@@ -1,0 +1,22 @@
+//! A collection of cells that one value reaches.
+ghost use Rattle.std.specs.Prelude.{◌≡◌, length, IfOk};
+
+use rhai_value::{Dynamic, Reach, Store};
+use std::alloc::{AllocError, Global};
+
+/// The cells that the value itself names.
+fn met(alloc: Global, store: &Store, value: &mut Dynamic) -> Result<Reach, AllocError>
+    ensures { IfOk result (λ reach. length reach ≡ length store.now) }
+{
+    let mut reach = Reach::new(alloc, store)?;
+    reach.meet(value);
+    Ok(reach)
+}
+
+/// Gives back all cells that the value doesn't reach.
+pub fn collect(alloc: Global, store: &mut Store, value: &mut Dynamic) -> Result<(), AllocError> {
+    let reach = met(alloc, store, value)?;
+    let kept = store.collect(reach);
+    value.renumber(&kept);
+    Ok(())
+}

@@ -23,35 +23,36 @@ impl Dynamic {
     /// one by one. A text wants memory only where the count of its copies is at its limit; below the 64th level what is left of each
     /// level stands in a list. An `Err` comes where memory is refused, and what was copied so far is gone then. (`Clone` of rhai's
     /// `Dynamic`)
+    // Inlined, the kinds that are copied most often are made where the caller wants them.
+    #[inline(always)]
     pub fn copy(&self, alloc: Global) -> Result<Dynamic, AllocError>
         ensures value { IfOk result (λ d. d ≡ copy self.now) }
         ensures free { TakesNoMemory self.now → IsOk result }
     {
+        let mode = AccessMode::ReadWrite;
+        if let Union::Int(tag, _, n) = &self.union {
+            let union = Union::Int(*tag, mode, *n);
+            return Ok(Dynamic { union });
+        }
+        if let Union::Shared(tag, _, shared) = &self.union {
+            let union = Union::Shared(*tag, mode, *shared);
+            return Ok(Dynamic { union });
+        }
+        if let Union::Str(tag, _, text) = &self.union {
+            let text = text.copy(alloc)?;
+            let union = Union::Str(*tag, mode, text);
+            return Ok(Dynamic { union });
+        }
         copied(self, alloc, NEAR)
     }
 }
 
-// The kinds that are copied most often are made by the caller in their place.
 #[inline(always)]
 #[cycle(copy)]
 fn copied(value: &Dynamic, alloc: Global, levels: u32) -> Result<Dynamic, AllocError>
     ensures value { IfOk result (λ d. d ≡ copy value.now) }
     ensures free { TakesNoMemory value.now → IsOk result }
 {
-    let mode = AccessMode::ReadWrite;
-    if let Union::Int(tag, _, n) = &value.union {
-        let union = Union::Int(*tag, mode, *n);
-        return Ok(Dynamic { union });
-    }
-    if let Union::Shared(tag, _, shared) = &value.union {
-        let union = Union::Shared(*tag, mode, *shared);
-        return Ok(Dynamic { union });
-    }
-    if let Union::Str(tag, _, text) = &value.union {
-        let text = text.copy(alloc)?;
-        let union = Union::Str(*tag, mode, text);
-        return Ok(Dynamic { union });
-    }
     let union = copied_union(&value.union, alloc, levels)?;
     Ok(Dynamic { union })
 }

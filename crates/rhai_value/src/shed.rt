@@ -69,13 +69,15 @@ fn shed_slots(slots: Vec<Slot>, levels: u32) {
     slots.destroy_empty();
 }
 
-// Takes the children of `whole` one after another. Where one that is taken has children of its own, the loop goes down it, and puts
-// what it came from in the place of the first of these, so that the way back stands in the values themselves. The child that is taken
+// Takes the children of `whole` one after another. Most hold no other, and go at once. Where one has children of its own, the loop goes
+// down it, and puts what it came from in the place of the first of these, so that the way back stands in the values themselves. The child that is taken
 // last from a value goes in the value's place, be it the way back or not; so each value is gone down once.
 fn shed_far(value: Dynamic) {
     let mut whole = value;
     while let Some(child) = take_child(&mut whole) {
-        if is_bare(&whole) {
+        if is_bare(&child) {
+            close(child);
+        } else if is_bare(&whole) {
             close(whole);
             whole = child;
         } else {

@@ -6,6 +6,11 @@ use Rattle.rhai_value.proofs.shed.shed_far.Goals as goal
 pub loop-child-smaller-then-is_bare : goal.loop-child-smaller-then-is_bare
 loop-child-smaller-then-is_bare c =
     let n : nodes c.take_child.new.value + (nodes c.in-Some.child + 0) ≡ nodes c.loop-child.whole = rw c.in-Some.is at c.take_child.ensures.fewer in
+    omega (arith, n, some_node c.in-Some.child)
+
+pub loop-child-smaller-then-is_bare-2 : goal.loop-child-smaller-then-is_bare-2
+loop-child-smaller-then-is_bare-2 c =
+    let n : nodes c.take_child.new.value + (nodes c.in-Some.child + 0) ≡ nodes c.loop-child.whole = rw c.in-Some.is at c.take_child.ensures.fewer in
     omega (arith, n, some_node c.take_child.new.value)
 
 pub loop-child-smaller : goal.loop-child-smaller

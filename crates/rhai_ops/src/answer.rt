@@ -1,28 +1,17 @@
 //! What the rows share: the held content that a row asks for, answers, and the test of a limit.
-ghost use Rattle.std.specs.Prelude.{◌≡◌, ◌+◌, Some, IsSome};
+ghost use Rattle.std.specs.Prelude.{◌≡◌, ◌+◌, Some};
 ghost use Rattle.rhai_ops.specs.Outcome.{is_allowed as allowed};
 ghost use Rattle.rhai_ops.specs.Results.{Holds, part as part_in, unless as unless_it};
 
 use rhai_value::{Dynamic, Part, Store};
-
-/// What a row's operator does, or what an operand holds, of the kind that the row is for.
-pub(crate) fn known<T>(asked: Option<T>) -> T
-    requires { IsSome asked }
-    ensures { asked ≡ Some result }
-{
-    match asked {
-        Some(known) => known,
-        // Rows are public and take any operator and operands: which ones suit is said by the `requires` of their call, and by no type.
-        None => unreachable!(),
-    }
-}
 
 /// What is held of a kind.
 pub(crate) fn part<'s, T: Part>(value: &'s Dynamic, s: &'s Store) -> &'s T
     requires { Holds T.part_of s.now value.now }
     ensures { part_in T.part_of s.now value.now ≡ Some (T.meaning result.now) }
 {
-    known(value.held_part::<T>(s))
+    // Rows are public and take any operator and operands: which ones suit is said by the `requires` of their call, and by no type.
+    value.held_part::<T>(s).unwrap()
 }
 
 /// The same, of what is passed by value.

@@ -6,7 +6,6 @@ ghost use Rattle.rhai_ops.specs.Outcome.{IsOutcome, bool_answer};
 ghost use Rattle.rhai_ops.specs.Tokens as asked;
 ghost use Rattle.rhai_ops.specs.Tokens.{is_bits, is_bits_assignment, is_cmp};
 
-use crate::answer::known;
 use crate::compare::compared;
 use crate::role::{Bits, arithmetic_of, base_operation, bits_of, comparison_of};
 use rhai_text::{EvalAltResult, Token};
@@ -17,7 +16,7 @@ pub(crate) fn answer(op: Token, a: bool, b: bool) -> Result<Dynamic, EvalAltResu
     requires { IsTrue (is_bits op) }
     ensures { IsOutcome ⊥ result (bool_answer (specs.bits_by (asked.bits (asked.arithmetic (asked.role op))) a b)) }
 {
-    Ok(Dynamic::from_bool(both_bits(known(bits_of(arithmetic_of(op))), a, b)))
+    Ok(Dynamic::from_bool(both_bits(bits_of(arithmetic_of(op)).unwrap(), a, b)))
 }
 
 /// What an assignment by one of these operators writes.
@@ -25,7 +24,7 @@ pub(crate) fn assigned(op: Token, a: bool, b: bool) -> Result<Dynamic, EvalAltRe
     requires { IsTrue (is_bits_assignment op) }
     ensures { IsOutcome ⊥ result (bool_answer (specs.bits_by (asked.bits (asked.base_operation (asked.role op))) a b)) }
 {
-    Ok(Dynamic::from_bool(both_bits(known(bits_of(base_operation(op))), a, b)))
+    Ok(Dynamic::from_bool(both_bits(bits_of(base_operation(op)).unwrap(), a, b)))
 }
 
 fn both_bits(operation: Bits, a: bool, b: bool) -> bool
@@ -43,5 +42,5 @@ pub(crate) fn compare(op: Token, a: bool, b: bool) -> Result<Dynamic, EvalAltRes
     requires { IsTrue (is_cmp op) }
     ensures { IsOutcome ⊥ result (bool_answer (specs.compared_by (asked.comparison (asked.role op)) (bool_cmp a b))) }
 {
-    Ok(Dynamic::from_bool(compared(known(comparison_of(op)), a.cmp(&b))))
+    Ok(Dynamic::from_bool(compared(comparison_of(op).unwrap(), a.cmp(&b))))
 }

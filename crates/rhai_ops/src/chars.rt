@@ -9,7 +9,7 @@ ghost use Rattle.rhai_ops.specs.Results.{joined_to_char, text_order};
 ghost use Rattle.rhai_ops.specs.Tokens as asked;
 ghost use Rattle.rhai_ops.specs.Tokens.{is_cmp};
 
-use crate::answer::{is_allowed, known};
+use crate::answer::is_allowed;
 use crate::compare::compared;
 use crate::role::comparison_of;
 use rhai_text::laws::byte_order_is_character_order;
@@ -59,7 +59,7 @@ pub(crate) fn compare(op: Token, a: char, b: char) -> Result<Dynamic, EvalAltRes
     requires { IsTrue (is_cmp op) }
     ensures { IsOutcome ⊥ result (bool_answer (specs.compared_by (asked.comparison (asked.role op)) (nat_cmp a b))) }
 {
-    Ok(Dynamic::from_bool(compared(known(comparison_of(op)), a.cmp(&b))))
+    Ok(Dynamic::from_bool(compared(comparison_of(op).unwrap(), a.cmp(&b))))
 }
 
 /// A text behind a character.
@@ -107,5 +107,5 @@ pub(crate) fn compare_text(
     let mut buffer = [0; 4];
     let a = spelled(a, &mut buffer);
     byte_order_is_character_order();
-    Ok(Dynamic::from_bool(compared(known(comparison_of(op)), a.cmp(b.as_str()))))
+    Ok(Dynamic::from_bool(compared(comparison_of(op).unwrap(), a.cmp(b.as_str()))))
 }

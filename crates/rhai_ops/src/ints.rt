@@ -12,7 +12,7 @@ ghost use Rattle.rhai_ops.specs.Ways.{IsAssigned, answered, assignment, stays};
 ghost use Rattle.rhai_ops.specs.Tokens as asked;
 ghost use Rattle.rhai_ops.specs.Tokens.{is_assignment, is_cmp, is_number};
 
-use crate::answer::{known, value};
+use crate::answer::value;
 use crate::compare::compared;
 use crate::role::{Arithmetic, Bits, Multiplicative, arithmetic_of, base_operation, comparison_of};
 use rhai_text::{ArithmeticFault, EvalAltResult, Position, Token};
@@ -40,7 +40,7 @@ pub(crate) fn answer_numbers(op: Token, i: INT, j: INT) -> Result<Dynamic, EvalA
     requires { IsTrue (is_number op) }
     ensures { IsOutcome ⊥ result (number_answer (specs.number_by (asked.arithmetic (asked.role op)) i j)) }
 {
-    match number(known(arithmetic_of(op)), i, j) {
+    match number(arithmetic_of(op).unwrap(), i, j) {
         Ok(n) => Ok(Dynamic::from_int(n)),
         Err(fault) => Err(EvalAltResult::ErrorArithmetic(fault, Position::NONE)),
     }
@@ -68,7 +68,7 @@ pub(crate) fn compare_numbers(op: Token, i: INT, j: INT) -> Result<Dynamic, Eval
     requires { IsTrue (is_cmp op) }
     ensures { IsOutcome ⊥ result (bool_answer (specs.compared_by (asked.comparison (asked.role op)) (int_cmp i j))) }
 {
-    Ok(Dynamic::from_bool(compared(known(comparison_of(op)), i.cmp(&j))))
+    Ok(Dynamic::from_bool(compared(comparison_of(op).unwrap(), i.cmp(&j))))
 }
 
 /// An assignment of one of these operators to the int at a place. The place and the second operand are each looked up once.
@@ -102,7 +102,7 @@ pub(crate) fn assign_number(
 {
     let mut place = InStore { value: x, store: m };
     write_number(
-        known(base_operation(op)),
+        base_operation(op).unwrap(),
         place.held_part_mut::<INT>(),
         number,
     )

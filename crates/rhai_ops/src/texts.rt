@@ -9,7 +9,7 @@ ghost use Rattle.rhai_ops.specs.Results.{Holds, joined_texts, part as part_in, t
 ghost use Rattle.rhai_ops.specs.Tokens as asked;
 ghost use Rattle.rhai_ops.specs.Tokens.{is_cmp};
 
-use crate::answer::{is_allowed, known, part, value};
+use crate::answer::{is_allowed, part, value};
 use crate::chars::spelled;
 use crate::compare::compared;
 use crate::role::{Comparison, comparison_of};
@@ -113,7 +113,7 @@ pub(crate) fn compare_two(
     requires { IsTrue (is_cmp op) }
     ensures { IsOutcome ⊥ result (bool_answer (specs.compared_by (asked.comparison (asked.role op)) (text_order a.now b.now))) }
 {
-    Ok(Dynamic::from_bool(compared_texts(known(comparison_of(op)), a, b)))
+    Ok(Dynamic::from_bool(compared_texts(comparison_of(op).unwrap(), a, b)))
 }
 
 /// Whether the comparison holds of two texts. Whether they are equal is told by their lengths first.
@@ -181,5 +181,5 @@ pub(crate) fn compare_char(
     let mut buffer = [0; 4];
     let b = spelled(value(y, s), &mut buffer);
     byte_order_is_character_order();
-    Ok(Dynamic::from_bool(compared(known(comparison_of(op)), a.as_str().cmp(b))))
+    Ok(Dynamic::from_bool(compared(comparison_of(op).unwrap(), a.as_str().cmp(b))))
 }

@@ -1,5 +1,5 @@
 -- Which values are plain, by their parts.
-use Rattle.std.proofs.Common.{◌≡◌, ℕ, ℤ, ◌&&◌, true, List, ◌∷◌, Option, Some, None, is_some, option_map, refl, sym, ap, ap₂, ◌∙◌}
+use Rattle.std.proofs.Common.{◌≡◌, ℕ, ℤ, ◌&&◌, true, false, List, ◌∷◌, Option, Some, None, is_some, option_map, refl, sym, ap, ap₂, ◌∙◌}
 use Rattle.rhai_value.specs.declared.access_mode.AccessMode.{AccessMode}
 use Rattle.rhai_value.specs.declared.store.Cell.{Cell}
 use Rattle.rhai_value.specs.Tree.{Tree, node, Content, Leaf, leaf, Kind, branch, fields, holder, Trees, no_trees, tree_then, Fields, no_fields, field_then}
@@ -16,7 +16,7 @@ pub plain_opens : (s : List Cell) (path : List ℕ) (t : Tree) → plain s path 
 unfolding plain
 plain_opens s path t = walk_opens plain_of s path t
 
-some_map : {A B : Type 0} (f : A → B) (o : Option A) → is_some (option_map f o) ≡ is_some o
+pub some_map : {A B : Type 0} (f : A → B) (o : Option A) → is_some (option_map f o) ≡ is_some o
 some_map f None = refl
 some_map f (Some a) = refl
 
@@ -74,6 +74,16 @@ plain-closed s path t c g m e none = by_parts s path t (node (holder c) g m) e �
 
 pub plain-opened : (s : List Cell) (path : List ℕ) (t u : Tree) (c : ℕ) (g : ℤ) (m : AccessMode) → t ≡ node (holder c) g m → Some u ≡ entry s path t → plain s path t ≡ plain s (c ∷ path) u
 plain-opened s path t u c g m e some = by_parts s path t (node (holder c) g m) e ∙ open_held (visit s path c) _ u (some ∙ ap (entry s path) e)
+
+-- a holder that is plain has a cell that opens
+pub plain-enters : (s : List Cell) (path : List ℕ) (t : Tree) (c : ℕ) (g : ℤ) (m : AccessMode) → t ≡ node (holder c) g m → is_some (plain s path t) ≡ true → is_some (entry s path t) ≡ true
+plain-enters s path t c g m e is = at (entry s path t) refl
+  where
+    at : (o : Option Tree) → entry s path t ≡ o → is_some o ≡ true
+    at (Some u) found = refl
+    at None found =
+        let no : false ≡ true = sym (ap is_some (plain-closed s path t c g m e (sym found))) ∙ is in
+        cc
 
 -- tags and modes aren't seen, nor is sharing
 pub plain_bare : (s : List Cell) (path : List ℕ) (c : Content) (g h : ℤ) (m n : AccessMode) → plain s path (node c g m) ≡ plain s path (node c h n)

@@ -15,11 +15,10 @@ ghost use Rattle.rhai_show.specs.InRange.{IsCount, IsPlainInRange, IsRowInRange,
 use crate::hash_bytes::{
     add_blob, add_bool, add_bytes, add_char, add_count, add_host, add_int, add_name, add_text,
 };
-use crate::hash_far::add_far;
+use crate::hash_far::{add_far, opened_cell};
 use crate::hashable::is_hashable;
 use crate::hashed_value::Hashed;
-use crate::rest::NEAR;
-use rhai_value::{Dynamic, Map, Path, Store, Union};
+use rhai_value::{Dynamic, Map, NEAR, Path, Store, Union};
 use std::alloc::{AllocError, Global};
 
 /// How many bytes there is room for at first where a value may hold others, so that short ones don't grow.
@@ -95,15 +94,10 @@ fn add_held(
     ensures range { OnOk result (IsPlainInRange store.now path.old value.now) }
     ensures path { OnOk result (path.new ≡ path.old) }
 {
-    match path.enter(store, value)? {
-        // Whether a cell opens is told by the store and by the path, which the search before has gone through.
-        None => unreachable!(),
-        Some(content) => {
-            add_value(store, path, content, levels, out)?;
-            path.leave();
-            Ok(())
-        }
-    }
+    let content = opened_cell(store, path, value)?;
+    add_value(store, path, content, levels, out)?;
+    path.leave();
+    Ok(())
 }
 
 /// Adds the number of items, and then the items.

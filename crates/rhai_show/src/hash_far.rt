@@ -1,7 +1,8 @@
 //! The hash bytes of a value that is nested deep.
-ghost use Rattle.std.specs.Prelude.{◌≡◌, ◌≤◌, ◌++◌, ℕ, ℤ, List, true, IfOk, IfSome, MatchOption, OnOk, is_some};
+ghost use Rattle.std.specs.Prelude.{◌≡◌, ◌≤◌, ◌++◌, ◌∷◌, ℕ, ℤ, List, Some, true, IfOk, IfSome, MatchOption, OnOk, is_some};
 ghost use Rattle.rhai_value.specs.declared.access_mode.AccessMode.{AccessMode};
-ghost use Rattle.rhai_value.specs.Tree.{Tree, holder, node};
+ghost use Rattle.rhai_value.specs.Tree.{Tree, cell_of, holder, node};
+ghost use Rattle.rhai_value.specs.Walk.{entry};
 ghost use Rattle.rhai_show.specs.HashBytes.{hash_bytes};
 ghost use Rattle.rhai_show.specs.HashRests.{keyed_bytes, rest_bytes, IsKeyInRange, IsKeyedInRange, IsKeyedPlain};
 ghost use Rattle.rhai_show.specs.InRange.{IsPlainInRange};
@@ -83,11 +84,23 @@ fn opened_holder<'a>(
     ensures plain { IfOk result (λ r. Each (IsKeyedPlain store.now path.new) (rest_of r)) }
     ensures range { IfOk result (λ r. Each (IsKeyedInRange store.now path.new) (rest_of r) → IsPlainInRange store.now path.old value.now) }
 {
-    match path.enter(store, value)? {
-        // Whether a cell opens is told by the store and by the path, which the search before has gone through.
-        None => unreachable!(),
-        Some(content) => Ok(Rest::Held(Some(content))),
-    }
+    let content = opened_cell(store, path, value)?;
+    Ok(Rest::Held(Some(content)))
+}
+
+/// Opens the cell of a holder that has hash bytes, and gives what it has.
+pub(crate) fn opened_cell<'a>(
+    store: &'a Store,
+    path: &mut Path,
+    value: &Dynamic,
+) -> Result<&'a Dynamic, AllocError>
+    requires plain { is_some (plain store.now path.old value.now) ≡ true }
+    requires holder { (c : ℕ) × (g : ℤ) × (m : AccessMode) × (value.now ≡ node (holder c) g m) }
+    ensures found { IfOk result (λ t. Some t.now ≡ entry store.now path.old value.now) }
+    ensures opened { IfOk result (λ t. IfSome (cell_of value.now) (λ c. path.new ≡ c ∷ path.old)) }
+{
+    // Which holders can be hashed was found by a search before: each of them opens.
+    Ok(path.enter(store, value)?.unwrap())
 }
 
 /// Adds the key of a value, if it has one.

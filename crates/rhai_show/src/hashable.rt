@@ -8,8 +8,8 @@ ghost use Rattle.rhai_show.specs.Plain.{plain};
 ghost use Rattle.rhai_show.specs.Clean.{are_plain, values_in, has_left, Clean, HasNoHolder, HaveNoHolders, FieldsHaveNoHolders, Searched};
 
 use crate::clean_far::{leave_all, opened, opened_holder};
-use crate::rest::{NEAR, Rest};
-use rhai_value::{Dynamic, Map, Path, Store, Union};
+use crate::rest::Rest;
+use rhai_value::{Dynamic, Map, NEAR, Path, Store, Union};
 use std::alloc::{AllocError, Global};
 use std::mem;
 

@@ -2,9 +2,6 @@
 
 use rhai_value::{Dynamic, Entries, Path};
 
-/// How many levels of values and cells are gone down by calls, which is faster.
-pub(crate) const NEAR: u32 = 64;
-
 /// A value that stands in another, in a map with its key.
 #[derive(Clone, Copy)]
 pub(crate) enum Child<'a> {

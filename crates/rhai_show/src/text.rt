@@ -1,6 +1,8 @@
 //! The text of a value.
-ghost use Rattle.std.specs.Prelude.{◌≡◌, ◌++◌, [], true, IfOk, OnOk, codes, string_bytes};
+ghost use Rattle.std.specs.Prelude.{ℕ, ℤ, ◌≡◌, ◌++◌, [], true, IfOk, OnOk, codes, string_bytes};
 ghost use Rattle.std.specs.Str.{chars};
+ghost use Rattle.rhai_value.specs.declared.access_mode.AccessMode.{AccessMode};
+ghost use Rattle.rhai_value.specs.Tree.{holder, node};
 ghost use Rattle.rhai_show.specs.declared.form.Form.TheVariants.{Display, Debug};
 ghost use Rattle.rhai_show.specs.Leaves.{in_debug};
 ghost use Rattle.rhai_show.specs.Text.{joined, further, name_printed, printed};
@@ -10,14 +12,14 @@ use crate::blob::add_blob;
 use crate::form::Form;
 use crate::host::add_host;
 use crate::leaf::{add_bool, add_char, add_int, add_string, add_text, add_unit};
-use crate::rest::NEAR;
 use crate::text_far::add_far;
 use rhai_text::quoted_text_into;
-use rhai_value::{Dynamic, FnPtr, Map, Path, Store, Union};
+use rhai_value::{Dynamic, FnPtr, Map, NEAR, Path, Store, Union};
 use std::alloc::{AllocError, Global};
 
-/// Adds the text of a value, the cells of the path being open.
+/// Adds the text of a value, the cells of the path being open. It is inlined in the loops, where most values hold no other.
 #[cycle(print)]
+#[inline(always)]
 fn add_value(
     store: &Store,
     path: &mut Path,
@@ -67,19 +69,39 @@ fn add_value(
             if levels == 0 {
                 return add_far(store, path, value, form, out);
             }
-            match path.enter(store, value)? {
-                None => add_text(out, "<shared>"),
-                Some(content) => {
-                    add_value(store, path, content, form.of_content(), levels - 1, out)?;
-                    path.leave();
-                    add_text(out, " (shared)")
-                }
-            }
+            add_held(store, path, value, form, levels - 1, out)
+        }
+    }
+}
+
+/// Adds the text of a holder.
+#[cycle(print)]
+#[inline(never)]
+fn add_held(
+    store: &Store,
+    path: &mut Path,
+    value: &Dynamic,
+    form: Form,
+    levels: u32,
+    out: &mut String,
+) -> Result<(), AllocError>
+    requires { (c : ℕ) × (g : ℤ) × (m : AccessMode) × (value.now ≡ node (holder c) g m) }
+    ensures text { OnOk result (chars (string_bytes out.new)
+        ≡ chars (string_bytes out.old) ++ printed store.now path.old value.now form) }
+    ensures path { OnOk result (path.new ≡ path.old) }
+{
+    match path.enter(store, value)? {
+        None => add_text(out, "<shared>"),
+        Some(content) => {
+            add_value(store, path, content, form.of_content(), levels, out)?;
+            path.leave();
+            add_text(out, " (shared)")
         }
     }
 }
 
 #[cycle(print)]
+#[inline(never)]
 fn add_array(
     store: &Store,
     path: &mut Path,
@@ -122,6 +144,7 @@ fn add_items(
 }
 
 #[cycle(print)]
+#[inline(never)]
 fn add_map(
     store: &Store,
     path: &mut Path,
@@ -165,6 +188,7 @@ fn add_fields(
 }
 
 #[cycle(print)]
+#[inline(never)]
 fn add_function(
     store: &Store,
     path: &mut Path,

@@ -92,9 +92,6 @@ fn one_of<'s>(own: Option<&'s mut Dynamic>, far: Option<&'s mut Dynamic>) -> &'s
 {
     match own {
         Some(value) => value,
-        None => match far {
-            Some(value) => value,
-            None => unreachable!(),
-        },
+        None => far.unwrap(),
     }
 }

@@ -59,6 +59,7 @@ pub use into::IntoError;
 pub use map::Map;
 pub use map_entries::{Entries, Keys, Values};
 pub use marks::WriteToken;
+pub use near::NEAR;
 pub use part::Part;
 pub use part_host::HostPart;
 pub use path::Path;

@@ -76,11 +76,7 @@ impl Dynamic {
         requires { is_some (T.part_of self.now) ≡ true }
         ensures { T.part_of self.now ≡ Some (T.meaning result.now) }
     {
-        match T::own(self) {
-            Some(part) => part,
-            // All values are of one Rust type, whatever they are made of.
-            None => unreachable!(),
-        }
+        T::own(self).unwrap()
     }
 
     /// What the value itself has, which is of this kind, to write.
@@ -90,11 +86,7 @@ impl Dynamic {
         ensures* writes_back { sem 𝓛 (Lends dynamic_type.the_row T.row self.entry result (λ w. with_content (T.content (T.meaning w)) self.old)) }
         ensures value { T.part_of self.old ≡ Some (T.meaning result.now) }
     {
-        match T::own_mut(self) {
-            Some(part) => part,
-            // All values are of one Rust type, whatever they are made of.
-            None => unreachable!(),
-        }
+        T::own_mut(self).unwrap()
     }
 }
 

@@ -1,21 +1,19 @@
-use Rattle.std.proofs.Common.{◌≡◌, ◌+◌, ◌++◌, true, false, [], ◌∷◌, drop, length, Some, None, IfSome, is_some, option_copied, sym, ap, ap₂, ◌∙◌, subst, arith, add-one}
+use Rattle.std.proofs.Common.{◌≡◌, ◌+◌, ◌++◌, [], ◌∷◌, drop, length, IfSome, is_some, sym, ap, ap₂, ◌∙◌, subst, arith, add-one}
 use Rattle.std.specs.List.{All, flat_map}
 use Rattle.std.specs.Map.Iter.{deref_pair}
 use Rattle.std.specs.Str.{chars}
 use Rattle.std.proofs.Math.Seq.{drop-cons}
 use Rattle.std.proofs.lemmas.Map.Iter.{rest_more}
-use Rattle.std.proofs.lemmas.Option.{MatchOption-at_some}
 use Rattle.rhai_value.specs.Rows.{trees_of, fields_of}
-use Rattle.rhai_value.specs.Tree.{nodes, nodes_trees, nodes_fields, array, function, unit, bool, int, char, text, blob, host, cell_of}
+use Rattle.rhai_value.specs.Tree.{nodes, nodes_trees, nodes_fields, array, function, unit, bool, int, char, text, blob, host}
 use Rattle.rhai_value.specs.View.{tree_of}
-use Rattle.rhai_value.specs.Walk.{entry}
 use Rattle.rhai_show.specs.Plain.{plain}
 use Rattle.rhai_show.specs.Clean.{are_plain, values_in}
 use Rattle.rhai_show.specs.HashBytes.{count_bytes, leaf_bytes, name_bytes, some_bytes, hash_bytes}
 use Rattle.rhai_show.specs.HashRows.{row_bytes}
 use Rattle.rhai_show.specs.InRange.{IsCount, IsName, IsLeaf, IsInRange, IsPlainInRange, IsRowInRange}
 use Rattle.rhai_show.proofs.Measures.{left_in, left-entry, nodes_item}
-use Rattle.rhai_show.proofs.Plains.{plain-branch, plain-map, plain-closed}
+use Rattle.rhai_show.proofs.Plains.{plain-branch, plain-map}
 use Rattle.rhai_show.proofs.Pushed.{added_as, added_twice, added_more}
 use Rattle.rhai_show.proofs.Ranges.{on_ok, on_then, leaf_ranged, branch_ranged, map_ranged, one_more}
 use Rattle.rhai_show.proofs.Hashes.{first_of_both, second_of_both, hashed-branch, hashed-map, added_hash, plain-content, each_step}
@@ -122,10 +120,8 @@ add_value-returns-in_ok-add_name-in-FnPtr-clause-range t c =
 pub add_held-returns-clause-range : goal.add_held-returns-clause-range
 add_held-returns-clause-range t c =
     let h = c.requires.holder in
-    let o = c.in_ok-enter.ensures in
-    let some : Some c.in-Some.content.now ≡ entry c.args.store.now c.args.path.now c.args.value.now = ap option_copied (sym c.in-Some.is) ∙ o.found in
-    let next : IfSome (cell_of c.args.value.now) (λ k. c.enter.new.self ≡ k ∷ c.args.path.now) = MatchOption-at_some _ _ _ c.in-Some.is o.opened in
-    subst (λ p. IfSome p IsInRange) (plain-content c.args.store.now c.args.path.now c.enter.new.self c.args.value.now c.in-Some.content.now h.0 h.1 h.2 h.3 some next) c.in_ok-add_value-in-Some.ensures.range
+    let o = c.in_ok-content.ensures in
+    subst (λ p. IfSome p IsInRange) (plain-content c.args.store.now c.args.path.now c.opened_cell.new.path c.args.value.now c.in_ok-content.content.now h.0 h.1 h.2 h.3 o.found o.opened) c.in_ok-add_value.ensures.range
 
 pub add_value-add_items-requires : goal.add_value-add_items-requires
 add_value-add_items-requires t c =
@@ -150,30 +146,19 @@ add_value-add_map-requires t c =
     let size = ap nodes is in
     (omega arith, sym (plain-map c.args.store.now c.args.path.now c.args.value.now (fields_of h.map) h.field-0 h.field-1 is) ∙ c.requires)
 
-pub add_held-unreachable-requires : goal.add_held-unreachable-requires
-add_held-unreachable-requires t c =
-    let h = c.requires.holder in
-    let none : None ≡ entry c.args.store.now c.args.path.now c.args.value.now = ap option_copied (sym c.in-None.is) ∙ c.in_ok-enter.ensures.found in
-    let no : false ≡ true = sym (ap is_some (plain-closed c.args.store.now c.args.path.now c.args.value.now h.0 h.1 h.2 h.3 none)) ∙ c.requires.plain in
-    cc
-
 pub add_held-add_value-requires : goal.add_held-add_value-requires
 add_held-add_value-requires t c =
     let h = c.requires.holder in
-    let o = c.in_ok-enter.ensures in
-    let some : Some c.in-Some.content.now ≡ entry c.args.store.now c.args.path.now c.args.value.now = ap option_copied (sym c.in-Some.is) ∙ o.found in
-    let next : IfSome (cell_of c.args.value.now) (λ k. c.enter.new.self ≡ k ∷ c.args.path.now) = MatchOption-at_some _ _ _ c.in-Some.is o.opened in
-    let less = left-entry c.args.store.now c.args.path.now c.enter.new.self c.args.value.now c.in-Some.content.now 0 some next in
-    (omega arith, ap is_some (plain-content c.args.store.now c.args.path.now c.enter.new.self c.args.value.now c.in-Some.content.now h.0 h.1 h.2 h.3 some next) ∙ c.requires.plain)
+    let o = c.in_ok-content.ensures in
+    let less = left-entry c.args.store.now c.args.path.now c.opened_cell.new.path c.args.value.now c.in_ok-content.content.now 0 o.found o.opened in
+    (omega arith, ap is_some (plain-content c.args.store.now c.args.path.now c.opened_cell.new.path c.args.value.now c.in_ok-content.content.now h.0 h.1 h.2 h.3 o.found o.opened) ∙ c.requires.plain)
 
 pub add_held-returns-clause-bytes : goal.add_held-returns-clause-bytes
 add_held-returns-clause-bytes t c =
     let h = c.requires.holder in
-    let o = c.in_ok-enter.ensures in
-    let some : Some c.in-Some.content.now ≡ entry c.args.store.now c.args.path.now c.args.value.now = ap option_copied (sym c.in-Some.is) ∙ o.found in
-    let next : IfSome (cell_of c.args.value.now) (λ k. c.enter.new.self ≡ k ∷ c.args.path.now) = MatchOption-at_some _ _ _ c.in-Some.is o.opened in
-    c.in_ok-add_value-in-Some.ensures.bytes
-    ∙ ap (λ p. c.args.out.now.items ++ some_bytes p) (plain-content c.args.store.now c.args.path.now c.enter.new.self c.args.value.now c.in-Some.content.now h.0 h.1 h.2 h.3 some next)
+    let o = c.in_ok-content.ensures in
+    c.in_ok-add_value.ensures.bytes
+    ∙ ap (λ p. c.args.out.now.items ++ some_bytes p) (plain-content c.args.store.now c.args.path.now c.opened_cell.new.path c.args.value.now c.in_ok-content.content.now h.0 h.1 h.2 h.3 o.found o.opened)
 
 pub add_items-add_value-requires : goal.add_items-add_value-requires
 add_items-add_value-requires t c =

@@ -1,4 +1,4 @@
-use Rattle.std.proofs.Common.{◌≡◌, ◌*◌, [], ◌∷◌, ◌++◌, Some, None, option_copied, IfSome, codes, string_bytes, refl, sym, ap, ◌∙◌, arith}
+use Rattle.std.proofs.Common.{◌≡◌, [], ◌∷◌, ◌++◌, Some, None, option_copied, IfSome, codes, string_bytes, refl, sym, ap, ◌∙◌, arith}
 use Rattle.std.specs.Str.{chars}
 use Rattle.std.specs.Map.Iter.{deref_pair}
 use Rattle.std.proofs.lemmas.Map.Iter.{rest_more, rest_all}
@@ -140,31 +140,38 @@ add_value-returns-else-levels-eq0-3-clause-text t c =
     (printed-function c.args.store.now c.args.path.now c.args.value.now c.args.form c.in-FnPtr.function.0 c.in-FnPtr.function.1 c.in-FnPtr.field-0 c.in-FnPtr.field-1 (sym c.parts.ensures ∙ ap tree_of c.in-FnPtr.is))
     c.add_function.ensures.text
 
-pub add_value-returns-in-None-clause-text : goal.add_value-returns-in-None-clause-text
-add_value-returns-in-None-clause-text t c =
+pub add_value-add_held-requires : goal.add_value-add_held-requires
+add_value-add_held-requires t c =
     let h = c.in-Shared in
-    let none : None ≡ entry c.args.store.now c.args.path.now c.args.value.now = ap option_copied (sym c.in-None.is) ∙ c.in_ok-enter-in-Shared.ensures.found in
+    let is = sym c.parts.ensures ∙ ap tree_of h.is in
+    let size = ap nodes is in
+    (omega arith, (h.field-2.index, h.field-0, h.field-1, is))
+
+pub add_held-returns-in-None-clause-text : goal.add_held-returns-in-None-clause-text
+add_held-returns-in-None-clause-text t c =
+    let h = c.requires in
+    let none : None ≡ entry c.args.store.now c.args.path.now c.args.value.now = ap option_copied (sym c.in-None.is) ∙ c.in_ok-enter.ensures.found in
     added_as c.add_text.result _ (chars (string_bytes c.args.out.now)) (chars (codes "<shared>")) _
-    (fixed (codes "<shared>") refl ∙ printed-closed c.args.store.now c.args.path.now c.args.value.now c.args.form h.field-2.index h.field-0 h.field-1 (sym c.parts.ensures ∙ ap tree_of h.is) none)
+    (fixed (codes "<shared>") refl ∙ printed-closed c.args.store.now c.args.path.now c.args.value.now c.args.form h.0 h.1 h.2 h.3 none)
     c.add_text.ensures
 
-pub add_value-add_value-requires : goal.add_value-add_value-requires
-add_value-add_value-requires t c =
-    let o = c.in_ok-enter-in-Shared.ensures in
+pub add_held-add_value-requires : goal.add_held-add_value-requires
+add_held-add_value-requires t c =
+    let o = c.in_ok-enter.ensures in
     let some : Some c.in-Some.content.now ≡ entry c.args.store.now c.args.path.now c.args.value.now = ap option_copied (sym c.in-Some.is) ∙ o.found in
     let next : IfSome (cell_of c.args.value.now) (λ k. c.enter.new.self ≡ k ∷ c.args.path.now) = MatchOption-at_some _ _ _ c.in-Some.is o.opened in
-    let less = left-entry c.args.store.now c.args.path.now c.enter.new.self c.args.value.now c.in-Some.content.now (4 * nodes c.args.value.now) some next in
+    let less = left-entry c.args.store.now c.args.path.now c.enter.new.self c.args.value.now c.in-Some.content.now 0 some next in
     (omega arith, tt)
 
-pub add_value-returns-in_ok-add_value-in-Some-clause-text : goal.add_value-returns-in_ok-add_value-in-Some-clause-text
-add_value-returns-in_ok-add_value-in-Some-clause-text t c =
-    let h = c.in-Shared in
-    let o = c.in_ok-enter-in-Shared.ensures in
+pub add_held-returns-in_ok-add_value-in-Some-clause-text : goal.add_held-returns-in_ok-add_value-in-Some-clause-text
+add_held-returns-in_ok-add_value-in-Some-clause-text t c =
+    let h = c.requires in
+    let o = c.in_ok-enter.ensures in
     let some : Some c.in-Some.content.now ≡ entry c.args.store.now c.args.path.now c.args.value.now = ap option_copied (sym c.in-Some.is) ∙ o.found in
     let next : IfSome (cell_of c.args.value.now) (λ k. c.enter.new.self ≡ k ∷ c.args.path.now) = MatchOption-at_some _ _ _ c.in-Some.is o.opened in
     let inside = printed c.args.store.now c.enter.new.self c.in-Some.content.now in
     added_twice c.add_text-in-Some.result _ (chars (string_bytes c.add_value.new.out)) (chars (string_bytes c.args.out.now)) (inside (content_form c.args.form)) (chars (codes " (shared)")) _
     (c.in_ok-add_value-in-Some.ensures.text ∙ ap (λ f. chars (string_bytes c.args.out.now) ++ inside f) c.of_content.ensures)
     (ap (λ x. inside (content_form c.args.form) ++ x) (fixed (codes " (shared)") refl)
-    ∙ printed-opened c.args.store.now c.args.path.now c.enter.new.self c.args.value.now c.in-Some.content.now c.args.form h.field-2.index h.field-0 h.field-1 (sym c.parts.ensures ∙ ap tree_of h.is) some next)
+    ∙ printed-opened c.args.store.now c.args.path.now c.enter.new.self c.args.value.now c.in-Some.content.now c.args.form h.0 h.1 h.2 h.3 some next)
     c.add_text-in-Some.ensures

@@ -10,6 +10,9 @@ use Rattle.rhai_show.proofs.text.+print.Given as goal
 abbrev pub decreases-add_value : goal.decreases-add_value
 decreases-add_value l = left_in l.store.now l.path.now + 4 * nodes l.value.now
 
+abbrev pub decreases-add_held : goal.decreases-add_held
+decreases-add_held l = left_in l.store.now l.path.now
+
 abbrev pub decreases-add_array : goal.decreases-add_array
 decreases-add_array l = left_in l.store.now l.path.now + (4 * nodes_trees (trees_of l.items.now) + 2)
 

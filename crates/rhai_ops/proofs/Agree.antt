@@ -27,7 +27,7 @@ use Rattle.rhai_ops.specs.Outcome.{Outcome, answers, too_large, limited_text, li
 use Rattle.rhai_ops.specs.Results.{of_ints, outcome, joined_texts, joined_blobs}
 use Rattle.rhai_ops.specs.Table.{own, own_leaf, row_of, own_pair, pair_row, type_line, pick, Line, is_numeric, is_range_type}
 use Rattle.rhai_ops.specs.Tokens.{role, arithmetic, base_operation, is_assignment, is_token, without_assign}
-use Rattle.rhai_ops.specs.Ways.{Way, operator, assignment, way, writes, rewritten, first_left, takes_nothing}
+use Rattle.rhai_ops.specs.Effects.{Effect, operator, assignment, effect, writes, rewritten, first_left, takes_nothing}
 use Rattle.rhai_ops.proofs.Roles.{assignments}
 use Rattle.rhai_ops.proofs.Suited.{leaf_end, own_part}
 
@@ -209,15 +209,15 @@ beside t (blob v) = (refl, refl)
 beside t (host h) = (refl, refl)
 
 -- the content of a value that isn't shared, once another value was written there
-written : (w : Way) (v : Tree) (s : List Cell) (i : Leaf) (g : ℤ) (m : AccessMode) → IsTrue (writes w) → content_of (first_left w (answers v) s (node (leaf i) g m)) ≡ content_of v
+written : (w : Effect) (v : Tree) (s : List Cell) (i : Leaf) (g : ℤ) (m : AccessMode) → IsTrue (writes w) → content_of (first_left w (answers v) s (node (leaf i) g m)) ≡ content_of v
 written operator v s i g m e = cc
 written (assignment q) v s i g m e = ap (λ d. content_of (value_after (rewritten v) d (node (leaf i) g m))) (leaf_end s [] i g m)
 
 pub agree : (t : Token) (l : Limits) (s : List Cell) (x y : Tree) (b a : FnBuiltin) (v w : Tree) → row_of (without_assign t) s x y ≡ Some b → assign_row t x y ≡ Some a
-    → outcome b l s x y ≡ answers v → outcome a l s x y ≡ answers w → takes_nothing x y ≡ false → content_of (first_left (way a) (outcome a l s x y) s x) ≡ content_of v
+    → outcome b l s x y ≡ answers v → outcome a l s x y ≡ answers w → takes_nothing x y ≡ false → content_of (first_left (effect a) (outcome a l s x y) s x) ≡ content_of v
 agree t l s (node (leaf i) g m) (node (leaf j) h n) b a v w e f p q k =
-    ap (λ o. content_of (first_left (way a) o s (node (leaf i) g m))) q
-    ∙ written (way a) w s i g m (assignments t (node (leaf i) g m) (node (leaf j) h n) a f)
+    ap (λ o. content_of (first_left (effect a) o s (node (leaf i) g m))) q
+    ∙ written (effect a) w s i g m (assignments t (node (leaf i) g m) (node (leaf j) h n) a f)
     ∙ leaves l s g h m n b a t i j e f k v w p q
 agree t l s (node (leaf i) g m) (node (branch array us) h n) b a v w e f p q k = absurd (none_is_some _ a (beside t i).0 f)
 agree t l s (node (leaf i) g m) (node (branch (function j) us) h n) b a v w e f p q k = absurd (none_is_some _ a (beside t i).1 f)
@@ -229,7 +229,7 @@ agree t l s (node (fields fs) g m) y b a v w e f p q k = absurd (none_is_some _ 
 agree t l s (node (holder c) g m) y b a v w e f p q k = absurd (none_is_some _ a (other_none t (own y)) f)
 
 -- a character that takes an empty text
-pub stays : (l : Limits) (s : List Cell) (x y : Tree) → takes_nothing x y ≡ true → first_left (way row.CharTextAssign) (outcome row.CharTextAssign l s x y) s x ≡ x
+pub stays : (l : Limits) (s : List Cell) (x y : Tree) → takes_nothing x y ≡ true → first_left (effect row.CharTextAssign) (outcome row.CharTextAssign l s x y) s x ≡ x
 stays l s (node (leaf (char c)) g m) (node (leaf (text [])) h n) e =
     rw (own_part char_of s (char c) g m, own_part text_of s (text []) h n)
     (ap (λ d. value_after (rewritten (fresh (char c))) d (node (leaf (char c)) g m)) (leaf_end s [] (char c) g m))

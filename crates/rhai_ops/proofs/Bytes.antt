@@ -8,7 +8,7 @@ use Rattle.rhai_value.specs.Tree.{Tree, node, leaf, fresh, unit}
 use Rattle.rhai_value.specs.Parts.{text_of, blob_of}
 use Rattle.rhai_ops.specs.Outcome.{too_large, is_allowed, is_answer, both}
 use Rattle.rhai_ops.specs.Results.{Holds, part, blob_and_text}
-use Rattle.rhai_ops.specs.Ways.{IsAssigned}
+use Rattle.rhai_ops.specs.Effects.{IsAssigned}
 use Rattle.rhai_ops.proofs.FromBelow.{assigned, part_stays, same_blob}
 use Rattle.rhai_ops.proofs.Suited.{own_part}
 

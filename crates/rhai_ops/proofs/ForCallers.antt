@@ -2,4 +2,4 @@
 -- rows and what they come to, on related operands
 pub use Rattle.rhai_ops.proofs.SameRows.{same_row, same_assign_row, same_outcome}
 -- what calls leave of related operands and stores, and that they add no cell and change no mark
-pub use Rattle.rhai_ops.proofs.SameWays.{same_answered, same_first_left, same_second_left, same_store_left, length_store_left, marked_store_left}
+pub use Rattle.rhai_ops.proofs.SameEffects.{same_answered, same_first_left, same_second_left, same_store_left, length_store_left, marked_store_left}

@@ -11,7 +11,7 @@ use Rattle.rhai_value.specs.Parts.{int_of, blob_of, array_of, with_content}
 use Rattle.rhai_value.specs.End.{end, held_part, value_after, store_after}
 use Rattle.rhai_value.proofs.ForCallers.{held_over}
 use Rattle.rhai_ops.specs.Outcome.{IsOutcome, Outcome, answers, both}
-use Rattle.rhai_ops.specs.Ways.{IsAssigned, answered, assignment, stays}
+use Rattle.rhai_ops.specs.Effects.{IsAssigned, answered, assignment, stays}
 
 -- a part that is the content of the values of one type
 pub record Same {A : Type 0} (part : Tree → Option A) (content : A → Content) : Type 0 where

@@ -8,7 +8,7 @@ use Rattle.rhai_value.specs.Store.{at, content_at, put}
 use Rattle.rhai_value.specs.Tree.{Tree, node, Content, content_of, tag_of, mode_of}
 use Rattle.rhai_value.proofs.ForCallers.{stands}
 use Rattle.rhai_ops.specs.Outcome.{Outcome, fault, too_large, answers, unsuited}
-use Rattle.rhai_ops.specs.Ways.{Way, operator, assignment, first_left, store_left, rewritten}
+use Rattle.rhai_ops.specs.Effects.{Effect, operator, assignment, first_left, store_left, rewritten}
 
 -- what doesn't see the content of a value
 abbrev Sees : {A : Type 0} → (Tree → A) → Type 0
@@ -44,14 +44,14 @@ cell_kept f k t s x c (held (InCell d) v) is = put_kept f s d c (rewritten t v) 
 cell_kept f k t s x c (stuck v) is = refl
 cell_kept f k t s x c closed is = refl
 
-first_kept : {A : Type 0} (f : Tree → A) → Sees f → (w : Way) (o : Outcome) (s : List Cell) (x : Tree) → f (first_left w o s x) ≡ f x
+first_kept : {A : Type 0} (f : Tree → A) → Sees f → (w : Effect) (o : Outcome) (s : List Cell) (x : Tree) → f (first_left w o s x) ≡ f x
 first_kept f k operator o s x = refl
 first_kept f k (assignment q) (answers t) s x = value_kept f k t s x (end s [] x) refl
 first_kept f k (assignment q) (fault g) s x = refl
 first_kept f k (assignment q) (too_large n) s x = refl
 first_kept f k (assignment q) unsuited s x = refl
 
-cells_kept : {A : Type 0} (f : Tree → A) → Sees f → (w : Way) (o : Outcome) (s : List Cell) (x : Tree) (c : ℕ)
+cells_kept : {A : Type 0} (f : Tree → A) → Sees f → (w : Effect) (o : Outcome) (s : List Cell) (x : Tree) (c : ℕ)
     → option_map f (content_at (store_left w o s x) c) ≡ option_map f (content_at s c)
 cells_kept f k operator o s x c = refl
 cells_kept f k (assignment q) (answers t) s x c = cell_kept f k t s x c (end s [] x) refl
@@ -59,14 +59,14 @@ cells_kept f k (assignment q) (fault g) s x c = refl
 cells_kept f k (assignment q) (too_large n) s x c = refl
 cells_kept f k (assignment q) unsuited s x c = refl
 
-pub tag_stays : (w : Way) (o : Outcome) (s : List Cell) (x : Tree) → tag_of (first_left w o s x) ≡ tag_of x
+pub tag_stays : (w : Effect) (o : Outcome) (s : List Cell) (x : Tree) → tag_of (first_left w o s x) ≡ tag_of x
 tag_stays w o s x = first_kept tag_of sees_tag w o s x
 
-pub mode_stays : (w : Way) (o : Outcome) (s : List Cell) (x : Tree) → mode_of (first_left w o s x) ≡ mode_of x
+pub mode_stays : (w : Effect) (o : Outcome) (s : List Cell) (x : Tree) → mode_of (first_left w o s x) ≡ mode_of x
 mode_stays w o s x = first_kept mode_of sees_mode w o s x
 
-pub cell_tag_stays : (w : Way) (o : Outcome) (s : List Cell) (x : Tree) (c : ℕ) → option_map tag_of (content_at (store_left w o s x) c) ≡ option_map tag_of (content_at s c)
+pub cell_tag_stays : (w : Effect) (o : Outcome) (s : List Cell) (x : Tree) (c : ℕ) → option_map tag_of (content_at (store_left w o s x) c) ≡ option_map tag_of (content_at s c)
 cell_tag_stays w o s x c = cells_kept tag_of sees_tag w o s x c
 
-pub cell_mode_stays : (w : Way) (o : Outcome) (s : List Cell) (x : Tree) (c : ℕ) → option_map mode_of (content_at (store_left w o s x) c) ≡ option_map mode_of (content_at s c)
+pub cell_mode_stays : (w : Effect) (o : Outcome) (s : List Cell) (x : Tree) (c : ℕ) → option_map mode_of (content_at (store_left w o s x) c) ≡ option_map mode_of (content_at s c)
 cell_mode_stays w o s x c = cells_kept mode_of sees_mode w o s x c

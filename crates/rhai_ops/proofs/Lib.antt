@@ -1,6 +1,7 @@
 pub mod Agree
 pub mod Bytes
 pub mod Characters
+pub mod Effects
 pub mod ForCallers
 pub mod FromBelow
 pub mod Items
@@ -8,9 +9,8 @@ pub mod Labels
 pub mod Lengths
 pub mod Lines
 pub mod Roles
+pub mod SameEffects
 pub mod SameItems
 pub mod SameRows
-pub mod SameWays
 pub mod Shifts
 pub mod Suited
-pub mod Ways

@@ -12,14 +12,14 @@ use Rattle.rhai_ops.specs.declared.own.Own.{Own}
 use Rattle.rhai_ops.specs.declared.own.Own.TheVariants as is
 use Rattle.rhai_ops.specs.AssignTable.{assign_line, assign_row}
 use Rattle.rhai_ops.specs.Table.{own, row_of, own_pair, type_line, is_numeric, is_range_type}
-use Rattle.rhai_ops.specs.Ways.{way, operator, writes}
+use Rattle.rhai_ops.specs.Effects.{effect, operator, writes}
 use Rattle.rhai_ops.proofs.Lines.{LineAll, PairAll, pick_all, pair_all, if_all}
 
 abbrev Answers : FnBuiltin → Type 0
-Answers r = way r ≡ operator
+Answers r = effect r ≡ operator
 
 abbrev Writes : FnBuiltin → Type 0
-Writes r = IsTrue (writes (way r))
+Writes r = IsTrue (writes (effect r))
 
 -- pair by pair; a row more is found without a line more
 own_answers : (t : Token) (a b : Own) → PairAll Answers (own_pair t a b)
@@ -38,7 +38,7 @@ types_answer t a b =
     if_all Answers (is_range_type a && is_range_type b) _ _ (λ r. if_all Answers (is_type a b) _ _ (λ i. (λ d. refl, (λ d. refl, tt))) (λ i. (λ d. refl, (λ d. refl, tt))))
     (λ r. if_all Answers (is_type a b || (is_numeric a && is_numeric b)) _ _ (λ i. tt) (λ i. (λ d. refl, (λ d. refl, tt)))))
 
-pub operators : (t : Token) (s : List Cell) (x y : Tree) (r : FnBuiltin) → row_of t s x y ≡ Some r → way r ≡ operator
+pub operators : (t : Token) (s : List Cell) (x y : Tree) (r : FnBuiltin) → row_of t s x y ≡ Some r → effect r ≡ operator
 operators t s x y r e = pair_all Answers (own_pair t (own x) (own y)) _ r (own_answers t (own x) (own y)) (types_answer t (end_type (end s [] x)) (end_type (end s [] y))) e
 
 own_writes : (t : Token) (a b : Own) → LineAll Writes (assign_line t a b)
@@ -51,5 +51,5 @@ own_writes t is.Blob is.Blob = search refl
 own_writes t is.Array is.Array = search refl
 own_writes t a b = search refl
 
-pub assignments : (t : Token) (x y : Tree) (r : FnBuiltin) → assign_row t x y ≡ Some r → IsTrue (writes (way r))
+pub assignments : (t : Token) (x y : Tree) (r : FnBuiltin) → assign_row t x y ≡ Some r → IsTrue (writes (effect r))
 assignments t x y r e = pick_all Writes (assign_line t (own x) (own y)) r (own_writes t (own x) (own y)) e

@@ -4,4 +4,4 @@ pub mod AssignTable
 pub mod Numbers
 pub mod Outcome
 pub mod Results
-pub mod Ways
+pub mod Effects

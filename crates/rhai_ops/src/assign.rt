@@ -9,7 +9,7 @@ ghost use Rattle.rhai_ops.specs.Outcome.{answers, bool_answer, both, limited_tex
 ghost use Rattle.rhai_ops.specs.Results.{Holds, joined_texts, joined_to_char, part as part_in};
 ghost use Rattle.rhai_ops.specs.Tokens as asked;
 ghost use Rattle.rhai_ops.specs.Tokens.{is_bits_assignment};
-ghost use Rattle.rhai_ops.specs.Ways.{IsAssigned, rewritten};
+ghost use Rattle.rhai_ops.specs.Effects.{IsAssigned, rewritten};
 
 use crate::answer::{part, value};
 use crate::write::write;
@@ -20,7 +20,7 @@ use std::alloc::Global;
 
 /// `&`, `|` or `^` of two booleans in the place of the first.
 #[inline(never)]
-#[tactic(auto, using(crate::proofs::Ways::still_answer))]
+#[tactic(auto, using(crate::proofs::Effects::still_answer))]
 pub(crate) fn bits(
     op: Token,
     m: &mut Store,
@@ -37,7 +37,7 @@ pub(crate) fn bits(
 
 /// The text of two characters in the place of the first.
 #[inline(never)]
-#[tactic(auto, using(crate::proofs::Ways::still_answer))]
+#[tactic(auto, using(crate::proofs::Effects::still_answer))]
 pub(crate) fn two_chars(
     alloc: Global,
     m: &mut Store,
@@ -53,7 +53,7 @@ pub(crate) fn two_chars(
 
 /// A text behind a text.
 #[inline(never)]
-#[tactic(auto, using(crate::proofs::Ways::still_answer))]
+#[tactic(auto, using(crate::proofs::Effects::still_answer))]
 pub(crate) fn text_and_text(
     alloc: Global,
     m: &mut Store,
@@ -70,7 +70,7 @@ pub(crate) fn text_and_text(
 
 /// The occurrences of a text out of a text.
 #[inline(never)]
-#[tactic(auto, using(crate::proofs::Ways::still_answer))]
+#[tactic(auto, using(crate::proofs::Effects::still_answer))]
 pub(crate) fn text_minus_text(
     alloc: Global,
     m: &mut Store,
@@ -86,7 +86,7 @@ pub(crate) fn text_minus_text(
 
 /// A character behind a text.
 #[inline(never)]
-#[tactic(auto, using(crate::proofs::Ways::still_answer))]
+#[tactic(auto, using(crate::proofs::Effects::still_answer))]
 pub(crate) fn text_and_char(
     alloc: Global,
     m: &mut Store,
@@ -103,7 +103,7 @@ pub(crate) fn text_and_char(
 
 /// A character out of a text.
 #[inline(never)]
-#[tactic(auto, using(crate::proofs::Ways::still_answer))]
+#[tactic(auto, using(crate::proofs::Effects::still_answer))]
 pub(crate) fn text_minus_char(
     alloc: Global,
     m: &mut Store,
@@ -119,7 +119,7 @@ pub(crate) fn text_minus_char(
 
 /// A text behind a character, in its place.
 #[inline(never)]
-#[tactic(auto, using(crate::proofs::Ways::still_answer))]
+#[tactic(auto, using(crate::proofs::Effects::still_answer))]
 pub(crate) fn char_and_text(
     alloc: Global,
     m: &mut Store,

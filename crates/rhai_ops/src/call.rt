@@ -2,7 +2,7 @@
 ghost use Rattle.std.specs.Prelude.{◌≡◌, IfOk, IfErr};
 ghost use Rattle.rhai_ops.specs.Outcome.{IsOutcome, answers};
 ghost use Rattle.rhai_ops.specs.Results.{MayWant, Suits, outcome};
-ghost use Rattle.rhai_ops.specs.Ways.{answered, first_left, second_left, store_left, way};
+ghost use Rattle.rhai_ops.specs.Effects.{answered, first_left, second_left, store_left, effect};
 ghost use Rattle.rhai_value.specs.Tree.{TakesNoMemory, copy};
 
 use crate::answer::{part, value};
@@ -33,10 +33,10 @@ impl FnBuiltin {
         y: &mut Dynamic,
     ) -> Result<Dynamic, EvalAltResult>
         requires { Suits self.now m.old x.old y.old }
-        ensures result { IsOutcome (MayWant self.now x.old y.old) result (answered (way self.now) (outcome self.now limits.now m.old x.old y.old)) }
-        ensures first { IfOk result (λ d. x.new ≡ first_left (way self.now) (outcome self.now limits.now m.old x.old y.old) m.old x.old) }
-        ensures second { IfOk result (λ d. y.new ≡ second_left (way self.now) (outcome self.now limits.now m.old x.old y.old) y.old) }
-        ensures store { IfOk result (λ d. m.new ≡ store_left (way self.now) (outcome self.now limits.now m.old x.old y.old) m.old x.old) }
+        ensures result { IsOutcome (MayWant self.now x.old y.old) result (answered (effect self.now) (outcome self.now limits.now m.old x.old y.old)) }
+        ensures first { IfOk result (λ d. x.new ≡ first_left (effect self.now) (outcome self.now limits.now m.old x.old y.old) m.old x.old) }
+        ensures second { IfOk result (λ d. y.new ≡ second_left (effect self.now) (outcome self.now limits.now m.old x.old y.old) y.old) }
+        ensures store { IfOk result (λ d. m.new ≡ store_left (effect self.now) (outcome self.now limits.now m.old x.old y.old) m.old x.old) }
         ensures err { IfErr result (λ e. (x.new ≡ x.old) × (y.new ≡ y.old) × (m.new ≡ m.old)) }
     {
         // what operands have themselves, as most do, is read here; the rows on any operands follow

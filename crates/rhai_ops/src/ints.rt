@@ -8,7 +8,7 @@ ghost use Rattle.rhai_value.specs.Parts.{int_of};
 ghost use Rattle.rhai_value.specs.Tree.{fresh, int};
 ghost use Rattle.rhai_ops.specs.Outcome.{IsOutcome, answers, bool_answer, both, number_answer};
 ghost use Rattle.rhai_ops.specs.Results.{Holds, part};
-ghost use Rattle.rhai_ops.specs.Ways.{IsAssigned, answered, assignment, stays};
+ghost use Rattle.rhai_ops.specs.Effects.{IsAssigned, answered, assignment, stays};
 ghost use Rattle.rhai_ops.specs.Tokens as asked;
 ghost use Rattle.rhai_ops.specs.Tokens.{is_assignment, is_cmp, is_number};
 

@@ -15,7 +15,7 @@ ghost use Rattle.rhai_ops.specs.Outcome.{Outcome, RelatedOutcomes, answers};
 ghost use Rattle.rhai_ops.specs.Results.{Suits, outcome};
 ghost use Rattle.rhai_ops.specs.Table.{row_of};
 ghost use Rattle.rhai_ops.specs.Tokens.{without_assign};
-ghost use Rattle.rhai_ops.specs.Ways.{Way, first_left, operator, second_left, store_left, takes_nothing, way, writes};
+ghost use Rattle.rhai_ops.specs.Effects.{Effect, first_left, operator, second_left, store_left, takes_nothing, effect, writes};
 
 /// The row that an operator has on two operands may be called on them. That of an assignment may be called on a value too whose first
 /// content it was looked up for.
@@ -29,23 +29,23 @@ pub fn rows_suit()
 /// The rows of operators are those that only answer, the rows of assignments those that write.
 #[tactic(auto, using(crate::proofs::Roles::operators, crate::proofs::Roles::assignments))]
 pub fn operators_write_nothing()
-    ensures operator { (t : Token) (s : List Cell) (x y : Tree) (b : Row) → row_of t s x y ≡ Some b → way b ≡ operator }
-    ensures assignment { (t : Token) (x y : Tree) (b : Row) → assign_row t x y ≡ Some b → IsTrue (writes (way b)) }
+    ensures operator { (t : Token) (s : List Cell) (x y : Tree) (b : Row) → row_of t s x y ≡ Some b → effect b ≡ operator }
+    ensures assignment { (t : Token) (x y : Tree) (b : Row) → assign_row t x y ≡ Some b → IsTrue (writes (effect b)) }
 {}
 
 /// A call keeps the tag and the mode of whatever it writes to: of the first operand, and of what each cell has.
 #[tactic(auto, using(crate::proofs::Labels::tag_stays, crate::proofs::Labels::mode_stays, crate::proofs::Labels::cell_tag_stays, crate::proofs::Labels::cell_mode_stays))]
 pub fn assignments_keep_tag_and_mode()
-    ensures tag { (w : Way) (o : Outcome) (s : List Cell) (x : Tree) → tag_of (first_left w o s x) ≡ tag_of x }
-    ensures mode { (w : Way) (o : Outcome) (s : List Cell) (x : Tree) → mode_of (first_left w o s x) ≡ mode_of x }
-    ensures cell_tag { (w : Way) (o : Outcome) (s : List Cell) (x : Tree) (c : ℕ)
+    ensures tag { (w : Effect) (o : Outcome) (s : List Cell) (x : Tree) → tag_of (first_left w o s x) ≡ tag_of x }
+    ensures mode { (w : Effect) (o : Outcome) (s : List Cell) (x : Tree) → mode_of (first_left w o s x) ≡ mode_of x }
+    ensures cell_tag { (w : Effect) (o : Outcome) (s : List Cell) (x : Tree) (c : ℕ)
         → option_map tag_of (content_at (store_left w o s x) c) ≡ option_map tag_of (content_at s c) }
-    ensures cell_mode { (w : Way) (o : Outcome) (s : List Cell) (x : Tree) (c : ℕ)
+    ensures cell_mode { (w : Effect) (o : Outcome) (s : List Cell) (x : Tree) (c : ℕ)
         → option_map mode_of (content_at (store_left w o s x) c) ≡ option_map mode_of (content_at s c) }
 {}
 
 /// The row of an operator or an assignment, what it comes to, and what its call leaves don't depend on the numbers of cells.
-#[tactic(auto, using(crate::proofs::SameRows::same_row, crate::proofs::SameRows::same_assign_row, crate::proofs::SameRows::same_outcome, crate::proofs::SameWays::same_first_left, crate::proofs::SameWays::same_second_left, crate::proofs::SameWays::same_store_left))]
+#[tactic(auto, using(crate::proofs::SameRows::same_row, crate::proofs::SameRows::same_assign_row, crate::proofs::SameRows::same_outcome, crate::proofs::SameEffects::same_first_left, crate::proofs::SameEffects::same_second_left, crate::proofs::SameEffects::same_store_left))]
 pub fn rows_are_renamed()
     ensures row { (r : Renaming) (s z : List Cell) (k : Token) (t u v w : Tree)
         → IsOneToOne r → RelatedCells r s z → Related r t u → Related r v w → row_of k s t v ≡ row_of k z u w }
@@ -53,11 +53,11 @@ pub fn rows_are_renamed()
     ensures outcome { (r : Renaming) (s z : List Cell) (b : Row) (l : Limits) (t u v w : Tree)
         → IsOneToOne r → RelatedCells r s z → Related r t u → Related r v w
         → RelatedOutcomes r (outcome b l s t v) (outcome b l z u w) }
-    ensures first { (r : Renaming) (s z : List Cell) (w : Way) (o p : Outcome) (t u : Tree)
+    ensures first { (r : Renaming) (s z : List Cell) (w : Effect) (o p : Outcome) (t u : Tree)
         → IsOneToOne r → RelatedCells r s z → RelatedOutcomes r o p → Related r t u → Related r (first_left w o s t) (first_left w p z u) }
-    ensures second { (r : Renaming) (w : Way) (o p : Outcome) (t u : Tree)
+    ensures second { (r : Renaming) (w : Effect) (o p : Outcome) (t u : Tree)
         → RelatedOutcomes r o p → Related r t u → Related r (second_left w o t) (second_left w p u) }
-    ensures store { (r : Renaming) (s z : List Cell) (w : Way) (o p : Outcome) (t u : Tree)
+    ensures store { (r : Renaming) (s z : List Cell) (w : Effect) (o p : Outcome) (t u : Tree)
         → IsOneToOne r → RelatedCells r s z → RelatedOutcomes r o p → Related r t u → RelatedCells r (store_left w o s t) (store_left w p z u) }
 {}
 
@@ -80,7 +80,7 @@ pub fn assignments_agree()
     ensures content { (t : Token) (l : Limits) (s : List Cell) (x y : Tree) (b a : Row) (v w : Tree)
         → row_of (without_assign t) s x y ≡ Some b → assign_row t x y ≡ Some a
         → outcome b l s x y ≡ answers v → outcome a l s x y ≡ answers w → takes_nothing x y ≡ false
-        → content_of (first_left (way a) (outcome a l s x y) s x) ≡ content_of v }
+        → content_of (first_left (effect a) (outcome a l s x y) s x) ≡ content_of v }
     ensures character { (l : Limits) (s : List Cell) (x y : Tree) → takes_nothing x y ≡ true
-        → first_left (way row.CharTextAssign) (outcome row.CharTextAssign l s x y) s x ≡ x }
+        → first_left (effect row.CharTextAssign) (outcome row.CharTextAssign l s x y) s x ≡ x }
 {}

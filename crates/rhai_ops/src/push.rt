@@ -9,7 +9,7 @@ ghost use Rattle.rhai_value.specs.Tree.{array, blob, branch, copy_trees, fresh, 
 ghost use Rattle.rhai_ops.specs.Outcome.{IsOutcome, answers, both, too_large};
 ghost use Rattle.rhai_value.specs.Bytes.{low_byte};
 ghost use Rattle.rhai_ops.specs.Results.{Holds, appended, blob_and_text, joined_items, part as part_in, pushed};
-ghost use Rattle.rhai_ops.specs.Ways.{IsAssigned, answered, assignment, stays};
+ghost use Rattle.rhai_ops.specs.Effects.{IsAssigned, answered, assignment, stays};
 
 use crate::answer::{is_allowed, part, value};
 use rhai_text::{EvalAltResult, ImmutableString, Limits, Position, SizeKind};
@@ -120,7 +120,7 @@ fn append_at(
 }
 
 /// Copies of the items of an array, if the limit allows them behind the others; it is tested before anything is copied.
-#[tactic(auto, using(crate::proofs::Items::copied_refused, crate::proofs::Items::copied_answer, crate::proofs::Ways::still_answer))]
+#[tactic(auto, using(crate::proofs::Items::copied_refused, crate::proofs::Items::copied_answer, crate::proofs::Effects::still_answer))]
 fn copies(
     alloc: Global,
     limits: &Limits,

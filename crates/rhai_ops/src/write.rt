@@ -1,7 +1,7 @@
 //! The write of an assignment.
 ghost use Rattle.std.specs.Prelude.{◌≡◌, []};
 ghost use Rattle.rhai_value.specs.End.{end, value_after, store_after};
-ghost use Rattle.rhai_ops.specs.Ways.{rewritten};
+ghost use Rattle.rhai_ops.specs.Effects.{rewritten};
 
 use rhai_value::{Dynamic, InStore, Store};
 

@@ -13,7 +13,7 @@ use Rattle.rhai_ops.specs.AssignTable.{assign_row}
 use Rattle.rhai_ops.specs.Outcome as call
 use Rattle.rhai_ops.specs.Outcome.{IsOutcome, is_answer}
 use Rattle.rhai_ops.specs.Results.{MayWant, Suits, outcome}
-use Rattle.rhai_ops.specs.Ways.{Way, operator, assignment, way, answered, first_left, second_left, store_left}
+use Rattle.rhai_ops.specs.Effects.{Effect, operator, assignment, effect, answered, first_left, second_left, store_left}
 use Rattle.rhai_ops.specs.declared.builtin.FnBuiltin.{FnBuiltin}
 use Rattle.rhai_run.specs.declared.command.Place.{Place}
 use Rattle.rhai_run.specs.declared.slot.Slot.{Slot}
@@ -43,13 +43,13 @@ value_apart ts es (slot.Hand i) j d e = let n : i ≡ j → ⊥ = grind (arith, 
 value_apart ts es (slot.Entry k) j d e = refl
 
 -- what the other one becomes is put back
-put_back : (w : State) (p : Slot) (j : ℕ) (how : Way) (t d y : Tree) (o : call.Outcome) → is_in p j ≡ false
+put_back : (w : State) (p : Slot) (j : ℕ) (how : Effect) (t d y : Tree) (o : call.Outcome) → is_in p j ≡ false
     → with_hand (assigned_in (with_hand w (slice_set w.hand j d)) p how t o) (slice_set (assigned_in (with_hand w (slice_set w.hand j d)) p how t o).hand j y) ≡ assigned_in (with_hand w (slice_set w.hand j y)) p how t o
 put_back w (slot.Hand i) j how t d y o e = ap (λ ts. record w { store = store_left how o w.store t; hand = ts }) (set_other w.hand i j (first_left how o w.store t) y d (let n : i ≡ j → ⊥ = grind (arith, nat_tests, e) in n))
 put_back w (slot.Entry k) j how t d y o e = ap (λ ts. (record (assigned_in w (slot.Entry k) how t o) { hand = ts })) (set-set w.hand j d y)
 
 -- what a call that is done comes to
-answered_value : (w : State) (how : Way) (after : State) (d : Tree) (o : call.Outcome) → answered how o ≡ call.answers d → called w (λ _. after) o ≡ growing done after
+answered_value : (w : State) (how : Effect) (after : State) (d : Tree) (o : call.Outcome) → answered how o ≡ call.answers d → called w (λ _. after) o ≡ growing done after
 answered_value w operator after d o e = ap (called w (λ _. after)) e
 answered_value w (assignment q) after d (call.answers t) e = refl
 answered_value w (assignment q) after d (call.fault f) e = cc
@@ -60,7 +60,7 @@ answered_value w (assignment q) after d call.unsuited e = cc
 pub assign_is : (w : State) (op : Token) (p : Place) (q : Slot) (j : ℕ) (t u x : Tree) (row : FnBuiltin) → slice_get w.hand j ≡ Some u → is_at p j ≡ false → slot_of w.entries p ≡ Some q
     → source w.hand w.entries p ≡ Ok t → value_in w.hand w.entries q ≡ Some t → first w.store t ≡ Some x → assign_row op x u ≡ Some row → step_assign w op p j ≡ called_in w q j row
 assign_is w op p q j t u x row b c is d v e f =
-    let how = way row in
+    let how = effect row in
     let o = outcome row w.limits w.store t u in
     let z = with_hand w (slice_set w.hand j (second_left how o u)) in
     rw (b, c, d, v, e, f) (ap (λ y. called w (λ _. y) o) (same_put z (store_left how o w.store t) p q (first_left how o w.store t) is))
@@ -68,9 +68,9 @@ assign_is w op p q j t u x row b c is d v e f =
 -- the call, the second operand being moved out of the hand meanwhile
 pub assign_called : (w v : State) (p : Slot) (j : ℕ) (row : FnBuiltin) (t u d y : Tree) (ts : List Tree) (r : Result Tree EvalAltResult)
     → is_in p j ≡ false → value_in w.hand w.entries p ≡ Some t → slice_get w.hand j ≡ Some u → ts ≡ slice_set w.hand j d
-    → IfSome (value_in ts w.entries p) (λ x. IsOutcome (MayWant row x u) r (answered (way row) (outcome row w.limits w.store x u)))
-    → OnOk r (IfSome (value_in ts w.entries p) (λ x. assigned_in (with_hand w ts) p (way row) x (outcome row w.limits w.store x u) ≡ v))
-    → OnOk r (IfSome (value_in ts w.entries p) (λ x. y ≡ second_left (way row) (outcome row w.limits w.store x u) u))
+    → IfSome (value_in ts w.entries p) (λ x. IsOutcome (MayWant row x u) r (answered (effect row) (outcome row w.limits w.store x u)))
+    → OnOk r (IfSome (value_in ts w.entries p) (λ x. assigned_in (with_hand w ts) p (effect row) x (outcome row w.limits w.store x u) ≡ v))
+    → OnOk r (IfSome (value_in ts w.entries p) (λ x. y ≡ second_left (effect row) (outcome row w.limits w.store x u) u))
     → OnErr r ((v ≡ with_hand w ts) × (y ≡ u))
     → Calls r w (with_hand v (slice_set v.hand j y)) (called_in w p j row)
 assign_called w v p j row t u d y ts r apart at other moved result written second kept = by r result written second kept
@@ -81,26 +81,26 @@ assign_called w v p j row t u d y ts r apart at other moved result written secon
     same : value_in ts w.entries p ≡ Some t
     same = ap (λ us. value_in us w.entries p) moved ∙ value_apart w.hand w.entries p j d apart ∙ at
 
-    is : called_in w p j row ≡ both_assigned w p j (way row) t u o
+    is : called_in w p j row ≡ both_assigned w p j (effect row) t u o
     is = rw (at, other) refl
 
     of_found : (P : Tree → Type 0) → IfSome (value_in ts w.entries p) P → P t
     of_found P h = subst (λ s. IfSome s P) same h
 
-    by : (q : Result Tree EvalAltResult) → IfSome (value_in ts w.entries p) (λ x. IsOutcome (MayWant row x u) q (answered (way row) (outcome row w.limits w.store x u)))
-        → OnOk q (IfSome (value_in ts w.entries p) (λ x. assigned_in (with_hand w ts) p (way row) x (outcome row w.limits w.store x u) ≡ v))
-        → OnOk q (IfSome (value_in ts w.entries p) (λ x. y ≡ second_left (way row) (outcome row w.limits w.store x u) u))
+    by : (q : Result Tree EvalAltResult) → IfSome (value_in ts w.entries p) (λ x. IsOutcome (MayWant row x u) q (answered (effect row) (outcome row w.limits w.store x u)))
+        → OnOk q (IfSome (value_in ts w.entries p) (λ x. assigned_in (with_hand w ts) p (effect row) x (outcome row w.limits w.store x u) ≡ v))
+        → OnOk q (IfSome (value_in ts w.entries p) (λ x. y ≡ second_left (effect row) (outcome row w.limits w.store x u) u))
         → OnErr q ((v ≡ with_hand w ts) × (y ≡ u)) → Calls q w (with_hand v (slice_set v.hand j y)) (called_in w p j row)
     by (Ok a) h k l m =
-        let left : v ≡ assigned_in (with_hand w (slice_set w.hand j d)) p (way row) t o =
-        sym (of_found (λ x. assigned_in (with_hand w ts) p (way row) x (outcome row w.limits w.store x u) ≡ v) k) ∙ ap (λ us. assigned_in (with_hand w us) p (way row) t o) moved in
-        let what : y ≡ second_left (way row) o u = of_found (λ x. y ≡ second_left (way row) (outcome row w.limits w.store x u) u) l in
-        is ∙ answered_value w (way row) _ a o (of_found (λ x. IsOutcome (MayWant row x u) (Ok a) (answered (way row) (outcome row w.limits w.store x u))) h)
-        ∙ ap (growing done) (sym (ap (λ z. with_hand z (slice_set z.hand j y)) left ∙ put_back w p j (way row) t d y o apart ∙ ap (λ z. assigned_in (with_hand w (slice_set w.hand j z)) p (way row) t o) what))
+        let left : v ≡ assigned_in (with_hand w (slice_set w.hand j d)) p (effect row) t o =
+        sym (of_found (λ x. assigned_in (with_hand w ts) p (effect row) x (outcome row w.limits w.store x u) ≡ v) k) ∙ ap (λ us. assigned_in (with_hand w us) p (effect row) t o) moved in
+        let what : y ≡ second_left (effect row) o u = of_found (λ x. y ≡ second_left (effect row) (outcome row w.limits w.store x u) u) l in
+        is ∙ answered_value w (effect row) _ a o (of_found (λ x. IsOutcome (MayWant row x u) (Ok a) (answered (effect row) (outcome row w.limits w.store x u))) h)
+        ∙ ap (growing done) (sym (ap (λ z. with_hand z (slice_set z.hand j y)) left ∙ put_back w p j (effect row) t d y o apart ∙ ap (λ z. assigned_in (with_hand w (slice_set w.hand j z)) p (effect row) t o) what))
     by (Err e) h k l m =
         let back : with_hand v (slice_set v.hand j y) ≡ w =
         ap (λ z. with_hand z (slice_set z.hand j y)) m.0 ∙ ap (λ us. with_hand w (slice_set us j y)) moved ∙ ap (with_hand w) (set-set w.hand j d y ∙ ap (slice_set w.hand j) m.1 ∙ set_own w.hand j u other) in
-        (subst (IsError (not_done_of e) w) (sym is) (refusal_of (MayWant row t u) w (way row) _ e o (of_found (λ x. IsOutcome (MayWant row x u) (Err e) (answered (way row) (outcome row w.limits w.store x u))) h)), back)
+        (subst (IsError (not_done_of e) w) (sym is) (refusal_of (MayWant row t u) w (effect row) _ e o (of_found (λ x. IsOutcome (MayWant row x u) (Err e) (answered (effect row) (outcome row w.limits w.store x u))) h)), back)
 
 -- the operands, as the code finds them in memory
 pub operands_moved : (w v : State) (row : FnBuiltin) (p : Slot) (j : ℕ) (y d : Tree) (ts : List Tree) → v ≡ w → HasOperands row w p j → slice_get v.hand j ≡ Some y → ts ≡ slice_set v.hand j d
@@ -115,9 +115,9 @@ operands_moved w v row p j y d ts same k at moved = subst (λ (z : State). IsSom
 
 pub assign_moved : (w v x z : State) (p : Slot) (j : ℕ) (row : FnBuiltin) (u d y : Tree) (ts us : List Tree) (r : Result Tree EvalAltResult) → v ≡ w → HasOperands row w p j
     → slice_get v.hand j ≡ Some u → ts ≡ slice_set v.hand j d
-    → IfSome (value_in ts v.entries p) (λ t. IsOutcome (MayWant row t u) r (answered (way row) (outcome row v.limits v.store t u)))
-    → OnOk r (IfSome (value_in ts v.entries p) (λ t. assigned_in (with_hand v ts) p (way row) t (outcome row v.limits v.store t u) ≡ x))
-    → OnOk r (IfSome (value_in ts v.entries p) (λ t. y ≡ second_left (way row) (outcome row v.limits v.store t u) u))
+    → IfSome (value_in ts v.entries p) (λ t. IsOutcome (MayWant row t u) r (answered (effect row) (outcome row v.limits v.store t u)))
+    → OnOk r (IfSome (value_in ts v.entries p) (λ t. assigned_in (with_hand v ts) p (effect row) t (outcome row v.limits v.store t u) ≡ x))
+    → OnOk r (IfSome (value_in ts v.entries p) (λ t. y ≡ second_left (effect row) (outcome row v.limits v.store t u) u))
     → OnErr r ((x ≡ with_hand v ts) × (y ≡ u)) → z ≡ x → us ≡ slice_set z.hand j y
     → Calls r w (with_hand z us) (called_in w p j row)
 assign_moved w v x z p j row u d y ts us r same k at moved result written second kept is put =

@@ -13,7 +13,7 @@ use Rattle.rhai_ops.specs.Outcome as call
 use Rattle.rhai_ops.specs.Outcome.{IsOutcome, is_answer}
 use Rattle.rhai_ops.specs.Results.{MayWant, outcome}
 use Rattle.rhai_ops.specs.Table.{row_of}
-use Rattle.rhai_ops.specs.Ways.{Way, operator, assignment, way, answered, first_left, second_left, store_left}
+use Rattle.rhai_ops.specs.Effects.{Effect, operator, assignment, effect, answered, first_left, second_left, store_left}
 use Rattle.rhai_ops.specs.declared.builtin.FnBuiltin.{FnBuiltin}
 use Rattle.rhai_run.specs.declared.not_done.NotDone.{NotDone}
 use Rattle.rhai_run.specs.State.{State, appended}
@@ -43,13 +43,13 @@ both_back ts us vs i j u v x y ex eu ey ev =
     ∙ ap (λ xs. slice_set xs i x) eu ∙ set-set ts i u x ∙ set_own ts i x ex
 
 -- a row of an operator writes nothing, and answers what it comes to
-pub kept_by_operator : (b : FnBuiltin) (o : call.Outcome) (s z : List Cell) (x u y v : Tree) (r : Result Tree EvalAltResult) → way b ≡ operator
-    → IfOk r (λ d. u ≡ first_left (way b) o s x) → IfOk r (λ d. v ≡ second_left (way b) o y) → IfOk r (λ d. z ≡ store_left (way b) o s x)
+pub kept_by_operator : (b : FnBuiltin) (o : call.Outcome) (s z : List Cell) (x u y v : Tree) (r : Result Tree EvalAltResult) → effect b ≡ operator
+    → IfOk r (λ d. u ≡ first_left (effect b) o s x) → IfOk r (λ d. v ≡ second_left (effect b) o y) → IfOk r (λ d. z ≡ store_left (effect b) o s x)
     → IfErr r (λ e. (u ≡ x) × (v ≡ y) × (z ≡ s)) → (u ≡ x) × (v ≡ y) × (z ≡ s)
 kept_by_operator b o s z x u y v (Ok d) e f g h k = (f ∙ ap (λ w. first_left w o s x) e, g ∙ ap (λ w. second_left w o y) e, h ∙ ap (λ w. store_left w o s x) e)
 kept_by_operator b o s z x u y v (Err why) e f g h k = k
 
-pub answered_by_operator : (MayWant : Type 0) (b : FnBuiltin) (o : call.Outcome) (r : Result Tree EvalAltResult) → way b ≡ operator → IsOutcome MayWant r (answered (way b) o) → IsOutcome MayWant r o
+pub answered_by_operator : (MayWant : Type 0) (b : FnBuiltin) (o : call.Outcome) (r : Result Tree EvalAltResult) → effect b ≡ operator → IsOutcome MayWant r (answered (effect b) o) → IsOutcome MayWant r o
 answered_by_operator M b o r e h = subst (λ w. IsOutcome M r (answered w o)) e h
 
 -- what the step comes to
@@ -61,14 +61,14 @@ pub gives_value : (MayWant : Type 0) (w : State) (d : Tree) (o : call.Outcome) �
 gives_value M w d o h = ap (called w (appended w)) h
 
 -- what a call that is not done comes to
-answered_fault : (how : Way) (o p : call.Outcome) → answered how o ≡ p → is_answer p ≡ false → o ≡ p
+answered_fault : (how : Effect) (o p : call.Outcome) → answered how o ≡ p → is_answer p ≡ false → o ≡ p
 answered_fault operator o p e h = e
 answered_fault (assignment q) (call.answers t) p e h = let n = rw (sym e) at h in cc
 answered_fault (assignment q) (call.fault f) p e h = e
 answered_fault (assignment q) (call.too_large x) p e h = e
 answered_fault (assignment q) call.unsuited p e h = e
 
-answered_granted : (w : State) (how : Way) (after : Tree → State) (o : call.Outcome) → is_answer (answered how o) ≡ true → (called w after o).wants ≡ true
+answered_granted : (w : State) (how : Effect) (after : Tree → State) (o : call.Outcome) → is_answer (answered how o) ≡ true → (called w after o).wants ≡ true
 answered_granted w how after (call.answers t) h = refl
 answered_granted w operator after (call.fault f) h = cc
 answered_granted w operator after (call.too_large k) h = cc
@@ -77,7 +77,7 @@ answered_granted w (assignment q) after (call.fault f) h = cc
 answered_granted w (assignment q) after (call.too_large x) h = cc
 answered_granted w (assignment q) after call.unsuited h = cc
 
-pub refusal_of : (M : Type 0) (w : State) (how : Way) (after : Tree → State) (e : EvalAltResult) (o : call.Outcome) → IsOutcome M (Err e) (answered how o) → IsError (not_done_of e) w (called w after o)
+pub refusal_of : (M : Type 0) (w : State) (how : Effect) (after : Tree → State) (e : EvalAltResult) (o : call.Outcome) → IsOutcome M (Err e) (answered how o) → IsError (not_done_of e) w (called w after o)
 refusal_of M w how after (error.ErrorArithmetic f p) o h = rw (answered_fault how o (call.fault f) h.0 refl, h.1) refl
 refusal_of M w how after (error.ErrorDataTooLarge f p) o h = rw (answered_fault how o (call.too_large f) h.0 refl, h.1) refl
 refusal_of M w how after (error.ErrorMemory a) o h = answered_granted w how after o h.1

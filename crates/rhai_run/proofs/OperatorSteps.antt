@@ -6,7 +6,7 @@ use Rattle.rhai_value.specs.Relation.{Renaming, Related}
 use Rattle.rhai_ops.specs.Outcome as call
 use Rattle.rhai_ops.specs.Outcome.{no_place, RelatedOutcomes}
 use Rattle.rhai_ops.specs.Results.{outcome}
-use Rattle.rhai_ops.specs.Ways.{way}
+use Rattle.rhai_ops.specs.Effects.{effect}
 use Rattle.rhai_ops.specs.declared.builtin.FnBuiltin.{FnBuiltin}
 use Rattle.rhai_ops.proofs.ForCallers.{same_row, same_assign_row, same_outcome, same_first_left, same_second_left, same_store_left, length_store_left, marked_store_left}
 use Rattle.rhai_value.proofs.ForCallers.{same_first, zip_set}
@@ -53,10 +53,10 @@ module _ (r : Renaming) (w v : State) (h : RelatedStates r w v) where
 
   -- what an assignment leaves at its place and of its second operand
   same_assigned : (p : Place) (j : ℕ) (row row' : FnBuiltin) (o q : call.Outcome) (t u x y : Tree) → row ≡ row' → RelatedOutcomes r o q → Related r t u → Related r x y
-      → Matches r w v (assigned w p j (way row) t x o) (assigned v p j (way row') u y q)
+      → Matches r w v (assigned w p j (effect row) t x o) (assigned v p j (effect row') u y q)
   same_assigned p j row row' o q t u x y same k e d =
-      subst (λ b. Matches r w v (assigned w p j (way row) t x o) (assigned v p j (way b) u y q)) same
-      (let how = way row in
+      subst (λ b. Matches r w v (assigned w p j (effect row) t x o) (assigned v p j (effect b) u y q)) same
+      (let how = effect row in
       let hands = zip_set (Related r) w.hand v.hand j _ _ h.hand (same_second_left r how o q x y k d) in
       same_called _ _ o q k (λ a b _ _ _. m_with_hand r w v _ _ _ _ (m_put r _ _ (hand_states r w v _ _ h hands) p _ _ _ _
       (length_store_left how o w.store t) (length_store_left how q v.store u) (marked_store_left how o w.store t)

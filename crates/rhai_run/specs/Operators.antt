@@ -6,7 +6,7 @@ use Rattle.rhai_ops.specs.Outcome.{no_place}
 use Rattle.rhai_ops.specs.Results.{outcome}
 use Rattle.rhai_ops.specs.AssignTable.{assign_row}
 use Rattle.rhai_ops.specs.Table.{row_of}
-use Rattle.rhai_ops.specs.Ways.{Way, way, first_left, second_left, store_left}
+use Rattle.rhai_ops.specs.Effects.{Effect, effect, first_left, second_left, store_left}
 use Rattle.rhai_value.specs.End.{first}
 use Rattle.rhai_value.specs.Tree.{Tree, fresh, unit}
 use Rattle.rhai_run.specs.State.{State, with_hand, appended}
@@ -33,15 +33,15 @@ step_binary w op i j =
     with_two w i j (λ t u. given (row_of op w.store t u) no_builtin w (λ row. called w (appended w) (outcome row w.limits w.store t u)))
 
 -- the state once an assignment, that comes to this on the value t at a place, has written there
-abbrev pub assigned_at : State → Place → Way → Tree → call.Outcome → State
+abbrev pub assigned_at : State → Place → Effect → Tree → call.Outcome → State
 assigned_at w place how t o = put_at w (store_left how o w.store t) place (first_left how o w.store t)
 
 -- the same with what is left of the second operand, u, at its hand position
-abbrev pub assigned : State → Place → ℕ → Way → Tree → Tree → call.Outcome → Outcome
+abbrev pub assigned : State → Place → ℕ → Effect → Tree → Tree → call.Outcome → Outcome
 assigned w place j how t u o = called w (λ d. assigned_at (with_hand w (slice_set w.hand j (second_left how o u))) place how t o) o
 
 -- an assignment on the value at a place and the one at a hand position; the row is that of the place's first content
 abbrev pub step_assign : State → Token → Place → ℕ → Outcome
 step_assign w op place j =
     with_place_and w place j (λ t u. unless (is_at place j) same_value w (given (first w.store t) (fault (data_race nowhere)) w (λ x.
-    given (assign_row op x u) no_builtin w (λ row. assigned w place j (way row) t u (outcome row w.limits w.store t u)))))
+    given (assign_row op x u) no_builtin w (λ row. assigned w place j (effect row) t u (outcome row w.limits w.store t u)))))

@@ -3,7 +3,7 @@ use Rattle.std.specs.Prelude.{◌≡◌, [], ℕ, Bool, false, nat_eq, List, sli
 use Rattle.rhai_text.specs.declared.token.Token.{Token}
 use Rattle.rhai_ops.specs.Outcome as call
 use Rattle.rhai_ops.specs.Results.{outcome, Suits}
-use Rattle.rhai_ops.specs.Ways.{Way, way, first_left, second_left, store_left}
+use Rattle.rhai_ops.specs.Effects.{Effect, effect, first_left, second_left, store_left}
 use Rattle.rhai_ops.specs.declared.builtin.FnBuiltin.{FnBuiltin}
 use Rattle.rhai_value.specs.declared.store.Cell.{Cell}
 use Rattle.rhai_value.specs.End.{end}
@@ -47,17 +47,17 @@ abbrev pub changed_in : State → Slot → Change → Tree → State
 changed_in w q c t = put_in w (store_changed c (end w.store [] t) w.store) q (value_changed c (end w.store [] t) t)
 
 -- the state once an assignment, that comes to this on the value t there, has written
-abbrev pub assigned_in : State → Slot → Way → Tree → call.Outcome → State
+abbrev pub assigned_in : State → Slot → Effect → Tree → call.Outcome → State
 assigned_in w q how t o = put_in w (store_left how o w.store t) q (first_left how o w.store t)
 
 -- the same with what is left of the second operand, u, at its hand position
-abbrev pub both_assigned : State → Slot → ℕ → Way → Tree → Tree → call.Outcome → Outcome
+abbrev pub both_assigned : State → Slot → ℕ → Effect → Tree → Tree → call.Outcome → Outcome
 both_assigned w q j how t u o = called w (λ d. assigned_in (with_hand w (slice_set w.hand j (second_left how o u))) q how t o) o
 
 -- the call of a row on these operands
 abbrev pub called_in : State → Slot → ℕ → FnBuiltin → Outcome
 called_in w q j row =
-    given (value_in w.hand w.entries q) no_value w (λ t. with_value w j (λ u. both_assigned w q j (way row) t u (outcome row w.limits w.store t u)))
+    given (value_in w.hand w.entries q) no_value w (λ t. with_value w j (λ u. both_assigned w q j (effect row) t u (outcome row w.limits w.store t u)))
 
 -- the slot isn't the hand position, both have values, and the row is for them
 abbrev pub HasOperands : FnBuiltin → State → Slot → ℕ → Type 0

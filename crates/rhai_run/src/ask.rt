@@ -9,13 +9,13 @@ ghost use Rattle.rhai_run.specs.Does.{Does};
 use crate::answer::{Answer, Refusal};
 use crate::cast::is_value_of;
 use crate::command::Question;
-use crate::desk::Desk;
 use crate::not_done::NotDone;
+use crate::world_state::WorldState;
 use rhai_show::{debug_text, display_text, hashed, is_hashable};
 use rhai_value::Dynamic;
 use std::alloc::{AllocError, Global};
 
-impl Desk {
+impl WorldState {
     pub(crate) fn show(&self, i: usize) -> Result<Answer, NotDone>
         ensures { Does result self.now self.now (step_show Display self.now i) }
     {

@@ -4,16 +4,16 @@ ghost use Rattle.rhai_run.specs.Does.{Does};
 
 use crate::answer::{Answer, Refusal};
 use crate::command::Scanner;
-use crate::desk::Desk;
 use crate::lent::write_over;
 use crate::not_done::NotDone;
 use crate::place::differ;
 use crate::scanners::Visits;
 use crate::vectors::replace_at;
+use crate::world_state::WorldState;
 use rhai_text::{EvalAltResult, Position};
 use rhai_value::{AccessMode, Dynamic, INT, Tag};
 
-impl Desk {
+impl WorldState {
     pub(crate) fn share(&mut self, i: usize) -> Result<Answer, NotDone>
         ensures { Does result self.old self.new (step_share self.old i) }
     {

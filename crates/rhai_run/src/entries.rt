@@ -12,9 +12,9 @@ ghost use Rattle.rhai_run.specs.Does.{Does, GivesIfAny};
 
 use crate::answer::{Answer, Refusal};
 use crate::cast::{can_cast, can_move, cast_to, moved_as};
-use crate::desk::Desk;
 use crate::not_done::NotDone;
 use crate::vectors::replace_at;
+use crate::world_state::WorldState;
 use rhai_scope::{Scope, aliases_shown};
 use rhai_text::ImmutableString;
 use rhai_value::{Dynamic, INT, Store, TypeId};
@@ -49,7 +49,7 @@ fn overwrite_int(value: &mut Dynamic, n: INT) -> bool
 }
 
 /// The commands that change entries are calls, so that `apply`, into which most others are inlined, stays short.
-impl Desk {
+impl WorldState {
     /// Moves a value of the hand into the entry at a position of the scope.
     fn set_at(&mut self, k: usize, i: usize)
         requires entry { k < length self.old.entries }

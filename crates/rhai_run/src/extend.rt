@@ -4,10 +4,10 @@ ghost use Rattle.rhai_run.specs.Scope.{step_entries, step_names, step_extend, st
 ghost use Rattle.rhai_run.specs.Does.{Does};
 
 use crate::answer::Answer;
-use crate::desk::Desk;
 use crate::lists::{FlaggedNames, Names};
 use crate::not_done::NotDone;
 use crate::vectors::{append_in_room, split_last};
+use crate::world_state::WorldState;
 use rhai_text::ImmutableString;
 use std::alloc::{AllocError, Global};
 
@@ -37,7 +37,7 @@ fn flagged_copies_of(
     Ok(copies)
 }
 
-impl Desk {
+impl WorldState {
     pub(crate) fn entries(&mut self) -> Result<Answer, NotDone>
         ensures { Does result self.old self.new (step_entries self.old) }
     {

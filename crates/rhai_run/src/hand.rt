@@ -5,15 +5,15 @@ ghost use Rattle.rhai_run.specs.Does.{Does};
 use crate::answer::{Answer, Refusal};
 use crate::cast::{can_cast, cast_to};
 use crate::command::Literal;
-use crate::desk::Desk;
 use crate::lists::Names;
 use crate::maps::{map_of_keys, move_to_keys};
 use crate::not_done::NotDone;
 use crate::vectors::{replace_at, take_last};
+use crate::world_state::WorldState;
 use rhai_text::ImmutableString;
 use rhai_value::{Dynamic, FnPtr, TypeId};
 
-impl Desk {
+impl WorldState {
     pub(crate) fn put(&mut self, literal: &Literal) -> Result<Answer, NotDone>
         ensures { Does result self.old self.new (step_put self.old literal.now) }
     {

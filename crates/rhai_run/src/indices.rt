@@ -3,12 +3,12 @@ ghost use Rattle.rhai_run.specs.Indices.{step_offset, step_index};
 ghost use Rattle.rhai_run.specs.Does.{Does};
 
 use crate::answer::Answer;
-use crate::desk::Desk;
 use crate::not_done::NotDone;
+use crate::world_state::WorldState;
 use rhai_target::{calc_index, calc_offset_len};
 use rhai_value::INT;
 
-impl Desk {
+impl WorldState {
     pub(crate) fn offset(&self, length: usize, start: INT, len: INT) -> Result<Answer, NotDone>
         ensures { Does result self.now self.now (step_offset self.now length start len) }
     {

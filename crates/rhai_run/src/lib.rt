@@ -8,7 +8,6 @@ mod cast;
 mod change;
 mod collect;
 pub mod command;
-mod desk;
 mod entries;
 pub mod eval;
 pub mod expr;
@@ -33,6 +32,7 @@ mod shed;
 mod slot;
 mod vectors;
 pub mod world;
+mod world_state;
 mod write_back;
 
 pub use answer::{Answer, Refusal};

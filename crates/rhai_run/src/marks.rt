@@ -10,10 +10,10 @@ ghost use Rattle.rhai_run.specs.Does.{Does};
 
 use crate::answer::{Answer, Refusal};
 use crate::command::Place;
-use crate::desk::Desk;
 use crate::not_done::NotDone;
 use crate::slot::Slot;
 use crate::vectors::replace_at;
+use crate::world_state::WorldState;
 use rhai_text::{EvalAltResult, Position};
 use rhai_value::laws::mark_is_cleared;
 use rhai_value::{Dynamic, Store, WriteToken};
@@ -63,7 +63,7 @@ fn token(marks: &[WriteToken], k: usize) -> Result<&WriteToken, NotDone>
     }
 }
 
-impl Desk {
+impl WorldState {
     #[tactic(auto, using(crate::proofs::MarkLists::first_is_free, crate::proofs::Slots::source_is))]
     pub(crate) fn mark(&mut self, place: &Place) -> Result<Answer, NotDone>
         ensures { Does result self.old self.new (step_mark self.old place.now) }

@@ -2,19 +2,19 @@
 ghost use Rattle.std.specs.Prelude.{◌≡◌, ◌<◌, false, nat_eq, length, vec_len, IfSome, IsSomeAnd, OnOk, OnErr};
 ghost use Rattle.rhai_ops.specs.Outcome.{IsOutcome};
 ghost use Rattle.rhai_ops.specs.Results.{MayWant, Suits, outcome};
-ghost use Rattle.rhai_ops.specs.Ways.{answered, operator, second_left, way};
+ghost use Rattle.rhai_ops.specs.Effects.{answered, operator, second_left, effect};
 ghost use Rattle.rhai_run.specs.Operators.{value_at, step_assign, step_binary};
 ghost use Rattle.rhai_run.specs.Slots.{assigned_in, called_in, value_in, HasOperands, Looks};
 ghost use Rattle.rhai_run.specs.Does.{Calls, Does, Gives};
 
 use crate::answer::{Answer, Refusal};
 use crate::command::Place;
-use crate::desk::Desk;
 use crate::lent::Places;
 use crate::not_done::NotDone;
 use crate::place::{differ, is_apart};
 use crate::slot::Slot;
 use crate::vectors::replace_at;
+use crate::world_state::WorldState;
 use rhai_ops::laws::{operators_write_nothing, rows_suit};
 use rhai_ops::{FnBuiltin, get_builtin_binary_op_fn, get_builtin_op_assignment_fn};
 use rhai_text::{EvalAltResult, Limits, Position, Token};
@@ -31,7 +31,7 @@ fn answer_of(
     y: &mut Dynamic,
 ) -> Result<Dynamic, EvalAltResult>
     requires suits { Suits row m.old x.old y.old }
-    requires operator { way row ≡ operator }
+    requires operator { effect row ≡ operator }
     ensures result { IsOutcome (MayWant row x.old y.old) result (outcome row limits.now m.old x.old y.old) }
     ensures first { x.new ≡ x.old }
     ensures second { y.new ≡ y.old }
@@ -53,7 +53,7 @@ fn call_on(
     requires within { (i < vec_len values.old) × (j < vec_len values.old) }
     requires apart { nat_eq i j ≡ false }
     requires suits { Suits row m.old (value_at values.old.items i) (value_at values.old.items j) }
-    requires operator { way row ≡ operator }
+    requires operator { effect row ≡ operator }
     ensures result { IsOutcome (MayWant row (value_at values.old.items i) (value_at values.old.items j)) result
         (outcome row limits.now m.old (value_at values.old.items i) (value_at values.old.items j)) }
     ensures values { values.new.items ≡ values.old.items }
@@ -67,7 +67,7 @@ fn call_on(
     result
 }
 
-impl Desk {
+impl WorldState {
     /// What an operator answers on two values of the hand, which stay.
     fn operate(&mut self, op: Token, i: usize, j: usize) -> Result<Dynamic, NotDone>
         ensures value { Gives result self.old (step_binary self.old op i j) }
@@ -109,11 +109,11 @@ impl Desk {
     ) -> Result<Dynamic, EvalAltResult>
         requires suits { IsSomeAnd (value_in self.old.hand self.old.entries slot) (λ x. Suits row self.old.store x y.old) }
         ensures result { IfSome (value_in self.old.hand self.old.entries slot) (λ x.
-            IsOutcome (MayWant row x y.old) result (answered (way row) (outcome row self.old.limits self.old.store x y.old))) }
+            IsOutcome (MayWant row x y.old) result (answered (effect row) (outcome row self.old.limits self.old.store x y.old))) }
         ensures written { OnOk result (IfSome (value_in self.old.hand self.old.entries slot) (λ x.
-            assigned_in self.old slot (way row) x (outcome row self.old.limits self.old.store x y.old) ≡ self.new)) }
+            assigned_in self.old slot (effect row) x (outcome row self.old.limits self.old.store x y.old) ≡ self.new)) }
         ensures second { OnOk result (IfSome (value_in self.old.hand self.old.entries slot) (λ x.
-            y.new ≡ second_left (way row) (outcome row self.old.limits self.old.store x y.old) y.old)) }
+            y.new ≡ second_left (effect row) (outcome row self.old.limits self.old.store x y.old) y.old)) }
         ensures err { OnErr result ((self.new ≡ self.old) × (y.new ≡ y.old)) }
         ensures len { length self.new.hand ≡ length self.old.hand }
     {

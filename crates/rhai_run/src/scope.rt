@@ -5,13 +5,13 @@ ghost use Rattle.rhai_run.specs.Scope.{step_push, step_push_dynamic, step_push_c
 ghost use Rattle.rhai_run.specs.Does.{Does};
 
 use crate::answer::{Answer, Refusal};
-use crate::desk::Desk;
 use crate::not_done::NotDone;
 use crate::vectors::replace_at;
+use crate::world_state::WorldState;
 use rhai_text::ImmutableString;
 use rhai_value::{AccessMode, Dynamic};
 
-impl Desk {
+impl WorldState {
     /// Moves a value of the hand into a new entry, painted with a mode.
     pub(crate) fn push_as(
         &mut self,

@@ -8,16 +8,16 @@ ghost use Rattle.rhai_run.specs.Does.{Does};
 
 use crate::answer::Answer;
 use crate::command::Place;
-use crate::desk::Desk;
 use crate::lent::Places;
 use crate::not_done::NotDone;
 use crate::pieces::Piece;
 use crate::slot::Slot;
+use crate::world_state::WorldState;
 use rhai_target::Slice;
 use rhai_value::{Dynamic, INT};
 use std::alloc::AllocError;
 
-impl Desk {
+impl WorldState {
     /// Writes a working value to a piece of the value in a slot.
     #[tactic(auto, using(crate::proofs::SlotValues::hand_kept, crate::proofs::SlotValues::scope_kept))]
     fn put_piece(&mut self, slot: Slot, piece: Piece, value: &Dynamic) -> Result<(), AllocError>

@@ -2,6 +2,6 @@ pub mod Offset
 pub mod Bits
 pub mod Change
 pub mod Target
-pub mod Found
+pub mod Resolved
 pub mod Lent
 pub mod Spent

@@ -2,11 +2,11 @@
 #![tactic(auto)]
 
 mod bits;
-mod found;
 pub mod laws;
 mod lent;
 mod offset;
 mod propagate;
+mod resolve;
 mod slice;
 mod spent;
 mod target;

@@ -6,11 +6,11 @@ ghost use Rattle.rhai_value.specs.End.{first_cell};
 ghost use Rattle.rhai_value.specs.Store.{marked_with};
 ghost use Rattle.rhai_value.specs.Tree.{cell_of, copy, TakesNoMemory};
 ghost use Rattle.rhai_target.specs.declared.target.Target.TheVariants.{TempValue};
-ghost use Rattle.rhai_target.specs.Found.{IsLeftBy};
+ghost use Rattle.rhai_target.specs.Resolved.{IsLeftBy};
 ghost use Rattle.rhai_target.specs.Spent.{LeavesSource, kept_on_err, kept_in};
 ghost use Rattle.rhai_target.specs.Target.{target_of, mark_in, IsMarkedIn, unmarked_from, source_in, value_in, taken, owned, with_value, put_marked, is_reference, is_temporary, is_shared_target, reference_in};
 
-use crate::found::{Marked, found, made, mark_cell};
+use crate::resolve::{Marked, mark_cell, resolve, target_from};
 use crate::spent::{owned_out, reference_out, source_out, value_out};
 use rhai_text::{EvalAltResult, Position};
 use rhai_value::{Dynamic, INT, Store, WriteToken};
@@ -94,7 +94,7 @@ impl<'a> Target<'a> {
         ensures marks { m.new ≡ marked_with (first_cell m.old value.old) m.old }
         ensures marked { IfOk result (λ t. IsMarkedIn m.new t) }
     {
-        made(found(value, m))
+        target_from(resolve(value, m))
     }
 
     /// The same for a holder, which stays as it is.

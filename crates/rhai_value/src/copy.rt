@@ -126,7 +126,13 @@ fn push_short(copies: &mut Vec<Dynamic>, union: &Union, alloc: Global) -> Result
             copies.push_reserved(Dynamic { union });
             Ok(true)
         }
-        _ => Ok(false),
+        Union::Unit(_, _, _)
+        | Union::Char(_, _, _)
+        | Union::Array(_, _, _)
+        | Union::Blob(_, _, _)
+        | Union::Map(_, _, _)
+        | Union::FnPtr(_, _, _)
+        | Union::Variant(_, _, _) => Ok(false),
     }
 }
 
@@ -239,7 +245,13 @@ fn push_short_slot(copies: &mut Vec<Slot>, slot: &Slot, alloc: Global) -> Result
             copies.push_reserved(Slot::Taken(Dynamic { union }));
             Ok(true)
         }
-        _ => Ok(false),
+        Union::Unit(_, _, _)
+        | Union::Char(_, _, _)
+        | Union::Array(_, _, _)
+        | Union::Blob(_, _, _)
+        | Union::Map(_, _, _)
+        | Union::FnPtr(_, _, _)
+        | Union::Variant(_, _, _) => Ok(false),
     }
 }
 

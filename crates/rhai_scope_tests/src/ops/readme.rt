@@ -4,7 +4,7 @@ ghost use Rattle.rhai_ops.specs.AssignTable.{assign_row};
 ghost use Rattle.rhai_ops.specs.Outcome.{answers};
 ghost use Rattle.rhai_ops.specs.Results.{outcome};
 ghost use Rattle.rhai_ops.specs.Table.{row_of};
-ghost use Rattle.rhai_ops.specs.Ways.{first_left, way};
+ghost use Rattle.rhai_ops.specs.Effects.{first_left, effect};
 
 use rhai_ops::laws::{operators_write_nothing, rows_suit};
 use rhai_ops::{get_builtin_binary_op_fn, get_builtin_op_assignment_fn};
@@ -42,7 +42,7 @@ pub(crate) fn assign(
     x: &mut Dynamic,
     y: &mut Dynamic,
 ) -> Result<bool, EvalAltResult>
-    ensures { IfOk result (λ d. IfSome (assign_row op x.old y.old) (λ row. x.new ≡ first_left (way row) (outcome row limits.now m.old x.old y.old) m.old x.old)) }
+    ensures { IfOk result (λ d. IfSome (assign_row op x.old y.old) (λ row. x.new ≡ first_left (effect row) (outcome row limits.now m.old x.old y.old) m.old x.old)) }
 {
     let Some(row) = get_builtin_op_assignment_fn(&op, x, y) else {
         return Ok(false);

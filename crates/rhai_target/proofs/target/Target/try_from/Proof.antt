@@ -16,18 +16,18 @@ use Rattle.rhai_text.specs.declared.error.EvalAltResult.TheVariants.{ErrorDataRa
 use Rattle.rhai_text.specs.declared.position.TheConstants.Position as position
 use Rattle.rhai_target.specs.contracts.target.Target as target
 use Rattle.rhai_target.proofs.target.Target.TheLaws as target_laws
-use Rattle.rhai_target.specs.contracts.found.Whole as whole
-use Rattle.rhai_target.proofs.found.Whole.TheLaws as whole_laws
-use Rattle.rhai_target.specs.contracts.found.Marked as marked
-use Rattle.rhai_target.proofs.found.Marked.TheLaws as marked_laws
+use Rattle.rhai_target.specs.contracts.resolve.Whole as whole
+use Rattle.rhai_target.proofs.resolve.Whole.TheLaws as whole_laws
+use Rattle.rhai_target.specs.contracts.resolve.Marked as marked
+use Rattle.rhai_target.proofs.resolve.Marked.TheLaws as marked_laws
 use Rattle.rhai_target.specs.declared.target.Target.{Target}
-use Rattle.rhai_target.specs.Found.{Found, IsFound, IsMarkedFound, made_of, lent_name}
+use Rattle.rhai_target.specs.Resolved.{Resolved, IsResolved, IsMarkedResolved, resolved_target, lent_name}
 use Rattle.rhai_target.specs.Target.{target_of, IsMarkedIn}
 use Rattle.rhai_target.proofs.MadeTargets.{found_name, found_ok, found_err, found_marked}
-use Rattle.rhai_target.specs.contracts.found.found as g
-use Rattle.rhai_target.proofs.found.found.Met as found
-use Rattle.rhai_target.specs.contracts.found.made as h
-use Rattle.rhai_target.proofs.found.made.Met as made
+use Rattle.rhai_target.specs.contracts.resolve.resolve as g
+use Rattle.rhai_target.proofs.resolve.resolve.Met as resolved
+use Rattle.rhai_target.specs.contracts.resolve.target_from as h
+use Rattle.rhai_target.proofs.resolve.target_from.Met as target_from
 use Rattle.rhai_target.specs.contracts.target.Target.try_from as f
 use Rattle.rhai_target.proofs.target.Target.try_from.Statement.{statement}
 use Rattle.rhai_target.proofs.target.Target.try_from.Code as code
@@ -70,11 +70,11 @@ try_from_spec 𝓤 𝓛 𝓜 𝓡 wired =
     let z : G.Ghost = (((κ, (α ∷ [], tt)), (q, (full_share, tt)), tt, (d, (record m { ghost_name = δ }, tt)), (ds, (ms, tt))), tt) in
     nothing ! $ move ! (1 ∷ 0 ∷ []) $ join ! $ move ! (3 ∷ 0 ∷ []) $ join ! $ nothing ! $ move ! (3 ∷ 0 ∷ []) $ join ! $ move ! (3 ∷ 0 ∷ 1 ∷ []) $ join ! $ join ! $
     nothing ! $ move ! (1 ∷ 0 ∷ []) $ use2 𝓛 (raw (G.pre z)) (id⊢ 𝓤 _) $
-    calls_at ! (framed 𝓤 𝓛.H 𝓜 (tables 𝓤 𝓛.H 𝓜 𝓡 𝓡.env)) G (found.met 𝓤 𝓛 𝓜 𝓡 (code.calls-rhai_target::found::found 𝓡.env wired)) z
+    calls_at ! (framed 𝓤 𝓛.H 𝓜 (tables 𝓤 𝓛.H 𝓜 𝓡 𝓡.env)) G (resolved.met 𝓤 𝓛 𝓜 𝓡 (code.calls-rhai_target::resolve::resolve 𝓡.env wired)) z
     (and_then ! (get ! refl) (and_then ! (get ! refl) (no_more !))) (λ v.
-    use1 𝓛 (later (some (λ (x : Found). ((‵ (flft κ q) ⊛ ‵ (flft (α ∷ []) full_share) ⊛ ‵ ftrue) ⊛ ‵ ((FoundOf κ).own_val x (v ∷ []))) ⊛
+    use1 𝓛 (later (some (λ (x : Resolved). ((‵ (flft κ q) ⊛ ‵ (flft (α ∷ []) full_share) ⊛ ‵ ftrue) ⊛ ‵ ((FoundOf κ).own_val x (v ∷ []))) ⊛
     some (λ (ws : Lasts g.ended z.0.0 z.0.3). ‵ (lasts g.ended z.0.0 z.0.3 ws) ⊛ ‵ (follows_if dynamic.the_row dynamic.the_row d.ghost_name (name_if_ok (λ w. w.value.ghost_name) x) (λ w. w) d.now)
-    ⊛ raw (fact 𝓤 (IsFound m.now d x)) ⊛ raw (fact 𝓤 (ws.1.0 ≡ marked_with (first_cell m.now d.now) m.now)) ⊛ raw (fact 𝓤 (IsMarkedFound ws.1.0 x)))))) (id⊢ 𝓤 _) $
+    ⊛ raw (fact 𝓤 (IsResolved m.now d x)) ⊛ raw (fact 𝓤 (ws.1.0 ≡ marked_with (first_cell m.now d.now) m.now)) ⊛ raw (fact 𝓤 (IsMarkedResolved ws.1.0 x)))))) (id⊢ 𝓤 _) $
     await ! tt $ pick ! (λ x. split ! $ split ! $ split3 ! $ move ! (1 ∷ []) $ lft_end ! tt $ move ! (3 ∷ []) $
     -- [what is found; α is over; the token of κ; nothing; the rest; what m's holder keeps]
     peeks ! (FoundOf κ) _ (shows 𝓛 (FoundOf κ)) x (v ∷ []) (λ is.
@@ -90,9 +90,9 @@ try_from_spec 𝓤 𝓛 𝓜 𝓡 wired =
     let K = triple_of 𝓛 h.signature (h.spec 𝓛 𝓜.mem 𝓡.returns) in
     let y : K.Ghost = (((κ, tt), (q, tt), tt, (x, tt), (v ∷ [], tt)), tt) in
     nothing ! $ move ! (7 ∷ 0 ∷ []) $ join ! $ nothing ! $ move ! (8 ∷ 0 ∷ []) $ join ! $ join ! $ nothing ! $ move ! (1 ∷ 0 ∷ []) $ use2 𝓛 (raw (K.pre y)) (id⊢ 𝓤 _) $
-    calls_at ! (framed 𝓤 𝓛.H 𝓜 (tables 𝓤 𝓛.H 𝓜 𝓡 𝓡.env)) K (made.met 𝓤 𝓛 𝓜 𝓡 (code.calls-rhai_target::found::made 𝓡.env wired)) y (and_then ! (get ! refl) (no_more !)) (λ u.
+    calls_at ! (framed 𝓤 𝓛.H 𝓜 (tables 𝓤 𝓛.H 𝓜 𝓡 𝓡.env)) K (target_from.met 𝓤 𝓛 𝓜 𝓡 (code.calls-rhai_target::resolve::target_from 𝓡.env wired)) y (and_then ! (get ! refl) (no_more !)) (λ u.
     use1 𝓛 (later (some (λ (r : Result Target EvalAltResult). ((‵ (flft κ q) ⊛ ‵ ftrue) ⊛ ‵ ((Made κ).own_val r (u ∷ []))) ⊛
-    some (λ (ls : Lasts h.ended y.0.0 y.0.3). ‵ (lasts h.ended y.0.0 y.0.3 ls) ⊛ raw (fact 𝓤 (r ≡ made_of x)))))) (id⊢ 𝓤 _) $
+    some (λ (ls : Lasts h.ended y.0.0 y.0.3). ‵ (lasts h.ended y.0.0 y.0.3 ls) ⊛ raw (fact 𝓤 (r ≡ resolved_target x)))))) (id⊢ 𝓤 _) $
     await ! tt $ pick ! (λ r. split ! $ split ! $ split ! $ move ! (2 ∷ []) $
     peeks ! (Made κ) _ (shows 𝓛 (Made κ)) r (u ∷ []) (λ as'. lands_as ! refl refl (((made_laws κ).lawful 𝓛).typed r (u ∷ []) as').0 $
     move ! (3 ∷ []) $ pick ! (λ ls. split ! $ drop ! $ heard ! _ (λ same.

@@ -1,0 +1,85 @@
+//! What a target is made of.
+ghost use Rattle.std.specs.Prelude.{◌≡◌, true, IfOk, IfErr, Some, None};
+ghost use Rattle.std.specs.Borrow.{sem, follows_if, name_if_ok};
+ghost use Rattle.rhai_text.specs.declared.error.EvalAltResult.TheVariants.{ErrorDataRace};
+ghost use Rattle.rhai_value.specs.contracts.dynamic.Dynamic as dynamic_type;
+ghost use Rattle.rhai_value.specs.End.{first_cell};
+ghost use Rattle.rhai_value.specs.Store.{marked_with, is_marked_at};
+ghost use Rattle.rhai_value.specs.Tree.{copy};
+ghost use Rattle.rhai_target.specs.Resolved.{IsResolved, IsMarkedResolved, resolved_target};
+
+use crate::target::Target;
+use rhai_text::{EvalAltResult, Position};
+use rhai_value::{AccessMode, Dynamic, Store, Union, WriteToken};
+
+/// A value that is no holder.
+#[derive(Drop)]
+pub(crate) struct Whole<'a> {
+    value: &'a mut Dynamic,
+}
+
+/// The mark of a holder's cell, with a copy of the holder.
+pub(crate) struct Marked {
+    pub(crate) token: WriteToken,
+    pub(crate) shared_value: Dynamic,
+}
+
+/// A value that is no holder as it is; of a holder the mark of its cell, the holder being left as it was.
+pub(crate) fn resolve<'a>(
+    value: &'a mut Dynamic,
+    m: &mut Store,
+) -> Result<Whole<'a>, Result<Marked, EvalAltResult>>
+    ensures* stays { sem 𝓛 (follows_if dynamic_type.the_row dynamic_type.the_row value.entry.ghost_name (name_if_ok (λ w. w.value.ghost_name) result) (λ w. w) value.old) }
+    ensures which { IsResolved m.old value.entry result }
+    ensures marks { m.new ≡ marked_with (first_cell m.old value.old) m.old }
+    ensures marked { IsMarkedResolved m.new result }
+{
+    if value.is_shared() {
+        Err(mark_cell(value, m))
+    } else {
+        Ok(Whole { value })
+    }
+}
+
+/// Marks the cell of a holder, of which it makes a copy. `ErrorDataRace`, with nothing changed, exactly where there is no cell to
+/// mark: of a value that is no holder, and of a cell that is marked or no cell of the store.
+pub(crate) fn mark_cell(value: &Dynamic, m: &mut Store) -> Result<Marked, EvalAltResult>
+    ensures ok { IfOk result (λ p. (first_cell m.old value.now ≡ Some p.token) × (p.shared_value ≡ copy value.now)) }
+    ensures err { IfErr result (λ e. (first_cell m.old value.now ≡ None) × (e ≡ ErrorDataRace Position.NONE)) }
+    ensures marks { m.new ≡ marked_with (first_cell m.old value.now) m.old }
+    ensures marked { IfOk result (λ p. is_marked_at m.new p.token ≡ true) }
+{
+    if let Union::Shared(tag, _, cell) = value.parts() {
+        let shared_value = Dynamic::from_parts(Union::Shared(*tag, AccessMode::ReadWrite, *cell));
+        if let Some(token) = m.mark(value) {
+            return Ok(Marked {
+                token,
+                shared_value,
+            });
+        }
+    }
+    Err(EvalAltResult::ErrorDataRace(Position::NONE))
+}
+
+/// The target that is made of what was found.
+pub(crate) fn target_from<'a>(
+    resolved: Result<Whole<'a>, Result<Marked, EvalAltResult>>,
+) -> Result<Target<'a>, EvalAltResult>
+    ensures { result ≡ resolved_target resolved.entry }
+{
+    match resolved {
+        Ok(Whole { value }) => Ok(Target::RefMut(value)),
+        Err(
+            Ok(
+                Marked {
+                    token,
+                    shared_value,
+                },
+            ),
+        ) => Ok(Target::SharedValue {
+            token,
+            shared_value,
+        }),
+        Err(Err(e)) => Err(e),
+    }
+}

@@ -119,6 +119,9 @@ impl Index {
         ensures { IsIndexOf self.new (names_of (take size entries.now)) }
     {
         if size < self.indexed {
+            if size == 0 {
+                return self.clear();
+            }
             self.places.pop_all(&entries[size..self.indexed]);
             self.indexed = size;
         }

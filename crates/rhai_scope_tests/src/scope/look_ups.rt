@@ -117,6 +117,61 @@ fn stay_found(
     agree(scope, names, numbers)
 }
 
+/// Two names whose first four bytes and last four are the same, so that the index can't tell them apart by their marks.
+const FIRST: &str = "size_of_first_item";
+
+const SECOND: &str = "size_of_second_item";
+
+/// Whether the two names stand there, and no name is found that never came.
+fn stand(scope: &Scope, first: Option<usize>, second: Option<usize>) -> bool {
+    scope.search(FIRST) == first
+        && scope.search(SECOND) == second
+        && !scope.contains("size_of_no_item")
+        && !scope.contains("never")
+        && !scope.contains("")
+}
+
+/// Whether they are told apart while one of them, and then both, stand before forty entries.
+fn are_told_apart(scope: &mut Scope, names: &[ImmutableString], numbers: &mut Vec<usize>) -> bool {
+    if scope.push(FIRST, 1i64).is_err()
+        || !push_many(scope, names, numbers, 40, 1)
+        || !stand(scope, Some(0), None)
+        || scope.push(SECOND, 2i64).is_err()
+        || !push_many(scope, names, numbers, 40, 1)
+        || !stand(scope, Some(0), Some(41))
+    {
+        return false;
+    }
+    scope.rewind(41);
+    stand(scope, Some(0), None)
+}
+
+/// Whether they are told apart once the first of them is taken out, the other one comes, and all entries go.
+fn stay_apart(scope: &mut Scope, store: &Store) -> bool {
+    if !matches!(scope.remove::<i64>(FIRST, store), Ok(Some(1)))
+        || !stand(scope, None, None)
+        || scope.push(SECOND, 3i64).is_err()
+        || !stand(scope, None, Some(40))
+    {
+        return false;
+    }
+    scope.clear();
+    stand(scope, None, None)
+}
+
+#[test]
+fn names_that_are_not_there_are_not_found(rt: HostRuntime) -> Result<(), Fail> {
+    let alloc = rt.alloc();
+    let store = Store::new(alloc);
+    let names = names(alloc)?;
+    let mut scope = Scope::new(alloc);
+    let mut numbers = Vec::new(alloc);
+    assert!(rt; are_told_apart(&mut scope, &names, &mut numbers));
+    assert!(rt; stay_apart(&mut scope, &store));
+    assert!(rt; are_told_apart(&mut scope, &names, &mut numbers));
+    Ok(())
+}
+
 #[test]
 fn names_are_found_behind_few_and_many_entries(rt: HostRuntime) -> Result<(), Fail> {
     let alloc = rt.alloc();

@@ -3,8 +3,8 @@ use Rattle.rhai_scope.specs.Index.{names_of}
 use Rattle.rhai_scope.proofs.Indexed.{all_listed, length_kept, rewound, unlisted_end}
 use Rattle.rhai_scope.proofs.index.Index.rewind.Goals as goal
 
-pub returns-then-size-self : goal.returns-then-size-self
-returns-then-size-self c =
+pub returns-else-size-eq0 : goal.returns-else-size-eq0
+returns-else-size-eq0 c =
     let x = c.args.self.now in
     let es = c.args.entries.now in
     let size = c.args.size in

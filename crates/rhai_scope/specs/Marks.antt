@@ -11,14 +11,18 @@ word_at bs i = from_le_bytes w32 (slice_index bs i ∷ slice_index bs (i + 1) �
 abbrev pub three_of : List ℕ → ℕ
 three_of bs = (slice_index bs 0 * 256 + slice_index bs (length bs / 2)) * 256 + slice_index bs (length bs - 1)
 
--- the bytes at both ends of a text as a number
+-- 2^32 by the golden ratio
+abbrev pub spread : ℕ
+spread = 2654435769
+
+-- the bytes at both ends of a text, as a number
 abbrev pub ends_of : List ℕ → ℕ
 ends_of [] = 0
-ends_of (b ∷ bs) = if nat_le 4 (length (b ∷ bs)) then word_at (b ∷ bs) 0 * 2 ^ 32 + word_at (b ∷ bs) (length (b ∷ bs) - 4) else three_of (b ∷ bs)
+ends_of (b ∷ bs) = if nat_le 4 (length (b ∷ bs)) then (word_at (b ∷ bs) 0 * spread % 2 ^ 32 + word_at (b ∷ bs) (length (b ∷ bs) - 4)) % 2 ^ 32 else three_of (b ∷ bs)
 
 -- the number of the mark of a text
 unfoldable pub mark_of : List ℕ → ℕ
-mark_of bs = ends_of bs * 0x9E3779B97F4A7C15 % 2 ^ 64 / 2 ^ 54
+mark_of bs = ends_of bs * spread % 2 ^ 32 / 2 ^ 22
 
 -- its mark is there
 unfoldable pub is_marked : Marks → List ℕ → Bool

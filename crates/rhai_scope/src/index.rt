@@ -113,13 +113,13 @@ impl Index {
         Ok(())
     }
 
-    /// Keeps the names of the first entries. It takes no memory.
+    /// Keeps the names of the first entries. It takes no memory. Where few of many stay, they are walked through from now on.
     pub(crate) fn rewind(&mut self, entries: &[Record], size: usize)
         requires { IsIndexOf self.old (names_of entries.now) }
         ensures { IsIndexOf self.new (names_of (take size entries.now)) }
     {
         if size < self.indexed {
-            if size == 0 {
+            if size <= WALKED_ENTRIES.min(self.indexed / 8) {
                 return self.clear();
             }
             self.places.pop_all(&entries[size..self.indexed]);

@@ -5,8 +5,8 @@ ghost use Rattle.rhai_scope.specs.Marks.{word_at, ends_of, mark_of, is_marked};
 /// The number of marks, in words of 64.
 const WORDS: usize = 16;
 
-/// An odd number without a pattern in its digits (2^64 by the golden ratio), so that texts that are much alike have marks far apart.
-const SPREAD: u64 = 0x9E37_79B9_7F4A_7C15;
+/// An odd number without a pattern in its digits (2^32 by the golden ratio), so that texts that are much alike have marks far apart.
+const SPREAD: u32 = 0x9E37_79B9;
 
 /// Some of 1,024 marks. Each text has one of these, which it shares with other texts.
 #[derive(Drop)]
@@ -22,18 +22,20 @@ fn word_at(bytes: &[u8], i: usize) -> u32
     u32::from_le_bytes([bytes[i], bytes[i + 1], bytes[i + 2], bytes[i + 3]])
 }
 
-/// The first four bytes and the last four as a number; of fewer bytes the first, the middle and the last one.
-fn ends_of(bytes: &[u8]) -> u64
+/// The first four bytes and the last four, as a number; of fewer bytes the first, the middle and the last one.
+fn ends_of(bytes: &[u8]) -> u32
     ensures { result ≡ ends_of bytes.now }
 {
     let len = bytes.len();
     if len >= 4 {
-        return word_at(bytes, 0) as u64 * 0x1_0000_0000 + word_at(bytes, len - 4) as u64;
+        return word_at(bytes, 0)
+            .wrapping_mul(SPREAD)
+            .wrapping_add(word_at(bytes, len - 4));
     }
     if len == 0 {
         return 0;
     }
-    (bytes[0] as u64 * 0x100 + bytes[len / 2] as u64) * 0x100 + bytes[len - 1] as u64
+    (bytes[0] as u32 * 0x100 + bytes[len / 2] as u32) * 0x100 + bytes[len - 1] as u32
 }
 
 /// The mark of a text.
@@ -41,7 +43,7 @@ fn mark_of(text: &str) -> usize
     ensures is { result ≡ mark_of text.now }
     ensures within { result < 1024 }
 {
-    (ends_of(text.as_bytes()).wrapping_mul(SPREAD) >> 54) as usize
+    (ends_of(text.as_bytes()).wrapping_mul(SPREAD) >> 22) as usize
 }
 
 impl Marks {

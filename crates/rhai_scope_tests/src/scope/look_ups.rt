@@ -1,4 +1,5 @@
 //! Look-ups by name where entries come and go, in scopes of few entries and of many.
+use super::walker::leave;
 use rhai_scope::Scope;
 use rhai_text::ImmutableString;
 use rhai_value::{Dynamic, Store};
@@ -157,6 +158,28 @@ fn stay_apart(scope: &mut Scope, store: &Store) -> bool {
     }
     scope.clear();
     stand(scope, None, None)
+}
+
+/// Takes out the newest entries, one by one.
+fn leave_all_but(scope: &mut Scope, numbers: &mut Vec<usize>, left: usize) {
+    while scope.len() > left {
+        drop(leave(scope));
+    }
+    numbers.truncate(left);
+}
+
+#[test]
+fn names_are_found_once_later_entries_were_taken_out(rt: HostRuntime) -> Result<(), Fail> {
+    let alloc = rt.alloc();
+    let names = names(alloc)?;
+    let mut scope = Scope::new(alloc);
+    let mut numbers = Vec::new(alloc);
+    assert!(rt; push_many(&mut scope, &names, &mut numbers, 100, 450));
+    leave_all_but(&mut scope, &mut numbers, 70);
+    assert!(rt; agree(&scope, &names, &numbers));
+    leave_all_but(&mut scope, &mut numbers, 10);
+    assert!(rt; agree(&scope, &names, &numbers));
+    Ok(())
 }
 
 #[test]

@@ -76,14 +76,11 @@ fn an_entry_is_taken_out_by_position(rt: HostRuntime) -> Result<(), Fail> {
 }
 
 /// Whether the last x, which is sought once, is named, read and written where it stands.
-fn is_walked(scope: &mut Scope, store: &Store) -> bool {
+fn is_walked(scope: &mut Scope, store: &Store, had: INT, has: INT) -> bool {
     let Some(i) = resolve(scope, "x") else {
         return false;
     };
-    name_of(scope, i) == "x"
-        && exchange(scope, i, Dynamic::from_int(7)).as_int(store) == Ok(3)
-        && exchange(scope, i, Dynamic::from_int(8)).as_int(store) == Ok(7)
-        && resolve(scope, "z").is_none()
+    name_of(scope, i) == "x" && exchange(scope, i, Dynamic::from_int(has)).as_int(store) == Ok(had)
 }
 
 /// Whether the newest entry is this one, with this alias, and goes.
@@ -102,7 +99,9 @@ fn an_entry_is_walked_to_and_left(rt: HostRuntime) -> Result<(), Fail> {
     let mut scope = Scope::new(alloc);
     let store = Store::new(alloc);
     assert!(rt; fill(&mut scope));
-    assert!(rt; is_walked(&mut scope, &store));
+    assert!(rt; is_walked(&mut scope, &store, 3, 7));
+    assert!(rt; is_walked(&mut scope, &store, 7, 8));
+    assert!(rt; resolve(&scope, "z").is_none());
     assert!(rt; scope.set_alias("x", "ex").is_ok() && scope.set_alias("y", "why").is_ok());
     assert!(rt; is_left(&mut scope, &store, "x", 8, "ex"));
     assert!(rt; is_left(&mut scope, &store, "y", 2, "why"));

@@ -3,7 +3,10 @@ use Rattle.std.proofs.Common.{◌≡◌, ℕ, suc, ◌+◌, ◌-◌, ◌<◌, �
 use Rattle.std.proofs.lemmas.List.{length-append, length-drop, length-map, length-take, length-take-le, map-append, take-append-drop, take-append-le, take-map, take-take, take_all}
 use Rattle.std.proofs.Math.Seq.{take-add, take-append-add}
 use Rattle.std.specs.Cmp.Lexicographic.{pointwise}
+use Rattle.std.specs.Prelude.{OnErr}
 use Rattle.std.specs.Str.{IsUtf8, chars}
+use Rattle.std.specs.declared.result.Result.{Result}
+use Rattle.std.specs.declared.result.Result.TheVariants.{Ok, Err}
 use Rattle.rhai_scope.specs.Entry.{Entry}
 use Rattle.rhai_scope.specs.Index.{most_walked, IsIndexOf, names_of}
 use Rattle.rhai_scope.specs.Lookup.{later_or_here, last_position}
@@ -12,6 +15,11 @@ use Rattle.rhai_scope.specs.Places.{listed, unless_empty, last_item, are_named, 
 use Rattle.rhai_scope.specs.declared.index.Index.{Index}
 use Rattle.rhai_scope.specs.declared.places.Places.{Places}
 use Rattle.rhai_scope.proofs.LastTrue.{last_more}
+
+-- what holds after a refusal, where it holds anyway
+pub whatever : {T E P : Type 0} (r : Result T E) → P → OnErr r P
+whatever (Ok x) p = tt
+whatever (Err e) p = p
 
 -- ---- the last entry of a name
 
@@ -29,7 +37,7 @@ from_none (Some k) = let same_place : 0 + k ≡ k = omega arith in ap Some same_
 
 pub last_listed : (p : Places) (text : List ℕ) (es : List Entry) → ListsNames p (names_of es) → IsUtf8 text → option_and_then last_item (listed p text) ≡ last_position (chars text) es
 last_listed p text es lists u =
-    ap (option_and_then last_item) (lists text u)
+    ap (option_and_then last_item) (lists.places text u)
     ∙ unlisted (trues_from 0 (are_named (names_of es) (chars text)))
     ∙ last_named 0 (chars text) es
     ∙ from_none (last_position (chars text) es)

@@ -10,6 +10,8 @@ pub mod Found
 pub mod Trues
 pub mod LastTrue
 pub mod PlaceLists
+pub mod MarkBits
+pub mod Marked
 pub mod Listed
 pub mod Placed
 pub mod Headed

@@ -119,9 +119,22 @@ impl Index {
         ensures { IsIndexOf self.new (names_of (take size entries.now)) }
     {
         if size < self.indexed {
-            self.places.pop_all(&entries[size..self.indexed]);
-            self.indexed = size;
+            self.rewind_listed(entries, size);
         }
+    }
+
+    /// The same where names that are listed go. Where few of many stay, they are walked through from now on.
+    #[cold]
+    fn rewind_listed(&mut self, entries: &[Record], size: usize)
+        requires index { IsIndexOf self.old (names_of entries.now) }
+        requires fewer { size < self.old.indexed }
+        ensures { IsIndexOf self.new (names_of (take size entries.now)) }
+    {
+        if size <= WALKED_ENTRIES.min(self.indexed / 8) {
+            return self.clear();
+        }
+        self.places.pop_all(&entries[size..self.indexed]);
+        self.indexed = size;
     }
 
     /// Drops the name of the entry at a place, so that the entries behind it move down by one. It takes no memory. Where that entry's

@@ -67,6 +67,25 @@ impl ExactSizeIterator for IntoIter {
 
 impl FusedIterator for IntoIter {}
 
+impl Scope {
+    ghost use Rattle.std.specs.Prelude.{◌≡◌, ◌<◌, ◌∷◌, ◌++◌, [], length};
+    ghost use Rattle.rhai_scope.specs.Items.{moved_entry};
+
+    /// Takes the last entry out, and answers its name, its own value and its aliases.
+    ///
+    /// Cost: no memory; of an entry that is in the index, the time of a look-up there.
+    ///
+    /// rhai: `Scope::pop_entry`, which is private, and answers `None` without an entry.
+    pub fn pop_last(&mut self) -> (ImmutableString, Dynamic, AliasList)
+        requires { 0 < length self.old }
+        ensures { self.old ≡ self.new ++ moved_entry result ∷ [] }
+    {
+        let last = self.records.len() - 1;
+        self.index.rewind(&self.records, last);
+        self.records.remove(last).into_parts()
+    }
+}
+
 /// Name, own value and aliases of each entry, from the first to the last.
 impl IntoIterator for Scope {
     ghost use Rattle.std.specs.Prelude.{◌≡◌};

@@ -11,6 +11,7 @@ ghost use Rattle.rhai_scope.specs.Lookup.{last_position, last_entry, value_named
 
 use crate::records::Record;
 use crate::scope::Scope;
+use rhai_text::ImmutableString;
 use rhai_value::{AccessMode, Dynamic};
 
 impl Scope {
@@ -52,6 +53,18 @@ impl Scope {
         ensures { option_map (λ e. e.value) (slice_get self.now i) ≡ Some result.now }
     {
         self.records[i].value()
+    }
+
+    /// The name of the entry at a position.
+    ///
+    /// Cost: constant; no memory.
+    ///
+    /// rhai: the name that `Scope::get_entry_by_index` answers, which is private.
+    pub fn name_at(&self, i: usize) -> &ImmutableString
+        requires { i < length self.now }
+        ensures { option_map (λ e. e.name) (slice_get self.now i) ≡ Some result.now }
+    {
+        self.records[i].name()
     }
 
     /// The value at a position, to write to, also of a constant. No cell is written.

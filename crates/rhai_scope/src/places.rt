@@ -1,17 +1,19 @@
 //! The places of each name.
 ghost use Rattle.std.specs.Prelude.{◌≡◌, ◌+◌, ◌<◌, ◌^◌, ℕ, [], ◌∷◌, ◌++◌, List, length, map, option_map, option_and_then, None, OnOk, OnErr};
 ghost use Rattle.std.specs.Str.{chars};
-ghost use Rattle.rhai_scope.specs.Places.{listed, last_item, with_place, shortened, front, others, lowered, Relists, ListsNames};
+ghost use Rattle.rhai_scope.specs.Places.{listed, last_item, with_place, shortened, front, others, lowered, AreMarked, Relists, ListsNames};
 
 use crate::heading::Named;
+use crate::marks::Marks;
 use crate::place_list::PlaceList;
 use std::alloc::{AllocError, Global};
 use std::collections::BTreeMap;
 
-/// For each name the rising list of its places; no list is empty.
+/// For each name the rising list of its places; no list is empty. The mark of each of them is set.
 #[derive(Drop)]
 pub(crate) struct Places {
     pub(crate) lists: BTreeMap<String, PlaceList>,
+    pub(crate) marks: Marks,
 }
 
 impl Places {
@@ -20,31 +22,44 @@ impl Places {
     {
         Places {
             lists: BTreeMap::new(alloc),
+            marks: Marks::new(),
         }
     }
 
     pub(crate) fn clear(&mut self)
         ensures { ListsNames self.new [] }
     {
-        self.lists.clear();
+        if !self.lists.is_empty() {
+            self.lists.clear();
+            self.marks = Marks::new();
+        }
     }
 
-    /// The last place of a name. It takes no memory; the time is in the name's bytes and in the logarithm of the number of names.
+    /// The last place of a name. It takes no memory. Where the mark of the name isn't set, the time is constant; else it is in the
+    /// name's bytes and in the logarithm of the number of names.
     #[inline(never)]
     pub(crate) fn last(&self, name: &str) -> Option<usize>
+        requires { AreMarked self.now }
         ensures { result ≡ option_and_then last_item (listed self.now name.now) }
     {
+        if !self.marks.has(name) {
+            return None;
+        }
         match self.lists.get(name) {
             Some(list) => Some(list.last()),
             None => None,
         }
     }
 
-    /// Adds a place behind those of its name.
+    /// Adds a place behind those of its name. A name whose mark isn't set isn't sought before.
     fn push(&mut self, alloc: Global, name: &str, place: usize) -> Result<(), AllocError>
-        ensures ok { OnOk result (Relists (with_place place) name.now (listed self.old) (listed self.new)) }
+        ensures ok { OnOk result (AreMarked self.old → AreMarked self.new × Relists (with_place place) name.now (listed self.old) (listed self.new)) }
         ensures err { OnErr result ((q : List ℕ) → listed self.new q ≡ listed self.old q) }
+        ensures err_marks { OnErr result (self.new.marks ≡ self.old.marks) }
     {
+        if !self.marks.has(name) {
+            return self.push_first(alloc, name, place);
+        }
         match self.lists.get_mut(name) {
             Some(list) => list.push(place),
             None => self.push_first(alloc, name, place),
@@ -53,20 +68,25 @@ impl Places {
 
     /// Adds the first place of a name. The last growth is that of the map, which stays as it is where memory is refused.
     fn push_first(&mut self, alloc: Global, name: &str, place: usize) -> Result<(), AllocError>
-        requires { listed self.old name.now ≡ None }
-        ensures ok { OnOk result (Relists (with_place place) name.now (listed self.old) (listed self.new)) }
+        requires { AreMarked self.old → listed self.old name.now ≡ None }
+        ensures ok { OnOk result (AreMarked self.old → AreMarked self.new × Relists (with_place place) name.now (listed self.old) (listed self.new)) }
         ensures err { OnErr result ((q : List ℕ) → listed self.new q ≡ listed self.old q) }
+        ensures err_marks { OnErr result (self.new.marks ≡ self.old.marks) }
     {
         let key = String::from_str(alloc, name)?;
         match self.lists.insert(key, PlaceList::new(alloc, place)) {
-            Ok(_) => Ok(()),
+            Ok(_) => {
+                self.marks.add(name);
+                Ok(())
+            }
             Err(_) => Err(AllocError),
         }
     }
 
     /// Drops the last place of a name, and the name with its only one. It takes no memory.
     fn pop(&mut self, name: &str)
-        ensures { Relists (shortened front) name.now (listed self.old) (listed self.new) }
+        ensures lists { Relists (shortened front) name.now (listed self.old) (listed self.new) }
+        ensures marks { self.new.marks ≡ self.old.marks }
     {
         if let Some(list) = self.lists.get_mut(name) {
             if !list.pop() {
@@ -112,7 +132,8 @@ impl Places {
 
     /// Drops a place of a name, and the name with its only one.
     fn unlist(&mut self, name: &str, place: usize)
-        ensures { Relists (shortened (others place)) name.now (listed self.old) (listed self.new) }
+        ensures lists { Relists (shortened (others place)) name.now (listed self.old) (listed self.new) }
+        ensures marks { self.new.marks ≡ self.old.marks }
     {
         if let Some(list) = self.lists.get_mut(name) {
             if !list.take_out(place) {
@@ -123,7 +144,8 @@ impl Places {
 
     /// Moves all places behind one that is gone down by one.
     fn lower(&mut self, gone: usize)
-        ensures { (q : List ℕ) → listed self.new q ≡ option_map (map (lowered gone)) (listed self.old q) }
+        ensures lists { (q : List ℕ) → listed self.new q ≡ option_map (map (lowered gone)) (listed self.old q) }
+        ensures marks { self.new.marks ≡ self.old.marks }
     {
         self.lists.retain(move |_, list| {
             list.lower(gone);

@@ -1,6 +1,7 @@
 //! The scope, where a call alone can show it: what entries become is tested by lines in `rhai_world`.
 // Proved callers.
 mod readme;
+mod walker;
 
 // Tests.
 mod callers;

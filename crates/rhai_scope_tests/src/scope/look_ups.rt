@@ -1,4 +1,5 @@
 //! Look-ups by name where entries come and go, in scopes of few entries and of many.
+use super::walker::leave;
 use rhai_scope::Scope;
 use rhai_text::ImmutableString;
 use rhai_value::{Dynamic, Store};
@@ -115,6 +116,84 @@ fn stay_found(
     scope.rewind(left);
     numbers.truncate(left);
     agree(scope, names, numbers)
+}
+
+/// Two names whose first four bytes and last four are the same, so that the index can't tell them apart by their marks.
+const FIRST: &str = "size_of_first_item";
+
+const SECOND: &str = "size_of_second_item";
+
+/// Whether the two names stand there, and no name is found that never came.
+fn stand(scope: &Scope, first: Option<usize>, second: Option<usize>) -> bool {
+    scope.search(FIRST) == first
+        && scope.search(SECOND) == second
+        && !scope.contains("size_of_no_item")
+        && !scope.contains("never")
+        && !scope.contains("")
+}
+
+/// Whether they are told apart while one of them, and then both, stand before forty entries.
+fn are_told_apart(scope: &mut Scope, names: &[ImmutableString], numbers: &mut Vec<usize>) -> bool {
+    if scope.push(FIRST, 1i64).is_err()
+        || !push_many(scope, names, numbers, 40, 1)
+        || !stand(scope, Some(0), None)
+        || scope.push(SECOND, 2i64).is_err()
+        || !push_many(scope, names, numbers, 40, 1)
+        || !stand(scope, Some(0), Some(41))
+    {
+        return false;
+    }
+    scope.rewind(41);
+    stand(scope, Some(0), None)
+}
+
+/// Whether they are told apart once the first of them is taken out, the other one comes, and all entries go.
+fn stay_apart(scope: &mut Scope, store: &Store) -> bool {
+    if !matches!(scope.remove::<i64>(FIRST, store), Ok(Some(1)))
+        || !stand(scope, None, None)
+        || scope.push(SECOND, 3i64).is_err()
+        || !stand(scope, None, Some(40))
+    {
+        return false;
+    }
+    scope.clear();
+    stand(scope, None, None)
+}
+
+/// Takes out the newest entries, one by one.
+fn leave_some(scope: &mut Scope, count: usize) {
+    for _ in 0..count {
+        drop(leave(scope));
+    }
+}
+
+#[test]
+fn names_are_found_once_later_entries_were_taken_out(rt: HostRuntime) -> Result<(), Fail> {
+    let alloc = rt.alloc();
+    let names = names(alloc)?;
+    let mut scope = Scope::new(alloc);
+    let mut numbers = Vec::new(alloc);
+    assert!(rt; push_many(&mut scope, &names, &mut numbers, 100, 450));
+    leave_some(&mut scope, 30);
+    numbers.truncate(70);
+    assert!(rt; agree(&scope, &names, &numbers));
+    leave_some(&mut scope, 60);
+    numbers.truncate(10);
+    assert!(rt; agree(&scope, &names, &numbers));
+    Ok(())
+}
+
+#[test]
+fn names_that_are_not_there_are_not_found(rt: HostRuntime) -> Result<(), Fail> {
+    let alloc = rt.alloc();
+    let store = Store::new(alloc);
+    let names = names(alloc)?;
+    let mut scope = Scope::new(alloc);
+    let mut numbers = Vec::new(alloc);
+    assert!(rt; are_told_apart(&mut scope, &names, &mut numbers));
+    assert!(rt; stay_apart(&mut scope, &store));
+    assert!(rt; are_told_apart(&mut scope, &names, &mut numbers));
+    Ok(())
 }
 
 #[test]

@@ -1,4 +1,5 @@
 //! Entries by their positions.
+use super::walker::{exchange, leave, name_of, resolve};
 use super::{is_int, prints};
 use rhai_scope::Scope;
 use rhai_value::{Dynamic, INT, Store};
@@ -71,5 +72,40 @@ fn an_entry_is_taken_out_by_position(rt: HostRuntime) -> Result<(), Fail> {
     assert!(rt; taken(&mut scope, &store, 1) == Some(3));
     assert!(rt; scope.search("x").is_none());
     assert!(rt; prints(alloc, &scope, &store, "[1] const y = 2\n"));
+    Ok(())
+}
+
+/// Whether the last x, which is sought once, is named, read and written where it stands.
+fn is_walked(scope: &mut Scope, store: &Store, had: INT, has: INT) -> bool {
+    let Some(i) = resolve(scope, "x") else {
+        return false;
+    };
+    name_of(scope, i) == "x" && exchange(scope, i, Dynamic::from_int(has)).as_int(store) == Ok(had)
+}
+
+/// Whether the newest entry is this one, with this alias, and goes.
+fn is_left(scope: &mut Scope, store: &Store, name: &str, wanted: INT, alias: &str) -> bool {
+    let Some((own_name, value, aliases)) = leave(scope) else {
+        return false;
+    };
+    own_name.as_str() == name
+        && value.as_int(store) == Ok(wanted)
+        && matches!(aliases.first(), Some(own) if own.as_str() == alias)
+}
+
+#[test]
+fn an_entry_is_walked_to_and_left(rt: HostRuntime) -> Result<(), Fail> {
+    let alloc = rt.alloc();
+    let mut scope = Scope::new(alloc);
+    let store = Store::new(alloc);
+    assert!(rt; fill(&mut scope));
+    assert!(rt; is_walked(&mut scope, &store, 3, 7));
+    assert!(rt; is_walked(&mut scope, &store, 7, 8));
+    assert!(rt; resolve(&scope, "z").is_none());
+    assert!(rt; scope.set_alias("x", "ex").is_ok() && scope.set_alias("y", "why").is_ok());
+    assert!(rt; is_left(&mut scope, &store, "x", 8, "ex"));
+    assert!(rt; is_left(&mut scope, &store, "y", 2, "why"));
+    assert!(rt; prints(alloc, &scope, &store, "[1] x = 1\n"));
+    assert!(rt; leave(&mut scope).is_some() && leave(&mut scope).is_none());
     Ok(())
 }

@@ -1,15 +1,8 @@
 use Rattle.std.proofs.Common.{sym, ◌∙◌}
-use Rattle.std.specs.Prelude.{OnErr}
-use Rattle.std.specs.declared.result.Result.{Result}
-use Rattle.std.specs.declared.result.Result.TheVariants.{Ok, Err}
 use Rattle.rhai_scope.specs.Index.{names_of}
-use Rattle.rhai_scope.proofs.Indexed.{all_listed}
+use Rattle.rhai_scope.proofs.Indexed.{all_listed, whatever}
 use Rattle.rhai_scope.proofs.EntryNames.{length_names}
 use Rattle.rhai_scope.proofs.index.Index.admit_all.Goals as goal
-
-whatever : {T E P : Type 0} (r : Result T E) → P → OnErr r P
-whatever (Ok x) p = tt
-whatever (Err e) p = p
 
 pub returns-in_err-push_all-clause-err : goal.returns-in_err-push_all-clause-err
 returns-in_err-push_all-clause-err g c =

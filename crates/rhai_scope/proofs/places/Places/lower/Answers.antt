@@ -6,5 +6,5 @@ use Rattle.rhai_scope.specs.Places.{lowered}
 use Rattle.rhai_scope.proofs.Listed.{all_changed}
 use Rattle.rhai_scope.proofs.places.Places.lower.Goals as goal
 
-pub returns : goal.returns
-returns c = λ q. all_changed _ (map (lowered c.args.gone)) _ (λ k v b w f t. search rules) (is_at (λ k. slice_cmp nat_cmp q (string_bytes k))) _ _ c.retain.ensures.filtered
+pub returns-clause-lists : goal.returns-clause-lists
+returns-clause-lists c = λ q. all_changed _ (map (lowered c.args.gone)) _ (λ k v b w f t. search rules) (is_at (λ k. slice_cmp nat_cmp q (string_bytes k))) _ _ c.retain.ensures.filtered

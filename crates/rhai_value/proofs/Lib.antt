@@ -27,6 +27,7 @@ pub mod MarkedCells
 pub mod Meetings
 pub mod Paints
 pub mod Paths
+pub mod Placed
 pub mod RelatedCells
 pub mod Rising
 pub mod SameFlat

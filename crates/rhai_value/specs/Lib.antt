@@ -29,3 +29,5 @@ pub mod Reach
 pub mod Meetings
 pub mod Renumbers
 pub mod Lent
+pub mod Steps
+pub mod Places

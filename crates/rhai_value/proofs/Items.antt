@@ -30,7 +30,7 @@ pub items_back : (xs : List Tree) → items_in (trees_of xs) ≡ xs
 items_back [] = refl
 items_back (x ∷ xs) = ap (λ l. x ∷ l) (items_back xs)
 
-trees_back : (ts : Trees) → trees_of (items_in ts) ≡ ts
+pub trees_back : (ts : Trees) → trees_of (items_in ts) ≡ ts
 trees_back no_trees = refl
 trees_back (tree_then t ts) = ap (tree_then t) (trees_back ts)
 

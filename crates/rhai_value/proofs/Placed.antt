@@ -23,9 +23,9 @@ use Rattle.rhai_value.specs.Parts.{array_of, map_of}
 use Rattle.rhai_value.specs.Rows.{Rows, bytes_cmp, AreTexts, trees_of, fields_of}
 use Rattle.rhai_value.specs.Types.{tree_type}
 use Rattle.rhai_value.specs.Store.{at, unmarked, put, mark_of, is_marked_at, set_mark, marked_with, content_at}
-use Rattle.rhai_value.specs.End.{End, end, held, stuck, closed, held_in, held_cell}
+use Rattle.rhai_value.specs.End.{End, end, held, stuck, closed, held_in, held_cell, store_after}
 use Rattle.rhai_value.specs.Steps.{item_place, placed_item, indexed, keyed, keyed_value, item_at, with_placed, with_field, with_indexed, with_keyed, with_item}
-use Rattle.rhai_value.specs.Places.{Leaves, WorksAt, held_answer, lent_out, IsLent, put_back, Left, Place, Way, along, around, lost_at, out_of, from_end, way_held, way_on, way_in, place_answer, WorksIn, WorksAlong}
+use Rattle.rhai_value.specs.Places.{Leaves, WorksAt, held_answer, is_kept, lent_out, IsLent, put_back, Left, Place, Way, along, around, lost_at, out_of, from_end, way_held, way_on, way_in, place_answer, WorksIn, WorksAlong}
 use Rattle.rhai_value.proofs.Ends.{stands, end_own}
 use Rattle.rhai_value.proofs.Items.{items_back, same_chars}
 use Rattle.rhai_value.proofs.LentHeld.{FarEnd, far_end}
@@ -239,3 +239,34 @@ module _ {F R : Type 0} (g : Once F (MutBor Tree × (MutBor (List Cell) × Unit 
 
 pub none_works : (s : List Cell) (t : Tree) (P : Tree → Type 0) → held_in (end s [] t) ≡ None → IfSome (held_in (end s [] t)) P
 none_works s t P h = rw h tt
+
+-- ---- what is lent and put back
+
+mark_off : (b : Bool) (t v : Tree) → cond b None (Some t) ≡ Some v → false ≡ b
+mark_off true t v e = cc
+mark_off false t v e = refl
+
+lent_and_back : (s : List Cell) (c : ℕ) (v w : Tree) → at s c ≡ Some v → set_mark (put (lent_out (Some c) s) c w) c false ≡ put s c w
+lent_and_back [] c v w e = refl
+lent_and_back (x ∷ s) zero v w e = ap (λ b. record { content = w; is_marked = b } ∷ s) (mark_off x.is_marked x.content v e)
+lent_and_back (x ∷ s) (suc c) v w e = ap (λ z. x ∷ z) (lent_and_back s c v w e)
+
+kept_at : (s : List Cell) (t : Tree) (e : End) → e ≡ end s [] t → is_kept (held_cell e) (lent_out (held_cell e) s) ≡ true
+kept_at s t (held Own v) is = refl
+kept_at s t (held (InCell c) v) is = lent_is_marked s c (at_within s c v (stands s t (InCell c) v is))
+kept_at s t (stuck v) is = refl
+kept_at s t closed is = refl
+
+pub lent_is_kept : (s : List Cell) (t : Tree) → is_kept (held_cell (end s [] t)) (lent_out (held_cell (end s [] t)) s) ≡ true
+lent_is_kept s t = kept_at s t (end s [] t) refl
+
+back_at : (s : List Cell) (t w : Tree) (e : End) → e ≡ end s [] t → put_back (held_cell e) w (lent_out (held_cell e) s) ≡ store_after (λ _. w) e s
+back_at s t w (held Own v) is = refl
+back_at s t w (held (InCell c) v) is =
+    let there = stands s t (InCell c) v is in
+    ap (λ b. cond b (set_mark (put (lent_out (Some c) s) c w) c false) (lent_out (Some c) s)) (lent_is_marked s c (at_within s c v there)) ∙ lent_and_back s c v w there
+back_at s t w (stuck v) is = refl
+back_at s t w closed is = refl
+
+pub lent_comes_back : (s : List Cell) (t w : Tree) → put_back (held_cell (end s [] t)) w (lent_out (held_cell (end s [] t)) s) ≡ store_after (λ _. w) (end s [] t) s
+lent_comes_back s t w = back_at s t w (end s [] t) refl

@@ -31,3 +31,4 @@ pub mod Renumbers
 pub mod Lent
 pub mod Steps
 pub mod Places
+pub mod Roots

@@ -1,5 +1,5 @@
 -- Work at a place: what is lent out of a cell and put back, and what a way of steps makes of it.
-use Rattle.std.proofs.Common.{◌≡◌, ◌<◌, ℕ, ℤ, zero, suc, option_and_then, Bool, true, false, cond, List, [], ◌∷◌, length, Option, Some, None, is_some, option_map, slice_get, slice_set, slice_index_or, IfSome, Result, Ok, Err, Bor, MutBor, refl, sym, ap, ap₂, ◌∙◌, subst, arith}
+use Rattle.std.proofs.Common.{◌≡◌, ◌<◌, ℕ, ℤ, zero, suc, Bool, true, false, cond, List, [], ◌∷◌, length, Option, Some, None, is_some, option_map, slice_set, slice_index_or, IfSome, Result, Ok, Err, Bor, MutBor, refl, sym, ap, ap₂, ◌∙◌, subst, arith}
 use Rattle.std.specs.BTreeMap.{is_at}
 use Rattle.std.specs.Fn.{Once}
 use Rattle.std.specs.Map.{keys_of, set_value}
@@ -18,14 +18,14 @@ use Rattle.rhai_value.specs.declared.step.PlaceErrorKind.TheVariants.{OtherType,
 use Rattle.rhai_value.specs.declared.store.Cell.{Cell}
 use Rattle.rhai_value.specs.declared.type_id.TypeId.TheVariants as id
 use Rattle.rhai_value.specs.Tree.{Tree, node, leaf, branch, fields, holder, array, function, Trees, Fields, no_fields, field_then, cell_of, tag_of, mode_of, fresh, unit}
-use Rattle.rhai_value.specs.Items.{items_in, items_of, with_items, field_at}
+use Rattle.rhai_value.specs.Items.{items_in, with_items, field_at}
 use Rattle.rhai_value.specs.Parts.{array_of, map_of}
 use Rattle.rhai_value.specs.Rows.{Rows, bytes_cmp, AreTexts, trees_of, fields_of}
 use Rattle.rhai_value.specs.Types.{tree_type}
-use Rattle.rhai_value.specs.Store.{at, unmarked, put, mark_of, is_marked_at, set_mark, marked_with, content_at}
+use Rattle.rhai_value.specs.Store.{at, put, is_marked_at, set_mark, marked_with, content_at}
 use Rattle.rhai_value.specs.End.{End, end, held, stuck, closed, held_in, held_cell, store_after}
-use Rattle.rhai_value.specs.Steps.{item_place, placed_item, indexed, keyed, keyed_value, item_at, with_placed, with_field, with_indexed, with_keyed, with_item}
-use Rattle.rhai_value.specs.Places.{Leaves, WorksAt, held_answer, is_kept, lent_out, IsLent, put_back, Left, Place, Way, along, around, lost_at, out_of, from_end, way_held, way_on, way_in, place_answer, WorksIn, WorksAlong}
+use Rattle.rhai_value.specs.Steps.{item_place, placed_item, indexed, keyed, keyed_value, item_at, with_placed, with_field, with_indexed, with_item}
+use Rattle.rhai_value.specs.Places.{Leaves, WorksAt, held_answer, is_kept, lent_out, IsLent, put_back, Way, along, around, lost_at, out_of, from_end, way_held, way_on, place_answer, WorksAlong}
 use Rattle.rhai_value.proofs.Ends.{stands, end_own}
 use Rattle.rhai_value.proofs.Items.{items_back, same_chars}
 use Rattle.rhai_value.proofs.LentHeld.{FarEnd, far_end}

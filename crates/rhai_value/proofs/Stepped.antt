@@ -1,5 +1,5 @@
 -- What is written one step down into a value.
-use Rattle.std.proofs.Common.{◌≡◌, ◌<◌, ◌-◌, ℕ, zero, suc, ℤ, pos, negsuc, nat_lt, Bool, true, false, cond, List, [], ◌∷◌, length, Option, Some, None, option_map, slice_set, slice_index_or, Result, Ok, Err, Bor, refl, sym, ap, ap₂, ◌∙◌, subst, arith}
+use Rattle.std.proofs.Common.{◌≡◌, ◌<◌, ◌-◌, ℕ, suc, ℤ, pos, negsuc, nat_lt, Bool, true, false, cond, List, length, Option, Some, None, slice_set, slice_index_or, Ok, Err, Bor, refl, sym, ap, ◌∙◌, subst, arith}
 use Rattle.std.proofs.lemmas.Bool.{ltb-true}
 use Rattle.std.proofs.lemmas.List.{length-set, set-get_or, get_or-set_same, get_or-set_other}
 use Rattle.std.specs.Str.{bytes_eq, chars}
@@ -8,12 +8,11 @@ use Rattle.rhai_value.specs.declared.step.Step.{Step}
 use Rattle.rhai_value.specs.declared.step.Step.TheVariants.{Index, Key}
 use Rattle.rhai_value.specs.declared.type_id.TypeId.TheVariants as id
 use Rattle.rhai_value.specs.declared.access_mode.AccessMode.{AccessMode}
-use Rattle.rhai_value.specs.declared.step.PlaceErrorKind.{PlaceErrorKind}
 use Rattle.rhai_value.specs.declared.step.PlaceErrorKind.TheVariants.{NoItem}
 use Rattle.rhai_value.specs.Tree.{Tree, node, leaf, branch, fields, holder, array, function, Trees, Fields, no_fields, field_then, fresh, unit}
-use Rattle.rhai_value.specs.Items.{items_in, items_of, with_items, field_at}
+use Rattle.rhai_value.specs.Items.{items_in, items_of, field_at}
 use Rattle.rhai_value.specs.Rows.{trees_of}
-use Rattle.rhai_value.specs.Steps.{item_place, placed_item, indexed, keyed, keyed_value, item_at, with_placed, with_field, with_indexed, with_keyed, with_item}
+use Rattle.rhai_value.specs.Steps.{item_place, placed_item, indexed, keyed_value, item_at, with_placed, with_field, with_item}
 use Rattle.rhai_value.proofs.Items.{items_back, trees_back}
 use Rattle.rhai_value.proofs.Placed.{field_same, item_indexed}
 

@@ -1,5 +1,5 @@
 //! Work at a place inside a held value, with the store at hand.
-ghost use Rattle.std.specs.Prelude.{◌≡◌, ◌+◌, ◌≤◌, ◌<◌, ◌∷◌, [], ℤ, length};
+ghost use Rattle.std.specs.Prelude.{◌≡◌, ◌+◌, ◌≤◌, ◌<◌, ◌∷◌, ℤ, length};
 ghost use Rattle.rhai_value.specs.declared.access_mode.AccessMode.{AccessMode};
 ghost use Rattle.rhai_value.specs.declared.step.Step.TheVariants.{Index, Key};
 ghost use Rattle.std.specs.BTreeMap.{is_at};

@@ -2,11 +2,11 @@ use Rattle.std.proofs.Common.{◌≡◌, ◌+◌, rules, true, false, length, So
 use Rattle.std.proofs.Math.Facts.{to_z-of_z}
 use Rattle.rhai_value.specs.Steps.{item_place}
 use Rattle.rhai_value.specs.declared.step.Step.TheVariants.{Index, Key}
-use Rattle.rhai_value.specs.declared.step.PlaceErrorKind.TheVariants.{NoItem, NoKey}
+use Rattle.rhai_value.specs.declared.step.PlaceErrorKind.TheVariants.{NoItem}
 use Rattle.rhai_value.specs.Places.{way_held, way_in}
 use Rattle.rhai_value.specs.Rows.{trees_of, fields_of}
 use Rattle.rhai_value.specs.Tree.{node, branch, array, fields, cell_of}
-use Rattle.rhai_value.proofs.Placed.{own_works, held_works, item_works, no_item_works, unshared, item_there, item_same, item_missing, with_index, item_keyed, key_missing, field_same}
+use Rattle.rhai_value.proofs.Placed.{own_works, held_works, item_works, no_item_works, unshared, item_there, item_same, item_missing, with_index, item_keyed, field_same}
 use Rattle.rhai_value.proofs.with_place.+work.Goals as goal
 
 pub work_below-returns-then-not-is_shared : goal.work_below-returns-then-not-is_shared

@@ -1,6 +1,6 @@
 use Rattle.std.proofs.Common.{true, false, refl, sym, ◌∙◌}
 use Rattle.rhai_value.specs.Tree.{cell_of}
-use Rattle.rhai_value.proofs.Placed.{unshared, own_not_barred, own_held, lent_not_barred, far_held, none_works}
+use Rattle.rhai_value.proofs.Placed.{unshared, own_not_barred, own_held, lent_not_barred, far_held}
 use Rattle.rhai_value.proofs.dynamic.Dynamic.with_held.Goals as goal
 
 pub returns-then-not-is_shared-clause-barred : goal.returns-then-not-is_shared-clause-barred

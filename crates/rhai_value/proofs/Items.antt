@@ -30,7 +30,7 @@ pub items_back : (xs : List Tree) → items_in (trees_of xs) ≡ xs
 items_back [] = refl
 items_back (x ∷ xs) = ap (λ l. x ∷ l) (items_back xs)
 
-trees_back : (ts : Trees) → trees_of (items_in ts) ≡ ts
+pub trees_back : (ts : Trees) → trees_of (items_in ts) ≡ ts
 trees_back no_trees = refl
 trees_back (tree_then t ts) = ap (tree_then t) (trees_back ts)
 
@@ -86,14 +86,14 @@ alike false true f g = g refl
 alike false false f g = refl
 
 -- texts are equal where their characters are
-same_chars : (q k : List ℕ) → IsUtf8 q → IsUtf8 k → bytes_eq (chars q) (chars k) ≡ is_eq (bytes_cmp q k)
+pub same_chars : (q k : List ℕ) → IsUtf8 q → IsUtf8 k → bytes_eq (chars q) (chars k) ≡ is_eq (bytes_cmp q k)
 same_chars q k u w =
     let spelt = bytes_eq-Decides (chars q) (chars k) in
     let told = bytes_eq-Decides q k in
     alike (bytes_eq (chars q) (chars k)) (bytes_eq q k) (λ e. told.1 (sym (encodes-chars q u) ∙ ap encode_utf8_all (spelt.0 e) ∙ encodes-chars k w)) (λ e. spelt.1 (ap chars (told.0 e)))
     ∙ sym (is_eq-slice_cmp q k)
 
-found : (rs : Rows) (q : List ℕ) → AreTexts rs → IsUtf8 q → field_at (chars q) (fields_of rs) ≡ lookup (is_at (bytes_cmp q)) rs
+pub found : (rs : Rows) (q : List ℕ) → AreTexts rs → IsUtf8 q → field_at (chars q) (fields_of rs) ≡ lookup (is_at (bytes_cmp q)) rs
 found [] q texts u = refl
 found (r ∷ rs) q texts u =
     rw (same_chars q r.0 u (All-head IsUtf8 r.0 (keys_of rs) texts), found rs q (All-tail IsUtf8 r.0 (keys_of rs) texts) u) refl

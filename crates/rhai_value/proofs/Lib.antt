@@ -27,8 +27,10 @@ pub mod MarkedCells
 pub mod Meetings
 pub mod Paints
 pub mod Paths
+pub mod Placed
 pub mod RelatedCells
 pub mod Rising
+pub mod Rooted
 pub mod SameFlat
 pub mod SameScans
 pub mod SameTrees
@@ -36,6 +38,7 @@ pub mod SameWalks
 pub mod Scans
 pub mod Sheds
 pub mod Slots
+pub mod Stepped
 pub mod Stores
 pub mod Traced
 pub mod Trees

@@ -29,3 +29,6 @@ pub mod Reach
 pub mod Meetings
 pub mod Renumbers
 pub mod Lent
+pub mod Steps
+pub mod Places
+pub mod Roots

@@ -14,6 +14,7 @@ ghost use Rattle.rhai_value.specs.Types.{is_type};
 ghost use Rattle.rhai_value.specs.Relation.{Renaming, paired, Related, RelatedContent, AllRelated, RelatedFields, RelatedFunctions, Alike, Respect, IsOneToOne, RelatedCells, RelatedPaths, RelatedEnds, shared_pairs};
 
 pub mod parts;
+pub mod places;
 pub mod scans;
 
 /// Where a chain ends, by its parts: a value that is no holder is held, a holder is stuck, closes, or leads on to its cell's content.

@@ -95,7 +95,7 @@ impl MapParts {
     }
 
     /// Takes the value of a slot that is taken, and leaves `with` there.
-    fn exchange_at(&mut self, number: usize, with: Slot) -> Dynamic
+    pub(crate) fn exchange_at(&mut self, number: usize, with: Slot) -> Dynamic
         requires { is_taken (slot_at self.old.slots.items number) ≡ true }
         ensures taken { result ≡ tree_in (slot_at self.old.slots.items number) }
         ensures left { self.new.slots.items ≡ slice_set self.old.slots.items number with }

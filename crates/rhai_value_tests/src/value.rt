@@ -6,10 +6,13 @@ mod readme;
 
 // Tests.
 mod containers;
+mod entries;
 mod in_place;
 mod maps;
 mod marks;
+mod places;
 mod references;
+mod roots;
 mod scan;
 mod written;
 

@@ -1,0 +1,147 @@
+-- Work at a held value, and at a place inside it, with the store at hand: what is lent meanwhile, and what is put back.
+use Rattle.std.specs.Prelude.{◌≡◌, ℕ, ◌+◌, nat_lt, Bool, true, false, List, [], ◌∷◌, length, Option, Some, None, Result, Ok, Err, if◌then◌else◌}
+use Rattle.std.specs.Fn.{Once}
+use denote.Ref.{MutBor}
+use Rattle.rhai_value.specs.declared.store.Cell.{Cell}
+use Rattle.rhai_value.specs.declared.chain.Site.TheVariants.{Own, InCell}
+use Rattle.rhai_value.specs.declared.step.Step.{Step}
+use Rattle.rhai_value.specs.declared.step.PlaceError.{PlaceError}
+use Rattle.rhai_value.specs.declared.step.PlaceErrorKind.{PlaceErrorKind}
+use Rattle.rhai_value.specs.declared.step.PlaceErrorKind.TheVariants as kind
+use Rattle.rhai_value.specs.declared.with_held.HeldError.{HeldError}
+use Rattle.rhai_value.specs.declared.with_held.HeldError.TheVariants.{Lost}
+use Rattle.rhai_value.specs.Tree.{Tree, fresh, unit}
+use Rattle.rhai_value.specs.Steps.{item_at, with_item}
+use Rattle.rhai_value.specs.Store.{put, is_marked_at, set_mark}
+use Rattle.rhai_value.specs.End.{End, end, held, stuck, closed, held_cell, value_after}
+
+-- a call of f at `&mut`s to a value and to a store may give r, and leave the second two there
+pub record Leaves {F A S R : Type 0} (g : Once F (MutBor A × (MutBor S × Unit {0})) (R × (MutBor A × (MutBor S × Unit {0})))) (f : F) (v : A) (s : S) (r : R) (w : A) (t : S) : Type 0 where
+  pub value : MutBor A
+  pub store : MutBor S
+  pub shows : (value.now ≡ v) × (store.now ≡ s)
+  pub left : MutBor A × (MutBor S × Unit {0})
+  pub met : g.post f (value, (store, tt)) (r, left)
+  pub leaves : (left.0.now ≡ w) × (left.1.0.now ≡ t)
+
+-- the store while the content of the cell is lent, if it is one: the cell is marked, and has unit
+abbrev pub lent_out : Option ℕ → List Cell → List Cell
+lent_out None s = s
+lent_out (Some c) s = put (set_mark s c true) c (fresh unit)
+
+-- the value v that t holds stands in the cell c, and is lent out of it
+pub record IsLent (c : ℕ) (v : Tree) (s : List Cell) (t : Tree) (s' : List Cell) : Type 0 where
+  pub stands : end s [] t ≡ held (InCell c) v
+  pub out : s' ≡ lent_out (Some c) s
+
+-- whether the cell is marked still
+abbrev pub is_kept : Option ℕ → List Cell → Bool
+is_kept None s = true
+is_kept (Some c) s = is_marked_at s c
+
+-- the store once w is put into the cell and its mark is cleared; as it is where it has no such mark any more
+abbrev pub put_back : Option ℕ → Tree → List Cell → List Cell
+put_back None w s = s
+put_back (Some c) w s = if is_marked_at s c then set_mark (put s c w) c false else s
+
+-- the answer, where the mark was kept
+abbrev pub held_answer : {R : Type 0} → Bool → R → Result R HeldError
+held_answer true r = Ok r
+held_answer false r = Err Lost
+
+-- Work of f at what is held at the end e: nothing where there is none; else f is shown this and the store, and what it makes of the two is put back.
+pub record WorksAt {F R : Type 0} (g : Once F (MutBor Tree × (MutBor (List Cell) × Unit {0})) (R × (MutBor Tree × (MutBor (List Cell) × Unit {0})))) (f : F) (e : End) (v : Tree) (s : List Cell) (t : Tree) (result : Result R HeldError) (t' : Tree) (s' : List Cell) : Type 0 where
+  pub answer : R
+  pub made : Tree
+  pub beside : List Cell
+  pub works : Leaves g f v (lent_out (held_cell e) s) answer made beside
+  pub answers : result ≡ held_answer (is_kept (held_cell e) beside) answer
+  pub value : t' ≡ value_after (λ _. made) e t
+  pub store : s' ≡ put_back (held_cell e) made beside
+
+-- ---- places down a way of steps
+
+-- What is left of a value and its store, and the step at which a cell had lost its mark, if one had.
+pub record Left : Type 0 where
+  pub value : Tree
+  pub store : List Cell
+  pub lost : Option ℕ
+
+-- A place inside a value: what stands there, the store that is lent with it, and what is left of value and store once these two are others.
+pub record Place : Type 0 where
+  pub value : Tree
+  pub store : List Cell
+  pub back : Tree → List Cell → Left
+
+-- a place, or the step at which there is none, and why
+abbrev pub Way : Type 0
+Way = Result Place PlaceError
+
+-- the same way, with f of the place
+abbrev pub along : (Place → Place) → Way → Way
+along f (Ok q) = Ok (f q)
+along f (Err why) = Err why
+
+abbrev pub no_place : ℕ → PlaceErrorKind → Way
+no_place n why = Err (record { step = n; kind = why })
+
+-- the value itself
+abbrev pub whole_place : List Cell → Tree → Place
+whole_place s t = record { value = t; store = s; back = λ w u. record { value = w; store = u; lost = None } }
+
+-- the place inside the value of another one, which is f of it
+abbrev pub around : (Tree → Tree) → Place → Place
+around f q = record { value = q.value; store = q.store; back = λ w u. record { value = f (q.back w u).value; store = (q.back w u).store; lost = (q.back w u).lost } }
+
+abbrev pub lost_at : ℕ → Bool → Option ℕ → Option ℕ
+lost_at n true o = o
+lost_at n false o = Some n
+
+-- the place inside the content of a cell, at the step n, of which t is led to
+abbrev pub out_of : ℕ → ℕ → Tree → Place → Place
+out_of c n t q = record { value = q.value; store = q.store; back = λ w u. record { value = t; store = put_back (Some c) (q.back w u).value (q.back w u).store; lost = lost_at n (is_marked_at (q.back w u).store c) (q.back w u).lost } }
+
+-- the way on from where a chain of holders ends, which starts at t
+abbrev pub from_end : (List Cell → Tree → Way) → ℕ → List Cell → Tree → End → Way
+from_end go n s t (held Own v) = go s t
+from_end go n s t (held (InCell c) v) = along (out_of c n t) (go (lent_out (Some c) s) v)
+from_end go n s t (stuck v) = no_place n kind.Barred
+from_end go n s t closed = no_place n kind.Barred
+
+-- the way on from what a value holds
+abbrev pub way_held : (List Cell → Tree → Way) → ℕ → List Cell → Tree → Way
+way_held go n s t = from_end go n s t (end s [] t)
+
+-- the way on from an item, if there is one
+abbrev pub way_on : (Tree → Way) → ℕ → (Tree → Tree) → Result Tree PlaceErrorKind → Way
+way_on go n f (Ok y) = along (around f) (go y)
+way_on go n f (Err why) = no_place n why
+
+-- the place to which steps lead from a value that holds itself, the first of them being the step n
+abbrev pub way_in : List Step → ℕ → List Cell → Tree → Way
+way_in [] n s t = Ok (whole_place s t)
+way_in (p ∷ ps) n s t = way_on (way_held (way_in ps (n + 1)) (n + 1) s) n (with_item p t) (item_at p t)
+
+-- the place to which steps lead from any value; there are at most 256
+abbrev pub way : List Step → List Cell → Tree → Way
+way ps s t = if nat_lt 256 (length ps) then no_place 0 kind.TooFar else way_held (way_in ps 0) 0 s t
+
+-- the answer, unless a mark was lost
+abbrev pub place_answer : {R : Type 0} → Option ℕ → R → Result R PlaceError
+place_answer None r = Ok r
+place_answer (Some n) r = Err (record { step = n; kind = kind.Lost })
+
+-- f is shown what stands at a place with the store, and what it makes of the two is put back
+pub record WorksIn {F R : Type 0} (g : Once F (MutBor Tree × (MutBor (List Cell) × Unit {0})) (R × (MutBor Tree × (MutBor (List Cell) × Unit {0})))) (f : F) (q : Place) (result : Result R PlaceError) (t' : Tree) (s' : List Cell) : Type 0 where
+  pub answer : R
+  pub made : Tree
+  pub beside : List Cell
+  pub works : Leaves g f q.value q.store answer made beside
+  pub answers : result ≡ place_answer (q.back made beside).lost answer
+  pub value : t' ≡ (q.back made beside).value
+  pub store : s' ≡ (q.back made beside).store
+
+-- the same where a way leads, and nothing else changes where it leads nowhere
+abbrev pub WorksAlong : {F R : Type 0} → Once F (MutBor Tree × (MutBor (List Cell) × Unit {0})) (R × (MutBor Tree × (MutBor (List Cell) × Unit {0}))) → F → Way → Tree → List Cell → Result R PlaceError → Tree → List Cell → Type 0
+WorksAlong g f (Ok q) t s result t' s' = WorksIn g f q result t' s'
+WorksAlong g f (Err why) t s result t' s' = (result ≡ Err why) × (t' ≡ t) × (s' ≡ s)

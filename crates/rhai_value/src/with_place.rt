@@ -1,0 +1,180 @@
+//! Work at a place inside a held value, with the store at hand.
+ghost use Rattle.std.specs.Prelude.{◌≡◌, ◌+◌, ◌≤◌, ◌<◌, ◌∷◌, ℤ, length};
+ghost use Rattle.rhai_value.specs.declared.access_mode.AccessMode.{AccessMode};
+ghost use Rattle.rhai_value.specs.declared.step.Step.TheVariants.{Index, Key};
+ghost use Rattle.std.specs.BTreeMap.{is_at};
+ghost use Rattle.std.specs.Borrow.{LendsIf, sem};
+ghost use Rattle.std.specs.Map.{set_value};
+ghost use Rattle.std.specs.Option.{option_copied_mut};
+ghost use Rattle.std.specs.Str.{chars};
+ghost use Rattle.rhai_value.specs.contracts.dynamic.Dynamic as dynamic_type;
+ghost use Rattle.rhai_value.specs.contracts.map.Map as map_type;
+ghost use Rattle.rhai_value.specs.Items.{field_at};
+ghost use Rattle.rhai_value.specs.Places.{WorksAlong, way, way_in, way_held};
+ghost use Rattle.rhai_value.specs.Rows.{bytes_cmp, trees_of, fields_of};
+ghost use Rattle.rhai_value.specs.Steps.{with_field};
+ghost use Rattle.rhai_value.specs.Tree.{Tree, node, branch, array, fields};
+
+use crate::dynamic::Dynamic;
+use crate::map::Map;
+use crate::part::Part;
+use crate::step::{PlaceError, PlaceErrorKind, Step, item_place};
+use crate::store::Store;
+use crate::union::{Array, INT};
+
+/// The most steps that a way may have.
+const MOST_STEPS: usize = 256;
+
+impl Dynamic {
+    /// Works at a place inside the held value, with the store at hand.
+    ///
+    /// The steps lead down from what the value holds: by an index to the item of an array, by a key to the value of a map. What is met
+    /// on the way may be held in a cell, and so may be what stands at the place; `f` gets what is held there. Each of these cells is
+    /// marked meanwhile, as those of `with_held` are, and what `f` made is put back in its place, whatever `f` answers; all other items,
+    /// keys and cells are as `f` left them. `f` may make cells, and read and write others; it must not collect them.
+    ///
+    /// Errors: the step that can't be gone, and why, with nothing changed and `f` not called; `TooFar` where there are more than 256
+    /// steps; `Lost` where `f` left a store in which one of the cells isn't marked, whose content is dropped then.
+    ///
+    /// Cost: that of `held` for each step, of a look-up for each key, and of `f`; no memory. Each step takes a piece of the stack.
+    ///
+    /// rhai: an assignment to a chain of indices and properties.
+    pub fn with_place<R: Drop, F: FnOnce(&mut Dynamic, &mut Store) -> R + Drop>(
+        &mut self,
+        m: &mut Store,
+        steps: &[Step<'_>],
+        f: F,
+    ) -> Result<R, PlaceError>
+        requires { F.IsAlwaysCallable f }
+        ensures { WorksAlong F.FnOnce f (way steps.now m.old self.old) self.old m.old result self.new m.new }
+    {
+        if steps.len() > MOST_STEPS {
+            return Err(PlaceError {
+                step: 0,
+                kind: PlaceErrorKind::TooFar,
+            });
+        }
+        work_below(self, m, steps, 0, f)
+    }
+}
+
+/// Works at the place to which the steps lead from a value, `gone` being the number of those before.
+#[cycle(work)]
+fn work_below<R: Drop, F: FnOnce(&mut Dynamic, &mut Store) -> R + Drop>(
+    value: &mut Dynamic,
+    m: &mut Store,
+    steps: &[Step<'_>],
+    gone: usize,
+    f: F,
+) -> Result<R, PlaceError>
+    requires callable { F.IsAlwaysCallable f }
+    requires few { gone + length steps.now ≤ 256 }
+    ensures { WorksAlong F.FnOnce f (way_held (way_in steps.now gone) gone m.old value.old) value.old m.old result value.new m.new }
+{
+    if !value.is_shared() {
+        return work_in(value, m, steps, gone, f);
+    }
+    let Some((token, mut content)) = m.lend_held(value) else {
+        return Err(PlaceError {
+            step: gone,
+            kind: PlaceErrorKind::Barred,
+        });
+    };
+    let answer = work_in(&mut content, m, steps, gone, f);
+    if m.put_back(token, content) {
+        answer
+    } else {
+        Err(PlaceError {
+            step: gone,
+            kind: PlaceErrorKind::Lost,
+        })
+    }
+}
+
+/// The same from a value that is no holder.
+#[cycle(work)]
+fn work_in<R: Drop, F: FnOnce(&mut Dynamic, &mut Store) -> R + Drop>(
+    value: &mut Dynamic,
+    m: &mut Store,
+    steps: &[Step<'_>],
+    gone: usize,
+    f: F,
+) -> Result<R, PlaceError>
+    requires callable { F.IsAlwaysCallable f }
+    requires few { gone + length steps.now ≤ 256 }
+    ensures { WorksAlong F.FnOnce f (way_in steps.now gone m.old value.old) value.old m.old result value.new m.new }
+{
+    let Some((step, rest)) = steps.split_first() else {
+        return Ok(f(value, m));
+    };
+    let kind = PlaceErrorKind::OtherType(value.own_type());
+    match step {
+        Step::Index(index) => match Array::own_mut(value) {
+            Some(items) => work_in_array(items, m, *index, rest, gone, f),
+            None => Err(PlaceError { step: gone, kind }),
+        },
+        Step::Key(key) => match Map::own_mut(value) {
+            Some(map) => work_in_map(map, m, key, rest, gone, f),
+            None => Err(PlaceError { step: gone, kind }),
+        },
+    }
+}
+
+/// The same from an array.
+#[cycle(work)]
+fn work_in_array<R: Drop, F: FnOnce(&mut Dynamic, &mut Store) -> R + Drop>(
+    items: &mut Array,
+    m: &mut Store,
+    index: INT,
+    rest: &[Step<'_>],
+    gone: usize,
+    f: F,
+) -> Result<R, PlaceError>
+    requires callable { F.IsAlwaysCallable f }
+    requires few { gone + length rest.now < 256 }
+    ensures { (g : ℤ) (n : AccessMode) → WorksAlong F.FnOnce f (way_in (Index index ∷ rest.now) gone m.old (node (branch array (trees_of items.old.items)) g n))
+        (node (branch array (trees_of items.old.items)) g n) m.old result (node (branch array (trees_of items.new.items)) g n) m.new }
+{
+    match item_place(items.len(), index) {
+        Some(place) => work_below(&mut items[place], m, rest, gone + 1, f),
+        None => Err(PlaceError {
+            step: gone,
+            kind: PlaceErrorKind::NoItem(items.len()),
+        }),
+    }
+}
+
+/// The same from a map.
+#[cycle(work)]
+fn work_in_map<R: Drop, F: FnOnce(&mut Dynamic, &mut Store) -> R + Drop>(
+    map: &mut Map,
+    m: &mut Store,
+    key: &&str,
+    rest: &[Step<'_>],
+    gone: usize,
+    f: F,
+) -> Result<R, PlaceError>
+    requires callable { F.IsAlwaysCallable f }
+    requires few { gone + length rest.now < 256 }
+    ensures { (g : ℤ) (n : AccessMode) → WorksAlong F.FnOnce f (way_in (Key key.now ∷ rest.now) gone m.old (node (fields (fields_of map.old)) g n))
+        (node (fields (fields_of map.old)) g n) m.old result (node (fields (fields_of map.new)) g n) m.new }
+{
+    match value_mut(map, key) {
+        Some(value) => work_below(value, m, rest, gone + 1, f),
+        None => Err(PlaceError {
+            step: gone,
+            kind: PlaceErrorKind::NoKey,
+        }),
+    }
+}
+
+/// The value of a key, to write.
+fn value_mut<'m>(map: &'m mut Map, key: &str) -> Option<&'m mut Dynamic>
+    ensures* writes_back { sem 𝓛 (LendsIf map_type.the_row dynamic_type.the_row map.entry result (λ w. set_value (is_at (bytes_cmp key.now)) map.old w) map.old) }
+    ensures value { option_copied_mut result ≡ field_at (chars key.now) (fields_of map.old) }
+    ensures written { (w : Tree) → fields_of (set_value (is_at (bytes_cmp key.now)) map.old w) ≡ with_field (chars key.now) w (fields_of map.old) }
+{
+    // All keys are texts.
+    let _ = map.len();
+    map.get_mut(key)
+}

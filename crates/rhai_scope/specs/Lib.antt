@@ -5,7 +5,7 @@ pub mod Extended
 pub mod Index
 pub mod Items
 pub mod Lookup
-pub mod Marks
+pub mod NameFilter
 pub mod NamesText
 pub mod Places
 pub mod Pushes

@@ -5,7 +5,7 @@ use Rattle.std.specs.Cmp.Lexicographic.{pointwise}
 use Rattle.std.specs.List.{filter}
 use Rattle.std.specs.Str.{IsUtf8, bytes_eq, chars}
 use Rattle.rhai_value.specs.Reach.{trues_from}
-use Rattle.rhai_scope.specs.Marks.{is_marked}
+use Rattle.rhai_scope.specs.NameFilter.{passes}
 use Rattle.rhai_scope.specs.declared.places.Places.{Places}
 
 -- ---- the list of a name
@@ -14,9 +14,9 @@ use Rattle.rhai_scope.specs.declared.places.Places.{Places}
 abbrev pub listed : Places → List ℕ → Option (List ℕ)
 listed p text = get_by_text p.lists text
 
--- each text that is listed has its mark
-abbrev pub AreMarked : Places → Type 0
-AreMarked p = (q : List ℕ) → is_marked p.marks q ≡ false → listed p q ≡ None
+-- each text that is listed passes the filter
+abbrev pub AllPass : Places → Type 0
+AllPass p = (q : List ℕ) → passes p.filter q ≡ false → listed p q ≡ None
 
 -- the list of this text became what f makes of it, and no other changed
 abbrev pub Relists : (Option (List ℕ) → Option (List ℕ)) → List ℕ → (List ℕ → Option (List ℕ)) → (List ℕ → Option (List ℕ)) → Type 0
@@ -53,9 +53,9 @@ lowered place p = if nat_lt place p then p - 1 else p
 
 -- ---- the lists of all names
 
--- For each text there are exactly the places at which that name stands by `stands`, rising, and no list is empty; and each is marked.
+-- For each text there are exactly the places at which that name stands by `stands`, rising, and no list is empty; and each is pass.
 pub record Lists (p : Places) (stands : List ℕ → List Bool) : Type 0 where
-  pub marked : AreMarked p
+  pub pass : AllPass p
   pub places : (text : List ℕ) → IsUtf8 text → listed p text ≡ unless_empty (trues_from 0 (stands (chars text)))
 
 -- which of some names are this one

@@ -14,7 +14,7 @@ mod into_iter;
 mod iter;
 pub mod laws;
 mod lookup;
-mod marks;
+mod name_filter;
 mod names_text;
 mod place_list;
 mod places;

@@ -1,19 +1,19 @@
 //! The places of each name.
 ghost use Rattle.std.specs.Prelude.{◌≡◌, ◌+◌, ◌<◌, ◌^◌, ℕ, [], ◌∷◌, ◌++◌, List, length, map, option_map, option_and_then, None, OnOk, OnErr};
 ghost use Rattle.std.specs.Str.{chars};
-ghost use Rattle.rhai_scope.specs.Places.{listed, last_item, with_place, shortened, front, others, lowered, AreMarked, Relists, ListsNames};
+ghost use Rattle.rhai_scope.specs.Places.{listed, last_item, with_place, shortened, front, others, lowered, AllPass, Relists, ListsNames};
 
 use crate::heading::Named;
-use crate::marks::Marks;
+use crate::name_filter::NameFilter;
 use crate::place_list::PlaceList;
 use std::alloc::{AllocError, Global};
 use std::collections::BTreeMap;
 
-/// For each name the rising list of its places; no list is empty. The mark of each of them is set.
+/// For each name the rising list of its places; no list is empty. Each of them passes the filter.
 #[derive(Drop)]
 pub(crate) struct Places {
     pub(crate) lists: BTreeMap<String, PlaceList>,
-    pub(crate) marks: Marks,
+    pub(crate) filter: NameFilter,
 }
 
 impl Places {
@@ -22,7 +22,7 @@ impl Places {
     {
         Places {
             lists: BTreeMap::new(alloc),
-            marks: Marks::new(),
+            filter: NameFilter::new(),
         }
     }
 
@@ -31,18 +31,18 @@ impl Places {
     {
         if !self.lists.is_empty() {
             self.lists.clear();
-            self.marks = Marks::new();
+            self.filter = NameFilter::new();
         }
     }
 
-    /// The last place of a name. It takes no memory. Where the mark of the name isn't set, the time is constant; else it is in the
+    /// The last place of a name. It takes no memory. Where the name doesn't pass the filter, the time is constant; else it is in the
     /// name's bytes and in the logarithm of the number of names.
     #[inline(never)]
     pub(crate) fn last(&self, name: &str) -> Option<usize>
-        requires { AreMarked self.now }
+        requires { AllPass self.now }
         ensures { result ≡ option_and_then last_item (listed self.now name.now) }
     {
-        if !self.marks.has(name) {
+        if !self.filter.passes(name) {
             return None;
         }
         match self.lists.get(name) {
@@ -51,13 +51,13 @@ impl Places {
         }
     }
 
-    /// Adds a place behind those of its name. A name whose mark isn't set isn't sought before.
+    /// Adds a place behind those of its name. A name that doesn't pass the filter isn't sought before.
     fn push(&mut self, alloc: Global, name: &str, place: usize) -> Result<(), AllocError>
-        ensures ok { OnOk result (AreMarked self.old → AreMarked self.new × Relists (with_place place) name.now (listed self.old) (listed self.new)) }
+        ensures ok { OnOk result (AllPass self.old → AllPass self.new × Relists (with_place place) name.now (listed self.old) (listed self.new)) }
         ensures err { OnErr result ((q : List ℕ) → listed self.new q ≡ listed self.old q) }
-        ensures err_marks { OnErr result (self.new.marks ≡ self.old.marks) }
+        ensures err_filter { OnErr result (self.new.filter ≡ self.old.filter) }
     {
-        if !self.marks.has(name) {
+        if !self.filter.passes(name) {
             return self.push_first(alloc, name, place);
         }
         match self.lists.get_mut(name) {
@@ -68,15 +68,15 @@ impl Places {
 
     /// Adds the first place of a name. The last growth is that of the map, which stays as it is where memory is refused.
     fn push_first(&mut self, alloc: Global, name: &str, place: usize) -> Result<(), AllocError>
-        requires { AreMarked self.old → listed self.old name.now ≡ None }
-        ensures ok { OnOk result (AreMarked self.old → AreMarked self.new × Relists (with_place place) name.now (listed self.old) (listed self.new)) }
+        requires { AllPass self.old → listed self.old name.now ≡ None }
+        ensures ok { OnOk result (AllPass self.old → AllPass self.new × Relists (with_place place) name.now (listed self.old) (listed self.new)) }
         ensures err { OnErr result ((q : List ℕ) → listed self.new q ≡ listed self.old q) }
-        ensures err_marks { OnErr result (self.new.marks ≡ self.old.marks) }
+        ensures err_filter { OnErr result (self.new.filter ≡ self.old.filter) }
     {
         let key = String::from_str(alloc, name)?;
         match self.lists.insert(key, PlaceList::new(alloc, place)) {
             Ok(_) => {
-                self.marks.add(name);
+                self.filter.add(name);
                 Ok(())
             }
             Err(_) => Err(AllocError),
@@ -86,7 +86,7 @@ impl Places {
     /// Drops the last place of a name, and the name with its only one. It takes no memory.
     fn pop(&mut self, name: &str)
         ensures lists { Relists (shortened front) name.now (listed self.old) (listed self.new) }
-        ensures marks { self.new.marks ≡ self.old.marks }
+        ensures filter { self.new.filter ≡ self.old.filter }
     {
         if let Some(list) = self.lists.get_mut(name) {
             if !list.pop() {
@@ -133,7 +133,7 @@ impl Places {
     /// Drops a place of a name, and the name with its only one.
     fn unlist(&mut self, name: &str, place: usize)
         ensures lists { Relists (shortened (others place)) name.now (listed self.old) (listed self.new) }
-        ensures marks { self.new.marks ≡ self.old.marks }
+        ensures filter { self.new.filter ≡ self.old.filter }
     {
         if let Some(list) = self.lists.get_mut(name) {
             if !list.take_out(place) {
@@ -145,7 +145,7 @@ impl Places {
     /// Moves all places behind one that is gone down by one.
     fn lower(&mut self, gone: usize)
         ensures lists { (q : List ℕ) → listed self.new q ≡ option_map (map (lowered gone)) (listed self.old q) }
-        ensures marks { self.new.marks ≡ self.old.marks }
+        ensures filter { self.new.filter ≡ self.old.filter }
     {
         self.lists.retain(move |_, list| {
             list.lower(gone);

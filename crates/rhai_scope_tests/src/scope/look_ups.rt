@@ -118,7 +118,7 @@ fn stay_found(
     agree(scope, names, numbers)
 }
 
-/// Two names whose first four bytes and last four are the same, so that the index can't tell them apart by their marks.
+/// Two names whose first four bytes and last four are the same, so that they have the same bit in the filter of the index.
 const FIRST: &str = "size_of_first_item";
 
 const SECOND: &str = "size_of_second_item";

@@ -22,7 +22,7 @@ loop-i-preserved g c =
           names_popped text.now c.name_text.utf8 c.loop-i.self c.pop.new.self (so_far name_of ns hs i)
           (one_less name_of ns hs c.loop-i.self i c.index-names-i.result (chars text.now) (omega (arith, c.loop-i.invariant.within)) c.index-names-i.is c.name_text.ensures
           (subst (λ n. ListsNames c.loop-i.self (so_far name_of ns hs n)) next (c.loop-i.invariant.lists ns x)))
-          c.pop.ensures.lists c.pop.ensures.marks;
+          c.pop.ensures.lists c.pop.ensures.filter;
     }
 
 pub returns : goal.returns

@@ -3,7 +3,7 @@ use Rattle.std.proofs.lemmas.Result.{on_ok_weaker, on_err_weaker}
 use Rattle.rhai_scope.specs.Places.{with_place}
 use Rattle.rhai_scope.specs.declared.places.Places.{Places}
 use Rattle.rhai_scope.proofs.Listed.{changed, pushed_on, same_lists}
-use Rattle.rhai_scope.proofs.Marked.{marked_more}
+use Rattle.rhai_scope.proofs.Filtered.{pass_more}
 use Rattle.rhai_scope.proofs.places.Places.push.Goals as goal
 
 pub returns-in-Some-clause-ok : goal.returns-in-Some-clause-ok
@@ -11,12 +11,12 @@ returns-in-Some-clause-ok c =
     let lists = c.args.self.now.lists in
     let list = c.push.new.self in
     let old = c.args.self.now in
-    let new : Places = record { lists = c.get_mut.follows.lender list; marks = old.marks } in
+    let new : Places = record { lists = c.get_mut.follows.lender list; filter = old.filter } in
     on_ok_weaker c.push.result
-    (λ added marked.
+    (λ added pass.
     let more = changed (with_place c.args.place) c.args.name.now lists new.lists (Some list) ((c.get_mut.follows.holds list).3 (search rules))
     (pushed_on c.args.place c.args.name.now lists c.in-Some.list.now list c.in-Some.ensures.value added) in
-    (marked_more old new marked (with_place c.args.place) c.args.name.now more (sym c.has.ensures ∙ c.if-not-has.false) (λ q none. none), more))
+    (pass_more old new pass (with_place c.args.place) c.args.name.now more (sym c.passes.ensures ∙ c.if-not-passes.false) (λ q none. none), more))
     c.push.ensures.ok
 
 pub returns-in-Some-clause-err : goal.returns-in-Some-clause-err

@@ -24,7 +24,7 @@ loop-i-preserved g c =
 pub returns-in-Err-clause-err : goal.returns-in-Err-clause-err
 returns-in-Err-clause-err g c = λ ns is x.
     let earlier = so_far g.N.Named.name_of ns c.args.names.now c.loop-i.i in
-    c.pop_all.ensures ns (same_names c.loop-i.self c.push.new.self earlier (c.loop-i.invariant.lists ns is x) c.in-Err.ensures.err c.in-Err.ensures.err_marks)
+    c.pop_all.ensures ns (same_names c.loop-i.self c.push.new.self earlier (c.loop-i.invariant.lists ns is x) c.in-Err.ensures.err c.in-Err.ensures.err_filter)
 
 pub returns-clause-ok : goal.returns-clause-ok
 returns-clause-ok g c = λ ns is x. all g.N.Named.name_of ns c.args.names.now c.loop-i.self c.loop-i.i (omega arith) (c.loop-i.invariant.lists ns is x)

@@ -3,4 +3,4 @@ use Rattle.rhai_scope.proofs.places.Places.remove.Goals as goal
 
 pub returns : goal.returns
 returns c = λ ms ns is stood.
-    gap_gone c.unlist.new.self c.lower.new.self c.args.place ms ns is (gap_left c.args.name.now c.utf8.name c.args.self.now c.unlist.new.self c.args.place ms ns is stood c.unlist.ensures.lists c.unlist.ensures.marks) c.lower.ensures.lists c.lower.ensures.marks
+    gap_gone c.unlist.new.self c.lower.new.self c.args.place ms ns is (gap_left c.args.name.now c.utf8.name c.args.self.now c.unlist.new.self c.args.place ms ns is stood c.unlist.ensures.lists c.unlist.ensures.filter) c.lower.ensures.lists c.lower.ensures.filter

@@ -1,7 +1,7 @@
--- Marks of texts. A text has one of them, by the bytes at its ends, and texts may share one.
+-- Bits of texts. A text has one of them, by the bytes at its ends, and texts may share one.
 use Rattle.std.specs.Prelude.{ℕ, ◌+◌, ◌*◌, ◌-◌, ◌/◌, ◌%◌, ◌^◌, nat_eq, nat_le, Bool, if◌then◌else◌, List, [], ◌∷◌, length, slice_index}
 use Rattle.std.specs.Int.{w32, bit_at, from_le_bytes}
-use Rattle.rhai_scope.specs.declared.marks.Marks.{Marks}
+use Rattle.rhai_scope.specs.declared.name_filter.NameFilter.{NameFilter}
 
 -- four bytes as a number
 abbrev pub word_at : List ℕ → ℕ → ℕ
@@ -20,10 +20,10 @@ abbrev pub ends_of : List ℕ → ℕ
 ends_of [] = 0
 ends_of (b ∷ bs) = if nat_le 4 (length (b ∷ bs)) then (word_at (b ∷ bs) 0 * spread % 2 ^ 32 + word_at (b ∷ bs) (length (b ∷ bs) - 4)) % 2 ^ 32 else three_of (b ∷ bs)
 
--- the number of the mark of a text
-unfoldable pub mark_of : List ℕ → ℕ
-mark_of bs = ends_of bs * spread % 2 ^ 32 / 2 ^ 22
+-- the bit of a text
+unfoldable pub bit_of : List ℕ → ℕ
+bit_of bs = ends_of bs * spread % 2 ^ 32 / 2 ^ 22
 
--- its mark is there
-unfoldable pub is_marked : Marks → List ℕ → Bool
-is_marked m bs = nat_eq (bit_at (slice_index m.words (mark_of bs / 64)) (mark_of bs % 64)) 1
+-- its bit is set
+unfoldable pub passes : NameFilter → List ℕ → Bool
+passes m bs = nat_eq (bit_at (slice_index m.words (bit_of bs / 64)) (bit_of bs % 64)) 1

@@ -9,7 +9,7 @@ use crate::place_list::PlaceList;
 use std::alloc::{AllocError, Global};
 use std::collections::BTreeMap;
 
-/// For each name the rising list of its places; no list is empty. The mark of each of them is set.
+/// For each name the rising list of its places; no list is empty, and the mark of each name with a list is set.
 #[derive(Drop)]
 pub(crate) struct Places {
     pub(crate) lists: BTreeMap<String, PlaceList>,

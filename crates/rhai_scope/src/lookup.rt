@@ -16,8 +16,8 @@ use rhai_value::{AccessMode, Dynamic};
 
 impl Scope {
     /// The position of the last entry of a name. It takes no memory. The last entries, at most 32, are walked through, and then the
-    /// name is sought in the index, an ordered map, so the time is in the logarithm of the number of different names.
-    /// (`Scope::search`, which is private in rhai)
+    /// name is sought in the index, an ordered map, so the time is in the logarithm of the number of different names; of most names
+    /// that aren't there it is the walk's alone. (`Scope::search`, which is private in rhai)
     pub fn search(&self, name: &str) -> Option<usize>
         ensures { result ≡ last_position (chars name.now) self.now }
     {

@@ -9,7 +9,7 @@ use crate::place_list::PlaceList;
 use std::alloc::{AllocError, Global};
 use std::collections::BTreeMap;
 
-/// For each name the rising list of its places; no list is empty. Each of them passes the filter.
+/// For each name the rising list of its places; no list is empty, and each name with a list passes the filter.
 #[derive(Drop)]
 pub(crate) struct Places {
     pub(crate) lists: BTreeMap<String, PlaceList>,

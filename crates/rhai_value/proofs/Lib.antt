@@ -45,5 +45,6 @@ pub mod Trees
 pub mod Trues
 pub mod Unchanged
 pub mod Walks
+pub mod Ways
 pub mod WrittenEnds
 pub mod Zips

@@ -1,5 +1,5 @@
 //! Laws of work at places, each the contract of a function that does nothing.
-ghost use Rattle.std.specs.Prelude.{◌≡◌, ℕ, ℤ, [], true, List, length, Some, Ok};
+ghost use Rattle.std.specs.Prelude.{◌≡◌, ℕ, ℤ, [], ◌∷◌, true, false, List, length, Some, None, Ok, slice_get};
 ghost use Rattle.std.specs.Borrow.{Bor};
 ghost use Rattle.std.specs.Str.{chars};
 ghost use Rattle.rhai_value.specs.declared.step.Step.{Step};
@@ -7,9 +7,10 @@ ghost use Rattle.rhai_value.specs.declared.step.Step.TheVariants.{Index, Key};
 ghost use Rattle.rhai_value.specs.declared.store.Cell.{Cell};
 ghost use Rattle.rhai_value.specs.End.{end, held_cell, store_after};
 ghost use Rattle.rhai_value.specs.Items.{items_of};
-ghost use Rattle.rhai_value.specs.Places.{is_kept, lent_out, put_back};
+ghost use Rattle.rhai_value.specs.Places.{Place, around, is_kept, lent_out, put_back, way, whole_place};
 ghost use Rattle.rhai_value.specs.Steps.{item_at, item_place, with_item};
-ghost use Rattle.rhai_value.specs.Tree.{Tree};
+ghost use Rattle.rhai_value.specs.Store.{is_marked_at};
+ghost use Rattle.rhai_value.specs.Tree.{Tree, cell_of};
 
 /// Where a store is left as it was lent, the mark is kept, and what is put back is written over what is held.
 #[tactic(auto, using(crate::proofs::Placed::lent_is_kept, crate::proofs::Placed::lent_comes_back))]
@@ -27,4 +28,15 @@ pub fn items_are_written_alone()
     ensures other_items { (i j : ℤ) (t w : Tree) (xs : List Tree) → items_of t ≡ Some xs → (item_place (length xs) j ≡ item_place (length xs) i → ⊥)
         → item_at (Index j) (with_item (Index i) t w) ≡ item_at (Index j) t }
     ensures other_keys { (k q : Bor (List ℕ)) (t w : Tree) → (chars q.now ≡ chars k.now → ⊥) → item_at (Key q) (with_item (Key k) t w) ≡ item_at (Key q) t }
+{}
+
+/// A cell that isn't marked while work is done at a place is left as that work left it. No step leads to a value that is no holder, and
+/// one step to an item of it that is none: so what is written there is the item.
+#[tactic(auto, using(crate::proofs::Ways::others_stay, crate::proofs::Ways::no_step, crate::proofs::Ways::one_step))]
+pub fn places_are_written_alone()
+    ensures other_cells { (ps : List Step) (s : List Cell) (t : Tree) (q : Place) → way ps s t ≡ Ok q → (w : Tree) (u : List Cell) (d : ℕ) → is_marked_at q.store d ≡ false
+        → slice_get (q.back w u).store d ≡ slice_get u d }
+    ensures whole { (s : List Cell) (t : Tree) → cell_of t ≡ None → way [] s t ≡ Ok (whole_place s t) }
+    ensures one_step { (p : Step) (s : List Cell) (t y : Tree) → cell_of t ≡ None → item_at p t ≡ Ok y → cell_of y ≡ None
+        → way (p ∷ []) s t ≡ Ok (around (with_item p t) (whole_place s y)) }
 {}

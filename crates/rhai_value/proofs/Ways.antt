@@ -1,0 +1,94 @@
+-- Ways of steps: what they lend of values that are no holders, and which cells they leave alone.
+use Rattle.std.proofs.Common.{◌≡◌, ◌+◌, ℕ, nat_lt, Bool, true, false, cond, List, [], ◌∷◌, length, slice_get, Option, Some, None, Result, Ok, Err, refl, sym, ap, ◌∙◌}
+use Rattle.rhai_value.specs.declared.chain.Site.TheVariants.{Own, InCell}
+use Rattle.rhai_value.specs.declared.step.Step.{Step}
+use Rattle.rhai_value.specs.declared.step.PlaceErrorKind.{PlaceErrorKind}
+use Rattle.rhai_value.specs.declared.step.PlaceErrorKind.TheVariants.{TooFar}
+use Rattle.rhai_value.specs.declared.store.Cell.{Cell}
+use Rattle.rhai_value.specs.Tree.{Tree, cell_of, fresh, unit}
+use Rattle.rhai_value.specs.Store.{put, is_marked_at, set_mark, mark_of}
+use Rattle.rhai_value.specs.End.{End, end, held, stuck, closed}
+use Rattle.rhai_value.specs.Steps.{item_at, with_item}
+use Rattle.rhai_value.specs.Places.{Place, Way, no_place, whole_place, lent_out, put_back, along, around, out_of, from_end, way_held, way_on, way_in, way}
+use Rattle.rhai_value.proofs.Ends.{end_own, stands}
+use Rattle.rhai_value.proofs.MarkedCells.{others_marked}
+use Rattle.rhai_value.proofs.Placed.{lent_is_marked}
+use Rattle.rhai_value.proofs.RelatedCells.{get_unchanged, marked_put}
+use Rattle.rhai_value.proofs.Walks.{at_within}
+
+-- ---- values that are no holders
+
+pub no_step : (s : List Cell) (t : Tree) → cell_of t ≡ None → way [] s t ≡ Ok (whole_place s t)
+no_step s t e = ap (from_end (way_in [] 0) 0 s t) (end_own s [] t e)
+
+pub one_step : (p : Step) (s : List Cell) (t y : Tree) → cell_of t ≡ None → item_at p t ≡ Ok y → cell_of y ≡ None → way (p ∷ []) s t ≡ Ok (around (with_item p t) (whole_place s y))
+one_step p s t y e is f =
+    ap (from_end (way_in (p ∷ []) 0) 0 s t) (end_own s [] t e) ∙ ap (way_on (way_held (way_in [] 1) 1 s) 0 (with_item p t)) is
+    ∙ ap (λ z. along (around (with_item p t)) (from_end (way_in [] 1) 1 s y z)) (end_own s [] y f)
+
+-- ---- cells that are left alone
+
+-- Each mark of the store is one of the lent store, and a cell that isn't marked there is left as it is.
+pub record LeavesOthers (s : List Cell) (q : Place) : Type 0 where
+  pub marks : (d : ℕ) → is_marked_at s d ≡ true → is_marked_at q.store d ≡ true
+  pub others : (w : Tree) (u : List Cell) (d : ℕ) → is_marked_at q.store d ≡ false → slice_get (q.back w u).store d ≡ slice_get u d
+
+abbrev Alone : List Cell → Way → Type 0
+Alone s (Ok q) = LeavesOthers s q
+Alone s (Err why) = Unit {0}
+
+alone_around : (f : Tree → Tree) (s : List Cell) (p : Way) → Alone s p → Alone s (along (around f) p)
+alone_around f s (Ok q) h = record { marks = h.marks; others = h.others }
+alone_around f s (Err why) h = tt
+
+other_put_back : (b : Bool) (c d : ℕ) (x : Tree) (z : List Cell) → (d ≡ c → ⊥) → slice_get (cond b (set_mark (put z c x) c false) z) d ≡ slice_get z d
+other_put_back true c d x z apart = get_unchanged _ (put z c x) c d apart ∙ get_unchanged _ z c d apart
+other_put_back false c d x z apart = refl
+
+unlike : (s : List Cell) (c d : ℕ) → is_marked_at s c ≡ true → is_marked_at s d ≡ false → d ≡ c → ⊥
+unlike s c d m n e = let no : true ≡ false = sym m ∙ ap (is_marked_at s) (sym e) ∙ n in cc
+
+still_marked : (s : List Cell) (c d : ℕ) → is_marked_at (lent_out (Some c) s) c ≡ true → is_marked_at s d ≡ true → is_marked_at (lent_out (Some c) s) d ≡ true
+still_marked s c d own m = under (is_marked_at (lent_out (Some c) s) d) refl
+  where
+    under : (b : Bool) → is_marked_at (lent_out (Some c) s) d ≡ b → b ≡ true
+    under true e = refl
+    under false e =
+        let apart = unlike (lent_out (Some c) s) c d own e in
+        let no : true ≡ false = sym m ∙ sym (others_marked s c d true apart) ∙ sym (marked_put (set_mark s c true) c d (fresh unit)) ∙ e in cc
+
+alone_out : (c n : ℕ) (t : Tree) (s : List Cell) (p : Way) → is_marked_at (lent_out (Some c) s) c ≡ true → Alone (lent_out (Some c) s) p → Alone s (along (out_of c n t) p)
+alone_out c n t s (Ok q) own h = record {
+  marks = λ d m. h.marks d (still_marked s c d own m);
+  others = λ w u d none.
+      other_put_back (is_marked_at (q.back w u).store c) c d (q.back w u).value (q.back w u).store (unlike q.store c d (h.marks c own) none) ∙ h.others w u d none;
+}
+alone_out c n t s (Err why) own h = tt
+
+module _ (go : List Cell → Tree → Way) (each : (s : List Cell) (t : Tree) → Alone s (go s t)) (n : ℕ) (s : List Cell) (t : Tree) where
+  alone_end : (e : End) → e ≡ end s [] t → Alone s (from_end go n s t e)
+  alone_end (held Own v) is = each s t
+  alone_end (held (InCell c) v) is = alone_out c n t s (go (lent_out (Some c) s) v) (lent_is_marked s c (at_within s c v (stands s t (InCell c) v is))) (each (lent_out (Some c) s) v)
+  alone_end (stuck v) is = tt
+  alone_end closed is = tt
+
+  alone_held : Alone s (way_held go n s t)
+  alone_held = alone_end (end s [] t) refl
+
+alone_on : (go : Tree → Way) (n : ℕ) (f : Tree → Tree) (s : List Cell) (o : Result Tree PlaceErrorKind) → ((y : Tree) → Alone s (go y)) → Alone s (way_on go n f o)
+alone_on go n f s (Ok y) h = alone_around f s (go y) (h y)
+alone_on go n f s (Err why) h = tt
+
+alone_in : (ps : List Step) (n : ℕ) (s : List Cell) (t : Tree) → Alone s (way_in ps n s t)
+alone_in [] n s t = record { marks = λ d m. m; others = λ w u d none. refl }
+alone_in (p ∷ ps) n s t = alone_on (way_held (way_in ps (n + 1)) (n + 1) s) n (with_item p t) s (item_at p t) (λ y. alone_held (way_in ps (n + 1)) (alone_in ps (n + 1)) (n + 1) s y)
+
+alone_way : (b : Bool) (s : List Cell) (why p : Way) → Alone s why → Alone s p → Alone s (cond b why p)
+alone_way true s why p h k = h
+alone_way false s why p h k = k
+
+pub others_stay : (ps : List Step) (s : List Cell) (t : Tree) (q : Place) → way ps s t ≡ Ok q → (w : Tree) (u : List Cell) (d : ℕ) → is_marked_at q.store d ≡ false → slice_get (q.back w u).store d ≡ slice_get u d
+others_stay ps s t q e w u d none =
+    let all : Alone s (way ps s t) = alone_way (nat_lt 256 (length ps)) s (no_place 0 TooFar) (way_held (way_in ps 0) 0 s t) tt (alone_held (way_in ps 0) (alone_in ps 0) 0 s t) in
+    let one : LeavesOthers s q = rw e at all in
+    one.others w u d none

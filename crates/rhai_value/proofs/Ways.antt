@@ -1,15 +1,15 @@
 -- Ways of steps: what they lend of values that are no holders, and which cells they leave alone.
-use Rattle.std.proofs.Common.{◌≡◌, ◌+◌, ℕ, nat_lt, Bool, true, false, cond, List, [], ◌∷◌, length, slice_get, Option, Some, None, Result, Ok, Err, refl, sym, ap, ◌∙◌}
+use Rattle.std.proofs.Common.{◌≡◌, ◌+◌, ℕ, nat_lt, Bool, true, false, cond, List, [], ◌∷◌, length, slice_get, Some, None, Result, Ok, Err, refl, sym, ap, ◌∙◌}
 use Rattle.rhai_value.specs.declared.chain.Site.TheVariants.{Own, InCell}
 use Rattle.rhai_value.specs.declared.step.Step.{Step}
 use Rattle.rhai_value.specs.declared.step.PlaceErrorKind.{PlaceErrorKind}
 use Rattle.rhai_value.specs.declared.step.PlaceErrorKind.TheVariants.{TooFar}
 use Rattle.rhai_value.specs.declared.store.Cell.{Cell}
 use Rattle.rhai_value.specs.Tree.{Tree, cell_of, fresh, unit}
-use Rattle.rhai_value.specs.Store.{put, is_marked_at, set_mark, mark_of}
+use Rattle.rhai_value.specs.Store.{put, is_marked_at, set_mark}
 use Rattle.rhai_value.specs.End.{End, end, held, stuck, closed}
 use Rattle.rhai_value.specs.Steps.{item_at, with_item}
-use Rattle.rhai_value.specs.Places.{Place, Way, no_place, whole_place, lent_out, put_back, along, around, out_of, from_end, way_held, way_on, way_in, way}
+use Rattle.rhai_value.specs.Places.{Place, Way, no_place, whole_place, lent_out, along, around, out_of, from_end, way_held, way_on, way_in, way}
 use Rattle.rhai_value.proofs.Ends.{end_own, stands}
 use Rattle.rhai_value.proofs.MarkedCells.{others_marked}
 use Rattle.rhai_value.proofs.Placed.{lent_is_marked}

@@ -89,6 +89,6 @@ alone_way false s why p h k = k
 
 pub others_stay : (ps : List Step) (s : List Cell) (t : Tree) (q : Place) → way ps s t ≡ Ok q → (w : Tree) (u : List Cell) (d : ℕ) → is_marked_at q.store d ≡ false → slice_get (q.back w u).store d ≡ slice_get u d
 others_stay ps s t q e w u d none =
-    let all : Alone s (way ps s t) = alone_way (nat_lt 256 (length ps)) s (no_place 0 TooFar) (way_held (way_in ps 0) 0 s t) tt (alone_held (way_in ps 0) (alone_in ps 0) 0 s t) in
+    let all : Alone s (way ps s t) = alone_way (nat_lt 64 (length ps)) s (no_place 0 TooFar) (way_held (way_in ps 0) 0 s t) tt (alone_held (way_in ps 0) (alone_in ps 0) 0 s t) in
     let one : LeavesOthers s q = rw e at all in
     one.others w u d none

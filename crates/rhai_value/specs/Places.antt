@@ -122,9 +122,9 @@ abbrev pub way_in : List Step → ℕ → List Cell → Tree → Way
 way_in [] n s t = Ok (whole_place s t)
 way_in (p ∷ ps) n s t = way_on (way_held (way_in ps (n + 1)) (n + 1) s) n (with_item p t) (item_at p t)
 
--- the place to which steps lead from any value; there are at most 256
+-- the place to which steps lead from any value; there are at most 64
 abbrev pub way : List Step → List Cell → Tree → Way
-way ps s t = if nat_lt 256 (length ps) then no_place 0 kind.TooFar else way_held (way_in ps 0) 0 s t
+way ps s t = if nat_lt 64 (length ps) then no_place 0 kind.TooFar else way_held (way_in ps 0) 0 s t
 
 -- the answer, unless a mark was lost
 abbrev pub place_answer : {R : Type 0} → Option ℕ → R → Result R PlaceError

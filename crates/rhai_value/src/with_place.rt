@@ -23,7 +23,7 @@ use crate::store::Store;
 use crate::union::{Array, INT};
 
 /// The most steps that a way may have.
-const MOST_STEPS: usize = 256;
+const MOST_STEPS: usize = 64;
 
 impl Dynamic {
     /// Works at a place inside the held value, with the store at hand.
@@ -33,7 +33,7 @@ impl Dynamic {
     /// marked meanwhile, as those of `with_held` are, and what `f` made is put back in its place, whatever `f` answers; all other items,
     /// keys and cells are as `f` left them. `f` may make cells, and read and write others; it must not collect them.
     ///
-    /// Errors: the step that can't be gone, and why, with nothing changed and `f` not called; `TooFar` where there are more than 256
+    /// Errors: the step that can't be gone, and why, with nothing changed and `f` not called; `TooFar` where there are more than 64
     /// steps; `Lost` where `f` left a store in which one of the cells isn't marked, whose content is dropped then.
     ///
     /// Cost: that of `held` for each step, of a look-up for each key, and of `f`; no memory. Each step takes a piece of the stack.
@@ -68,7 +68,7 @@ fn work_below<R: Drop, F: FnOnce(&mut Dynamic, &mut Store) -> R + Drop>(
     f: F,
 ) -> Result<R, PlaceError>
     requires callable { F.IsAlwaysCallable f }
-    requires few { gone + length steps.now ≤ 256 }
+    requires few { gone + length steps.now ≤ 64 }
     ensures { WorksAlong F.FnOnce f (way_held (way_in steps.now gone) gone m.old value.old) value.old m.old result value.new m.new }
 {
     if !value.is_shared() {
@@ -101,7 +101,7 @@ fn work_in<R: Drop, F: FnOnce(&mut Dynamic, &mut Store) -> R + Drop>(
     f: F,
 ) -> Result<R, PlaceError>
     requires callable { F.IsAlwaysCallable f }
-    requires few { gone + length steps.now ≤ 256 }
+    requires few { gone + length steps.now ≤ 64 }
     ensures { WorksAlong F.FnOnce f (way_in steps.now gone m.old value.old) value.old m.old result value.new m.new }
 {
     let Some((step, rest)) = steps.split_first() else {
@@ -131,7 +131,7 @@ fn work_in_array<R: Drop, F: FnOnce(&mut Dynamic, &mut Store) -> R + Drop>(
     f: F,
 ) -> Result<R, PlaceError>
     requires callable { F.IsAlwaysCallable f }
-    requires few { gone + length rest.now < 256 }
+    requires few { gone + length rest.now < 64 }
     ensures { (g : ℤ) (n : AccessMode) → WorksAlong F.FnOnce f (way_in (Index index ∷ rest.now) gone m.old (node (branch array (trees_of items.old.items)) g n))
         (node (branch array (trees_of items.old.items)) g n) m.old result (node (branch array (trees_of items.new.items)) g n) m.new }
 {
@@ -155,7 +155,7 @@ fn work_in_map<R: Drop, F: FnOnce(&mut Dynamic, &mut Store) -> R + Drop>(
     f: F,
 ) -> Result<R, PlaceError>
     requires callable { F.IsAlwaysCallable f }
-    requires few { gone + length rest.now < 256 }
+    requires few { gone + length rest.now < 64 }
     ensures { (g : ℤ) (n : AccessMode) → WorksAlong F.FnOnce f (way_in (Key key.now ∷ rest.now) gone m.old (node (fields (fields_of map.old)) g n))
         (node (fields (fields_of map.old)) g n) m.old result (node (fields (fields_of map.new)) g n) m.new }
 {

@@ -132,7 +132,7 @@ fn is_told(store: &mut Store, a: &mut Dynamic) -> bool {
             1,
             PlaceErrorKind::OtherType(TypeId::Int),
         )
-        && is_refused(store, a, &[f; 257], 0, PlaceErrorKind::TooFar)
+        && is_refused(store, a, &[f; 65], 0, PlaceErrorKind::TooFar)
         && holds_at(a, store, &[Step::Index(0)], 1)
         && !is_locked(a, store)
 }

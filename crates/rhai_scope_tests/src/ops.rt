@@ -6,6 +6,7 @@ pub(crate) mod readme;
 mod assigned_pairs;
 mod held;
 mod pairs;
+mod read_only;
 
 use rhai_value::{Dynamic, Store};
 

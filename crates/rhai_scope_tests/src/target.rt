@@ -6,6 +6,7 @@ mod readme;
 // Tests.
 mod lent;
 mod parts;
+mod reads;
 mod shared_values;
 mod ways_out;
 mod worked;

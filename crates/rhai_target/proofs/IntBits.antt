@@ -1,15 +1,15 @@
 -- Numbers of 64 bits by their bits.
-use Rattle.std.proofs.Common.{◌≡◌, ℕ, zero, suc, ◌+◌, ◌-◌, ◌*◌, ◌/◌, ◌%◌, ◌^◌, ◌<◌, Bool, true, false, nat_eq, nat_lt, cond, min, max, bit_and, bit_or, ap, sym, add-zero, ◌∙◌, refl, arith, w64, ℤ, pos, ◌*ℤ◌, to_z, of_z, FitsSigned, inl, inr}
+use Rattle.std.proofs.Common.{◌≡◌, ℕ, zero, suc, ◌+◌, ◌-◌, ◌*◌, ◌/◌, ◌%◌, ◌^◌, ◌<◌, ◌≤◌, Bool, true, false, nat_eq, nat_lt, cond, ◌&&◌, min, max, bit_and, bit_or, ap, sym, add-zero, ◌∙◌, refl, arith, w64, ℤ, pos, ◌*ℤ◌, to_z, of_z, FitsSigned, inl, inr}
 use Rattle.std.specs.Int.{bit_at, bit_not}
 use Rattle.std.proofs.Math.Facts.{Fits-of_z, to_z-of_z}
-use Rattle.std.proofs.Math.Nat.{pow-suc, lt_of_le_of_lt, mul_comm, mod-eq_of_lt}
+use Rattle.std.proofs.Math.Nat.{pow-suc, lt_of_le_of_lt, mul_comm, mod-eq_of_lt, div-le_self}
 use Rattle.std.proofs.Math.IntN.{*ℤ_comm}
 use Rattle.std.specs.Int.{int_wrap}
-use Rattle.std.proofs.lemmas.Bool.{cases_lt, eqb-true, eqb-false, eq-eqb, ne_eqb, ltb-true, ltb-false}
+use Rattle.std.proofs.lemmas.Bool.{cases_lt, eqb-true, eqb-false, eq-eqb, ne_eqb, ltb-true, ltb-false, le-ltb}
 use Rattle.std.proofs.lemmas.Int.{of_z-to_z, wrapping_mul_onto, int_wrap-mul_left}
 use Rattle.std.proofs.lemmas.Nat.{mod_below, pow_pos, pow_below, or_lt, and_le_l, and_le_r, div-add-mod'}
-use Rattle.std.proofs.lemmas.Nat.Bits.{bit_at-lt, bit_at_and, bit_at_or, bit_at_not, bit_at_set_same, bit_at_set_other, bit_at_clear_same, bit_at_clear_other, bit_at_cat_low, bit_at_cat_high, bit_at-zero, same_from_bits_below}
-use Rattle.rhai_target.specs.Bits.{bit, digit, natural, int_of_bits, with_bit, with_field}
+use Rattle.std.proofs.lemmas.Nat.Bits.{bit_at-lt, bit_at_and, bit_at_or, bit_at_not, bit_at_set_same, bit_at_set_other, bit_at_clear_same, bit_at_clear_other, bit_at_cat_low, bit_at_cat_high, bit_at-zero, bit_at_above, same_from_bits_below}
+use Rattle.rhai_target.specs.Bits.{bit, digit, natural, int_of_bits, with_bit, with_field, field}
 
 digit_below : (b : Bool) → digit b < 2
 digit_below true = omega arith
@@ -162,3 +162,75 @@ inside_field mask v n shift i h small fits inside =
     ∙ ap (λ d. nat_eq d 1) (rest_digit x i h ∙ shifted_digit (of_z w64 v) shift i (nat_lt i shift) refl) ∙ test_digit b in
     bit_of_bits (λ j. cond (bit mask j) (cond (nat_lt j shift) false (bit v (j - shift))) (bit n j)) i h
     ∙ ap (λ t. cond t b (bit n i)) inside ∙ sym read ∙ ap (λ z. bit z i) (shift_wraps v shift fits small)
+
+-- ---- a field that is read
+-- ints of the same bits are the same
+int_of_same : (f g : ℕ → Bool) → ((i : ℕ) → i < 64 → f i ≡ g i) → int_of_bits f ≡ int_of_bits g
+unfolding int_of_bits
+int_of_same f g same =
+    ap (to_z w64) (same_from_bits_below 64 (natural 64 f) (natural 64 g) (natural_below 64 f) (natural_below 64 g)
+    (λ i l. natural_has 64 f i l ∙ ap digit (same i l) ∙ sym (natural_has 64 g i l)))
+
+down_digit : (x s i : ℕ) → bit_at (x / 2 ^ s) i ≡ bit_at x (i + s)
+down_digit x s i =
+    let place : i + s - s ≡ i = omega arith in
+    sym (ap (bit_at (x / 2 ^ s)) place) ∙ sym (bit_at_cat_high (x / 2 ^ s) s (x % 2 ^ s) (i + s) (mod_below x (2 ^ s) (pow_pos s)) (omega arith))
+    ∙ ap (λ y. bit_at y (i + s)) (div-add-mod' x (2 ^ s))
+
+both_digits : (n m : Bool) → min (digit n) (digit m) ≡ digit (m && n)
+both_digits true true = refl
+both_digits true false = refl
+both_digits false true = refl
+both_digits false false = refl
+
+pub field_read_is : (n mask : ℤ) (s u : ℕ) → FitsSigned w64 n → u ≡ of_z w64 (to_z w64 (bit_and (of_z w64 n) (of_z w64 mask))) → to_z w64 (u / 2 ^ s) ≡ field mask s n
+field_read_is n mask s u fits same =
+    let a = of_z w64 n in
+    let m = of_z w64 mask in
+    ap (λ x. to_z w64 (x / 2 ^ s)) (same ∙ of_z-to_z w64 (bit_and a m) (lt_of_le_of_lt (and_le_l a m) (bits_below n fits)))
+    ∙ int_is _ _ (lt_of_le_of_lt (div-le_self (bit_and a m) (2 ^ s)) (lt_of_le_of_lt (and_le_l a m) (bits_below n fits)))
+    (λ i l. down_digit (bit_and a m) s i ∙ bit_at_and a m (i + s) ∙ ap (λ x. min x (bit_at m (i + s))) (bit_digit a (i + s))
+    ∙ ap (min (digit (bit n (i + s)))) (bit_digit m (i + s)) ∙ both_digits (bit n (i + s)) (bit mask (i + s)))
+
+-- no bit stands past the 64th
+no_bit : (n : ℤ) (i : ℕ) → FitsSigned w64 n → 64 ≤ i → bit n i ≡ false
+no_bit n i fits h = ap (λ d. nat_eq d 1) (bit_at_above (of_z w64 n) 64 i (bits_below n fits) h)
+
+shown : (m b c : Bool) → (m ≡ true → b ≡ c) → (m && b) ≡ (m && c)
+shown true b c same = same refl
+shown false b c same = refl
+
+under_mask : (mask x n : ℤ) (shift i : ℕ) → i + shift < 64 → bit mask (i + shift) ≡ true → bit (with_field mask shift x n) (i + shift) ≡ bit x i
+under_mask mask x n shift i low inside =
+    let place : i + shift - shift ≡ i = omega arith in
+    bit_of_bits (λ j. cond (bit mask j) (cond (nat_lt j shift) false (bit x (j - shift))) (bit n j)) (i + shift) low
+    ∙ ap (λ t. cond t (cond (nat_lt (i + shift) shift) false (bit x (i + shift - shift))) (bit n (i + shift))) inside
+    ∙ ap (λ t. cond t false (bit x (i + shift - shift))) (le-ltb (i + shift) shift (omega arith)) ∙ ap (bit x) place
+
+-- what a field is read as that was written: the bits of the value that the mask shows
+pub field_written : (mask x n : ℤ) (shift : ℕ) → FitsSigned w64 mask → field mask shift (with_field mask shift x n) ≡ int_of_bits (λ i. bit mask (i + shift) && bit x i)
+field_written mask x n shift fits = int_of_same _ _ (λ i l. elim (cases_lt (i + shift) 64) [
+  | inl low ↦ shown (bit mask (i + shift)) _ _ (under_mask mask x n shift i low)
+  | inr high ↦ shown (bit mask (i + shift)) _ _ (λ inside. absurd (differ (sym inside ∙ no_bit mask (i + shift) fits high)))
+])
+  where
+    differ : true ≡ false → ⊥
+    differ e = cc
+
+-- a field that is written over itself, whose mask shows no bit below it
+over_field : (mask n : ℤ) (shift i : ℕ) → i < 64 → ((j : ℕ) → j < shift → bit mask j ≡ false) → (m : Bool) → bit mask i ≡ m → (b : Bool) → nat_lt i shift ≡ b
+    → bit n i ≡ cond m (cond b false (bit (field mask shift n) (i - shift))) (bit n i)
+over_field mask n shift i l none false e b f = refl
+over_field mask n shift i l none true e true f = absurd (differ (sym e ∙ none i (ltb-true i shift f)))
+  where
+    differ : true ≡ false → ⊥
+    differ d = cc
+over_field mask n shift i l none true e false f =
+    let above : shift ≤ i = ltb-false i shift f in
+    let place : i - shift + shift ≡ i = omega (arith, above) in
+    sym (bit_of_bits (λ j. bit mask (j + shift) && bit n (j + shift)) (i - shift) (omega (arith, l)) ∙ ap (λ j. bit mask j && bit n j) place ∙ ap (λ t. t && bit n i) e)
+
+pub field_kept : (mask n : ℤ) (shift : ℕ) → FitsSigned w64 n → ((j : ℕ) → j < shift → bit mask j ≡ false) → with_field mask shift (field mask shift n) n ≡ n
+field_kept mask n shift fits none =
+    int_kept n (λ i. cond (bit mask i) (cond (nat_lt i shift) false (bit (field mask shift n) (i - shift))) (bit n i)) fits
+    (λ i l. over_field mask n shift i l none (bit mask i) refl (nat_lt i shift) refl)

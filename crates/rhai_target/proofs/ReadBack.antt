@@ -1,5 +1,5 @@
 -- What was written back is held afterwards, and what is written over itself leaves all as it was.
-use Rattle.std.proofs.Common.{◌≡◌, ℕ, ℤ, pos, ◌<◌, ◌^◌, ◌*ℤ◌, Bool, true, false, List, [], length, slice_get, slice_set, Option, Some, None, option_map, option_and_then, refl, sym, ap, ◌∙◌, w64, FitsSigned}
+use Rattle.std.proofs.Common.{◌≡◌, ℕ, ℤ, pos, ◌<◌, ◌^◌, ◌*ℤ◌, ◌+◌, Bool, true, false, ◌&&◌, List, [], length, slice_get, slice_set, Option, Some, None, option_map, option_and_then, refl, sym, ap, ◌∙◌, w64, FitsSigned}
 use Rattle.std.specs.Int.{int_wrap}
 use Rattle.rhai_value.specs.declared.chain.Site.TheVariants.{Own, InCell}
 use Rattle.rhai_value.specs.declared.store.Cell.{Cell}
@@ -8,12 +8,12 @@ use Rattle.rhai_value.specs.Parts.{leaf_part, leaf_int, leaf_text, leaf_blob, bo
 use Rattle.rhai_value.specs.Store.{put}
 use Rattle.rhai_value.specs.End.{End, held, stuck, closed, end, held_part, value_after, store_after}
 use Rattle.rhai_value.proofs.ForCallers.{end_own}
-use Rattle.rhai_target.specs.Bits.{bit, with_bit, with_field}
+use Rattle.rhai_target.specs.Bits.{bit, int_of_bits, with_bit, with_field, field}
 use Rattle.rhai_value.specs.Bytes.{low_byte}
 use Rattle.rhai_target.specs.Change.{Change, with_leaf, bit_change, field_change, byte_change, char_change, value_changed, store_changed, end_changed}
 use Rattle.rhai_target.proofs.EndsAfter.{end_put}
 use Rattle.rhai_target.proofs.FromBelow.{put-same, stands}
-use Rattle.rhai_target.proofs.IntBits.{bit_written, other_bits, bit_kept, outside_field, inside_field}
+use Rattle.rhai_target.proofs.IntBits.{bit_written, other_bits, bit_kept, outside_field, inside_field, field_written, field_kept}
 use Rattle.rhai_target.proofs.Items.{changed, item_written, other_items, item_kept, byte_kept}
 
 -- a part that leaves have
@@ -121,6 +121,16 @@ module _ (s : List Cell) (t v : Tree) where
   pub inside_read : (mask : ℤ) (shift i : ℕ) (n x : ℤ) → i < 64 → shift < 64 → FitsSigned w64 x → bit mask i ≡ true → held_part int_of (end s [] t) ≡ Some n → held_part int_of (end s [] v) ≡ Some x
       → option_map (λ m. bit m i) (held_part int_of (end_changed (field_change s v mask shift) s t)) ≡ Some (bit (int_wrap w64 (x *ℤ pos (2 ^ shift))) i)
   inside_read mask shift i n x low by fits inside some given = ap (option_map (λ m. bit m i)) (field_held mask shift n x some given) ∙ ap Some (inside_field mask x n shift i low by fits inside)
+
+  pub field_read : (mask : ℤ) (shift : ℕ) (n x : ℤ) → FitsSigned w64 mask → held_part int_of (end s [] t) ≡ Some n → held_part int_of (end s [] v) ≡ Some x
+      → option_map (field mask shift) (held_part int_of (end_changed (field_change s v mask shift) s t)) ≡ Some (int_of_bits (λ i. bit mask (i + shift) && bit x i))
+  field_read mask shift n x fits some given = ap (option_map (field mask shift)) (field_held mask shift n x some given) ∙ ap Some (field_written mask x n shift fits)
+
+  pub same_field_keeps : (mask : ℤ) (shift : ℕ) (n : ℤ) → FitsSigned w64 n → ((i : ℕ) → i < shift → bit mask i ≡ false) → held_part int_of (end s [] t) ≡ Some n
+      → held_part int_of (end s [] v) ≡ Some (field mask shift n)
+      → (value_changed (field_change s v mask shift) (end s [] t) t ≡ t) × (store_changed (field_change s v mask shift) (end s [] t) s ≡ s)
+  same_field_keeps mask shift n fits none some given =
+      made_kept leaf_int int (λ m. refl) int_is (with_field mask shift) (held_part int_of (end s [] v)) (field mask shift n) given s t n some (field_kept mask n shift fits none)
 
   -- bytes
   byte_held : (index : ℕ) (bs : List ℕ) (n : ℤ) → held_part blob_of (end s [] t) ≡ Some bs → held_part int_of (end s [] v) ≡ Some n

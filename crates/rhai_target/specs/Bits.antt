@@ -1,5 +1,5 @@
 -- The 64 bits of an int, and an int with some of them changed.
-use Rattle.std.specs.Prelude.{ℕ, zero, suc, ℤ, ◌+◌, ◌-◌, ◌*◌, ◌^◌, Bool, false, nat_eq, nat_lt, if◌then◌else◌}
+use Rattle.std.specs.Prelude.{ℕ, zero, suc, ℤ, ◌+◌, ◌-◌, ◌*◌, ◌^◌, Bool, false, ◌&&◌, nat_eq, nat_lt, if◌then◌else◌}
 use Rattle.std.specs.Int.{w64, bit_at, cast_signed, cast_unsigned}
 
 -- bit i of a number
@@ -25,3 +25,7 @@ with_bit k b n = int_of_bits (λ i. if nat_eq i k then b else bit n i)
 -- the bits of the mask become those of v from bit `shift` on: below it they become 0
 abbrev pub with_field : ℤ → ℕ → ℤ → ℤ → ℤ
 with_field mask shift v n = int_of_bits (λ i. if bit mask i then (if nat_lt i shift then false else bit v (i - shift)) else bit n i)
+
+-- the bits of the mask, moved down by `shift`; no bit comes in above
+abbrev pub field : ℤ → ℕ → ℤ → ℤ
+field mask shift n = int_of_bits (λ i. bit mask (i + shift) && bit n (i + shift))

@@ -1,6 +1,8 @@
 pub mod Offset
 pub mod Bits
 pub mod Change
+pub mod Read
+pub mod Part
 pub mod Target
 pub mod Resolved
 pub mod Lent

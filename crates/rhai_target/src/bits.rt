@@ -24,3 +24,19 @@ pub(crate) fn with_field(number: INT, mask: INT, shift: u8, value: INT) -> INT
 {
     number & !mask | value << shift as u32 & mask
 }
+
+/// Whether bit `place` is set.
+pub(crate) fn bit_of(number: INT, place: u8) -> bool
+    requires { place < 64 }
+    ensures { result ≡ specs.bit number place }
+{
+    (number.cast_unsigned() >> place as u32) & 1 == 1
+}
+
+/// The bits of the mask, moved down by `shift`; no bit comes in above.
+pub(crate) fn field_of(number: INT, mask: INT, shift: u8) -> INT
+    requires { shift < 64 }
+    ensures { result ≡ specs.field mask shift number }
+{
+    ((number & mask).cast_unsigned() >> shift as u32).cast_signed()
+}

@@ -1,5 +1,5 @@
 //! Laws of the definitions: each is the contract of a function that does nothing.
-ghost use Rattle.std.specs.Prelude.{◌≡◌, ◌≤◌, ◌<◌, ◌+◌, ◌-◌, ◌*ℤ◌, ◌^◌, ℕ, ℤ, pos, Bool, true, false, IfSome, List, [], Option, Some, option_map, option_and_then, length, slice_get, FitsSigned};
+ghost use Rattle.std.specs.Prelude.{◌≡◌, ◌≤◌, ◌<◌, ◌+◌, ◌-◌, ◌*ℤ◌, ◌^◌, ℕ, ℤ, pos, Bool, true, false, ◌&&◌, IfSome, List, [], Option, Some, option_map, option_and_then, length, slice_get, FitsSigned};
 ghost use Rattle.std.specs.Int.{w64, int_wrap};
 ghost use Rattle.rhai_value.specs.declared.store.Cell.{Cell};
 ghost use Rattle.rhai_value.specs.Tree.{Tree, Leaf, tag_of, mode_of};
@@ -8,7 +8,7 @@ ghost use Rattle.rhai_value.specs.Store.{is_marked_at};
 ghost use Rattle.rhai_value.specs.End.{End, end, held_part};
 ghost use Rattle.rhai_value.specs.Relation.{Renaming, Related, Alike, Respect, IsOneToOne, RelatedCells, RelatedEnds};
 ghost use Rattle.rhai_target.specs.declared.slice.Slice.{Slice};
-ghost use Rattle.rhai_target.specs.Bits.{bit};
+ghost use Rattle.rhai_target.specs.Bits.{bit, field, int_of_bits};
 ghost use Rattle.rhai_value.specs.Bytes.{low_byte};
 ghost use Rattle.rhai_target.specs.Change.{Change, with_leaf, on_int, on_bytes, on_text, bit_change, field_change, byte_change, char_change, slice_change, value_changed, store_changed, end_changed};
 ghost use Rattle.rhai_target.specs.Offset.{offset, count, place};
@@ -42,6 +42,18 @@ pub fn fields_keep_to_the_mask()
     ensures inside { (s : List Cell) (t v : Tree) (mask : ℤ) (shift i : ℕ) (n x : ℤ) → i < 64 → shift < 64 → FitsSigned w64 x → bit mask i ≡ true
         → held_part int_of (end s [] t) ≡ Some n → held_part int_of (end s [] v) ≡ Some x
         → option_map (λ m. bit m i) (held_part int_of (end_changed (field_change s v mask shift) s t)) ≡ Some (bit (int_wrap w64 (x *ℤ pos (2 ^ shift))) i) }
+{}
+
+/// A field that was written back reads as the bits of the value that its mask shows; one that is written over itself, under a mask that
+/// shows no bit below it, leaves source and store.
+#[tactic(auto, using(crate::proofs::ReadBack::field_read))]
+pub fn fields_read_as_written()
+    ensures written { (s : List Cell) (t v : Tree) (mask : ℤ) (shift : ℕ) (n x : ℤ) → FitsSigned w64 mask
+        → held_part int_of (end s [] t) ≡ Some n → held_part int_of (end s [] v) ≡ Some x
+        → option_map (field mask shift) (held_part int_of (end_changed (field_change s v mask shift) s t)) ≡ Some (int_of_bits (λ i. bit mask (i + shift) && bit x i)) }
+    ensures unchanged { (s : List Cell) (t v : Tree) (mask : ℤ) (shift : ℕ) (n : ℤ) → FitsSigned w64 n → ((i : ℕ) → i < shift → bit mask i ≡ false)
+        → held_part int_of (end s [] t) ≡ Some n → held_part int_of (end s [] v) ≡ Some (field mask shift n)
+        → (value_changed (field_change s v mask shift) (end s [] t) t ≡ t) × (store_changed (field_change s v mask shift) (end s [] t) s ≡ s) }
 {}
 
 /// A byte that was written back reads as the int modulo 256, and every other byte stays; a byte that is written over itself leaves

@@ -1,3 +1,4 @@
 pub mod Bytes
+pub mod Error
 pub mod Quote
 pub mod Text

@@ -1,5 +1,5 @@
 -- What the edits make of a text. A text is the list of its characters, and a character is its code.
-use Rattle.std.specs.Prelude.{ℕ, zero, suc, ◌+◌, Bool, not, List, [], ◌∷◌, ◌++◌, length, take, drop, nat_eq, if◌then◌else◌}
+use Rattle.std.specs.Prelude.{ℕ, zero, suc, ◌+◌, ◌-◌, Bool, not, List, [], ◌∷◌, ◌++◌, length, take, drop, nat_eq, if◌then◌else◌}
 use Rattle.std.specs.List.{starts_with, filter}
 
 -- `minus`, in at most that many steps, of which one for each character is enough; the pattern is not empty
@@ -25,3 +25,7 @@ minus_char text character = filter (λ c. not (nat_eq c character)) text
 -- Past the text, a place means its end; where `end` lies before `start`, the characters between them stand twice.
 abbrev pub with_slice : List ℕ → ℕ → ℕ → Bool → List ℕ → List ℕ
 with_slice text start end exclusive slice = take start text ++ (slice ++ drop (if exclusive then end else end + 1) text)
+
+-- the characters of a slice, whose end is one past them where the end is inclusive; none where it ends before it starts
+abbrev pub slice_of : List ℕ → ℕ → ℕ → Bool → List ℕ
+slice_of text start end exclusive = take ((if exclusive then end else end + 1) - start) (drop start text)

@@ -1,7 +1,7 @@
 // The edits: each makes a new text of one, and fails only where memory for that is refused.
-ghost use Rattle.std.specs.Prelude.{◌≡◌, ◌+◌, ◌++◌, if◌then◌else◌, IfOk, slice_set, take, drop};
+ghost use Rattle.std.specs.Prelude.{◌≡◌, ◌+◌, ◌-◌, ◌++◌, if◌then◌else◌, IfOk, slice_set, take, drop};
 ghost use Rattle.std.specs.Str.{chars, encode_utf8_all};
-ghost use Rattle.rhai_text.specs.Text.{minus, minus_char, with_slice};
+ghost use Rattle.rhai_text.specs.Text.{minus, minus_char, slice_of, with_slice};
 
 use crate::immutable_string::ImmutableString;
 use crate::text_bytes::{TextBytes, three_in_a_row};
@@ -81,6 +81,20 @@ impl ImmutableString {
         let (front, back) = parts_around(self.as_str(), start, end, exclusive);
         joined(alloc, front, slice, back)
     }
+
+    /// The characters from `start` to `end`, which is included unless `exclusive`, as rhai reads through a range: what
+    /// `with_slice` would replace. Where `end` lies before `start` there are none. It goes over the text to its end once.
+    pub fn slice(
+        &self,
+        alloc: Global,
+        start: usize,
+        end: usize,
+        exclusive: bool,
+    ) -> Result<ImmutableString, AllocError>
+        ensures { IfOk result (λ t. t ≡ slice_of self.now start end exclusive) }
+    {
+        ImmutableString::from_str(alloc, part_between(self.as_str(), start, end, exclusive))
+    }
 }
 
 // The three texts in a row. In each caller of its own, so that an empty one costs nothing.
@@ -120,9 +134,22 @@ fn parts_around(text: &str, start: usize, end: usize, exclusive: bool) -> (&str,
     }
 }
 
+// The characters from `start` to `end`, or to after the one there unless `exclusive`.
+fn part_between(text: &str, start: usize, end: usize, exclusive: bool) -> &str
+    ensures { chars result.now ≡ slice_of (chars text.now) start end exclusive }
+{
+    if end < start {
+        return "";
+    }
+    let rest = skip_chars(text, start);
+    let after = text_after(rest, end - start, exclusive);
+    rest.split_at(rest.len() - after.len()).0
+}
+
 // The text from `end` on, or from after the character there unless `exclusive`.
 fn text_after(text: &str, end: usize, exclusive: bool) -> &str
-    ensures { chars result.now ≡ drop (if exclusive then end else end + 1) (chars text.now) }
+    ensures characters { chars result.now ≡ drop (if exclusive then end else end + 1) (chars text.now) }
+    ensures bytes { result.now ≡ encode_utf8_all (drop (if exclusive then end else end + 1) (chars text.now)) }
 {
     let from_end = skip_chars(text, end);
     if exclusive {

@@ -1,5 +1,6 @@
 // What goes wrong when a script is evaluated.
 ghost use Rattle.std.specs.Prelude.{◌≡◌};
+ghost use Rattle.rhai_text.specs.Error.{at_place, place_of};
 ghost use Rattle.rhai_text.specs.declared.error.EvalAltResult.TheVariants.{ErrorMemory};
 
 use crate::position::Position;
@@ -46,6 +47,37 @@ pub enum SizeKind {
     Text,
     /// The items of an array, or the bytes of a blob.
     Items,
+}
+
+impl EvalAltResult {
+    /// The same error at this place of the script; want of memory has no place, and stays as it is.
+    pub fn with_position(self, pos: Position) -> EvalAltResult
+        ensures { result ≡ at_place pos self }
+    {
+        match self {
+            EvalAltResult::ErrorMismatchDataType(wanted, found, _) =>
+                EvalAltResult::ErrorMismatchDataType(wanted, found, pos),
+            EvalAltResult::ErrorDataRace(_) => EvalAltResult::ErrorDataRace(pos),
+            EvalAltResult::ErrorArithmetic(fault, _) => EvalAltResult::ErrorArithmetic(fault, pos),
+            EvalAltResult::ErrorDataTooLarge(size, _) => EvalAltResult::ErrorDataTooLarge(
+                size, pos,
+            ),
+            EvalAltResult::ErrorMemory(error) => EvalAltResult::ErrorMemory(error),
+        }
+    }
+
+    /// The place of the script; of want of memory it is `Position::NONE`.
+    pub fn position(&self) -> Position
+        ensures { result ≡ place_of self.now }
+    {
+        match self {
+            EvalAltResult::ErrorMismatchDataType(_, _, pos)
+            | EvalAltResult::ErrorDataRace(pos)
+            | EvalAltResult::ErrorArithmetic(_, pos)
+            | EvalAltResult::ErrorDataTooLarge(_, pos) => *pos,
+            EvalAltResult::ErrorMemory(_) => Position::NONE,
+        }
+    }
 }
 
 impl From<AllocError> for EvalAltResult {

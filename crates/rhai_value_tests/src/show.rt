@@ -1,6 +1,7 @@
 //! Printed text and hash bytes, where a call alone can show it.
 mod hash;
 mod readme;
+mod same;
 
 use crate::values::{chain, ring, shared, text_of};
 use rhai_show::{Shown, debug_text, display_text};

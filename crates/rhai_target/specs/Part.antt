@@ -1,0 +1,90 @@
+-- Parts of a source that are found by a whole number.
+use Rattle.std.specs.Prelude.{◌≡◌, ◌<◌, ℕ, ℤ, pos, Bool, true, false, List, [], codes, length, slice_get, nat_lt, Option, Some, None, MatchOption, option_map, option_and_then, is_some, Result, Ok, Err, if◌then◌else◌}
+use Rattle.std.specs.Borrow.{MutBor}
+use Rattle.rhai_value.specs.declared.store.Cell.{Cell}
+use Rattle.rhai_value.specs.Tree.{Tree, fresh, bool, int, char, text}
+use Rattle.rhai_value.specs.Parts.{int_of, text_of, blob_of}
+use Rattle.rhai_value.specs.End.{end, held_part}
+use Rattle.rhai_target.specs.declared.part.NoPart.{NoPart}
+use Rattle.rhai_target.specs.declared.part.NoPart.TheVariants.{Mismatch, OutOfRange, Memory}
+use Rattle.rhai_target.specs.declared.part.PartPlace.{PartPlace}
+use Rattle.rhai_target.specs.declared.part.PartPlace.TheVariants as at
+use Rattle.rhai_target.specs.declared.part.ReadPart.{ReadPart}
+use Rattle.rhai_target.specs.declared.slice.Slice.{Slice}
+use Rattle.rhai_target.specs.declared.target.Target.{Target}
+use Rattle.rhai_target.specs.declared.target.Target.TheVariants.{Bit, BitField, BlobByte, StringChar, StringSlice}
+use Rattle.rhai_target.specs.Bits.{bit, field}
+use Rattle.rhai_target.specs.Change.{Change, bit_change, field_change, byte_change, char_change, slice_change}
+use Rattle.rhai_target.specs.Offset.{place}
+use Rattle.rhai_target.specs.Read.{slice_in}
+
+-- the part of an int, of bytes or of characters, if there is one; a negative number counts from the end of bytes and of characters
+abbrev pub bit_part : ℤ → ℤ → Option ReadPart
+bit_part index n = option_map (λ i. record { place = at.Bit i; value = fresh (bool (bit n i)) }) (place 64 index false)
+
+abbrev pub field_part : ℤ → ℕ → ℤ → Option ReadPart
+field_part mask shift n = if nat_lt shift 64 then Some (record { place = at.BitField mask shift; value = fresh (int (field mask shift n)) }) else None
+
+abbrev pub byte_part : ℤ → List ℕ → Option ReadPart
+byte_part index bs = option_and_then (λ i. option_map (λ b. record { place = at.BlobByte i; value = fresh (int (pos b)) }) (slice_get bs i)) (place (length bs) index true)
+
+abbrev pub char_read : List ℕ → ℕ → Option ReadPart
+char_read cs i = option_map (λ c. record { place = at.StringChar i; value = fresh (char c) }) (slice_get cs i)
+
+abbrev pub char_part : ℤ → List ℕ → Option ReadPart
+char_part index cs = option_and_then (char_read cs) (place (length cs) index true)
+
+abbrev pub slice_part : Slice → List ℕ → Option ReadPart
+slice_part slice cs = Some (record { place = at.StringSlice slice; value = fresh (text (slice_in slice cs)) })
+
+-- What a read answers: the part of what is held; or the name of another type that is held, or that no part stands there. Want of memory
+-- may stand in the place of a part alone, and only where memory may be wanted.
+abbrev pub IsRead : {A : Type 0} → Option A → List ℕ → (A → Option ReadPart) → Bool → Result ReadPart NoPart → Type 0
+IsRead held name part may_want (Ok p) = option_and_then part held ≡ Some p
+IsRead held name part may_want (Err (Mismatch found)) = (held ≡ None) × (found.now ≡ name)
+IsRead held name part may_want (Err OutOfRange) = MatchOption held ⊥ (λ a. part a ≡ None)
+IsRead held name part may_want (Err (Memory e)) = (may_want ≡ true) × (is_some (option_and_then part held) ≡ true)
+
+-- the source holds an int, a blob that reaches so far, or a text
+abbrev pub HasPlace : List Cell → Tree → PartPlace → Type 0
+HasPlace s t (at.Bit i) = (i < 64) × (is_some (held_part int_of (end s [] t)) ≡ true)
+HasPlace s t (at.BitField mask shift) = (shift < 64) × (is_some (held_part int_of (end s [] t)) ≡ true)
+HasPlace s t (at.BlobByte i) = MatchOption (held_part blob_of (end s [] t)) ⊥ (λ bytes. i < length bytes)
+HasPlace s t (at.StringChar i) = is_some (held_part text_of (end s [] t)) ≡ true
+HasPlace s t (at.StringSlice slice) = is_some (held_part text_of (end s [] t)) ≡ true
+
+-- what the write-back of a part changes, the name of the type that it wants, and whether it may want memory
+abbrev pub change_at : List Cell → Tree → PartPlace → Tree → Change
+change_at s t (at.Bit i) v = bit_change s v i
+change_at s t (at.BitField mask shift) v = field_change s v mask shift
+change_at s t (at.BlobByte i) v = byte_change s v i
+change_at s t (at.StringChar i) v = char_change s v i
+change_at s t (at.StringSlice slice) v = slice_change s t v slice
+
+abbrev pub part_change : List Cell → Tree → ReadPart → Change
+part_change s t p = change_at s t p.place p.value
+
+abbrev pub wanted_at : PartPlace → List ℕ
+wanted_at (at.Bit i) = codes "bool"
+wanted_at (at.BitField mask shift) = codes "integer"
+wanted_at (at.BlobByte i) = codes "INT"
+wanted_at (at.StringChar i) = codes "char"
+wanted_at (at.StringSlice slice) = []
+
+abbrev pub wants_memory : PartPlace → Bool
+wants_memory (at.Bit i) = false
+wants_memory (at.BitField mask shift) = false
+wants_memory (at.BlobByte i) = false
+wants_memory (at.StringChar i) = true
+wants_memory (at.StringSlice slice) = true
+
+-- the target that is this part of the source behind r
+abbrev pub target_of_place : MutBor Tree → PartPlace → Tree → Target
+target_of_place r (at.Bit i) v = Bit r v i
+target_of_place r (at.BitField mask shift) v = BitField r v mask shift
+target_of_place r (at.BlobByte i) v = BlobByte r v i
+target_of_place r (at.StringChar i) v = StringChar r v i
+target_of_place r (at.StringSlice slice) v = StringSlice r v slice.start slice.end slice.exclusive
+
+abbrev pub target_at : MutBor Tree → ReadPart → Target
+target_at r p = target_of_place r p.place p.value

@@ -1,0 +1,262 @@
+//! Parts of a source that are found by a whole number: read, worked on beside the source, and written back.
+ghost use Rattle.std.specs.Prelude.{◌≡◌, [], true, false, length, option_and_then, IfOk, OnOk, OnErr};
+ghost use Rattle.std.specs.Str.{chars};
+ghost use Rattle.rhai_value.specs.End.{end, end_name, held_part};
+ghost use Rattle.rhai_value.specs.Parts.{int_of, text_of, blob_of};
+ghost use Rattle.rhai_target.specs.Change.{value_changed, store_changed, IsAnswer};
+ghost use Rattle.rhai_target.specs.Part.{IsRead, HasPlace, bit_part, field_part, byte_part, char_part, char_read, slice_part, part_change, wanted_at, wants_memory, target_at};
+
+use crate::bits::{bit_of, field_of};
+use crate::offset::calc_index;
+use crate::read::char_in;
+use crate::slice::{Slice, write_slice};
+use crate::target::Target;
+use crate::write_back::{write_bit, write_byte, write_char, write_field};
+use rhai_text::{EvalAltResult, Position};
+use rhai_value::{Dynamic, INT, Store};
+use std::alloc::{AllocError, Global};
+
+/// Where a part stands in what a source holds.
+#[derive(Clone, Copy)]
+pub enum PartPlace {
+    /// One bit of an int, the lowest being 0.
+    Bit(u8),
+    /// The bits of the mask in an int, of which the lowest of the value is bit `shift`.
+    BitField { mask: INT, shift: u8 },
+    /// One byte of a blob.
+    BlobByte(usize),
+    /// One character of a text.
+    StringChar(usize),
+    /// A slice of a text.
+    StringSlice(Slice),
+}
+
+/// A part of a source: where it stands, and its working value, which is read, written over, and then written back. It has no mark, so it
+/// may be let go at any time, and the source then stays as it is.
+#[derive(Drop)]
+pub struct ReadPart {
+    /// Where it stands in what the source holds.
+    pub place: PartPlace,
+    /// What is worked on.
+    pub value: Dynamic,
+}
+
+/// Why a part isn't read.
+#[derive(Debug, Drop)]
+pub enum NoPart {
+    /// The source holds another type, of this name.
+    Mismatch(&'static str),
+    /// No part stands there.
+    OutOfRange,
+    /// Memory for its working value is refused.
+    Memory(AllocError),
+}
+
+/// Reading parts. A source that holds another type is refused first, by the name of that type; then a place that isn't there.
+impl ReadPart {
+    /// The bit at that place of the held int, as a boolean. Takes no memory.
+    ///
+    /// Errors: `OutOfRange` for a place that isn't one of 0 to 63; a negative one doesn't count from the end.
+    pub fn bit_at(source: &Dynamic, s: &Store, index: INT) -> Result<ReadPart, NoPart>
+        ensures read { IsRead (held_part int_of (end s.now [] source.now)) (end_name (end s.now [] source.now)) (bit_part index) false result }
+        ensures place { IfOk result (λ p. HasPlace s.now source.now p.place) }
+    {
+        let number = match source.as_int(s) {
+            Ok(number) => number,
+            Err(found) => return Err(NoPart::Mismatch(found)),
+        };
+        if index < 0 || index > 63 {
+            return Err(NoPart::OutOfRange);
+        }
+        let bit = index as u8;
+        Ok(ReadPart {
+            place: PartPlace::Bit(bit),
+            value: Dynamic::from_bool(bit_of(number, bit)),
+        })
+    }
+
+    /// The bits of the mask in the held int, moved down by `shift`, as an int. Takes no memory.
+    ///
+    /// Errors: `OutOfRange` for a shift past 63.
+    pub fn field_at(source: &Dynamic, s: &Store, mask: INT, shift: u8) -> Result<ReadPart, NoPart>
+        ensures read { IsRead (held_part int_of (end s.now [] source.now)) (end_name (end s.now [] source.now)) (field_part mask shift) false result }
+        ensures place { IfOk result (λ p. HasPlace s.now source.now p.place) }
+    {
+        let number = match source.as_int(s) {
+            Ok(number) => number,
+            Err(found) => return Err(NoPart::Mismatch(found)),
+        };
+        if shift > 63 {
+            return Err(NoPart::OutOfRange);
+        }
+        Ok(ReadPart {
+            place: PartPlace::BitField { mask, shift },
+            value: Dynamic::from_int(field_of(number, mask, shift)),
+        })
+    }
+
+    /// The byte at that place of the held blob, as an int. A negative place counts from the end. Takes no memory.
+    pub fn byte_at(source: &Dynamic, s: &Store, index: INT) -> Result<ReadPart, NoPart>
+        ensures read { IsRead (held_part blob_of (end s.now [] source.now)) (end_name (end s.now [] source.now)) (byte_part index) false result }
+        ensures place { IfOk result (λ p. HasPlace s.now source.now p.place) }
+    {
+        let bytes = match source.as_blob_ref(s) {
+            Ok(bytes) => bytes,
+            Err(found) => return Err(NoPart::Mismatch(found)),
+        };
+        let Some(place) = calc_index(bytes.len(), index, true) else {
+            return Err(NoPart::OutOfRange);
+        };
+        let Some(byte) = bytes.get(place) else {
+            return Err(NoPart::OutOfRange);
+        };
+        Ok(ReadPart {
+            place: PartPlace::BlobByte(place),
+            value: Dynamic::from_int(INT::from(*byte)),
+        })
+    }
+
+    /// The character at that place of the held text. A negative place counts from the end. Takes no memory; goes over the text to the
+    /// character, and for a negative place over all of it first.
+    pub fn char_at(source: &Dynamic, s: &Store, index: INT) -> Result<ReadPart, NoPart>
+        ensures read { IsRead (held_part text_of (end s.now [] source.now)) (end_name (end s.now [] source.now)) (char_part index) false result }
+        ensures place { IfOk result (λ p. HasPlace s.now source.now p.place) }
+    {
+        let text = match source.as_immutable_string_ref(s) {
+            Ok(text) => text.as_str(),
+            Err(found) => return Err(NoPart::Mismatch(found)),
+        };
+        let Some(place) = char_place(text, index) else {
+            return Err(NoPart::OutOfRange);
+        };
+        let Some(character) = char_in(text, place) else {
+            return Err(NoPart::OutOfRange);
+        };
+        Ok(ReadPart {
+            place: PartPlace::StringChar(place),
+            value: Dynamic::from_char(character),
+        })
+    }
+
+    /// The characters of the slice in the held text, as a text; none where it ends before it starts. Makes one new text, and goes over
+    /// the held one to the end of the slice.
+    pub fn slice_at(
+        alloc: Global,
+        source: &Dynamic,
+        s: &Store,
+        slice: Slice,
+    ) -> Result<ReadPart, NoPart>
+        ensures read { IsRead (held_part text_of (end s.now [] source.now)) (end_name (end s.now [] source.now)) (slice_part slice) true result }
+        ensures place { IfOk result (λ p. HasPlace s.now source.now p.place) }
+    {
+        let text = match source.as_immutable_string_ref(s) {
+            Ok(text) => text,
+            Err(found) => return Err(NoPart::Mismatch(found)),
+        };
+        match text.slice(alloc, slice.start, slice.end, slice.exclusive) {
+            Ok(part) => Ok(ReadPart {
+                place: PartPlace::StringSlice(slice),
+                value: Dynamic::from(part),
+            }),
+            Err(refused) => Err(NoPart::Memory(refused)),
+        }
+    }
+}
+
+/// Writing parts back.
+impl ReadPart {
+    /// Writes the working value back into the source, and spends the part whatever comes: it is the write-back of that kind of part.
+    ///
+    /// Errors: as of `write_bit`, `write_field`, `write_byte`, `write_char` and `write_slice`; source and store are then as before.
+    pub fn write_back(
+        self,
+        source: &mut Dynamic,
+        alloc: Global,
+        m: &mut Store,
+        pos: Position,
+    ) -> Result<(), EvalAltResult>
+        requires { HasPlace m.old source.old self.place }
+        ensures answer { IsAnswer (wants_memory self.place) (part_change m.old source.old self) (wanted_at self.place) (end_name (end m.old [] self.value)) pos result }
+        ensures own { OnOk result (source.new ≡ value_changed (part_change m.old source.old self) (end m.old [] source.old) source.old) }
+        ensures store { OnOk result (m.new ≡ store_changed (part_change m.old source.old self) (end m.old [] source.old) m.old) }
+        ensures err { OnErr result ((source.new ≡ source.old) × (m.new ≡ m.old)) }
+    {
+        match self.place {
+            PartPlace::Bit(bit) => write_bit(source, m, &self.value, bit, pos),
+            PartPlace::BitField { mask, shift } => write_field(
+                source,
+                m,
+                &self.value,
+                mask,
+                shift,
+                pos,
+            ),
+            PartPlace::BlobByte(index) => write_byte(source, m, &self.value, index, pos),
+            PartPlace::StringChar(index) => write_char(source, alloc, m, &self.value, index, pos),
+            PartPlace::StringSlice(slice) => {
+                write_slice(source, alloc, m, &self.value, slice)?;
+                Ok(())
+            }
+        }
+    }
+}
+
+impl<'a> Target<'a> {
+    /// The target that is this part of the source.
+    pub fn of_part(source: &'a mut Dynamic, part: ReadPart) -> Target<'a>
+        ensures { result ≡ target_at source.entry part }
+    {
+        let value = part.value;
+        match part.place {
+            PartPlace::Bit(bit) => Target::Bit { source, value, bit },
+            PartPlace::BitField { mask, shift } => Target::BitField {
+                source,
+                value,
+                mask,
+                shift,
+            },
+            PartPlace::BlobByte(index) => Target::BlobByte {
+                source,
+                value,
+                index,
+            },
+            PartPlace::StringChar(index) => Target::StringChar {
+                source,
+                value,
+                index,
+            },
+            PartPlace::StringSlice(
+                Slice {
+                    start,
+                    end,
+                    exclusive,
+                },
+            ) => Target::StringSlice {
+                source,
+                value,
+                start,
+                end,
+                exclusive,
+            },
+        }
+    }
+}
+
+/// The place of a character in a text; a negative one counts from the end, for which the characters are counted. A place past the end is
+/// answered as it is.
+fn char_place(text: &str, index: INT) -> Option<usize>
+    ensures { option_and_then (char_read (chars text.now)) result ≡ char_part index (chars text.now) }
+{
+    if index < 0 {
+        calc_index(count_chars(text), index, true)
+    } else {
+        Some(index.unsigned_abs() as usize)
+    }
+}
+
+/// How many characters a text has.
+fn count_chars(text: &str) -> usize
+    ensures { result ≡ length (chars text.now) }
+{
+    text.chars().count()
+}

@@ -1,0 +1,76 @@
+//! Reads of a part of what a source holds, under the conditions of the write-back of that part, and by the terms of its laws. Each finds
+//! the end of the source's chain once.
+ghost use Rattle.std.specs.Prelude.{◌≡◌, ◌<◌, [], true, length, is_some, slice_get, option_and_then, option_map, IfOk, MatchOption, Some};
+ghost use Rattle.std.specs.Str.{chars};
+ghost use Rattle.rhai_value.specs.End.{end, held_part};
+ghost use Rattle.rhai_value.specs.Parts.{int_of, text_of, blob_of};
+ghost use Rattle.rhai_target.specs.Bits.{bit as bit_in, field};
+ghost use Rattle.rhai_target.specs.Read.{slice_in};
+
+use crate::bits::{bit_of, field_of};
+use crate::slice::Slice;
+use rhai_text::ImmutableString;
+use rhai_value::{Blob, Dynamic, INT, Store};
+use std::alloc::{AllocError, Global};
+
+/// One bit of the held int: what `write_bit` writes. Takes no memory.
+pub fn read_bit(source: &Dynamic, s: &Store, bit: u8) -> bool
+    requires place { bit < 64 }
+    requires held { is_some (held_part int_of (end s.now [] source.now)) ≡ true }
+    ensures { option_map (λ n. bit_in n bit) (held_part int_of (end s.now [] source.now)) ≡ Some result }
+{
+    let number = source.held_part::<INT>(s).unwrap();
+    bit_of(*number, bit)
+}
+
+/// The bits of the mask in the held int, moved down by `shift`: what `write_field` writes. No bit comes in above, so that what was
+/// written is read also at the top of the int. Takes no memory.
+pub fn read_field(source: &Dynamic, s: &Store, mask: INT, shift: u8) -> INT
+    requires place { shift < 64 }
+    requires held { is_some (held_part int_of (end s.now [] source.now)) ≡ true }
+    ensures { option_map (λ n. field mask shift n) (held_part int_of (end s.now [] source.now)) ≡ Some result }
+{
+    let number = source.held_part::<INT>(s).unwrap();
+    field_of(*number, mask, shift)
+}
+
+/// One byte of the held blob: what `write_byte` writes. Takes no memory.
+pub fn read_byte(source: &Dynamic, s: &Store, index: usize) -> u8
+    requires place { MatchOption (held_part blob_of (end s.now [] source.now)) ⊥ (λ bytes. index < length bytes) }
+    ensures { option_and_then (λ bytes. slice_get bytes index) (held_part blob_of (end s.now [] source.now)) ≡ Some result }
+{
+    let bytes = source.held_part::<Blob>(s).unwrap();
+    bytes[index]
+}
+
+/// One character of the held text: what `write_char` writes; `None` past the end of the text. Takes no memory, and goes over the text
+/// to that character.
+pub fn read_char(source: &Dynamic, s: &Store, index: usize) -> Option<char>
+    requires { is_some (held_part text_of (end s.now [] source.now)) ≡ true }
+    ensures { option_and_then (λ cs. slice_get cs index) (held_part text_of (end s.now [] source.now)) ≡ result }
+{
+    let text = source.held_part::<ImmutableString>(s).unwrap();
+    char_in(text.as_str(), index)
+}
+
+/// The characters of the held text that `write_slice` replaces; none where the slice ends before it starts. Makes one new text, and
+/// goes over the held one to the end of the slice.
+pub fn read_slice(
+    alloc: Global,
+    source: &Dynamic,
+    s: &Store,
+    slice: Slice,
+) -> Result<ImmutableString, AllocError>
+    requires { is_some (held_part text_of (end s.now [] source.now)) ≡ true }
+    ensures { IfOk result (λ t. option_map (slice_in slice) (held_part text_of (end s.now [] source.now)) ≡ Some t) }
+{
+    let text = source.held_part::<ImmutableString>(s).unwrap();
+    text.slice(alloc, slice.start, slice.end, slice.exclusive)
+}
+
+/// The character at that place, counted in characters.
+pub(crate) fn char_in(text: &str, index: usize) -> Option<char>
+    ensures { slice_get (chars text.now) index ≡ result }
+{
+    text.chars().nth(index)
+}

@@ -1,0 +1,21 @@
+-- The place of the script that an error is about.
+use Rattle.rhai_text.specs.declared.error.EvalAltResult.{EvalAltResult}
+use Rattle.rhai_text.specs.declared.error.EvalAltResult.TheVariants.{ErrorArithmetic, ErrorDataTooLarge, ErrorMemory, ErrorDataRace, ErrorMismatchDataType}
+use Rattle.rhai_text.specs.declared.position.Position.{Position}
+use Rattle.rhai_text.specs.declared.position.TheConstants.Position as position
+
+-- want of memory has none
+abbrev pub place_of : EvalAltResult → Position
+place_of (ErrorMismatchDataType wanted found p) = p
+place_of (ErrorDataRace p) = p
+place_of (ErrorArithmetic fault p) = p
+place_of (ErrorDataTooLarge size p) = p
+place_of (ErrorMemory e) = position.NONE
+
+-- the error at this place, if it has one
+abbrev pub at_place : Position → EvalAltResult → EvalAltResult
+at_place p (ErrorMismatchDataType wanted found q) = ErrorMismatchDataType wanted found p
+at_place p (ErrorDataRace q) = ErrorDataRace p
+at_place p (ErrorArithmetic fault q) = ErrorArithmetic fault p
+at_place p (ErrorDataTooLarge size q) = ErrorDataTooLarge size p
+at_place p (ErrorMemory e) = ErrorMemory e

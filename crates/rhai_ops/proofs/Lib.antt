@@ -8,6 +8,7 @@ pub mod Items
 pub mod Labels
 pub mod Lengths
 pub mod Lines
+pub mod Orders
 pub mod Roles
 pub mod SameEffects
 pub mod SameItems

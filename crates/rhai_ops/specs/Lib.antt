@@ -5,3 +5,4 @@ pub mod Numbers
 pub mod Outcome
 pub mod Results
 pub mod Effects
+pub mod Order

@@ -16,6 +16,7 @@ use rhai_text::laws::byte_order_is_character_order;
 use rhai_text::{EvalAltResult, ImmutableString, Limits, Position, SizeKind, Token};
 use rhai_value::Dynamic;
 use std::alloc::Global;
+use std::cmp::Ordering;
 
 /// The text of a character alone, in the buffer.
 #[tactic(auto, using(crate::proofs::Lengths::spelled_characters, crate::proofs::Lengths::spelled_bytes))]
@@ -104,8 +105,15 @@ pub(crate) fn compare_text(
     requires { IsTrue (is_cmp op) }
     ensures { IsOutcome ⊥ result (bool_answer (specs.compared_by (asked.comparison (asked.role op)) (text_order (a ∷ []) b.now))) }
 {
+    Ok(Dynamic::from_bool(compared(comparison_of(op).unwrap(), text_order_of(a, b))))
+}
+
+/// The order of a character, as the text of it alone, and a text.
+pub(crate) fn text_order_of(a: char, b: &ImmutableString) -> Ordering
+    ensures { result ≡ text_order (a ∷ []) b.now }
+{
     let mut buffer = [0; 4];
     let a = spelled(a, &mut buffer);
     byte_order_is_character_order();
-    Ok(Dynamic::from_bool(compared(comparison_of(op).unwrap(), a.cmp(b.as_str()))))
+    a.cmp(b.as_str())
 }

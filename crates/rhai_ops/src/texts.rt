@@ -17,6 +17,7 @@ use rhai_text::laws::byte_order_is_character_order;
 use rhai_text::{EvalAltResult, ImmutableString, Limits, Position, SizeKind, Token};
 use rhai_value::{Dynamic, Store};
 use std::alloc::Global;
+use std::cmp::Ordering;
 
 /// A text behind a text.
 pub(crate) fn join(
@@ -177,9 +178,16 @@ pub(crate) fn compare_char(
     requires second { Holds char_of s.now y.now }
     ensures { IsOutcome ⊥ result (both (λ v d. bool_answer (specs.compared_by (asked.comparison (asked.role op)) (text_order v (d ∷ [])))) (part_in text_of s.now x.now) (part_in char_of s.now y.now)) }
 {
-    let a = part::<ImmutableString>(x, s);
+    let order = char_order_of(part(x, s), value(y, s));
+    Ok(Dynamic::from_bool(compared(comparison_of(op).unwrap(), order)))
+}
+
+/// The order of a text and a character, as the text of it alone.
+pub(crate) fn char_order_of(a: &ImmutableString, b: char) -> Ordering
+    ensures { result ≡ text_order a.now (b ∷ []) }
+{
     let mut buffer = [0; 4];
-    let b = spelled(value(y, s), &mut buffer);
+    let b = spelled(b, &mut buffer);
     byte_order_is_character_order();
-    Ok(Dynamic::from_bool(compared(comparison_of(op).unwrap(), a.as_str().cmp(b))))
+    a.as_str().cmp(b)
 }

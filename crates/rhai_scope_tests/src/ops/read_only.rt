@@ -57,12 +57,24 @@ fn a_refusal_is_put_at_a_place(rt: HostRuntime) {
     let alloc = rt.alloc();
     let store = Store::new(alloc);
     let place = Position::new(3, 4);
-    let refused = evaluate(Token::Divide, alloc, &store, &Dynamic::ONE, &Dynamic::ZERO, place);
-    assert!(rt; match refused {
-        Err(refused) => refused.position() == place
-            && matches!(refused, EvalAltResult::ErrorArithmetic(ArithmeticFault::DivisionByZero, _)),
-        Ok(_) => false,
-    });
+    let refused = evaluate(
+        Token::Divide,
+        alloc,
+        &store,
+        &Dynamic::ONE,
+        &Dynamic::ZERO,
+        place,
+    );
+    assert!(rt;
+        match refused {
+            Err(refused) => refused.position() == place
+                && matches!(
+                    refused,
+                    EvalAltResult::ErrorArithmetic(ArithmeticFault::DivisionByZero, _)
+                ),
+            Ok(_) => false,
+        }
+    );
 }
 
 #[test]
@@ -70,6 +82,13 @@ fn a_holder_has_no_row(rt: HostRuntime) {
     let alloc = rt.alloc();
     let mut store = Store::new(alloc);
     let holder = shared(Dynamic::ONE, &mut store);
-    let answer = evaluate(Token::Plus, alloc, &store, &holder, &Dynamic::ONE, Position::NONE);
+    let answer = evaluate(
+        Token::Plus,
+        alloc,
+        &store,
+        &holder,
+        &Dynamic::ONE,
+        Position::NONE,
+    );
     assert!(rt; matches!(answer, Ok(None)));
 }

@@ -6,7 +6,9 @@ ghost use Rattle.rhai_value.specs.Parts.{text_of};
 
 use super::parts::has_byte;
 use super::*;
-use rhai_target::{NoPart, ReadPart, Slice, read_bit, read_byte, read_char, read_field, read_slice};
+use rhai_target::{
+    NoPart, ReadPart, Slice, read_bit, read_byte, read_char, read_field, read_slice,
+};
 use rhai_value::INT;
 
 /// Turns one bit of a variable over, and answers whether there is such a bit.
@@ -49,7 +51,7 @@ fn a_bit_is_turned_over(rt: HostRuntime) {
 fn prints(alloc: Global, part: Result<ReadPart, NoPart>, s: &Store, wanted: &str) -> bool {
     match part {
         Ok(part) => match rhai_show::display_text(alloc, &part.value, s) {
-            Ok(text) => text == wanted,
+            Ok(text) => text.as_str() == wanted,
             Err(_) => false,
         },
         Err(_) => false,
@@ -134,10 +136,14 @@ fn a_slice_is_read_and_replaced(rt: HostRuntime) {
     let alloc = rt.alloc();
     let mut store = Store::new(alloc);
     let mut text = hello(alloc);
-    assert!(rt; match replace_middle(alloc, &mut text, &mut store, Dynamic::from_int(42)) {
-        Ok(before) => before.as_immutable_string_ref(&store).is_ok_and(|t| t.as_str() == "el"),
-        Err(_) => false,
-    });
+    assert!(rt;
+        match replace_middle(alloc, &mut text, &mut store, Dynamic::from_int(42)) {
+            Ok(before) => before
+                .as_immutable_string_ref(&store)
+                .is_ok_and(|t| t.as_str() == "el"),
+            Err(_) => false,
+        }
+    );
     assert!(rt; is_text(&text, "h42lo"));
     let refused = match replace_middle(alloc, &mut { Dynamic::ONE }, &mut store, Dynamic::ONE) {
         Ok(_) => Ok(()),
@@ -182,7 +188,9 @@ fn bits_are_read_also_at_the_top(rt: HostRuntime) {
     let source = Dynamic::from_int(-1152921504606846976);
     assert!(rt; source.is_int(&store) && read_bit(&source, &store, 63));
     assert!(rt; source.is_int(&store) && !read_bit(&source, &store, 59));
-    assert!(rt; source.is_int(&store) && read_field(&source, &store, -1152921504606846976, 60) == 15);
+    assert!(rt;
+        source.is_int(&store) && read_field(&source, &store, -1152921504606846976, 60) == 15
+    );
     let field = ReadPart::field_at(&Dynamic::from_int(95), &store, 240, 4);
     assert!(rt; prints(rt.alloc(), field, &store, "5"));
     assert!(rt; is_out(ReadPart::field_at(&Dynamic::from_int(95), &store, 240, 64)));

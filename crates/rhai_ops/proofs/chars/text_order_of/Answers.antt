@@ -2,7 +2,7 @@ use Rattle.std.proofs.Common.{rules, ◌≡◌, ◌∷◌, [], ap₂, ◌∙◌}
 use Rattle.std.specs.Cmp.Lexicographic.{slice_cmp}
 use Rattle.std.specs.Ordering.{nat_cmp}
 use Rattle.rhai_ops.specs.Results.{text_order}
-use Rattle.rhai_ops.proofs.chars.compare_text.Goals as goal
+use Rattle.rhai_ops.proofs.chars.text_order_of.Goals as goal
 
 pub returns : goal.returns
 returns c =

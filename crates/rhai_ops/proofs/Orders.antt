@@ -1,0 +1,73 @@
+-- The rows that compare answer by the order of what both hold.
+use Rattle.std.proofs.Common.{◌≡◌, ◌||◌, ◌&&◌, [], ◌∷◌, List, Option, Some, None, refl, ap, ◌∙◌}
+use Rattle.std.proofs.lemmas.Option.{same_Some}
+use Rattle.std.specs.Ordering.{bool_cmp, int_cmp, nat_cmp}
+use Rattle.std.specs.declared.cmp.Ordering.{Ordering}
+use Rattle.rhai_text.specs.declared.limits.Limits.{Limits}
+use Rattle.rhai_text.specs.declared.token.Token.{Token}
+use Rattle.rhai_value.specs.declared.store.Cell.{Cell}
+use Rattle.rhai_value.specs.declared.type_id.TypeId.{TypeId}
+use Rattle.rhai_value.specs.declared.type_id.TypeId.TheVariants as id
+use Rattle.rhai_value.specs.Tree.{Tree, fresh, bool}
+use Rattle.rhai_value.specs.Parts.{bool_of, int_of, char_of, text_of}
+use Rattle.rhai_value.specs.End.{end, end_type}
+use Rattle.rhai_value.specs.Types.{is_type}
+use Rattle.rhai_ops.specs.declared.builtin.FnBuiltin.{FnBuiltin}
+use Rattle.rhai_ops.specs.declared.builtin.FnBuiltin.TheVariants as row
+use Rattle.rhai_ops.specs.declared.own.Own.{Own}
+use Rattle.rhai_ops.specs.declared.own.Own.TheVariants as is
+use Rattle.rhai_ops.specs.declared.role.Comparison.{Comparison}
+use Rattle.rhai_ops.specs.Numbers.{compared, compared_by}
+use Rattle.rhai_ops.specs.Order.{ordered, row_order}
+use Rattle.rhai_ops.specs.Outcome.{Outcome, answers, both, bool_answer}
+use Rattle.rhai_ops.specs.Results.{part, text_order, outcome}
+use Rattle.rhai_ops.specs.Table.{own, row_of, own_pair, type_line, is_numeric, is_range_type}
+use Rattle.rhai_ops.specs.Tokens.{comparison, role}
+use Rattle.rhai_ops.proofs.Lines.{LineAll, PairAll, pair_all, if_all}
+
+-- a row that compares does so by this operator
+abbrev IsOf : Token → FnBuiltin → Type 0
+IsOf t (row.IntCompare u) = u ≡ t
+IsOf t (row.BoolCompare u) = u ≡ t
+IsOf t (row.TextCompare u) = u ≡ t
+IsOf t (row.CharCompare u) = u ≡ t
+IsOf t (row.CharTextCompare u) = u ≡ t
+IsOf t (row.TextCharCompare u) = u ≡ t
+IsOf t _ = Unit {0}
+
+own_is : (t : Token) (a b : Own) → PairAll (IsOf t) (own_pair t a b)
+own_is t is.Unit is.Unit = search refl
+own_is t is.Bool is.Bool = search refl
+own_is t is.Int is.Int = search refl
+own_is t is.Str is.Str = search refl
+own_is t is.Char is.Char = search refl
+own_is t is.Blob is.Blob = search refl
+own_is t is.Array is.Array = search refl
+own_is t a b = search refl
+
+types_are : (t : Token) (a b : TypeId) → LineAll (IsOf t) (type_line t a b)
+types_are t a b =
+    if_all (IsOf t) (is_type a id.Shared || is_type b id.Shared) _ _ (λ e. tt) (λ e.
+    if_all (IsOf t) (is_range_type a && is_range_type b) _ _ (λ r. if_all (IsOf t) (is_type a b) _ _ (λ i. (λ d. tt, (λ d. tt, tt))) (λ i. (λ d. tt, (λ d. tt, tt))))
+    (λ r. if_all (IsOf t) (is_type a b || (is_numeric a && is_numeric b)) _ _ (λ i. tt) (λ i. (λ d. tt, (λ d. tt, tt)))))
+
+by_order : {A B : Type 0} (cmp : A → B → Ordering) (p : Option A) (q : Option B) (r : Option Comparison) (o : Ordering) (c : Comparison) → r ≡ Some c → ordered cmp p q ≡ Some o
+    → both (λ a b. bool_answer (compared_by r (cmp a b))) p q ≡ answers (fresh (bool (compared c o)))
+by_order cmp (Some a) (Some b) r o c k e = ap (λ z. bool_answer (compared_by z (cmp a b))) k ∙ ap (λ z. answers (fresh (bool (compared c z)))) (same_Some (cmp a b) o e)
+by_order cmp (Some a) None r o c k e = cc
+by_order cmp None q r o c k e = cc
+
+row_by_order : (t : Token) (l : Limits) (s : List Cell) (x y : Tree) (b : FnBuiltin) (c : Comparison) (o : Ordering) → IsOf t b → comparison (role t) ≡ Some c → row_order b s x y ≡ Some o
+    → outcome b l s x y ≡ answers (fresh (bool (compared c o)))
+row_by_order t l s x y (row.IntCompare u) c o i k e = by_order int_cmp (part int_of s x) (part int_of s y) (comparison (role u)) o c (ap (λ v. comparison (role v)) i ∙ k) e
+row_by_order t l s x y (row.BoolCompare u) c o i k e = by_order bool_cmp (part bool_of s x) (part bool_of s y) (comparison (role u)) o c (ap (λ v. comparison (role v)) i ∙ k) e
+row_by_order t l s x y (row.TextCompare u) c o i k e = by_order text_order (part text_of s x) (part text_of s y) (comparison (role u)) o c (ap (λ v. comparison (role v)) i ∙ k) e
+row_by_order t l s x y (row.CharCompare u) c o i k e = by_order nat_cmp (part char_of s x) (part char_of s y) (comparison (role u)) o c (ap (λ v. comparison (role v)) i ∙ k) e
+row_by_order t l s x y (row.CharTextCompare u) c o i k e = by_order (λ d w. text_order (d ∷ []) w) (part char_of s x) (part text_of s y) (comparison (role u)) o c (ap (λ v. comparison (role v)) i ∙ k) e
+row_by_order t l s x y (row.TextCharCompare u) c o i k e = by_order (λ v d. text_order v (d ∷ [])) (part text_of s x) (part char_of s y) (comparison (role u)) o c (ap (λ v. comparison (role v)) i ∙ k) e
+row_by_order t l s x y b c o i k e = cc
+
+pub compared_by_order : (t : Token) (l : Limits) (s : List Cell) (x y : Tree) (b : FnBuiltin) (c : Comparison) (o : Ordering) → row_of t s x y ≡ Some b → comparison (role t) ≡ Some c
+    → row_order b s x y ≡ Some o → outcome b l s x y ≡ answers (fresh (bool (compared c o)))
+compared_by_order t l s x y b c o found k e =
+    row_by_order t l s x y b c o (pair_all (IsOf t) (own_pair t (own x) (own y)) _ b (own_is t (own x) (own y)) (types_are t (end_type (end s [] x)) (end_type (end s [] y))) found) k e

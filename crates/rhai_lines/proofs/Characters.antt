@@ -7,7 +7,7 @@ use Rattle.std.specs.Str.{chars, IsUtf8}
 use Rattle.std.specs.Str.Parse.{ParsesChar}
 use Rattle.std.proofs.lemmas.Str.{scalars-chars, encodes-chars}
 use Rattle.rhai_text.proofs.ForCallers.{chars-one}
-use Rattle.rhai_lines.specs.Rests.{only}
+use Rattle.rhai_lines.specs.Arguments.{only}
 
 first : (s t : Bool) → (s && t) ≡ true → s ≡ true
 first true t e = refl

@@ -1,5 +1,5 @@
 -- Where a text is cut into words.
-use Rattle.std.proofs.Common.{◌≡◌, ℕ, ◌<◌, true, false, nat_lt, if◌then◌else◌, List, length, take, Option, Some, None, refl, sym, ap, ◌∙◌, arith, lit<}
+use Rattle.std.proofs.Common.{◌≡◌, ℕ, ◌<◌, true, false, nat_lt, if◌then◌else◌, List, length, take, Option, Some, None, refl, sym, ap, ap₂, ◌∙◌, arith, lit<}
 use Rattle.std.specs.Borrow.{Bor}
 use Rattle.std.specs.Str.{IsUtf8, is_utf8}
 use Rattle.std.proofs.lemmas.Bool.Decides.{nat_tests}
@@ -7,8 +7,9 @@ use Rattle.std.proofs.lemmas.List.{take_all}
 use Rattle.std.specs.List.{position_or_len, after_first}
 use Rattle.std.proofs.lemmas.Str.{IsUtf8-from_is_utf8, is_utf8-from_IsUtf8}
 use Rattle.std.proofs.lemmas.Str.Pattern.{IsSplitOnceResult, split_once_first}
-use Rattle.rhai_lines.specs.Words.{is_space, word_of, left_of}
-use Rattle.rhai_lines.specs.Forms.{form_of, said, command_of}
+use Rattle.rhai_lines.specs.Words.{Left, is_space, word_of, left_of}
+use Rattle.rhai_lines.specs.Memory.{takes_by}
+use Rattle.rhai_lines.specs.Verbs.{said_by, command_of}
 
 cut : (bs : List ℕ) → position_or_len is_space bs < length bs → Some (after_first is_space bs) ≡ left_of bs
 cut bs l =
@@ -32,12 +33,19 @@ word-whole bs r h e =
     let m = rw e at k in
     (sym (ap (λ n. take n bs) m ∙ take_all (length bs) bs (omega arith)), whole bs m)
 
-pub command_of-text : (line text : List ℕ) → text ≡ line → IsUtf8 line → command_of line ≡ said (form_of (word_of text)) (left_of text)
-command_of-text line text t u = ap (λ b. if b then said (form_of (word_of line)) (left_of line) else None) (is_utf8-from_IsUtf8 line u) ∙ ap (λ l. said (form_of (word_of l)) (left_of l)) (sym t)
+pub command_of-text : (line text : List ℕ) → text ≡ line → IsUtf8 line → command_of line ≡ said_by (word_of text) (left_of text)
+command_of-text line text t u = ap (λ b. if b then said_by (word_of line) (left_of line) else None) (is_utf8-from_IsUtf8 line u) ∙ ap (λ l. said_by (word_of l) (left_of l)) (sym t)
 
 pub command_of-no_text : (line : List ℕ) → (IsUtf8 line → ⊥) → command_of line ≡ None
 command_of-no_text line n =
-    elim (is_utf8 line) as (λ b. is_utf8 line ≡ b → (if b then said (form_of (word_of line)) (left_of line) else None) ≡ None) [
+    elim (is_utf8 line) as (λ b. is_utf8 line ≡ b → (if b then said_by (word_of line) (left_of line) else None) ≡ None) [
       | true ↦ λ e. absurd (n (IsUtf8-from_is_utf8 line e))
       | false ↦ λ e. refl
     ] refl
+
+-- the line's bytes say what its verb and what is left behind it say
+pub command_of-verb : (line text word verb : List ℕ) (left : Left) → text ≡ line → IsUtf8 line → word ≡ word_of text → left ≡ left_of text → verb ≡ word → command_of line ≡ said_by verb left
+command_of-verb line text word verb left t u w l v = command_of-text line text t u ∙ sym (ap₂ (λ x y. said_by x y) (v ∙ w) l)
+
+pub takes-verb : (line text word verb : List ℕ) (left : Left) → text ≡ line → word ≡ word_of text → left ≡ left_of text → verb ≡ word → takes_by (word_of line) (left_of line) ≡ takes_by verb left
+takes-verb line text word verb left t w l v = ap₂ (λ x y. takes_by x y) (ap word_of (sym t) ∙ sym (v ∙ w)) (ap left_of (sym t) ∙ sym l)

@@ -1,63 +1,71 @@
 -- The line of a command says the command.
-use Rattle.std.proofs.Common.{◌≡◌, ℕ, true, false, if◌then◌else◌, List, [], ◌++◌, Option, Some, None, option_map, IsSomeAnd, codes, refl, sym, ap, ap₂, ◌∙◌, subst, append-nil}
+use Rattle.std.proofs.Common.{◌≡◌, ℕ, Bool, true, false, ◌&&◌, if◌then◌else◌, cond, List, [], ◌∷◌, ◌++◌, Option, Some, None, option_map, IsSomeAnd, bytes_eq, refl, sym, ap, ap₂, ◌∙◌, subst}
 use Rattle.std.specs.Str.{IsUtf8}
-use Rattle.std.proofs.lemmas.Str.{IsUtf8-append, IsUtf8-nil, is_utf8-from_IsUtf8}
+use Rattle.std.proofs.lemmas.Str.{IsUtf8-append, is_utf8-from_IsUtf8}
 use Rattle.rhai_run.specs.declared.command.Command.{Command}
-use Rattle.rhai_run.specs.declared.command.Command.TheVariants.{Put, MakeArray, MakeMap, MakeFn, Copy, Take, Drop, Share, Flatten, FlattenClone, Cast, MakeReadOnly, SetTag, Ask, WriteInt, Write, Binary, Assign, Scan, Push, PushDynamic, PushConstant, SetEntry, SetOrPush, SetValue, Pop, Rewind, Clear, Len, IsEmpty, Contains, Search, IsConstant, Get, GetValue, GetRef, SetRef, Remove, SetAlias, Aliases, KeepVisible, CopyScope, Entries, Names as Listed, Extend, ExtendFlagged, ShowScope, HashScope, Mark, Unmark, WriteMarked, ReadMarked, WriteBit, WriteField, WriteByte, WriteChar, WriteSlice, Offset, Index, Show, Debug, Hash}
-use Rattle.rhai_run.specs.declared.command.Literal.{Literal}
-use Rattle.rhai_run.specs.declared.command.Literal.TheVariants.{Unit, Bool as Truth, Int, Char, Text, Blob, Host as Hosted, Range, RangeEq}
-use Rattle.rhai_lines.specs.Words.{Left, behind, word_of, left_of, a_name, a_truth}
-use Rattle.rhai_lines.specs.Numbers.{a_position, a_bit, an_int, a_tag}
-use Rattle.rhai_lines.specs.Vocabulary.{a_kind, a_token, a_question, a_scanner, a_host, a_place}
-use Rattle.rhai_lines.specs.Rests.{Rest, has_feed, one, two, three, four, names, flagged_names, a_name_and_alias, a_char, a_text, a_blob}
-use Rattle.rhai_lines.specs.Forms.{Form, of_all, said, form_of, from_hand, from_changes, from_entries, from_scope, from_names, from_marks, from_parts, command_of, spoken, literal_line, line_of}
-use Rattle.rhai_lines.proofs.SaysBack.{the_same, graphic, word_is, left_is, has_feed_append, graphic_no_feed, graphic_utf8}
-use Rattle.rhai_lines.proofs.WordsBack.{name_back, truth_back, position_back, bit_back, int_back, tag_back, kind_back, token_back, question_back, scanner_back, host_back, place_back}
-use Rattle.rhai_lines.proofs.RestsBack.{RestBack, nothing_rest, one_rest, two_rest, three_rest, four_rest, names_rest, flagged_rest, name_and_alias_rest, text_rest, char_rest, blob_rest}
+use Rattle.rhai_lines.specs.Words.{Left, word_of, left_of}
+use Rattle.rhai_lines.specs.Arguments.{says}
+use Rattle.rhai_lines.specs.Verbs.{Form, verbs, form_in, form_of, said, said_by, command_of}
+use Rattle.rhai_lines.specs.Spelling.{behind, has_feed, writes, spoken, IsLineOf}
+use Rattle.rhai_lines.proofs.Lookups.{same_bytes}
+use Rattle.rhai_lines.proofs.SaysBack.{the_same, both, graphic, word_is, left_is, has_feed_append, graphic_no_feed, graphic_utf8}
+use Rattle.rhai_lines.proofs.ArgumentsBack.{arguments_back}
 
 pub record SaysLine (c : Command) (line : List ℕ) : Type 0 where
   pub back : command_of line ≡ Some c
   pub no_feed : has_feed line ≡ false
 
--- a verb, and what is left behind it
-says : (verb : List ℕ) (left : Left) (form : Form) (c : Command) → graphic verb ≡ true → form_of verb ≡ Some form → form.says left ≡ Some c → has_feed (behind left) ≡ false → IsUtf8 (behind left) → SaysLine c (verb ++ behind left)
-says verb left form c g f s n u = record {
+-- a verb of which there are values is one of the table, and so a word
+abbrev all_graphic : List (List ℕ × Form) → Bool
+all_graphic [] = true
+all_graphic (row ∷ rows) = graphic row.0 && all_graphic rows
+
+graphic_in : (rows : List (List ℕ × Form)) (verb : List ℕ) → all_graphic rows ≡ true → (form_in rows verb).Values → graphic verb ≡ true
+graphic_in [] verb t v = absurd v
+graphic_in (row ∷ rows) verb t v =
+    let h = both (graphic row.0) (all_graphic rows) t in
+    by (bytes_eq verb row.0) refl v (λ w. graphic_in rows verb h.1 w) h.0
+  where
+    by : (b : Bool) → bytes_eq verb row.0 ≡ b → (cond b row.1 (form_in rows verb)).Values → ((form_in rows verb).Values → graphic verb ≡ true) → graphic row.0 ≡ true → graphic verb ≡ true
+    by true f v k g = ap graphic (same_bytes verb row.0 f) ∙ g
+    by false f v k g = k v
+
+verb_graphic : (verb : List ℕ) → (form_of verb).Values → graphic verb ≡ true
+unfolding form_of
+verb_graphic [] v = absurd v
+verb_graphic (b ∷ bs) v = graphic_in verbs (b ∷ bs) refl v
+
+said_is : (verb : List ℕ) (left : Left) → said_by verb left ≡ said (form_of verb) left
+unfolding said_by form_of says
+said_is [] left = refl
+said_is (b ∷ bs) left = refl
+
+-- a verb, and what is left for values behind it
+says_line : (verb : List ℕ) (left : Left) (c : Command) → graphic verb ≡ true → said_by verb left ≡ Some c → has_feed (behind left) ≡ false → IsUtf8 (behind left) → SaysLine c (verb ++ behind left)
+says_line verb left c g s n u = record {
   back =
-      ap (λ t. if t then said (form_of (word_of (verb ++ behind left))) (left_of (verb ++ behind left)) else None) (is_utf8-from_IsUtf8 (verb ++ behind left) (IsUtf8-append verb (behind left) (graphic_utf8 verb g) u))
-      ∙ ap₂ (λ w l. said (form_of w) l) (word_is verb left g) (left_is verb left g)
-      ∙ ap (λ o. said o left) f ∙ s;
+      ap (λ t. if t then said_by (word_of (verb ++ behind left)) (left_of (verb ++ behind left)) else None) (is_utf8-from_IsUtf8 (verb ++ behind left) (IsUtf8-append verb (behind left) (graphic_utf8 verb g) u))
+      ∙ ap₂ (λ w l. said_by w l) (word_is verb left g) (left_is verb left g) ∙ s;
   no_feed = has_feed_append verb (behind left) (graphic_no_feed verb g) n;
 }
 
--- what is said by a word or more of it is read back
-row : {A : Type 0} (c : Command) (line : List ℕ) (verb : List ℕ) (rest : Rest A) (make : A → Command) (a : A) → spoken verb rest a ≡ Some line → graphic verb ≡ true → form_of verb ≡ Some (of_all rest make) → make a ≡ c → RestBack rest → SaysLine c line
+spoken_says : (c : Command) (line verb : List ℕ) (values : (form_of verb).Values) → (form_of verb).make values ≡ c → Some line ≡ spoken verb (form_of verb).arguments values → SaysLine c line
 unfolding spoken
-row c line verb rest make a e g f m h = by (rest.spells a) refl
+spoken_says c line verb values m e = by (writes (form_of verb).arguments values) refl
   where
-    by : (o : Option Left) → rest.spells a ≡ o → SaysLine c line
-    by None k = cc (sym (ap (option_map (λ left. verb ++ behind left)) k) ∙ e)
+    by : (o : Option Left) → writes (form_of verb).arguments values ≡ o → SaysLine c line
+    by None k = cc (e ∙ ap (option_map (λ left. verb ++ behind left)) k)
     by (Some left) k =
-        let n = h a left k in
-        subst (SaysLine c) (the_same (sym (ap (option_map (λ left. verb ++ behind left)) k) ∙ e)) (says verb left (of_all rest make) c g f (ap (option_map make) n.back ∙ ap Some m) n.fits.0 n.fits.1)
+        let n = arguments_back (form_of verb).arguments values left k in
+        subst (SaysLine c) (sym (the_same (e ∙ ap (option_map (λ left. verb ++ behind left)) k)))
+        (says_line verb left c (verb_graphic verb values) (said_is verb left ∙ ap (option_map (form_of verb).make) n.back ∙ ap Some m) n.fits.0 n.fits.1)
 
-ruleset backs = (nothing_rest, one_rest, two_rest, three_rest, four_rest, names_rest, flagged_rest, name_and_alias_rest, text_rest, char_rest, blob_rest, name_back, truth_back, position_back, bit_back, int_back, tag_back, kind_back, token_back, question_back, scanner_back, host_back, place_back)
+pub line_says : (c : Command) (line : List ℕ) → IsLineOf c (Some line) → SaysLine c line
+line_says c line p = spoken_says c line p.0 p.1 p.2 p.3
 
-pub literal_says : (literal : Literal) (line : List ℕ) → literal_line literal ≡ Some line → SaysLine (Put literal) line
-unfolding form_of from_hand from_changes from_entries from_scope from_names from_marks from_parts
-literal_says Unit line e = row _ _ _ _ _ _ e refl refl refl (search backs)
-literal_says literal line e = row _ _ _ _ _ _ e refl refl refl (search backs)
+-- a line that is added to nothing is the line, and says the command
+pub added_line : (c : Command) (old new : List ℕ) → old ≡ [] → (line : List ℕ) × IsLineOf c (Some line) × (new ≡ old ++ line) → IsLineOf c (Some new)
+added_line c old new n h = subst (λ x. IsLineOf c (Some x)) (sym (h.2 ∙ ap (λ x. x ++ h.0) n)) h.1
 
--- each line of a table goes the same way
-pub line_says : (c : Command) (line : List ℕ) → line_of c ≡ Some line → SaysLine c line
-unfolding form_of from_hand from_changes from_entries from_scope from_names from_marks from_parts line_of
-line_says (Put literal) line e = literal_says literal line e
-line_says (WriteSlice place start end true j) line e = row _ _ _ _ _ _ e refl refl refl (search backs)
-line_says c line e = row _ _ _ _ _ _ e refl refl refl (search backs)
-
--- the same of a line that is written after nothing
-pub line_read : (c : Command) (old line : List ℕ) → old ≡ [] → IsSomeAnd (line_of c) (λ bytes. line ≡ old ++ bytes) → command_of line ≡ Some c
-line_read c old line n h = by (line_of c) refl h
-  where
-    by : (o : Option (List ℕ)) → line_of c ≡ o → IsSomeAnd o (λ bytes. line ≡ old ++ bytes) → command_of line ≡ Some c
-    by None f k = absurd k
-    by (Some bytes) f k = subst (λ x. command_of x ≡ Some c) (sym (k ∙ ap (λ x. x ++ bytes) n)) (line_says c bytes f).back
+pub added_says : (c : Command) (old new : List ℕ) → old ≡ [] → (line : List ℕ) × IsLineOf c (Some line) × (new ≡ old ++ line) → command_of new ≡ Some c
+added_says c old new n h = (line_says c new (added_line c old new n h)).back

@@ -9,8 +9,9 @@ use Rattle.std.proofs.lemmas.List.Elements.{All-from_recursion}
 use Rattle.std.proofs.lemmas.List.Folds.{list_any-append}
 use Rattle.std.proofs.lemmas.Str.{IsUtf8-from_ascii, IsUtf8-append}
 use Rattle.std.proofs.lemmas.Str.Ascii.{IsAscii-from_all}
-use Rattle.rhai_lines.specs.Words.{Left, Word, is_space, word_of, left_of, next_word, behind, named, called}
-use Rattle.rhai_lines.specs.Rests.{has_feed}
+use Rattle.rhai_lines.specs.Words.{Left, is_space, word_of, left_of, next_word, named}
+use Rattle.rhai_lines.specs.Vocabulary.{Word, reads}
+use Rattle.rhai_lines.specs.Spelling.{spells, behind, called, has_feed}
 
 -- a byte that stands in a word of ASCII: above the space (32), and below 128
 abbrev pub is_graphic : ℕ → Bool
@@ -94,14 +95,14 @@ next_is says a w left g e =
 
 -- The words of a value say it, wherever they stand.
 pub record SaysBack {A : Type 0} (word : Word A) (a : A) (w : List ℕ) : Type 0 where
-  pub back : (left : Left) → word.reads (Some (w ++ behind left)) ≡ Some (a, left)
+  pub back : (left : Left) → reads word (Some (w ++ behind left)) ≡ Some (a, left)
   pub fits : (has_feed w ≡ false) × IsUtf8 w
 
 abbrev pub Back : {A : Type 0} → Word A → Type 0
-Back {A} word = (a : A) (w : List ℕ) → word.spells a ≡ Some w → SaysBack word a w
+Back {A} word = (a : A) (w : List ℕ) → spells word a ≡ Some w → SaysBack word a w
 
 -- one word that says the value
-pub one_back : {A : Type 0} (word : Word A) (says : List ℕ → Option A) (a : A) (w : List ℕ) → ((left : Left) → word.reads left ≡ next_word says left) → graphic w ≡ true → says w ≡ Some a → SaysBack word a w
+pub one_back : {A : Type 0} (word : Word A) (says : List ℕ → Option A) (a : A) (w : List ℕ) → ((left : Left) → reads word left ≡ next_word says left) → graphic w ≡ true → says w ≡ Some a → SaysBack word a w
 one_back word says a w is g e = record { back = λ left. is (Some (w ++ behind left)) ∙ next_is says a w left g e; fits = (graphic_no_feed w g, graphic_utf8 w g) }
 
 -- ---- tables

@@ -7,21 +7,24 @@ use Rattle.std.proofs.Math.Utf8.{scalars}
 use Rattle.std.proofs.lemmas.Bool.{false≢true}
 use Rattle.std.proofs.lemmas.Bool.Decides.{nat_tests}
 use Rattle.std.proofs.lemmas.Str.{scalars-chars, encodes-chars, chars-nil}
-use Rattle.rhai_lines.specs.Words.{Left, Word, behind}
-use Rattle.rhai_lines.specs.Rests.{Rest, one, before, joined, a_text, a_char, a_blob, text_words, has_feed}
+use Rattle.rhai_lines.specs.Words.{Left}
+use Rattle.rhai_lines.specs.Vocabulary.{Word}
+use Rattle.rhai_lines.specs.Spelling.{behind, spells, writes, joined, text_words, has_feed, spoken, IsLineOf}
+use Rattle.rhai_lines.specs.Arguments.{Arguments, one, before, a_text, a_char, a_blob}
+use Rattle.rhai_lines.specs.Cursor.{Adds, AddsLine}
 use Rattle.rhai_lines.specs.Printed.{byte_text}
-use Rattle.rhai_lines.specs.Forms.{spoken}
-use Rattle.rhai_lines.specs.Cursor.{Adds}
+use Rattle.rhai_lines.specs.Verbs.{form_of}
+use Rattle.rhai_run.specs.declared.command.Command.{Command}
 
 -- a text, and behind it what is left
 abbrev written : List ℕ → Option Left → Option (List ℕ)
 written verb left = option_map (λ l. verb ++ behind l) left
 
--- a word, and then what says the rest
-pub before_added : {A B C : Type 0} (r : Result Bool AllocError) (verb : List ℕ) (p : Word A) (next : Rest B) (join : A → B → C) (parts : C → A × B) (c : C) (old mid new : List ℕ)
-    → IsSomeAnd (spoken verb (one p) (parts c).0) (λ bytes. mid ≡ old ++ bytes) → Adds r (spoken [] next (parts c).1) mid new → Adds r (spoken verb (before p next join parts) c) old new
-unfolding spoken one
-before_added r verb p next join parts c old mid new = by r (p.spells (parts c).0) (next.spells (parts c).1)
+-- a word, and then what stands behind it
+pub before_added : {A B : Type 0} (r : Result Bool AllocError) (verb : List ℕ) (p : Word A) (more : Arguments B) (c : A × B) (old mid new : List ℕ)
+    → IsSomeAnd (spoken verb (one p) c.0) (λ bytes. mid ≡ old ++ bytes) → Adds r (spoken [] more c.1) mid new → Adds r (spoken verb (before p more) c) old new
+unfolding spoken writes
+before_added r verb p more c old mid new = by r (spells p c.0) (writes more c.1)
   where
     by : (r : Result Bool AllocError) (u : Option (List ℕ)) (v : Option Left) → IsSomeAnd (written verb (option_map Some u)) (λ bytes. mid ≡ old ++ bytes) → Adds r (written [] v) mid new → Adds r (written verb (joined u v)) old new
     by r None v h k = absurd h
@@ -31,13 +34,25 @@ before_added r verb p next join parts c old mid new = by r (p.spells (parts c).0
     by (Ok false) (Some w) (Some l) h k = cc
     by (Err e) (Some w) v h k = tt
 
-pub before_none : {A B C : Type 0} (verb : List ℕ) (p : Word A) (next : Rest B) (join : A → B → C) (parts : C → A × B) (c : C) → spoken verb (one p) (parts c).0 ≡ None → spoken verb (before p next join parts) c ≡ None
-unfolding spoken one
-before_none verb p next join parts c = by (p.spells (parts c).0) (next.spells (parts c).1)
+pub before_none : {A B : Type 0} (verb : List ℕ) (p : Word A) (more : Arguments B) (c : A × B) → spoken verb (one p) c.0 ≡ None → spoken verb (before p more) c ≡ None
+unfolding spoken writes
+before_none verb p more c = by (spells p c.0) (writes more c.1)
   where
     by : (u : Option (List ℕ)) (v : Option Left) → written verb (option_map Some u) ≡ None → written verb (joined u v) ≡ None
     by None v e = refl
     by (Some w) v e = cc
+
+-- A verb is shown, and then the words of values of which its form makes the command: the line of the command.
+pub adds_line : (verb shown : List ℕ) (values : (form_of verb).Values) (c : Command) (r : Result Bool AllocError) (old new : List ℕ)
+    → shown ≡ verb → Adds r (spoken shown (form_of verb).arguments values) old new → (form_of verb).make values ≡ c → AddsLine r c old new
+adds_line verb shown values c r old new s h m = by r (spoken verb (form_of verb).arguments values) refl (rw s at h)
+  where
+    by : (r : Result Bool AllocError) (o : Option (List ℕ)) → spoken verb (form_of verb).arguments values ≡ o → Adds r o old new → AddsLine r c old new
+    by (Ok true) None k h = absurd h
+    by (Ok true) (Some line) k h = (line, (verb, values, m, sym k), h)
+    by (Ok false) None k h = (verb, values, m, sym k)
+    by (Ok false) (Some line) k h = cc
+    by (Err e) o k h = tt
 
 -- a text: what is left for its characters
 pub text_is : (text : List ℕ) → IsUtf8 text → (length text == 0) ≡ false → text_words (chars text) ≡ (if not (has_feed text) then Some (Some text) else None)
@@ -54,20 +69,20 @@ text_is text u n = by (chars text) refl
         ap₂ (λ x y. if x && not (has_feed y) then Some (Some y) else None) s t
 
 pub empty_text_is : (verb text : List ℕ) → (length text == 0) ≡ true → spoken verb a_text (chars text) ≡ Some verb
-unfolding spoken a_text
+unfolding spoken writes
 empty_text_is verb [] e = ap (λ t. written verb (text_words t)) chars-nil ∙ ap Some (append-nil verb)
 empty_text_is verb (b ∷ bs) e = let f : suc (length bs) ≡ 0 = grind (arith, nat_tests, e) in absurd (omega (arith, f))
 
 pub some_text_is : (verb text : List ℕ) → IsUtf8 text → (length text == 0) ≡ false → has_feed text ≡ false → spoken verb a_text (chars text) ≡ Some (verb ++ 32 ∷ text)
-unfolding spoken a_text
+unfolding spoken writes
 some_text_is verb text u n e = ap (written verb) (text_is text u n ∙ ap (λ t. if not t then Some (Some text) else None) e)
 
 pub fed_text_is : (verb text : List ℕ) → IsUtf8 text → (length text == 0) ≡ false → has_feed text ≡ true → spoken verb a_text (chars text) ≡ None
-unfolding spoken a_text
+unfolding spoken writes
 fed_text_is verb text u n e = ap (written verb) (text_is text u n ∙ ap (λ t. if not t then Some (Some text) else None) e)
 
 pub character_is : (verb : List ℕ) (c : ℕ) → spoken verb a_char c ≡ spoken verb a_text (c ∷ [])
-unfolding spoken a_text a_char
+unfolding spoken writes
 character_is verb c = refl
 
 -- bytes: each of them has two digits
@@ -79,6 +94,6 @@ each_fits (b ∷ bs) h =
     ap₂ (λ x y. x && y) t (each_fits bs (λ i. h (suc i)))
 
 pub blob_is : (verb bytes : List ℕ) → ((i : ℕ) → Fits w8 (slice_index_or bytes i 0)) → (length bytes == 0) ≡ false → spoken verb a_blob bytes ≡ Some (verb ++ 32 ∷ flat_map byte_text bytes)
-unfolding spoken a_blob
+unfolding spoken writes
 blob_is verb [] h n = cc n
 blob_is verb (b ∷ bs) h n = ap (λ t. written verb (if t then Some (Some (flat_map byte_text (b ∷ bs))) else None)) (each_fits (b ∷ bs) h)

@@ -8,10 +8,11 @@ use Rattle.std.proofs.lemmas.List.Elements.{All-from_get_or}
 use Rattle.std.proofs.lemmas.List.Splits.{slice_split_first, slice_split_none}
 use Rattle.std.proofs.lemmas.List.Sums.{fails_before_first}
 use Rattle.rhai_lines.specs.Words.{Left, is_space, word_of, left_of, words_of}
-use Rattle.rhai_lines.specs.Rests.{each_of, first_says, list_of}
+use Rattle.rhai_lines.specs.Arguments.{each_of}
+use Rattle.rhai_lines.specs.Memory.{first_says}
+use Rattle.rhai_lines.specs.Cursor.{Yields, LacksItems}
 use Rattle.rhai_lines.specs.declared.words.NoCommand.{NoCommand}
 use Rattle.rhai_lines.specs.declared.words.NoCommand.TheVariants.{BadLine, Memory}
-use Rattle.rhai_lines.specs.Cursor.{Yields, Lacks}
 
 -- how much is left
 abbrev pub left_len : Left → ℕ
@@ -77,9 +78,9 @@ said-some None h = absurd h
 said-some (Some a) h = refl
 
 -- why a list ends at a word
-pub lacks : {A : Type 0} (says : List ℕ → Option A) (spells : A → Option (List ℕ)) (e : NoCommand) (all left : Left) (text word : List ℕ) (found : List A) → each_of says (words_of all) ≡ option_map (λ more. found ++ more) (each_of says (words_of left)) → (first_says says all ≡ false → left ≡ all) → left ≡ Some text → word ≡ word_of text → Yields (Err e) (says word) (λ a. true) → Lacks e (list_of says spells) all
-lacks says spells BadLine all left text word found k h l w y = found-none says (each_of says (words_of all)) left text word found k l w y
-lacks says spells Memory all left text word found k h l w y = first-said says all left text word h l w (said-some (says word) y)
+pub lacks : {A : Type 0} (says : List ℕ → Option A) (e : NoCommand) (all left : Left) (text word : List ℕ) (found : List A) → each_of says (words_of all) ≡ option_map (λ more. found ++ more) (each_of says (words_of left)) → (first_says says all ≡ false → left ≡ all) → left ≡ Some text → word ≡ word_of text → Yields (Err e) (says word) (λ a. true) → LacksItems e says all
+lacks says BadLine all left text word found k h l w y = found-none says (each_of says (words_of all)) left text word found k l w y
+lacks says Memory all left text word found k h l w y = first-said says all left text word h l w (said-some (says word) y)
 
 pub lacks-room : {A : Type 0} (says : List ℕ → Option A) (a : A) (all left : Left) (text word : List ℕ) → (first_says says all ≡ false → left ≡ all) → left ≡ Some text → word ≡ word_of text → says word ≡ Some a → first_says says all ≡ true
 lacks-room says a all left text word h l w e = first-said says all left text word h l w (ap is_some e)

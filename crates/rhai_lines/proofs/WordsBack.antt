@@ -12,17 +12,21 @@ use Rattle.rhai_text.specs.contracts.token.Token as token
 use Rattle.rhai_text.specs.declared.token.Token.{Token}
 use Rattle.rhai_value.specs.Kinds.{one_type}
 use Rattle.rhai_value.specs.Types.{is_type}
-use Rattle.rhai_lines.specs.Words.{Left, Word, behind, next_word, a_word, told, named, is_name, is_name_byte, name_of, a_name, truths, a_truth}
-use Rattle.rhai_lines.specs.Numbers.{whole_number_of, number_of, below, as_unsigned, as_signed, unsigned_of, signed_of, unsigned_word, signed_word, a_position, a_bit, an_int, a_tag}
+use Rattle.rhai_value.specs.declared.type_id.TypeId.{TypeId}
+use Rattle.rhai_lines.specs.Words.{Left, next_word, and_then, named, is_name, is_name_byte, name_of, truths}
+use Rattle.rhai_lines.specs.Vocabulary.{Word, reads, a_name, a_truth, a_position, a_bit, an_int, a_tag, kinds, operators, a_kind, a_token, question_by, a_question, scanner_by, a_scanner, host_of, a_host, place_of, a_place}
+use Rattle.rhai_lines.specs.Spelling.{behind, spells, called, unsigned_word, signed_word, is_token, question_words, scanner_words, host_words, place_word, with_word}
+use Rattle.rhai_lines.specs.Numbers.{whole_number_of, number_of, below, as_unsigned, as_signed, unsigned_of, signed_of}
 use Rattle.rhai_run.specs.declared.command.Question.{Question}
 use Rattle.rhai_run.specs.declared.command.Question.TheVariants as question
+use Rattle.rhai_run.specs.declared.command.Scanner.{Scanner}
 use Rattle.rhai_run.specs.declared.command.Scanner.TheVariants.{Tags, Zero, NoShare, Cut}
+use Rattle.rhai_run.specs.declared.command.Place.{Place}
 use Rattle.rhai_run.specs.declared.command.Place.TheVariants as place
 use Rattle.rhai_value.specs.declared.host.Host.{Host}
 use Rattle.rhai_value.specs.declared.host.Host.TheVariants as host
-use Rattle.rhai_lines.specs.Vocabulary.{kinds, operators, is_token, a_kind, a_token, question_by, question_words, a_question, scanner_by, scanner_words, a_scanner, host_of, host_words, a_host, place_of, a_place, with_word, words_by}
 use Rattle.rhai_lines.proofs.Names.{name_graphic}
-use Rattle.rhai_lines.proofs.MarkedWords.{no_digits}
+use Rattle.rhai_lines.proofs.Sigils.{no_digits}
 use Rattle.rhai_lines.proofs.SaysBack.{the_same, graphic, is_graphic, both, SaysBack, Back, next_is, one_back, called_back, graphic_no_feed, graphic_utf8, has_feed_append, utf8_behind}
 
 -- ---- kinds and operators
@@ -30,13 +34,13 @@ use Rattle.rhai_lines.proofs.SaysBack.{the_same, graphic, is_graphic, both, Says
 one_token : (a b : Token) → is_token a b ≡ true → a ≡ b
 one_token a b e = same_true token.the_type tt a b e
 
-pub kind_back : Back a_kind
-unfolding a_kind kinds
-kind_back a w e = let h = called_back is_type one_type kinds kinds a w refl e in one_back a_kind (named kinds) a w (λ left. refl) h.1 h.0
+kind_named : (a : TypeId) (w : List ℕ) → called is_type kinds a ≡ Some w → (named kinds w ≡ Some a) × (graphic w ≡ true)
+unfolding kinds
+kind_named a w e = called_back is_type one_type kinds kinds a w refl e
 
-pub token_back : Back a_token
-unfolding a_token operators
-token_back a w e = let h = called_back is_token one_token operators operators a w refl e in one_back a_token (named operators) a w (λ left. refl) h.1 h.0
+token_named : (a : Token) (w : List ℕ) → called is_token operators a ≡ Some w → (named operators w ≡ Some a) × (graphic w ≡ true)
+unfolding operators
+token_named a w e = called_back is_token one_token operators operators a w refl e
 
 -- ---- names and booleans
 
@@ -49,14 +53,9 @@ named_back a w e = by (is_name a) refl
         (subst (λ x. name_of x ≡ Some a) is (ap (λ x. if x then Some a else None) f), subst (λ x. graphic x ≡ true) is (name_graphic a (both (nat_lt 0 (length a)) (list_all is_name_byte a) f).1))
     by false f = cc (sym (ap (λ x. if x then Some a else None) f) ∙ e)
 
-pub name_back : Back a_name
-unfolding a_name
-name_back a w e = let h = named_back a w e in one_back a_name name_of a w (λ left. refl) h.1 h.0
-
-pub truth_back : Back a_truth
-unfolding a_truth
-truth_back true w e = subst (SaysBack a_truth true) (the_same e) (one_back a_truth (named truths) true (codes "true") (λ left. refl) refl refl)
-truth_back false w e = subst (SaysBack a_truth false) (the_same e) (one_back a_truth (named truths) false (codes "false") (λ left. refl) refl refl)
+truth_named : (b : Bool) (w : List ℕ) → Some (if b then codes "true" else codes "false") ≡ Some w → (named truths w ≡ Some b) × (graphic w ≡ true)
+truth_named true w e = subst (λ x. (named truths x ≡ Some true) × (graphic x ≡ true)) (the_same e) (refl, refl)
+truth_named false w e = subst (λ x. (named truths x ≡ Some false) × (graphic x ≡ true)) (the_same e) (refl, refl)
 
 -- ---- numbers
 
@@ -129,22 +128,6 @@ signed_back bits (negsuc n) w h e = by (nat_lt n (2 ^ bits)) refl
         spelled_back (as_signed bits) (negsuc n) (negsuc n) (45 ∷ decimal (suc n)) w (minus_says (suc n) (wide bits n h f)) b (the_same (sym (ap (option_map signed_decimal) b) ∙ e))
     by false f = cc (sym (ap (λ x. option_map signed_decimal (option_map negsuc (if x then Some n else None))) f) ∙ e)
 
-pub position_back : Back a_position
-unfolding a_position
-position_back n w e = let h = unsigned_back 64 n w refl e in one_back a_position (unsigned_of 64) n w (λ left. refl) h.1 h.0
-
-pub bit_back : Back a_bit
-unfolding a_bit
-bit_back n w e = let h = unsigned_back 8 n w refl e in one_back a_bit (unsigned_of 8) n w (λ left. refl) h.1 h.0
-
-pub int_back : Back an_int
-unfolding an_int
-int_back z w e = let h = signed_back 63 z w refl e in one_back an_int (signed_of 63) z w (λ left. refl) h.1 h.0
-
-pub tag_back : Back a_tag
-unfolding a_tag
-tag_back z w e = let h = signed_back 31 z w refl e in one_back a_tag (signed_of 31) z w (λ left. refl) h.1 h.0
-
 -- ---- places
 
 place_of-number : (w : List ℕ) (n : ℕ) → unsigned_of 64 w ≡ Some n → place_of w ≡ Some (place.Hand n)
@@ -158,88 +141,79 @@ place_of-number (b ∷ bs) n e = by (b == 64) refl
         cc (sym none ∙ subst (λ c. unsigned_of 64 (c ∷ bs) ≡ Some n) is e)
     by false f = ap (λ t. if t then option_map place.Entry (name_of bs) else option_map place.Hand (unsigned_of 64 (b ∷ bs))) f ∙ ap (option_map place.Hand) e
 
-pub place_back : Back a_place
-unfolding a_place a_position a_name
-place_back (place.Hand n) w e = let h = unsigned_back 64 n w refl e in one_back a_place place_of (place.Hand n) w (λ left. refl) h.1 (place_of-number w n h.0)
-place_back (place.Entry name) w e = by (name_of name) refl
+place_named : (p : Place) (w : List ℕ) → place_word p ≡ Some w → (place_of w ≡ Some p) × (graphic w ≡ true)
+place_named (place.Hand n) w e = let h = unsigned_back 64 n w refl e in (place_of-number w n h.0, h.1)
+place_named (place.Entry name) w e = by (name_of name) refl
   where
-    by : (o : Option (List ℕ)) → name_of name ≡ o → SaysBack a_place (place.Entry name) w
+    by : (o : Option (List ℕ)) → name_of name ≡ o → (place_of w ≡ Some (place.Entry name)) × (graphic w ≡ true)
     by None f = cc (sym (ap (option_map (λ n. 64 ∷ n)) f) ∙ e)
     by (Some n) f =
         let is : 64 ∷ n ≡ w = the_same (sym (ap (option_map (λ n. 64 ∷ n)) f) ∙ e) in
         let h = named_back name n f in
-        subst (SaysBack a_place (place.Entry name)) is (one_back a_place place_of (place.Entry name) (64 ∷ n) (λ left. refl) h.1 (ap (option_map place.Entry) h.0))
+        subst (λ x. (place_of x ≡ Some (place.Entry name)) × (graphic x ≡ true)) is (ap (option_map place.Entry) h.0, h.1)
 
 -- ---- a word, and the words of one more value behind it
 
--- what a first word makes of the words behind it
-pub first_back : {A B : Type 0} (by : List ℕ → Left → Option (B × Left)) (spells : B → Option (List ℕ)) (more : Word A) (make : A → B) (front w : List ℕ) (a : A) → graphic front ≡ true
-    → ((left : Left) → by front left ≡ told (more.reads left) (λ x rest. Some (make x, rest))) → SaysBack more a w → SaysBack (words_by by spells) (make a) (front ++ 32 ∷ w)
-first_back by spells more make front w a g e h = record {
+-- what a first word makes of the word behind it
+first_back : {A B : Type 0} (word : Word B) (by : List ℕ → Left → Option (B × Left)) (value : List ℕ → Option A) (make : A → B) (front w : List ℕ) (a : A) → graphic front ≡ true
+    → ((left : Left) → reads word left ≡ and_then (next_word (λ x. Some x) left) by) → ((left : Left) → by front left ≡ and_then (next_word value left) (λ x rest. Some (make x, rest)))
+    → (value w ≡ Some a) × (graphic w ≡ true) → SaysBack word (make a) (front ++ 32 ∷ w)
+first_back word by value make front w a g is e h = record {
   back = λ left.
-      ap (λ x. told (next_word (λ word. Some word) (Some x)) by) (append_assoc front (32 ∷ w) (behind left))
-      ∙ ap (λ x. told x by) (next_is (λ word. Some word) front front (Some (w ++ behind left)) g refl)
+      is (Some ((front ++ 32 ∷ w) ++ behind left))
+      ∙ ap (λ x. and_then (next_word (λ y. Some y) (Some x)) by) (append_assoc front (32 ∷ w) (behind left))
+      ∙ ap (λ x. and_then x by) (next_is (λ y. Some y) front front (Some (w ++ behind left)) g refl)
       ∙ e (Some (w ++ behind left))
-      ∙ ap (λ x. told x (λ y rest. Some (make y, rest))) (h.back left);
-  fits = (has_feed_append front (32 ∷ w) (graphic_no_feed front g) h.fits.0, utf8_behind front w (graphic_utf8 front g) h.fits.1);
+      ∙ ap (λ x. and_then x (λ y rest. Some (make y, rest))) (next_is value a w left h.1 h.0);
+  fits = (has_feed_append front (32 ∷ w) (graphic_no_feed front g) (graphic_no_feed w h.1), utf8_behind front w (graphic_utf8 front g) (graphic_utf8 w h.1));
 }
 
 -- a first word alone
-pub alone_back : {B : Type 0} (by : List ℕ → Left → Option (B × Left)) (spells : B → Option (List ℕ)) (front : List ℕ) (b : B) → graphic front ≡ true → ((left : Left) → by front left ≡ Some (b, left)) → SaysBack (words_by by spells) b front
-alone_back by spells front b g e = record {
-  back = λ left. ap (λ x. told x by) (next_is (λ word. Some word) front front left g refl) ∙ e left;
+alone_back : {B : Type 0} (word : Word B) (by : List ℕ → Left → Option (B × Left)) (front w : List ℕ) (b : B) → graphic front ≡ true
+    → ((left : Left) → reads word left ≡ and_then (next_word (λ x. Some x) left) by) → ((left : Left) → by front left ≡ Some (b, left)) → Some front ≡ Some w → SaysBack word b w
+alone_back word by front w b g is e f = subst (SaysBack word b) (the_same f) (record {
+  back = λ left. is (Some (front ++ behind left)) ∙ ap (λ x. and_then x by) (next_is (λ y. Some y) front front left g refl) ∙ e left;
   fits = (graphic_no_feed front g, graphic_utf8 front g);
-}
+})
 
-same_told : {B : Type 0} (o : Option (B × Left)) → o ≡ told o (λ x rest. Some (x, rest))
-same_told None = refl
-same_told (Some p) = refl
+same_read : {B : Type 0} (o : Option (B × Left)) → o ≡ and_then o (λ x rest. Some (x, rest))
+same_read None = refl
+same_read (Some p) = refl
 
-with_back : {A : Type 0} (spells : A → Option (List ℕ)) (front w : List ℕ) (a : A) (P : List ℕ → Type 0) → with_word front (spells a) ≡ Some w → ((v : List ℕ) → spells a ≡ Some v → P (front ++ 32 ∷ v)) → P w
-with_back spells front w a P e go = by (spells a) refl
+with_back : {A : Type 0} (spelled : A → Option (List ℕ)) (front w : List ℕ) (a : A) (P : List ℕ → Type 0) → with_word front (spelled a) ≡ Some w → ((v : List ℕ) → spelled a ≡ Some v → P (front ++ 32 ∷ v)) → P w
+with_back spelled front w a P e go = by (spelled a) refl
   where
-    by : (o : Option (List ℕ)) → spells a ≡ o → P w
+    by : (o : Option (List ℕ)) → spelled a ≡ o → P w
     by None f = cc (sym (ap (with_word front) f) ∙ e)
     by (Some v) f = subst P (the_same (sym (ap (with_word front) f) ∙ e)) (go v f)
 
-plain_question : (q : Question) (word w : List ℕ) → graphic word ≡ true → ((left : Left) → question_by word left ≡ Some (q, left)) → Some word ≡ Some w → SaysBack a_question q w
-unfolding a_question
-plain_question q word w g h e = subst (SaysBack a_question q) (the_same e) (alone_back question_by question_words word q g h)
+-- what a first word and the word behind it are written for
+second_back : {A B : Type 0} (word : Word B) (by : List ℕ → Left → Option (B × Left)) (value : List ℕ → Option A) (spelled : A → Option (List ℕ)) (make : A → B) (front w : List ℕ) (a : A) → graphic front ≡ true
+    → ((left : Left) → reads word left ≡ and_then (next_word (λ x. Some x) left) by) → ((left : Left) → by front left ≡ and_then (next_word value left) (λ x rest. Some (make x, rest)))
+    → ((v : List ℕ) → spelled a ≡ Some v → (value v ≡ Some a) × (graphic v ≡ true)) → with_word front (spelled a) ≡ Some w → SaysBack word (make a) w
+second_back word by value spelled make front w a g is e h f = with_back spelled front w a (SaysBack word (make a)) f (λ v k. first_back word by value make front v a g is e (h v k))
 
-pub question_back : Back a_question
-unfolding a_question
-question_back question.Tag w e = plain_question _ (codes "tag") w refl (λ left. refl) e
-question_back question.Variant w e = plain_question _ (codes "variant") w refl (λ left. refl) e
-question_back question.Shared w e = plain_question _ (codes "shared") w refl (λ left. refl) e
-question_back question.ReadOnly w e = plain_question _ (codes "readonly") w refl (λ left. refl) e
-question_back question.Locked w e = plain_question _ (codes "locked") w refl (λ left. refl) e
-question_back question.TypeName w e = plain_question _ (codes "type") w refl (λ left. refl) e
-question_back (question.Held k) w e = with_back a_kind.spells (codes "held") w k (SaysBack a_question (question.Held k)) e (λ v f. first_back question_by question_words a_kind question.Held (codes "held") v k refl (λ left. refl) (kind_back k v f))
-question_back question.Hashable w e = plain_question _ (codes "hashable") w refl (λ left. refl) e
-question_back (question.Is k) w e = with_back a_kind.spells (codes "is") w k (SaysBack a_question (question.Is k)) e (λ v f. first_back question_by question_words a_kind question.Is (codes "is") v k refl (λ left. refl) (kind_back k v f))
-question_back question.Unit w e = plain_question _ (codes "unit") w refl (λ left. refl) e
-question_back question.Int w e = plain_question _ (codes "int") w refl (λ left. refl) e
-question_back question.Bool w e = plain_question _ (codes "bool") w refl (λ left. refl) e
-question_back question.Char w e = plain_question _ (codes "char") w refl (λ left. refl) e
+question_back : (q : Question) (w : List ℕ) → question_words q ≡ Some w → SaysBack a_question q w
+unfolding reads
+question_back (question.Held k) w e = second_back a_question question_by (named kinds) (called is_type kinds) question.Held (codes "held") w k refl (λ left. refl) (λ left. refl) (kind_named k) e
+question_back (question.Is k) w e = second_back a_question question_by (named kinds) (called is_type kinds) question.Is (codes "is") w k refl (λ left. refl) (λ left. refl) (kind_named k) e
+question_back q w e = alone_back a_question question_by _ w q refl (λ left. refl) (λ left. refl) e
 
-pub scanner_back : Back a_scanner
-unfolding a_scanner
-scanner_back (Tags t) w e = with_back a_tag.spells (codes "tags") w t (SaysBack a_scanner (Tags t)) e (λ v f. first_back scanner_by scanner_words a_tag Tags (codes "tags") v t refl (λ left. refl) (tag_back t v f))
-scanner_back Zero w e = subst (SaysBack a_scanner Zero) (the_same e) (alone_back scanner_by scanner_words (codes "zero") Zero refl (λ left. refl))
-scanner_back NoShare w e = subst (SaysBack a_scanner NoShare) (the_same e) (alone_back scanner_by scanner_words (codes "noshare") NoShare refl (λ left. refl))
-scanner_back (Cut n) w e = with_back a_position.spells (codes "cut") w n (SaysBack a_scanner (Cut n)) e (λ v f. first_back scanner_by scanner_words a_position Cut (codes "cut") v n refl (λ left. refl) (position_back n v f))
+scanner_back : (s : Scanner) (w : List ℕ) → scanner_words s ≡ Some w → SaysBack a_scanner s w
+unfolding reads
+scanner_back (Tags t) w e = second_back a_scanner scanner_by (signed_of 31) (signed_word 31) Tags (codes "tags") w t refl (λ left. refl) (λ left. refl) (λ v. signed_back 31 t v refl) e
+scanner_back (Cut n) w e = second_back a_scanner scanner_by (unsigned_of 64) (unsigned_word 64) Cut (codes "cut") w n refl (λ left. refl) (λ left. refl) (λ v. unsigned_back 64 n v refl) e
+scanner_back s w e = alone_back a_scanner scanner_by _ w s refl (λ left. refl) (λ left. refl) e
 
 -- a number of the host
-number_host : {N : Type 0} (says : List ℕ → Option N) (spells : N → Option (List ℕ)) (kind : List ℕ) (make : N → Host) (n : N) (w : List ℕ)
-    → ((v : List ℕ) → spells n ≡ Some v → (says v ≡ Some n) × (graphic v ≡ true)) → graphic kind ≡ true → ((word : List ℕ) → host_of kind word ≡ option_map make (says word)) → with_word kind (spells n) ≡ Some w → SaysBack a_host (make n) w
-unfolding a_host
-number_host says spells kind make n w h g is e = with_back spells kind w n (SaysBack a_host (make n)) e (λ v f.
+number_host : {N : Type 0} (value : List ℕ → Option N) (spelled : N → Option (List ℕ)) (kind : List ℕ) (make : N → Host) (n : N) (w : List ℕ)
+    → ((v : List ℕ) → spelled n ≡ Some v → (value v ≡ Some n) × (graphic v ≡ true)) → graphic kind ≡ true → ((word : List ℕ) → host_of kind word ≡ option_map make (value word)) → with_word kind (spelled n) ≡ Some w → SaysBack a_host (make n) w
+unfolding reads
+number_host value spelled kind make n w h g is e = with_back spelled kind w n (SaysBack a_host (make n)) e (λ v f.
     let k = h v f in
-    let more : Word Host = a_word (host_of kind) (λ x. None) in
-    first_back (λ k. next_word (host_of k)) host_words more (λ x. x) kind v (make n) g (λ left. same_told (next_word (host_of kind) left)) (one_back more (host_of kind) (make n) v (λ left. refl) k.1 (is v ∙ ap (option_map make) k.0)))
+    first_back a_host (λ k. next_word (host_of k)) (host_of kind) (λ x. x) kind v (make n) g (λ left. refl) (λ left. same_read (next_word (host_of kind) left)) (is v ∙ ap (option_map make) k.0, k.1))
 
-pub host_back : Back a_host
-unfolding a_host
+host_back : (h : Host) (w : List ℕ) → host_words h ≡ Some w → SaysBack a_host h w
 host_back (host.U8 n) w e = number_host (unsigned_of 8) (unsigned_word 8) (codes "u8") host.U8 n w (λ v. unsigned_back 8 n v refl) refl (λ v. refl) e
 host_back (host.U16 n) w e = number_host (unsigned_of 16) (unsigned_word 16) (codes "u16") host.U16 n w (λ v. unsigned_back 16 n v refl) refl (λ v. refl) e
 host_back (host.U32 n) w e = number_host (unsigned_of 32) (unsigned_word 32) (codes "u32") host.U32 n w (λ v. unsigned_back 32 n v refl) refl (λ v. refl) e
@@ -251,3 +225,19 @@ host_back (host.I32 z) w e = number_host (signed_of 31) (signed_word 31) (codes 
 host_back (host.I128 z) w e = number_host (signed_of 127) (signed_word 127) (codes "i128") host.I128 z w (λ v. signed_back 127 z v refl) refl (λ v. refl) e
 host_back (host.ExclusiveRange r) w e = cc e
 host_back (host.InclusiveRange r) w e = cc e
+
+-- each kind of word
+pub word_back : {A : Type 0} (word : Word A) → Back word
+unfolding reads spells
+word_back a_truth a w e = let h = truth_named a w e in one_back a_truth (named truths) a w (λ left. refl) h.1 h.0
+word_back a_position a w e = let h = unsigned_back 64 a w refl e in one_back a_position (unsigned_of 64) a w (λ left. refl) h.1 h.0
+word_back a_bit a w e = let h = unsigned_back 8 a w refl e in one_back a_bit (unsigned_of 8) a w (λ left. refl) h.1 h.0
+word_back an_int a w e = let h = signed_back 63 a w refl e in one_back an_int (signed_of 63) a w (λ left. refl) h.1 h.0
+word_back a_tag a w e = let h = signed_back 31 a w refl e in one_back a_tag (signed_of 31) a w (λ left. refl) h.1 h.0
+word_back a_kind a w e = let h = kind_named a w e in one_back a_kind (named kinds) a w (λ left. refl) h.1 h.0
+word_back a_token a w e = let h = token_named a w e in one_back a_token (named operators) a w (λ left. refl) h.1 h.0
+word_back a_question a w e = question_back a w e
+word_back a_scanner a w e = scanner_back a w e
+word_back a_host a w e = host_back a w e
+word_back a_place a w e = let h = place_named a w e in one_back a_place place_of a w (λ left. refl) h.1 h.0
+word_back a_name a w e = let h = named_back a w e in one_back a_name name_of a w (λ left. refl) h.1 h.0

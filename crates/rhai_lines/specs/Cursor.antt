@@ -1,49 +1,99 @@
 -- What the reader of a line owes, and what its writer.
-use Rattle.std.specs.Prelude.{◌≡◌, ℕ, ◌++◌, ⊤, Bool, true, false, List, Option, Some, None, IsSomeAnd, Result, Ok, Err}
+use Rattle.std.specs.Prelude.{◌≡◌, ℕ, zero, suc, ◌&&◌, ◌++◌, ⊤, Bool, true, false, List, [], ◌∷◌, Option, Some, None, IsSomeAnd, Result, Ok, Err, map}
 use Rattle.std.specs.Borrow.{Bor}
+use Rattle.std.specs.Cmp.Lexicographic.{slice_cmp}
+use Rattle.std.specs.Ordering.{nat_cmp, is_lt}
 use Rattle.std.specs.declared.alloc.AllocError.{AllocError}
+use denote.Enum.Declared.{tag_of}
 use Rattle.rhai_run.specs.declared.command.Command.{Command}
+use Rattle.rhai_lines.specs.contracts.verbs.Verb as verb
+use Rattle.rhai_lines.specs.declared.verbs.Verb.{Verb}
+use Rattle.rhai_lines.specs.declared.verbs.TheConstants.{VERBS}
 use Rattle.rhai_lines.specs.declared.words.NoCommand.{NoCommand}
 use Rattle.rhai_lines.specs.declared.words.NoCommand.TheVariants.{BadLine, Memory}
-use Rattle.rhai_lines.specs.Words.{Left, Word}
-use Rattle.rhai_lines.specs.Rests.{Rest}
-use Rattle.rhai_lines.specs.Forms.{Form, said}
+use Rattle.rhai_lines.specs.Words.{Left, words_of}
+use Rattle.rhai_lines.specs.Vocabulary.{Word, reads}
+use Rattle.rhai_lines.specs.Arguments.{Arguments, says, each_of}
+use Rattle.rhai_lines.specs.Verbs.{said_by}
+use Rattle.rhai_lines.specs.Memory.{takes_for, takes, takes_by, first_says}
+use Rattle.rhai_lines.specs.Spelling.{IsLineOf}
 
 -- what is left behind the words that are read, as its bytes
 abbrev pub left_in : Option (Bor (List ℕ)) → Left
 left_in None = None
 left_in (Some text) = Some text.now
 
+-- the rows of a table as the code has it
+abbrev pub rows : {A : Type 0} → List (Bor (List ℕ) × A) → List (List ℕ × A)
+rows table = map (λ row. (row.0.now, row.1)) table
+
+-- each text of a table is below the next one
+abbrev pub rises : {A : Type 0} → List (List ℕ × A) → Bool
+rises [] = true
+rises (row ∷ []) = true
+rises (row ∷ next ∷ more) = is_lt (slice_cmp nat_cmp row.0 next.0) && rises (next ∷ more)
+
+-- the verbs as the code has them, and the text of one
+unfoldable pub verb_rows : List (List ℕ × Verb)
+verb_rows = map (λ row. (row.0.now, row.1)) VERBS
+
+abbrev pub text_at : List (List ℕ × Verb) → ℕ → List ℕ
+text_at [] n = []
+text_at (row ∷ more) zero = row.0
+text_at (row ∷ more) (suc n) = text_at more n
+
+-- (by the number of the verb, so that nothing unfolds where the verb isn't known)
+abbrev pub text_by : ℕ → List ℕ
+text_by zero = text_at verb_rows zero
+text_by (suc n) = text_at verb_rows (suc n)
+
+unfoldable pub verb_text : Verb → List ℕ
+verb_text v = text_by (tag_of verb.the_type v)
+
 -- A word says the value; or it says none; or memory was refused for the value that it says.
 abbrev pub Yields : {A : Type 0} → Result A NoCommand → Option A → (A → Bool) → Type 0
-Yields (Ok a) said takes = said ≡ Some a
-Yields (Err BadLine) said takes = said ≡ None
-Yields (Err Memory) said takes = IsSomeAnd said (λ a. takes a ≡ true)
+Yields (Ok a) value takes = value ≡ Some a
+Yields (Err BadLine) value takes = value ≡ None
+Yields (Err Memory) value takes = IsSomeAnd value (λ a. takes a ≡ true)
 
 -- The value is read off what is left, and this is left then; or there is none; or memory was refused for the value that is there.
 abbrev pub Reads : {A : Type 0} → Result (A × Option (Bor (List ℕ))) NoCommand → Word A → Left → Type 0
-Reads (Ok p) word left = word.reads left ≡ Some (p.0, left_in p.1)
-Reads (Err BadLine) word left = word.reads left ≡ None
-Reads (Err Memory) word left = IsSomeAnd (word.reads left) (λ p. word.takes p.0 ≡ true)
+Reads (Ok p) word left = reads word left ≡ Some (p.0, left_in p.1)
+Reads (Err BadLine) word left = reads word left ≡ None
+Reads (Err Memory) word left = IsSomeAnd (reads word left) (λ p. takes_for word p.0 ≡ true)
 
--- All that is left says no value; or memory was refused where it is taken.
-abbrev pub Lacks : {A : Type 0} → NoCommand → Rest A → Left → Type 0
-Lacks BadLine rest left = rest.says left ≡ None
-Lacks Memory rest left = rest.takes left ≡ true
+-- All that is left says no values; or memory was refused where it is taken.
+abbrev pub Lacks : {A : Type 0} → NoCommand → Arguments A → Left → Type 0
+Lacks BadLine arguments left = says arguments left ≡ None
+Lacks Memory arguments left = takes arguments left ≡ true
 
--- All that is left says the value; or there is none.
-abbrev pub Finds : {A : Type 0} → Result A NoCommand → Rest A → Left → Type 0
-Finds (Ok a) rest left = rest.says left ≡ Some a
-Finds (Err e) rest left = Lacks e rest left
+-- All that is left says the values, which the code has as a tuple; or there are none.
+abbrev pub FindsTuple : {T A : Type 0} → Result T NoCommand → (T → A) → Arguments A → Left → Type 0
+FindsTuple (Ok t) values arguments left = says arguments left ≡ Some (values t)
+FindsTuple (Err e) values arguments left = Lacks e arguments left
 
--- The form says the command; or there is no form, or what is left says nothing in it; or memory was refused where it is taken.
-abbrev pub Says : Result Command NoCommand → Option Form → Left → Type 0
-Says (Ok c) form left = IsSomeAnd form (λ f. f.says left ≡ Some c)
-Says (Err BadLine) form left = said form left ≡ None
-Says (Err Memory) form left = IsSomeAnd form (λ f. f.takes left ≡ true)
+abbrev pub Finds : {A : Type 0} → Result A NoCommand → Arguments A → Left → Type 0
+Finds result arguments left = FindsTuple result (λ a. a) arguments left
+
+-- The same of a list, a word of which says one item.
+abbrev pub LacksItems : {A : Type 0} → NoCommand → (List ℕ → Option A) → Left → Type 0
+LacksItems BadLine item left = each_of item (words_of left) ≡ None
+LacksItems Memory item left = first_says item left ≡ true
+
+-- The verb and what is left behind it say the command; or nothing; or memory was refused where it is taken.
+abbrev pub Says : Result Command NoCommand → List ℕ → Left → Type 0
+Says (Ok c) verb left = said_by verb left ≡ Some c
+Says (Err BadLine) verb left = said_by verb left ≡ None
+Says (Err Memory) verb left = takes_by verb left ≡ true
 
 -- The bytes of a value are added, where there are such.
 abbrev pub Adds : Result Bool AllocError → Option (List ℕ) → List ℕ → List ℕ → Type 0
-Adds (Ok true) said old new = IsSomeAnd said (λ bytes. new ≡ old ++ bytes)
-Adds (Ok false) said old new = said ≡ None
-Adds (Err e) said old new = ⊤
+Adds (Ok true) bytes old new = IsSomeAnd bytes (λ b. new ≡ old ++ b)
+Adds (Ok false) bytes old new = bytes ≡ None
+Adds (Err e) bytes old new = ⊤
+
+-- The line of a command is added, where there is one.
+abbrev pub AddsLine : Result Bool AllocError → Command → List ℕ → List ℕ → Type 0
+AddsLine (Ok true) c old new = (line : List ℕ) × IsLineOf c (Some line) × (new ≡ old ++ line)
+AddsLine (Ok false) c old new = IsLineOf c None
+AddsLine (Err e) c old new = ⊤

@@ -1,8 +1,10 @@
 pub mod Words
 pub mod Numbers
 pub mod Vocabulary
-pub mod Rests
-pub mod Forms
+pub mod Arguments
+pub mod Verbs
+pub mod Memory
+pub mod Spelling
 pub mod Cursor
 pub mod Printed
 pub mod Output

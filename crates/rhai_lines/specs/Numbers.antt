@@ -2,9 +2,7 @@
 use Rattle.std.specs.Prelude.{ℕ, ◌^◌, ℤ, pos, negsuc, neg_ℤ, ◌&&◌, ◌==◌, nat_lt, if◌then◌else◌, List, [], ◌∷◌, length, Option, Some, None, option_map, option_and_then}
 use Rattle.std.specs.List.{list_all}
 use Rattle.std.specs.Char.{is_ascii_digit}
-use Rattle.std.specs.Fmt.{decimal, signed_decimal}
 use Rattle.std.specs.Str.Parse.{digits_value}
-use Rattle.rhai_lines.specs.Words.{Word, a_word}
 
 -- one or more decimal digits, as a whole number
 abbrev pub whole_number_of : List ℕ → Option ℕ
@@ -38,23 +36,3 @@ unsigned_of bits word = option_and_then (as_unsigned bits) (number_of word)
 
 abbrev pub signed_of : ℕ → List ℕ → Option ℤ
 signed_of bits word = option_and_then (as_signed bits) (number_of word)
-
--- such a number as a word: its decimal digits, a minus before them where it is negative
-abbrev pub unsigned_word : ℕ → ℕ → Option (List ℕ)
-unsigned_word bits n = option_map decimal (below bits n)
-
-abbrev pub signed_word : ℕ → ℤ → Option (List ℕ)
-signed_word bits z = option_map signed_decimal (as_signed bits z)
-
--- a position or a count, a bit, an int, and a tag
-unfoldable pub a_position : Word ℕ
-a_position = a_word (unsigned_of 64) (unsigned_word 64)
-
-unfoldable pub a_bit : Word ℕ
-a_bit = a_word (unsigned_of 8) (unsigned_word 8)
-
-unfoldable pub an_int : Word ℤ
-an_int = a_word (signed_of 63) (signed_word 63)
-
-unfoldable pub a_tag : Word ℤ
-a_tag = a_word (signed_of 31) (signed_word 31)

@@ -6,7 +6,7 @@ use Rattle.rhai_run.specs.State.{State, empty_state}
 use Rattle.rhai_run.specs.Step.{step}
 use Rattle.rhai_run.specs.Machine.{replies}
 use Rattle.rhai_lines.specs.Printed.{printed}
-use Rattle.rhai_lines.specs.Forms.{command_of}
+use Rattle.rhai_lines.specs.Verbs.{command_of}
 
 -- lines without an empty one that stands last
 abbrev pub without_empty_rest : List (List ℕ) → List (List ℕ)
@@ -19,20 +19,16 @@ abbrev pub lines_of : List ℕ → List (List ℕ)
 lines_of input = without_empty_rest (slice_split (λ b. b == 10) input)
 
 -- what is written for a command or a line without one, and the world after it
-abbrev pub answer_to : State → Option Command → List ℕ
-answer_to w None = codes "refused BadLine"
-answer_to w (Some c) = printed (step w c).reply
-
-abbrev pub state_by : State → Option Command → State
-state_by w None = w
-state_by w (Some c) = (step w c).after
+abbrev pub answered : State → Option Command → List ℕ × State
+answered w None = (codes "refused BadLine", w)
+answered w (Some c) = (printed (step w c).reply, (step w c).after)
 
 -- the same for a line, whose answer a line feed ends
 abbrev pub line_answer : State → List ℕ → List ℕ
-line_answer w line = answer_to w (command_of line) ++ 10 ∷ []
+line_answer w line = (answered w (command_of line)).0 ++ 10 ∷ []
 
 abbrev pub line_state : State → List ℕ → State
-line_state w line = state_by w (command_of line)
+line_state w line = (answered w (command_of line)).1
 
 -- and for lines in turn
 abbrev pub answers_to_lines : State → List (List ℕ) → List ℕ
@@ -43,23 +39,23 @@ abbrev pub state_after_lines : State → List (List ℕ) → State
 state_after_lines w [] = w
 state_after_lines w (line ∷ lines) = state_after_lines (line_state w line) lines
 
--- what is written for an input that a world reads, and for its first n lines
+-- a new world without limits
+abbrev pub new_world : State
+new_world = empty_state (record { text = 0; items = 0 })
+
+-- what is written for an input that a new world reads, and for its first n lines
+abbrev pub output : List ℕ → List ℕ
+output input = answers_to_lines new_world (lines_of input)
+
+abbrev pub output_of_first : ℕ → List ℕ → List ℕ
+output_of_first n input = answers_to_lines new_world (take n (lines_of input))
+
+-- the same of an input that any world reads
 abbrev pub output_from : State → List ℕ → List ℕ
 output_from w input = answers_to_lines w (lines_of input)
 
 abbrev pub output_of_first_from : State → ℕ → List ℕ → List ℕ
 output_of_first_from w n input = answers_to_lines w (take n (lines_of input))
-
--- a new world without limits
-abbrev pub new_world : State
-new_world = empty_state (record { text = 0; items = 0 })
-
--- the same of a new world
-abbrev pub output : List ℕ → List ℕ
-output input = output_from new_world input
-
-abbrev pub output_of_first : ℕ → List ℕ → List ℕ
-output_of_first n input = output_of_first_from new_world n input
 
 -- what is written for commands that a world is told
 abbrev pub output_of_commands : State → List Command → List ℕ

@@ -1,10 +1,7 @@
--- The kinds, the operators, the questions, the scanners, the numbers of the host and the places of a line.
-use Rattle.std.specs.Prelude.{ℕ, Bool, true, false, ◌==◌, List, [], ◌∷◌, ◌++◌, Option, Some, None, option_map, codes, bytes_eq, if◌then◌else◌}
+-- The words of a line: what each kind of word says.
+use Rattle.std.specs.Prelude.{ℕ, ℤ, Bool, ◌==◌, List, [], ◌∷◌, Option, Some, None, option_map, codes, bytes_eq, if◌then◌else◌}
 use Rattle.rhai_text.specs.declared.token.Token.{Token}
 use Rattle.rhai_text.specs.declared.token.Token.TheVariants.{Plus, Minus, Multiply, Divide, Modulo, PowerOf, RightShift, LeftShift, Ampersand, Pipe, XOr, EqualsTo, NotEqualsTo, GreaterThan, GreaterThanEqualsTo, LessThan, LessThanEqualsTo, ExclusiveRange, InclusiveRange, Equals, PlusAssign, MinusAssign, MultiplyAssign, DivideAssign, ModuloAssign, PowerOfAssign, RightShiftAssign, LeftShiftAssign, AndAssign, OrAssign, XOrAssign}
-use denote.Enum.Bare.{sameb}
-use Rattle.rhai_text.specs.contracts.token.Token as token
-use Rattle.rhai_value.specs.Types.{is_type}
 use Rattle.rhai_value.specs.declared.type_id.TypeId.{TypeId}
 use Rattle.rhai_value.specs.declared.type_id.TypeId.TheVariants as kind
 use Rattle.rhai_run.specs.declared.command.Question.{Question}
@@ -15,8 +12,8 @@ use Rattle.rhai_run.specs.declared.command.Place.{Place}
 use Rattle.rhai_run.specs.declared.command.Place.TheVariants as place
 use Rattle.rhai_value.specs.declared.host.Host.{Host}
 use Rattle.rhai_value.specs.declared.host.Host.TheVariants as host
-use Rattle.rhai_lines.specs.Words.{Left, Word, next_word, a_word, told, named, called, name_of, a_name}
-use Rattle.rhai_lines.specs.Numbers.{unsigned_of, unsigned_word, signed_of, signed_word, a_position, a_tag}
+use Rattle.rhai_lines.specs.Words.{Left, next_word, and_then, named, name_of, truths}
+use Rattle.rhai_lines.specs.Numbers.{unsigned_of, signed_of}
 
 -- the names of types
 unfoldable pub kinds : List (List ℕ × TypeId)
@@ -45,9 +42,6 @@ kinds =
     ∷ (codes "Dynamic", kind.Dynamic)
     ∷ (codes "<shared>", kind.Shared)
     ∷ []
-
-unfoldable pub a_kind : Word TypeId
-a_kind = a_word (named kinds) (called is_type kinds)
 
 -- the operators between two operands, and those that assign
 unfoldable pub operators : List (List ℕ × Token)
@@ -85,12 +79,6 @@ operators =
     ∷ (codes "^=", XOrAssign)
     ∷ []
 
-abbrev pub is_token : Token → Token → Bool
-is_token s t = sameb token.the_type s t
-
-unfoldable pub a_token : Word Token
-a_token = a_word (named operators) (called is_token operators)
-
 -- the questions of one word; two more name a type behind it
 abbrev pub plain_questions : List (List ℕ × Question)
 plain_questions =
@@ -109,53 +97,18 @@ plain_questions =
 
 abbrev pub question_by : List ℕ → Left → Option (Question × Left)
 question_by word rest =
-    if bytes_eq word (codes "is") then told (a_kind.reads rest) (λ k more. Some (question.Is k, more)) else
-    if bytes_eq word (codes "held") then told (a_kind.reads rest) (λ k more. Some (question.Held k, more)) else
+    if bytes_eq word (codes "is") then and_then (next_word (named kinds) rest) (λ k more. Some (question.Is k, more)) else
+    if bytes_eq word (codes "held") then and_then (next_word (named kinds) rest) (λ k more. Some (question.Held k, more)) else
     option_map (λ q. (q, rest)) (named plain_questions word)
-
--- a word, and the words of one more value behind it
-abbrev pub with_word : List ℕ → Option (List ℕ) → Option (List ℕ)
-with_word word more = option_map (λ w. word ++ 32 ∷ w) more
-
-abbrev pub question_words : Question → Option (List ℕ)
-question_words question.Tag = Some (codes "tag")
-question_words question.Variant = Some (codes "variant")
-question_words question.Shared = Some (codes "shared")
-question_words question.ReadOnly = Some (codes "readonly")
-question_words question.Locked = Some (codes "locked")
-question_words question.TypeName = Some (codes "type")
-question_words (question.Held k) = with_word (codes "held") (a_kind.spells k)
-question_words question.Hashable = Some (codes "hashable")
-question_words (question.Is k) = with_word (codes "is") (a_kind.spells k)
-question_words question.Unit = Some (codes "unit")
-question_words question.Int = Some (codes "int")
-question_words question.Bool = Some (codes "bool")
-question_words question.Char = Some (codes "char")
-
--- a value that its first word and the words behind it say
-abbrev pub words_by : {A : Type 0} → (List ℕ → Left → Option (A × Left)) → (A → Option (List ℕ)) → Word A
-words_by by spells = record { reads = λ left. told (next_word (λ word. Some word) left) by; takes = λ a. false; spells = spells }
-
-unfoldable pub a_question : Word Question
-a_question = words_by question_by question_words
 
 -- the scanners
 abbrev pub scanner_by : List ℕ → Left → Option (Scanner × Left)
 scanner_by word rest =
-    if bytes_eq word (codes "tags") then told (a_tag.reads rest) (λ t more. Some (Tags t, more)) else
+    if bytes_eq word (codes "tags") then and_then (next_word (signed_of 31) rest) (λ t more. Some (Tags t, more)) else
     if bytes_eq word (codes "zero") then Some (Zero, rest) else
     if bytes_eq word (codes "noshare") then Some (NoShare, rest) else
-    if bytes_eq word (codes "cut") then told (a_position.reads rest) (λ n more. Some (Cut n, more)) else
+    if bytes_eq word (codes "cut") then and_then (next_word (unsigned_of 64) rest) (λ n more. Some (Cut n, more)) else
     None
-
-abbrev pub scanner_words : Scanner → Option (List ℕ)
-scanner_words (Tags t) = with_word (codes "tags") (a_tag.spells t)
-scanner_words Zero = Some (codes "zero")
-scanner_words NoShare = Some (codes "noshare")
-scanner_words (Cut n) = with_word (codes "cut") (a_position.spells n)
-
-unfoldable pub a_scanner : Word Scanner
-a_scanner = words_by scanner_by scanner_words
 
 -- a number of one of the host's types: the name of the type, and the number in its range
 abbrev pub host_of : List ℕ → List ℕ → Option Host
@@ -171,34 +124,35 @@ host_of kind word =
     if bytes_eq kind (codes "i128") then option_map host.I128 (signed_of 127 word) else
     None
 
-abbrev pub host_words : Host → Option (List ℕ)
-host_words (host.U8 n) = with_word (codes "u8") (unsigned_word 8 n)
-host_words (host.U16 n) = with_word (codes "u16") (unsigned_word 16 n)
-host_words (host.U32 n) = with_word (codes "u32") (unsigned_word 32 n)
-host_words (host.U64 n) = with_word (codes "u64") (unsigned_word 64 n)
-host_words (host.U128 n) = with_word (codes "u128") (unsigned_word 128 n)
-host_words (host.I8 n) = with_word (codes "i8") (signed_word 7 n)
-host_words (host.I16 n) = with_word (codes "i16") (signed_word 15 n)
-host_words (host.I32 n) = with_word (codes "i32") (signed_word 31 n)
-host_words (host.I128 n) = with_word (codes "i128") (signed_word 127 n)
-host_words (host.ExclusiveRange r) = None
-host_words (host.InclusiveRange r) = None
-
-unfoldable pub a_host : Word Host
-a_host = words_by (λ kind. next_word (host_of kind)) host_words
-
 -- a place: a hand position, or the name of an entry behind an at sign (64)
 abbrev pub place_of : List ℕ → Option Place
 place_of [] = None
 place_of (b ∷ bs) = if b == 64 then option_map place.Entry (name_of bs) else option_map place.Hand (unsigned_of 64 (b ∷ bs))
 
-abbrev pub names_entry : Place → Bool
-names_entry (place.Hand i) = false
-names_entry (place.Entry name) = true
+-- The kinds of word, by the values that they say.
+pub data Word : Type 0 → Type 1 where
+  a_truth : Word Bool
+  a_position a_bit : Word ℕ
+  an_int a_tag : Word ℤ
+  a_kind : Word TypeId
+  a_token : Word Token
+  a_question : Word Question
+  a_scanner : Word Scanner
+  a_host : Word Host
+  a_place : Word Place
+  a_name : Word (List ℕ)
 
-abbrev pub place_word : Place → Option (List ℕ)
-place_word (place.Hand i) = a_position.spells i
-place_word (place.Entry name) = option_map (λ n. 64 ∷ n) (a_name.spells name)
-
-unfoldable pub a_place : Word Place
-a_place = record { reads = next_word place_of; takes = names_entry; spells = place_word }
+-- The value that a word of a kind says, some with the word behind it, and what is left then.
+unfoldable pub reads : {A : Type 0} → Word A → Left → Option (A × Left)
+reads a_truth left = next_word (named truths) left
+reads a_position left = next_word (unsigned_of 64) left
+reads a_bit left = next_word (unsigned_of 8) left
+reads an_int left = next_word (signed_of 63) left
+reads a_tag left = next_word (signed_of 31) left
+reads a_kind left = next_word (named kinds) left
+reads a_token left = next_word (named operators) left
+reads a_question left = and_then (next_word (λ word. Some word) left) question_by
+reads a_scanner left = and_then (next_word (λ word. Some word) left) scanner_by
+reads a_host left = and_then (next_word (λ word. Some word) left) (λ kind. next_word (host_of kind))
+reads a_place left = next_word place_of left
+reads a_name left = next_word name_of left

@@ -1,16 +1,17 @@
 //! Commands as lines, and journals of commands.
 ghost use Rattle.std.specs.Prelude.{◌≡◌, [], Some, IsOk, IfOk, IfSome, option_map, string_bytes};
-ghost use Rattle.rhai_lines.specs.Forms.{command_of, line_of, journal_of};
+ghost use Rattle.rhai_lines.specs.Verbs.{command_of};
+ghost use Rattle.rhai_lines.specs.Spelling.{IsLineOf, IsJournalOf};
 ghost use Rattle.rhai_lines.specs.Output.{output, output_of_commands, new_world};
 
-use crate::forms::add_line;
+use crate::commands::add_line;
 use rhai_run::Command;
 use std::alloc::{AllocError, Global};
 
 /// The line that says a command, or none: where a name in it is no word of a line, a text in it has a line feed, or the host's value in it is
 /// a range. Takes memory for the line, or for its words up to the one that there is none of, and time for its bytes.
 pub fn line_of(alloc: Global, command: &Command) -> Result<Option<String>, AllocError>
-    ensures line { IfOk result (λ o. option_map string_bytes o ≡ line_of command.now) }
+    ensures line { IfOk result (λ o. IsLineOf command.now (option_map string_bytes o)) }
     ensures reads_back { IfOk result (λ o. IfSome o (λ line. command_of (string_bytes line) ≡ Some command.now)) }
 {
     let mut line = String::new(alloc);
@@ -23,9 +24,8 @@ pub fn line_of(alloc: Global, command: &Command) -> Result<Option<String>, Alloc
 
 /// The lines of commands in turn, each with a line feed: a run over them answers what the commands answer. There are none where a command has no line.
 /// Takes memory for the lines, and time for their bytes.
-#[tactic(auto, unfolding(crate::specs::Forms::journal_of))]
 pub fn journal(alloc: Global, commands: &[Command]) -> Result<Option<String>, AllocError>
-    ensures lines { IfOk result (λ o. option_map string_bytes o ≡ journal_of commands.now) }
+    ensures lines { IfOk result (λ o. IsJournalOf commands.now (option_map string_bytes o)) }
     ensures none { commands.now ≡ [] → IsOk result }
     ensures replayed { IfOk result (λ o. IfSome o (λ text. output (string_bytes text) ≡ output_of_commands new_world commands.now)) }
 {

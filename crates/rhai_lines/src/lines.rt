@@ -6,7 +6,7 @@ ghost use Rattle.rhai_lines.specs.Output.{line_answer, line_state, output_from, 
 ghost use Rattle.rhai_lines.specs.Fed.{Feeds, StopsWithin, Completes, AnswersWhatIsRead};
 ghost use Rattle.rhai_lines.specs.Faults.{IsNoWriteFault, IsReadFault, IsNoReadFault};
 
-use crate::forms::command;
+use crate::commands::command;
 use crate::print::{write_answer, write_bad_line};
 use rhai_run::{World, apply};
 use rhai_text::Limits;

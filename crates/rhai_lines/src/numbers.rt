@@ -1,6 +1,8 @@
 //! The numbers of a line.
 ghost use Rattle.std.specs.Prelude.{◌≡◌, ◌^◌, nat_lt, if◌then◌else◌, Some, None, option_and_then, string_bytes};
-ghost use Rattle.rhai_lines.specs.Numbers.{whole_number_of, below, unsigned_of, unsigned_word, signed_of, signed_word, a_position, a_bit, an_int, a_tag};
+ghost use Rattle.rhai_lines.specs.Numbers.{whole_number_of, below, unsigned_of, signed_of};
+ghost use Rattle.rhai_lines.specs.Vocabulary.{a_position, a_bit, an_int, a_tag};
+ghost use Rattle.rhai_lines.specs.Spelling.{unsigned_word, signed_word};
 ghost use Rattle.rhai_lines.specs.Cursor.{left_in, Adds};
 
 use crate::words::{NoCommand, Word, next_word};
@@ -119,7 +121,7 @@ pub(crate) fn add_signed(line: &mut String, n: i128) -> Result<bool, AllocError>
 }
 
 /// A position or a count.
-#[tactic(auto, unfolding(crate::specs::Numbers::a_position))]
+#[tactic(auto, unfolding(crate::specs::Vocabulary::reads, crate::specs::Spelling::spells, crate::specs::Memory::takes_for))]
 impl Word for usize {
     ghost word = { a_position };
 
@@ -134,7 +136,7 @@ impl Word for usize {
 }
 
 /// The number of a bit.
-#[tactic(auto, unfolding(crate::specs::Numbers::a_bit))]
+#[tactic(auto, unfolding(crate::specs::Vocabulary::reads, crate::specs::Spelling::spells, crate::specs::Memory::takes_for))]
 impl Word for u8 {
     ghost word = { a_bit };
 
@@ -149,7 +151,7 @@ impl Word for u8 {
 }
 
 /// An int.
-#[tactic(auto, unfolding(crate::specs::Numbers::an_int))]
+#[tactic(auto, unfolding(crate::specs::Vocabulary::reads, crate::specs::Spelling::spells, crate::specs::Memory::takes_for))]
 impl Word for INT {
     ghost word = { an_int };
 
@@ -164,7 +166,7 @@ impl Word for INT {
 }
 
 /// A tag.
-#[tactic(auto, unfolding(crate::specs::Numbers::a_tag))]
+#[tactic(auto, unfolding(crate::specs::Vocabulary::reads, crate::specs::Spelling::spells, crate::specs::Memory::takes_for))]
 impl Word for Tag {
     ghost word = { a_tag };
 

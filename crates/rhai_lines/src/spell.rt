@@ -1,35 +1,36 @@
-//! Commands as their lines: a verb, and the words of values behind it. Without a verb these calls add words behind others.
+//! Commands as their lines: a verb, and the words of its arguments. Without a verb these calls add words behind others.
 ghost use Rattle.std.specs.Prelude.{◌≡◌, ◌∷◌, ◌++◌, OnOk, option_map, string_bytes};
 ghost use Rattle.std.specs.Str.{chars};
-ghost use Rattle.rhai_lines.specs.Rests.{nothing, one as one_word, two as two_words, three as three_words, four as four_words, list_of, an_alias, a_name_and_alias, a_text, has_feed, a_char, a_blob};
+ghost use Rattle.rhai_lines.specs.Vocabulary.{a_name};
+ghost use Rattle.rhai_lines.specs.Arguments.{none, one as one_word, before, names, flagged_names, an_alias, a_text, a_char, a_blob};
 ghost use Rattle.rhai_lines.specs.Printed.{byte_text};
-ghost use Rattle.rhai_lines.specs.Forms.{spoken};
+ghost use Rattle.rhai_lines.specs.Spelling.{behind, spells, words_for, has_feed, spoken};
 ghost use Rattle.rhai_lines.specs.Cursor.{Adds};
 
-use crate::rests::Item;
+use crate::args::Item;
 use crate::words::{Word, add};
 use rhai_text::ImmutableString;
 use std::alloc::AllocError;
 
 /// Adds a space and the words of a value.
 fn word<A: Word>(line: &mut String, a: &A) -> Result<bool, AllocError>
-    ensures { Adds result (option_map (λ w. 32 ∷ w) (A.word.spells a.now)) (string_bytes line.old) (string_bytes line.new) }
+    ensures { Adds result (option_map (λ w. 32 ∷ w) (spells A.word a.now)) (string_bytes line.old) (string_bytes line.new) }
 {
     line.push_str(" ")?;
     a.spell(line)
 }
 
 /// Adds a verb alone.
-#[tactic(auto, unfolding(crate::specs::Forms::spoken))]
-pub(crate) fn bare(line: &mut String, verb: &str) -> Result<bool, AllocError>
-    ensures { Adds result (spoken verb.now nothing tt) (string_bytes line.old) (string_bytes line.new) }
+#[tactic(auto, unfolding(crate::specs::Spelling::spoken, crate::specs::Spelling::writes))]
+pub(crate) fn no_args(line: &mut String, verb: &str) -> Result<bool, AllocError>
+    ensures { Adds result (spoken verb.now none tt) (string_bytes line.old) (string_bytes line.new) }
 {
     add(line, verb)
 }
 
 /// Adds a verb and one word.
-#[tactic(auto, unfolding(crate::specs::Forms::spoken, crate::specs::Rests::one))]
-pub(crate) fn one<A: Word>(line: &mut String, verb: &str, a: &A) -> Result<bool, AllocError>
+#[tactic(auto, unfolding(crate::specs::Spelling::spoken, crate::specs::Spelling::writes))]
+pub(crate) fn args1<A: Word>(line: &mut String, verb: &str, a: &A) -> Result<bool, AllocError>
     ensures { Adds result (spoken verb.now (one_word A.word) a.now) (string_bytes line.old) (string_bytes line.new) }
 {
     line.push_str(verb)?;
@@ -37,38 +38,38 @@ pub(crate) fn one<A: Word>(line: &mut String, verb: &str, a: &A) -> Result<bool,
 }
 
 /// Adds a verb and two words.
-pub(crate) fn two<A: Word, B: Word>(
+pub(crate) fn args2<A: Word, B: Word>(
     line: &mut String,
     verb: &str,
     a: &A,
     b: &B,
 ) -> Result<bool, AllocError>
-    ensures { Adds result (spoken verb.now (two_words A.word B.word) (a.now, b.now)) (string_bytes line.old) (string_bytes line.new) }
+    ensures { Adds result (spoken verb.now (before A.word (one_word B.word)) (a.now, b.now)) (string_bytes line.old) (string_bytes line.new) }
 {
-    if !one(line, verb, a)? {
+    if !args1(line, verb, a)? {
         return Ok(false);
     }
-    one(line, "", b)
+    args1(line, "", b)
 }
 
 /// Adds a verb and three words.
-pub(crate) fn three<A: Word, B: Word, C: Word>(
+pub(crate) fn args3<A: Word, B: Word, C: Word>(
     line: &mut String,
     verb: &str,
     a: &A,
     b: &B,
     c: &C,
 ) -> Result<bool, AllocError>
-    ensures { Adds result (spoken verb.now (three_words A.word B.word C.word) (a.now, b.now, c.now)) (string_bytes line.old) (string_bytes line.new) }
+    ensures { Adds result (spoken verb.now (before A.word (before B.word (one_word C.word))) (a.now, (b.now, c.now))) (string_bytes line.old) (string_bytes line.new) }
 {
-    if !one(line, verb, a)? {
+    if !args1(line, verb, a)? {
         return Ok(false);
     }
-    two(line, "", b, c)
+    args2(line, "", b, c)
 }
 
 /// Adds a verb and four words.
-pub(crate) fn four<A: Word, B: Word, C: Word, D: Word>(
+pub(crate) fn args4<A: Word, B: Word, C: Word, D: Word>(
     line: &mut String,
     verb: &str,
     a: &A,
@@ -76,18 +77,17 @@ pub(crate) fn four<A: Word, B: Word, C: Word, D: Word>(
     c: &C,
     d: &D,
 ) -> Result<bool, AllocError>
-    ensures { Adds result (spoken verb.now (four_words A.word B.word C.word D.word) (a.now, b.now, c.now, d.now)) (string_bytes line.old) (string_bytes line.new) }
+    ensures { Adds result (spoken verb.now (before A.word (before B.word (before C.word (one_word D.word)))) (a.now, (b.now, (c.now, d.now)))) (string_bytes line.old) (string_bytes line.new) }
 {
-    if !one(line, verb, a)? {
+    if !args1(line, verb, a)? {
         return Ok(false);
     }
-    three(line, "", b, c, d)
+    args3(line, "", b, c, d)
 }
 
 /// Adds a verb and a word for each item.
-#[tactic(auto, unfolding(crate::specs::Forms::spoken))]
-pub(crate) fn list<A: Item>(line: &mut String, verb: &str, items: &[A]) -> Result<bool, AllocError>
-    ensures { Adds result (spoken verb.now (list_of A.said A.spelled) items.now) (string_bytes line.old) (string_bytes line.new) }
+fn list<A: Item>(line: &mut String, verb: &str, items: &[A]) -> Result<bool, AllocError>
+    ensures { Adds result (option_map (λ left. verb.now ++ behind left) (words_for A.spelled items.now)) (string_bytes line.old) (string_bytes line.new) }
 {
     line.push_str(verb)?;
     let mut left = items;
@@ -101,15 +101,39 @@ pub(crate) fn list<A: Item>(line: &mut String, verb: &str, items: &[A]) -> Resul
     Ok(true)
 }
 
+/// Adds a verb and a word for each name.
+#[tactic(auto, unfolding(crate::specs::Spelling::spoken, crate::specs::Spelling::writes))]
+pub(crate) fn names(
+    line: &mut String,
+    verb: &str,
+    items: &[ImmutableString],
+) -> Result<bool, AllocError>
+    ensures { Adds result (spoken verb.now names items.now) (string_bytes line.old) (string_bytes line.new) }
+{
+    list(line, verb, items)
+}
+
+/// Adds a verb and a word for each name, flagged or not.
+#[tactic(auto, unfolding(crate::specs::Spelling::spoken, crate::specs::Spelling::writes))]
+pub(crate) fn flagged_names(
+    line: &mut String,
+    verb: &str,
+    items: &[(ImmutableString, bool)],
+) -> Result<bool, AllocError>
+    ensures { Adds result (spoken verb.now flagged_names items.now) (string_bytes line.old) (string_bytes line.new) }
+{
+    list(line, verb, items)
+}
+
 /// Adds a verb, and an alias unless it is empty.
-#[tactic(auto, unfolding(crate::specs::Forms::spoken, crate::specs::Rests::an_alias))]
+#[tactic(auto, unfolding(crate::specs::Spelling::spoken, crate::specs::Spelling::writes))]
 fn add_alias(line: &mut String, verb: &str, alias: &ImmutableString) -> Result<bool, AllocError>
     ensures { Adds result (spoken verb.now an_alias alias.now) (string_bytes line.old) (string_bytes line.new) }
 {
     if alias.is_empty() {
         return add(line, verb);
     }
-    one(line, verb, alias)
+    args1(line, verb, alias)
 }
 
 /// Adds a verb, a name, and an alias unless it is empty.
@@ -119,9 +143,9 @@ pub(crate) fn name_and_alias(
     name: &ImmutableString,
     alias: &ImmutableString,
 ) -> Result<bool, AllocError>
-    ensures { Adds result (spoken verb.now a_name_and_alias (name.now, alias.now)) (string_bytes line.old) (string_bytes line.new) }
+    ensures { Adds result (spoken verb.now (before a_name an_alias) (name.now, alias.now)) (string_bytes line.old) (string_bytes line.new) }
 {
-    if !one(line, verb, name)? {
+    if !args1(line, verb, name)? {
         return Ok(false);
     }
     add_alias(line, "", alias)
@@ -134,7 +158,7 @@ fn has_feed(text: &str) -> bool
 }
 
 /// Adds a verb and a text, unless that is empty.
-#[tactic(auto, unfolding(crate::specs::Forms::spoken, crate::specs::Rests::a_text))]
+#[tactic(auto, unfolding(crate::specs::Spelling::spoken, crate::specs::Spelling::writes))]
 pub(crate) fn text(line: &mut String, verb: &str, text: &str) -> Result<bool, AllocError>
     ensures { Adds result (spoken verb.now a_text (chars text.now)) (string_bytes line.old) (string_bytes line.new) }
 {
@@ -150,7 +174,7 @@ pub(crate) fn text(line: &mut String, verb: &str, text: &str) -> Result<bool, Al
 }
 
 /// Adds a verb and a character.
-#[tactic(auto, unfolding(crate::specs::Forms::spoken, crate::specs::Rests::a_char))]
+#[tactic(auto, unfolding(crate::specs::Spelling::spoken, crate::specs::Spelling::writes))]
 pub(crate) fn character(line: &mut String, verb: &str, c: char) -> Result<bool, AllocError>
     ensures { Adds result (spoken verb.now a_char c) (string_bytes line.old) (string_bytes line.new) }
 {
@@ -166,7 +190,7 @@ fn add_byte(line: &mut String, byte: u8) -> Result<(), AllocError>
 }
 
 /// Adds a verb and bytes as hexadecimal digits, unless there are none.
-#[tactic(auto, unfolding(crate::specs::Forms::spoken, crate::specs::Rests::a_blob))]
+#[tactic(auto, unfolding(crate::specs::Spelling::spoken, crate::specs::Spelling::writes))]
 pub(crate) fn blob(line: &mut String, verb: &str, bytes: &[u8]) -> Result<bool, AllocError>
     ensures { Adds result (spoken verb.now a_blob bytes.now) (string_bytes line.old) (string_bytes line.new) }
 {

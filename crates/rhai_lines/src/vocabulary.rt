@@ -1,15 +1,16 @@
 //! The kinds, the operators, the questions, the scanners, the numbers of the host and the places of a line.
 ghost use Rattle.std.specs.Prelude.{◌≡◌, ◌++◌, option_map, string_bytes};
-ghost use Rattle.rhai_lines.specs.Words.{named, called, rows};
-ghost use Rattle.rhai_lines.specs.Numbers.{unsigned_word, signed_word};
-ghost use Rattle.rhai_lines.specs.Vocabulary.{kinds, operators, plain_questions, host_of, place_of, names_entry, a_kind, a_token, a_question, a_scanner, a_host, a_place};
-ghost use Rattle.rhai_lines.specs.Cursor.{left_in, Yields, Adds};
+ghost use Rattle.rhai_lines.specs.Words.{named};
+ghost use Rattle.rhai_lines.specs.Vocabulary.{kinds, operators, plain_questions, host_of, place_of, a_kind, a_token, a_question, a_scanner, a_host, a_place};
+ghost use Rattle.rhai_lines.specs.Memory.{names_entry};
+ghost use Rattle.rhai_lines.specs.Spelling.{called, unsigned_word, signed_word};
+ghost use Rattle.rhai_lines.specs.Cursor.{left_in, rows, Yields, Adds};
 
 use crate::numbers::{
     add_signed, add_unsigned, i8_in, i16_in, i32_in, signed, u8_in, u16_in, u32_in, u64_in,
     unsigned, usize_in,
 };
-use crate::words::{NoCommand, Word, add, behind, called, name, named, next_word};
+use crate::words::{NoCommand, Word, add, called, name, named, next_word, strip_sigil};
 use rhai_run::{Place, Question, Scanner};
 use rhai_text::Token;
 use rhai_value::{Host, TypeId};
@@ -64,7 +65,7 @@ fn kind_in(word: &str) -> Option<TypeId>
 }
 
 /// A type.
-#[tactic(auto, unfolding(crate::specs::Vocabulary::a_kind))]
+#[tactic(auto, unfolding(crate::specs::Vocabulary::reads, crate::specs::Spelling::spells, crate::specs::Memory::takes_for))]
 impl Word for TypeId {
     ghost word = { a_kind };
 
@@ -73,7 +74,7 @@ impl Word for TypeId {
         Ok((kind_in(word).ok_or(NoCommand::BadLine)?, left))
     }
 
-    #[tactic(auto, unfolding(crate::specs::Vocabulary::a_kind, crate::specs::Vocabulary::kinds))]
+    #[tactic(auto, unfolding(crate::specs::Spelling::spells, crate::specs::Vocabulary::kinds))]
     fn spell(&self, line: &mut String) -> Result<bool, AllocError> {
         add_called(line, &KINDS, *self)
     }
@@ -122,7 +123,7 @@ fn token_in(word: &str) -> Option<Token>
 }
 
 /// An operator.
-#[tactic(auto, unfolding(crate::specs::Vocabulary::a_token))]
+#[tactic(auto, unfolding(crate::specs::Vocabulary::reads, crate::specs::Spelling::spells, crate::specs::Memory::takes_for))]
 impl Word for Token {
     ghost word = { a_token };
 
@@ -131,7 +132,7 @@ impl Word for Token {
         Ok((token_in(word).ok_or(NoCommand::BadLine)?, left))
     }
 
-    #[tactic(auto, unfolding(crate::specs::Vocabulary::a_token, crate::specs::Vocabulary::operators))]
+    #[tactic(auto, unfolding(crate::specs::Spelling::spells, crate::specs::Vocabulary::operators))]
     fn spell(&self, line: &mut String) -> Result<bool, AllocError> {
         add_called(line, &OPERATORS, *self)
     }
@@ -157,7 +158,7 @@ fn plain_question_in(word: &str) -> Option<Question>
 }
 
 /// A question.
-#[tactic(auto, unfolding(crate::specs::Vocabulary::a_question, crate::specs::Vocabulary::a_kind))]
+#[tactic(auto, unfolding(crate::specs::Vocabulary::reads, crate::specs::Spelling::spells, crate::specs::Memory::takes_for))]
 impl Word for Question {
     ghost word = { a_question };
 
@@ -202,7 +203,7 @@ impl Word for Question {
 }
 
 /// A scanner.
-#[tactic(auto, unfolding(crate::specs::Vocabulary::a_scanner, crate::specs::Numbers::a_tag, crate::specs::Numbers::a_position))]
+#[tactic(auto, unfolding(crate::specs::Vocabulary::reads, crate::specs::Spelling::spells, crate::specs::Memory::takes_for))]
 impl Word for Scanner {
     ghost word = { a_scanner };
 
@@ -272,7 +273,7 @@ fn signed_behind(line: &mut String, kind: &str, n: i128) -> Result<bool, AllocEr
 }
 
 /// The name of one of the host's types, and a number of it.
-#[tactic(auto, unfolding(crate::specs::Vocabulary::a_host))]
+#[tactic(auto, unfolding(crate::specs::Vocabulary::reads, crate::specs::Spelling::spells, crate::specs::Memory::takes_for))]
 impl Word for Host {
     ghost word = { a_host };
 
@@ -300,17 +301,17 @@ impl Word for Host {
 }
 
 /// The place that a word is.
-#[tactic(auto, using(crate::proofs::MarkedWords::place_behind, crate::proofs::MarkedWords::place_alone, crate::proofs::MarkedWords::place_takes))]
+#[tactic(auto, using(crate::proofs::Sigils::place_behind, crate::proofs::Sigils::place_alone, crate::proofs::Sigils::place_takes))]
 fn place_in(alloc: Global, word: &str) -> Result<Place, NoCommand>
     ensures { Yields result (place_of word.now) names_entry }
 {
-    match behind(word, b'@') {
+    match strip_sigil(word, b'@') {
         Some(entry) => Ok(Place::Entry(name(alloc, entry)?)),
         None => Ok(Place::Hand(usize_in(word).ok_or(NoCommand::BadLine)?)),
     }
 }
 
-#[tactic(auto, using(crate::proofs::Added::added_behind), unfolding(crate::specs::Vocabulary::a_place))]
+#[tactic(auto, using(crate::proofs::Added::added_behind), unfolding(crate::specs::Vocabulary::reads, crate::specs::Spelling::spells, crate::specs::Memory::takes_for))]
 impl Word for Place {
     ghost word = { a_place };
 

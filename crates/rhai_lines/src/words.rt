@@ -2,8 +2,10 @@
 ghost use Rattle.std.specs.Prelude.{◌≡◌, true, Some, None, ◌∷◌, ℕ, List, false, string_bytes, option_map, IfOk, IfErr, IfSome, IfNone};
 ghost use Rattle.std.specs.Str.{chars};
 ghost use Rattle.rhai_lines.specs.declared.words.NoCommand.TheVariants.{BadLine, Memory as no_memory};
-ghost use Rattle.rhai_lines.specs.Words.{called, word_of, left_of, next_word, is_name, name_of, named, rows, truths, a_name, a_truth, Word as reading};
-ghost use Rattle.rhai_lines.specs.Cursor.{left_in, Reads, Yields, Adds};
+ghost use Rattle.rhai_lines.specs.Words.{word_of, left_of, next_word, is_name, name_of, named, truths};
+ghost use Rattle.rhai_lines.specs.Vocabulary.{a_name, a_truth, Word as word_kind};
+ghost use Rattle.rhai_lines.specs.Spelling.{called, spells};
+ghost use Rattle.rhai_lines.specs.Cursor.{left_in, rows, rises, Reads, Yields, Adds};
 
 use rhai_text::ImmutableString;
 use std::alloc::{AllocError, Global};
@@ -25,7 +27,7 @@ impl From<AllocError> for NoCommand {
 
 /// A value that a word says, or a word and the one behind it.
 pub(crate) trait Word: Sized + Drop {
-    ghost word: { reading Self };
+    ghost word: { word_kind Self };
 
     /// The value, and what is left behind it.
     fn read(alloc: Global, left: Option<&str>) -> Result<(Self, Option<&str>), NoCommand>
@@ -33,7 +35,7 @@ pub(crate) trait Word: Sized + Drop {
 
     /// Adds the words that say it to a line, if there are such.
     fn spell(&self, line: &mut String) -> Result<bool, AllocError>
-        ensures { Adds result (word.spells self.now) (string_bytes line.old) (string_bytes line.new) };
+        ensures { Adds result (spells word self.now) (string_bytes line.old) (string_bytes line.new) };
 }
 
 /// Adds a text to a line.
@@ -80,6 +82,17 @@ pub(crate) fn named<A: Copy>(table: &[(&str, A)], word: &str) -> Option<A>
     None
 }
 
+/// What a table whose texts stand in order has for a word.
+pub(crate) fn named_in_order<A: Copy>(table: &[(&str, A)], word: &str) -> Option<A>
+    requires { rises (rows table.now) ≡ true }
+    ensures { result ≡ named (rows table.now) word.now }
+{
+    match table.binary_search_by_key(&word, |&(text, _)| text) {
+        Ok(at) => Some(table[at].1),
+        Err(_) => None,
+    }
+}
+
 fn truth_in(word: &str) -> Option<bool>
     ensures { result ≡ named truths word.now }
 {
@@ -90,7 +103,7 @@ fn truth_in(word: &str) -> Option<bool>
     }
 }
 
-#[tactic(auto, unfolding(crate::specs::Words::a_truth))]
+#[tactic(auto, unfolding(crate::specs::Vocabulary::reads, crate::specs::Spelling::spells, crate::specs::Memory::takes_for))]
 impl Word for bool {
     ghost word = { a_truth };
 
@@ -134,7 +147,7 @@ pub(crate) fn is_name(word: &[u8]) -> bool
 }
 
 /// Bytes as a text, if they are one: those of a name are.
-#[tactic(auto, using(crate::proofs::MarkedWords::name_is_text))]
+#[tactic(auto, using(crate::proofs::Sigils::name_is_text))]
 fn text_of(bytes: &[u8]) -> Option<&str>
     ensures some { IfSome result (λ text. text.now ≡ bytes.now) }
     ensures none { IfNone result (is_name bytes.now ≡ false) }
@@ -145,14 +158,14 @@ fn text_of(bytes: &[u8]) -> Option<&str>
     }
 }
 
-/// What stands behind a mark that a word begins with.
-#[tactic(auto, using(crate::proofs::MarkedWords::no_name_behind))]
-pub(crate) fn behind(word: &str, mark: u8) -> Option<&str>
-    ensures some { IfSome result (λ name. word.now ≡ mark ∷ name.now) }
-    ensures none { IfNone result ((name : List ℕ) → word.now ≡ mark ∷ name → is_name name ≡ false) }
+/// What stands behind a sigil that a word begins with.
+#[tactic(auto, using(crate::proofs::Sigils::no_name_behind))]
+pub(crate) fn strip_sigil(word: &str, sigil: u8) -> Option<&str>
+    ensures some { IfSome result (λ name. word.now ≡ sigil ∷ name.now) }
+    ensures none { IfNone result ((name : List ℕ) → word.now ≡ sigil ∷ name → is_name name ≡ false) }
 {
     match word.as_bytes() {
-        [first, name @ ..] if *first == mark => text_of(name),
+        [first, name @ ..] if *first == sigil => text_of(name),
         _ => None,
     }
 }
@@ -179,7 +192,7 @@ pub(crate) fn add_name(line: &mut String, name: &ImmutableString) -> Result<bool
     add(line, name.as_str())
 }
 
-#[tactic(auto, unfolding(crate::specs::Words::a_name))]
+#[tactic(auto, unfolding(crate::specs::Vocabulary::reads, crate::specs::Spelling::spells, crate::specs::Memory::takes_for))]
 impl Word for ImmutableString {
     ghost word = { a_name };
 

@@ -1,6 +1,5 @@
 use Rattle.std.proofs.Common.{◌≡◌, ◌++◌, length, option_map, string_bytes}
-use Rattle.rhai_lines.specs.Words.{behind}
-use Rattle.rhai_lines.specs.Rests.{words_for}
+use Rattle.rhai_lines.specs.Spelling.{behind, words_for}
 use Rattle.rhai_lines.proofs.spell.list.Given as goal
 
 abbrev pub invariant-loop-left : goal.invariant-loop-left

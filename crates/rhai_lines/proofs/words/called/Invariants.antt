@@ -1,5 +1,6 @@
 use Rattle.std.proofs.Common.{◌≡◌, length}
-use Rattle.rhai_lines.specs.Words.{called, rows}
+use Rattle.rhai_lines.specs.Spelling.{called}
+use Rattle.rhai_lines.specs.Cursor.{rows}
 use Rattle.rhai_lines.proofs.words.called.Given as goal
 
 abbrev pub invariant-loop-left : goal.invariant-loop-left

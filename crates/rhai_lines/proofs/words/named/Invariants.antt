@@ -1,5 +1,6 @@
 use Rattle.std.proofs.Common.{◌≡◌, length}
-use Rattle.rhai_lines.specs.Words.{named, rows}
+use Rattle.rhai_lines.specs.Words.{named}
+use Rattle.rhai_lines.specs.Cursor.{rows}
 use Rattle.rhai_lines.proofs.words.named.Given as goal
 
 abbrev pub invariant-loop-left : goal.invariant-loop-left

@@ -1,5 +1,0 @@
-use Rattle.std.proofs.lemmas.Str.{chars-nil}
-use Rattle.rhai_lines.proofs.rests.rest.Goals as goal
-
-pub returns-in-None : goal.returns-in-None
-returns-in-None c = rw c.in-None.is chars-nil

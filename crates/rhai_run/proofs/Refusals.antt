@@ -1,5 +1,5 @@
 -- What a refusal leaves: the state as it was, no want of memory but where a hash is asked for, and no want of memory as its reason.
-use Rattle.std.proofs.Common.{◌≡◌, ℕ, ℤ, pos, Bool, true, false, not, cond, if◌then◌else◌, nat_eq, nat_le, nat_lt, List, [], ◌∷◌, ◌++◌, length, slice_get, Option, Some, None, is_some, Result, Ok, Err, refl, subst}
+use Rattle.std.proofs.Common.{◌≡◌, ℕ, ℤ, pos, Bool, true, false, not, cond, if◌then◌else◌, nat_eq, nat_le, nat_lt, List, [], ◌∷◌, ◌++◌, length, slice_get, Option, Some, None, is_some, Ok, Err, refl, subst}
 use Rattle.std.specs.List.{zip}
 use Rattle.rhai_ops.specs.AssignTable.{assign_row}
 use Rattle.rhai_ops.specs.Outcome as call
@@ -33,7 +33,7 @@ use Rattle.rhai_run.specs.Made.{array_tree, map_tree, function_tree}
 use Rattle.rhai_run.specs.Operators.{called}
 use Rattle.rhai_run.specs.Outcome.{Outcome, growing_if, free, growing, refuse, unless, given, with_value, with_two, taken_off, gathered}
 use Rattle.rhai_run.specs.Places.{found, value_found, entry_found, with_place, with_place_and, is_at}
-use Rattle.rhai_run.specs.Reply.{Reply, Reason, done, truth, number, told, bytes, nothing, refused, fault, out_of_memory, no_value, same_value, no_entry, empty_scope, constant_entry, shared_entry, no_mark, wrong_source, bit_place, byte_place, no_builtin, not_hashable, mismatch}
+use Rattle.rhai_run.specs.Reply.{Reply, Reason, done, truth, number, told, nothing, refused, fault, out_of_memory, no_value, same_value, no_entry, empty_scope, constant_entry, shared_entry, no_mark, wrong_source, bit_place, byte_place, no_builtin, not_hashable, mismatch}
 use Rattle.rhai_run.specs.Scope.{or_nothing, bytes_or_refused}
 use Rattle.rhai_run.specs.State.{State, appended, with_hand, with_scope}
 use Rattle.rhai_run.specs.Step.{step}

@@ -1,7 +1,6 @@
-use Rattle.std.proofs.Common.{◌≡◌, ℕ, ◌+◌, ◌-◌, ◌≤◌, ◌<◌, Bool, true, false, if◌then◌else◌, take, drop, [], ap, sym, ◌∙◌, arith, refl, rules}
+use Rattle.std.proofs.Common.{◌≡◌, ℕ, ◌+◌, ◌-◌, ◌≤◌, ◌<◌, Bool, true, false, if◌then◌else◌, take, drop, ap, sym, ◌∙◌, arith, refl, rules}
 use Rattle.std.proofs.lemmas.Str.{chars-nil, chars_from_encodes}
 use Rattle.std.specs.Str.{chars}
-use Rattle.rhai_text.specs.Text.{slice_of}
 use Rattle.rhai_text.proofs.Texts.{IsCharBoundary-cut, chars-front_cut, length-le-cut}
 use Rattle.rhai_text.proofs.edits.part_between.Goals as goal
 

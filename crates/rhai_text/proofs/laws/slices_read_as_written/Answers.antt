@@ -1,6 +1,5 @@
-use Rattle.std.proofs.Common.{◌≡◌, ℕ, ◌+◌, ◌-◌, ◌≤◌, Bool, true, if◌then◌else◌, List, ◌++◌, length, take, drop, sym, ◌∙◌, ap, arith, length-take}
+use Rattle.std.proofs.Common.{◌≡◌, ℕ, ◌+◌, ◌-◌, ◌≤◌, if◌then◌else◌, List, ◌++◌, length, take, drop, sym, ◌∙◌, ap, arith, length-take}
 use Rattle.std.proofs.lemmas.List.{take-append-drop, drop-drop, take_at, drop_at}
-use Rattle.rhai_text.specs.Text.{slice_of, with_slice}
 use Rattle.rhai_text.proofs.laws.slices_read_as_written.Goals as goal
 
 kept : (text : List ℕ) (start end : ℕ) → start ≤ end → take start text ++ (take (end - start) (drop start text) ++ drop end text) ≡ text

@@ -19,7 +19,7 @@ use Rattle.rhai_ops.specs.declared.own.Own.TheVariants as is
 use Rattle.rhai_ops.specs.declared.role.Comparison.{Comparison}
 use Rattle.rhai_ops.specs.Numbers.{compared, compared_by}
 use Rattle.rhai_ops.specs.Order.{ordered, row_order}
-use Rattle.rhai_ops.specs.Outcome.{Outcome, answers, both, bool_answer}
+use Rattle.rhai_ops.specs.Outcome.{answers, both, bool_answer}
 use Rattle.rhai_ops.specs.Results.{part, text_order, outcome}
 use Rattle.rhai_ops.specs.Table.{own, row_of, own_pair, type_line, is_numeric, is_range_type}
 use Rattle.rhai_ops.specs.Tokens.{comparison, role}

@@ -1,4 +1,4 @@
-use Rattle.std.proofs.Common.{ap, sym, ◌∙◌, rules, ◌/◌, ◌^◌, w64, to_z, FitsSigned}
+use Rattle.std.proofs.Common.{◌∙◌, rules, w64, FitsSigned}
 use Rattle.std.proofs.Math.Facts.{to_z-of_z}
 use Rattle.rhai_target.proofs.IntBits.{field_read_is}
 use Rattle.rhai_target.proofs.bits.field_of.Goals as goal

@@ -1,8 +1,7 @@
-use Rattle.std.proofs.Common.{◌≡◌, ℕ, zero, suc, ℤ, pos, negsuc, ◌≤◌, ◌<◌, Bool, true, false, nat_lt, List, [], ◌∷◌, length, slice_get, Option, Some, None, option_map, option_and_then, refl, sym, ap, ◌∙◌, subst, arith, rules, w64, FitsSigned, cond}
+use Rattle.std.proofs.Common.{◌≡◌, ℕ, zero, suc, ℤ, pos, negsuc, ◌≤◌, Bool, true, false, nat_lt, List, [], ◌∷◌, length, slice_get, Some, None, option_map, option_and_then, refl, sym, ap, ◌∙◌, arith, cond}
 use Rattle.std.proofs.Math.Facts.{to_z-of_z}
 use Rattle.std.proofs.lemmas.Bool.{ltb-false}
 use Rattle.std.specs.Str.{chars}
-use Rattle.rhai_target.specs.declared.part.ReadPart.{ReadPart}
 use Rattle.rhai_target.specs.Part.{char_read, char_part}
 use Rattle.rhai_target.proofs.part.char_place.Goals as goal
 use lib.Signed.{lt_z}

@@ -6,7 +6,7 @@ use Rattle.rhai_lines.proofs.commands.add_line.Goals as goal
 
 pub returns-in-Binary : goal.returns-in-Binary
 unfolding form_of verb_text verb_rows
-returns-in-Binary c = adds_line (codes "op") c.text-in-Binary.result.now (c.in-Binary.i, (c.in-Binary.op, c.in-Binary.j)) _ c.args3-in-Binary.result _ _ c.text-in-Binary.ensures c.args3-in-Binary.ensures (sym c.in-Binary.is)
+returns-in-Binary c = adds_line (codes "op") c.text-in-Binary.result.now (c.in-Binary.i, (c.in-Binary.op, c.in-Binary.j)) _ c.args3.result _ _ c.text-in-Binary.ensures c.args3.ensures (sym c.in-Binary.is)
 
 pub returns-in-Assign : goal.returns-in-Assign
 unfolding form_of verb_text verb_rows
@@ -18,7 +18,7 @@ returns-in-WriteBit c = adds_line (codes "bit") c.text-in-WriteBit.result.now (c
 
 pub returns-in-WriteField : goal.returns-in-WriteField
 unfolding form_of verb_text verb_rows
-returns-in-WriteField c = adds_line (codes "field") c.text-in-WriteField.result.now (c.in-WriteField.place, (c.in-WriteField.mask, (c.in-WriteField.shift, c.in-WriteField.j))) _ c.args4-in-WriteField.result _ _ c.text-in-WriteField.ensures c.args4-in-WriteField.ensures (sym c.in-WriteField.is)
+returns-in-WriteField c = adds_line (codes "field") c.text-in-WriteField.result.now (c.in-WriteField.place, (c.in-WriteField.mask, (c.in-WriteField.shift, c.in-WriteField.j))) _ c.args4.result _ _ c.text-in-WriteField.ensures c.args4.ensures (sym c.in-WriteField.is)
 
 pub returns-in-WriteByte : goal.returns-in-WriteByte
 unfolding form_of verb_text verb_rows

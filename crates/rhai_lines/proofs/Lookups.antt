@@ -1,8 +1,7 @@
 -- The verb that a word is.
-use Rattle.std.proofs.Common.{◌≡◌, ℕ, Bool, true, false, ◌&&◌, if◌then◌else◌, cond, List, [], ◌∷◌, Option, Some, None, is_some, bytes_eq, refl, sym, ap, ◌∙◌}
+use Rattle.std.proofs.Common.{◌≡◌, ℕ, Bool, true, false, ◌&&◌, if◌then◌else◌, cond, List, [], ◌∷◌, Some, None, is_some, bytes_eq, refl, sym, ap, ◌∙◌}
 use Rattle.std.specs.List.{list_all}
 use Rattle.std.proofs.lemmas.Slice.Eq.{bytes_eq-Decides}
-use Rattle.rhai_run.specs.declared.command.Command.{Command}
 use Rattle.rhai_lines.specs.declared.verbs.Verb.{Verb}
 use Rattle.rhai_lines.specs.declared.verbs.Verb.TheVariants.{SetAlias}
 use Rattle.rhai_lines.specs.Spelling.{called}

@@ -1,4 +1,5 @@
-use Rattle.std.proofs.Common.{codes, sym}
+use Rattle.std.proofs.Common.{codes, sym, ap, ◌∙◌}
+use Rattle.rhai_run.specs.declared.command.Command.TheVariants.{WriteSlice}
 use Rattle.rhai_lines.specs.Verbs.{form_of}
 use Rattle.rhai_lines.specs.Cursor.{verb_text, verb_rows}
 use Rattle.rhai_lines.proofs.Spoken.{adds_line}
@@ -35,3 +36,17 @@ returns-in-Offset c = adds_line (codes "offset") c.text-in-Offset.result.now (c.
 pub returns-in-Index : goal.returns-in-Index
 unfolding form_of verb_text verb_rows
 returns-in-Index c = adds_line (codes "index") c.text-in-Index.result.now (c.in-Index.length, (c.in-Index.n, c.in-Index.from_end)) _ c.args3-in-Index.result _ _ c.text-in-Index.ensures c.args3-in-Index.ensures (sym c.in-Index.is)
+
+pub returns-in-WriteSlice-default-default-default-true-default : goal.returns-in-WriteSlice-default-default-default-true-default
+unfolding form_of verb_text verb_rows
+returns-in-WriteSlice-default-default-default-true-default c =
+    let k = c.in-WriteSlice-default-default-default-true-default in
+    adds_line (codes "slice") c.text-in-WriteSlice-default-default-default-true-default.result.now (k.place, (k.a, (k.b, k.j))) _ c.args4-in-WriteSlice-default-default-default-true-default.result _ _
+    c.text-in-WriteSlice-default-default-default-true-default.ensures c.args4-in-WriteSlice-default-default-default-true-default.ensures (ap (λ t. WriteSlice k.place k.a k.b t k.j) (sym k.field-3-test ∙ k.field-3-is) ∙ sym k.is)
+
+pub returns-in-WriteSlice-default-default-default-false-default : goal.returns-in-WriteSlice-default-default-default-false-default
+unfolding form_of verb_text verb_rows
+returns-in-WriteSlice-default-default-default-false-default c =
+    let k = c.in-WriteSlice-default-default-default-false-default in
+    adds_line (codes "sliceeq") c.text-in-WriteSlice-default-default-default-false-default.result.now (k.place, (k.a, (k.b, k.j))) _ c.args4-in-WriteSlice-default-default-default-false-default.result _ _
+    c.text-in-WriteSlice-default-default-default-false-default.ensures c.args4-in-WriteSlice-default-default-default-false-default.ensures (ap (λ t. WriteSlice k.place k.a k.b t k.j) (sym k.field-3-test ∙ k.field-3-is) ∙ sym k.is)

@@ -12,7 +12,7 @@ use Rattle.rhai_lines.specs.Vocabulary.{Word, reads, a_name}
 use Rattle.rhai_lines.specs.Spelling.{behind, spells, writes, joined, words_for, flagged_word, text_words, has_feed}
 use Rattle.rhai_lines.specs.Arguments.{Arguments, says, of_no_verb, none, one, before, last, each_of, names, flagged_of, flagged_names, an_alias, text_left, a_text, only, a_char, bytes_of_pairs, is_hex, a_blob}
 use Rattle.rhai_lines.specs.Printed.{byte_text}
-use Rattle.rhai_lines.proofs.SaysBack.{the_same, both, graphic, is_graphic, Back, has_feed_append, utf8_behind, word_is, left_is, graphic_no_feed, graphic_utf8}
+use Rattle.rhai_lines.proofs.SaysBack.{the_same, both, graphic, is_graphic, has_feed_append, utf8_behind, word_is, left_is, graphic_no_feed, graphic_utf8}
 use Rattle.rhai_lines.proofs.WordsBack.{named_back, word_back}
 use Rattle.rhai_lines.proofs.Names.{no_name}
 use Rattle.rhai_lines.proofs.Sigils.{flagged_alone, no_mark}

@@ -17,3 +17,4 @@ pub mod WordsBack
 pub mod ArgumentsBack
 pub mod LinesBack
 pub mod Replays
+pub mod OneLine

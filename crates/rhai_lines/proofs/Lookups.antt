@@ -1,16 +1,14 @@
 -- The verb that a word is.
-use Rattle.std.proofs.Common.{◌≡◌, ℕ, Bool, true, false, ◌&&◌, if◌then◌else◌, cond, List, [], ◌∷◌, Option, Some, None, is_some, bytes_eq, slice_index_or, refl, sym, ap, ◌∙◌}
+use Rattle.std.proofs.Common.{◌≡◌, ℕ, Bool, true, false, ◌&&◌, if◌then◌else◌, cond, List, [], ◌∷◌, Some, None, is_some, bytes_eq, refl, sym, ap, ◌∙◌}
 use Rattle.std.specs.List.{list_all}
 use Rattle.std.proofs.lemmas.Slice.Eq.{bytes_eq-Decides}
-use Rattle.rhai_run.specs.declared.command.Command.{Command}
-use denote.Enum.Declared.{tag_of}
-use Rattle.rhai_lines.specs.contracts.verbs.Verb as verb
 use Rattle.rhai_lines.specs.declared.verbs.Verb.{Verb}
-use Rattle.rhai_lines.specs.declared.verbs.TheConstants.{VERBS}
+use Rattle.rhai_lines.specs.declared.verbs.Verb.TheVariants.{SetAlias}
+use Rattle.rhai_lines.specs.Spelling.{called}
 use Rattle.rhai_lines.specs.Words.{Left, named}
 use Rattle.rhai_lines.specs.Arguments.{says}
 use Rattle.rhai_lines.specs.Verbs.{Form, verbs, form_in, said, said_by}
-use Rattle.rhai_lines.specs.Cursor.{verb_rows, verb_text}
+use Rattle.rhai_lines.specs.Cursor.{is_verb, verb_rows, verb_text}
 use Rattle.rhai_lines.proofs.SaysBack.{both, the_same}
 
 pub same_bytes : (xs ys : List ℕ) → bytes_eq xs ys ≡ true → xs ≡ ys
@@ -34,10 +32,11 @@ texts_fit = refl
 pub text_is : (word : List ℕ) (verb : Verb) → named verb_rows word ≡ Some verb → verb_text verb ≡ word
 text_is word verb e = named_text verb_rows word verb texts_fit e
 
--- the row of a verb has its number
-pub text_in_row : (v : Verb) (d : record { now : List ℕ } × Verb) → (slice_index_or VERBS (tag_of verb.the_type v) d).0.now ≡ verb_text v
-unfolding verb_text verb_rows
-text_in_row v d = refl
+-- each verb is called by its text
+pub called_text : (v : Verb) → called is_verb verb_rows v ≡ Some (verb_text v)
+unfolding verb_rows verb_text
+called_text SetAlias = refl
+called_text v = refl
 
 -- each verb that has a form is in the table of the code
 abbrev all_named : List (List ℕ × Form) → Bool

@@ -1,5 +1,5 @@
 -- The lines of commands, read one after another.
-use Rattle.std.proofs.Common.{◌≡◌, ℕ, ◌<◌, length, Bool, true, false, ◌||◌, ◌==◌, nat_eq, List, [], ◌∷◌, ◌++◌, Option, Some, None, IfSome, option_map, refl, sym, ap, ◌∙◌, subst, append-nil, append_assoc, arith}
+use Rattle.std.proofs.Common.{◌≡◌, ℕ, suc, ◌-◌, ◌<◌, ◌≤◌, length, take, drop, take_all, get_or, Bool, true, false, ◌||◌, ◌==◌, nat_eq, List, [], ◌∷◌, ◌++◌, Option, Some, None, option_map, refl, sym, ap, ap₂, ◌∙◌, subst, append-nil, append_assoc, arith}
 use Rattle.std.specs.List.{AllByRecursion}
 use Rattle.std.proofs.lemmas.List.Elements.{All-from_recursion}
 use Rattle.rhai_run.specs.declared.command.Command.{Command}
@@ -20,7 +20,8 @@ without_feed : (line : List ℕ) → has_feed line ≡ false → AllByRecursion 
 without_feed [] e = tt
 without_feed (b ∷ bs) e = let h = neither (nat_eq b 10) (has_feed bs) e in (h.0, without_feed bs h.1)
 
-replay : (cs : List Command) (bytes : List ℕ) (w : State) → IsJournalOf cs (Some bytes) → output_from w bytes ≡ output_of_commands w cs
+-- what is written for a journal
+pub replay : (cs : List Command) (bytes : List ℕ) (w : State) → IsJournalOf cs (Some bytes) → output_from w bytes ≡ output_of_commands w cs
 replay [] bytes w e = ap (output_from w) (the_same e)
 replay (c ∷ cs) bytes w p = by p.0 p.1 p.2 (λ more v h. replay cs more v h)
   where
@@ -37,11 +38,6 @@ replay (c ∷ cs) bytes w p = by p.0 p.1 p.2 (λ more v h. replay cs more v h)
             ∙ ap (λ o. ((answered w o).0 ++ 10 ∷ []) ++ answers_to_lines (answered w o).1 (lines_of more)) h.back
             ∙ ap (λ bs. (printed (step w c).reply ++ 10 ∷ []) ++ bs) (k more (step w c).after j)
 
--- what is written for a journal, where there is one
-pub replayed : (cs : List Command) (journal : Option (List ℕ)) (w : State) → IsJournalOf cs journal → IfSome journal (λ bytes. output_from w bytes ≡ output_of_commands w cs)
-replayed cs None w j = tt
-replayed cs (Some bytes) w j = replay cs bytes w j
-
 -- ---- a journal that grows
 
 -- The text is the front of a journal: with a journal of the commands that are left it is one of all.
@@ -52,17 +48,29 @@ pub front_empty : (cs : List Command) (text : List ℕ) → text ≡ [] → IsFr
 front_empty cs text e None j = j
 front_empty cs text e (Some more) j = subst (λ t. IsJournalOf cs (Some (t ++ more))) (sym e) j
 
-pub front_stops : (cs left : List Command) (c : Command) (text : List ℕ) → IsFront cs (c ∷ left) text → IsLineOf c None → IsJournalOf cs None
-front_stops cs left c text h l = h None (None, l, refl)
+-- the first command that is left, and those behind it
+first_left : (left : List Command) (c : Command) → 1 ≤ length left → c ≡ get_or left 0 c → left ≡ c ∷ take (length left - 1) (drop 1 left)
+first_left [] c l e = absurd (omega (arith, l))
+first_left (d ∷ more) c l e = ap₂ (λ x xs. x ∷ xs) (sym e) (sym (take_all (suc (length more) - 1) more (omega arith)))
 
-pub front_grows : (cs left : List Command) (c : Command) (text line mid next : List ℕ) → IsFront cs (c ∷ left) text → IsLineOf c (Some line) → mid ≡ text ++ line → next ≡ mid ++ 10 ∷ [] → IsFront cs left next
-front_grows cs left c text line mid next h l m n more j = subst (IsJournalOf cs) (by more) (h (option_map (λ m. line ++ 10 ∷ m) more) (Some line, l, (more, j, refl)))
+pub front_stops : (cs left : List Command) (c : Command) (text : List ℕ) → IsFront cs left text → 1 ≤ length left → c ≡ get_or left 0 c → IsLineOf c None → IsJournalOf cs None
+front_stops cs left c text h l e n = h None (subst (λ cs. IsJournalOf cs None) (sym (first_left left c l e)) (None, n, refl))
+
+pub front_grows : (cs left : List Command) (c : Command) (text mid next : List ℕ) → IsFront cs left text → 1 ≤ length left → c ≡ get_or left 0 c
+    → (line : List ℕ) × IsLineOf c (Some line) × (mid ≡ text ++ line) → next ≡ mid ++ 10 ∷ [] → IsFront cs (take (length left - 1) (drop 1 left)) next
+front_grows cs left c text mid next h l e a n more j =
+    let whole = h (option_map (λ m. a.0 ++ 10 ∷ m) more) (subst (λ cs. IsJournalOf cs (option_map (λ m. a.0 ++ 10 ∷ m) more)) (sym (first_left left c l e)) (Some a.0, a.1, (more, j, refl))) in
+    subst (IsJournalOf cs) (by more) whole
   where
-    by : (o : Option (List ℕ)) → option_map (λ m. text ++ m) (option_map (λ m. line ++ 10 ∷ m) o) ≡ option_map (λ m. next ++ m) o
+    by : (o : Option (List ℕ)) → option_map (λ m. text ++ m) (option_map (λ m. a.0 ++ 10 ∷ m) o) ≡ option_map (λ m. next ++ m) o
     by None = refl
     by (Some rest) =
-        ap Some (sym (append_assoc text line (10 ∷ rest)) ∙ sym (append_assoc (text ++ line) (10 ∷ []) rest) ∙ ap (λ x. (x ++ 10 ∷ []) ++ rest) (sym m) ∙ ap (λ x. x ++ rest) (sym n))
+        ap Some (sym (append_assoc text a.0 (10 ∷ rest)) ∙ sym (append_assoc (text ++ a.0) (10 ∷ []) rest) ∙ ap (λ x. (x ++ 10 ∷ []) ++ rest) (sym a.2) ∙ ap (λ x. x ++ rest) (sym n))
 
 pub front_whole : (cs left : List Command) (text : List ℕ) → IsFront cs left text → length left < 1 → IsJournalOf cs (Some text)
 front_whole cs [] text h l = subst (λ t. IsJournalOf cs (Some t)) (append-nil text) (h (Some []) refl)
 front_whole cs (c ∷ more) text h l = absurd (omega (arith, l))
+
+-- of no commands none is left
+pub none_left : (cs left : List Command) → (cs ≡ [] → left ≡ []) → 1 ≤ length left → cs ≡ [] → ⊥
+none_left cs left h l e = let n : length left ≡ 0 = ap length (h e) in omega (arith, l, n)

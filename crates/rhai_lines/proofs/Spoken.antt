@@ -1,15 +1,14 @@
 -- Lines that grow.
-use Rattle.std.proofs.Common.{◌≡◌, ℕ, ◌<◌, Bool, true, false, not, ◌&&◌, ◌==◌, if◌then◌else◌, nat_lt, flat_map, Fits, w8, slice_index_or, length, List, [], ◌∷◌, ◌++◌, suc, Option, Some, None, option_map, option_and_then, IsSomeAnd, IsTrue, Result, Ok, Err, encode_utf8_all, refl, sym, ap, ap₂, ◌∙◌, append_assoc, append-nil, arith}
+use Rattle.std.proofs.Common.{◌≡◌, ℕ, ◌<◌, Bool, true, false, not, ◌&&◌, ◌==◌, if◌then◌else◌, nat_lt, flat_map, Fits, w8, slice_index_or, length, List, [], ◌∷◌, ◌++◌, suc, Option, Some, None, option_map, IsSomeAnd, Result, Ok, Err, encode_utf8_all, refl, sym, ap, ap₂, ◌∙◌, append_assoc, append-nil, arith}
 use Rattle.std.specs.List.{list_all}
 use Rattle.std.specs.Str.{chars, IsUtf8}
 use Rattle.std.specs.declared.alloc.AllocError.{AllocError}
 use Rattle.std.proofs.Math.Utf8.{scalars}
-use Rattle.std.proofs.lemmas.Bool.{false≢true}
 use Rattle.std.proofs.lemmas.Bool.Decides.{nat_tests}
 use Rattle.std.proofs.lemmas.Str.{scalars-chars, encodes-chars, chars-nil}
 use Rattle.rhai_lines.specs.Words.{Left}
 use Rattle.rhai_lines.specs.Vocabulary.{Word}
-use Rattle.rhai_lines.specs.Spelling.{behind, spells, writes, joined, text_words, has_feed, spoken, IsLineOf}
+use Rattle.rhai_lines.specs.Spelling.{behind, spells, writes, joined, text_words, has_feed, spoken}
 use Rattle.rhai_lines.specs.Arguments.{Arguments, one, before, a_text, a_char, a_blob}
 use Rattle.rhai_lines.specs.Cursor.{Adds, AddsLine}
 use Rattle.rhai_lines.specs.Printed.{byte_text}

@@ -20,7 +20,7 @@ use Rattle.rhai_lines.specs.Numbers.{whole_number_of, number_of, below, as_unsig
 use Rattle.rhai_run.specs.declared.command.Question.{Question}
 use Rattle.rhai_run.specs.declared.command.Question.TheVariants as question
 use Rattle.rhai_run.specs.declared.command.Scanner.{Scanner}
-use Rattle.rhai_run.specs.declared.command.Scanner.TheVariants.{Tags, Zero, NoShare, Cut}
+use Rattle.rhai_run.specs.declared.command.Scanner.TheVariants.{Tags, Cut}
 use Rattle.rhai_run.specs.declared.command.Place.{Place}
 use Rattle.rhai_run.specs.declared.command.Place.TheVariants as place
 use Rattle.rhai_value.specs.declared.host.Host.{Host}

@@ -4,6 +4,7 @@ use Rattle.std.specs.Borrow.{Bor}
 use Rattle.std.specs.Cmp.Lexicographic.{slice_cmp}
 use Rattle.std.specs.Ordering.{nat_cmp, is_lt}
 use Rattle.std.specs.declared.alloc.AllocError.{AllocError}
+use denote.Enum.Bare.{sameb}
 use denote.Enum.Declared.{tag_of}
 use Rattle.rhai_run.specs.declared.command.Command.{Command}
 use Rattle.rhai_lines.specs.contracts.verbs.Verb as verb
@@ -36,6 +37,9 @@ rises (row ∷ next ∷ more) = is_lt (slice_cmp nat_cmp row.0 next.0) && rises 
 -- the verbs as the code has them, and the text of one
 unfoldable pub verb_rows : List (List ℕ × Verb)
 verb_rows = map (λ row. (row.0.now, row.1)) VERBS
+
+abbrev pub is_verb : Verb → Verb → Bool
+is_verb a b = sameb verb.the_type a b
 
 abbrev pub text_at : List (List ℕ × Verb) → ℕ → List ℕ
 text_at [] n = []

@@ -3,7 +3,6 @@ use Rattle.std.specs.Prelude.{ℕ, true, false, cond, if◌then◌else◌, List,
 use Rattle.std.specs.Str.{is_utf8}
 use Rattle.rhai_run.specs.declared.command.Command.{Command}
 use Rattle.rhai_run.specs.declared.command.Command.TheVariants.{Put, MakeArray, MakeMap, MakeFn, Copy, Take, Drop, Share, Flatten, FlattenClone, Cast, MakeReadOnly, SetTag, Ask, WriteInt, Write, Binary, Assign, Scan, Push, PushDynamic, PushConstant, SetEntry, SetOrPush, SetValue, Pop, Rewind, Clear, Len, IsEmpty, Contains, Search, IsConstant, Get, GetValue, GetRef, SetRef, Remove, SetAlias, Aliases, KeepVisible, CopyScope, Entries, Names as Listed, Extend, ExtendFlagged, ShowScope, HashScope, Mark, Unmark, WriteMarked, ReadMarked, WriteBit, WriteField, WriteByte, WriteChar, WriteSlice, Offset, Index, Show, Debug, Hash}
-use Rattle.rhai_run.specs.declared.command.Literal.{Literal}
 use Rattle.rhai_run.specs.declared.command.Literal.TheVariants.{Unit, Bool as Truth, Int, Char, Text, Blob, Host as Hosted, Range, RangeEq}
 use Rattle.rhai_lines.specs.Words.{Left, word_of, left_of}
 use Rattle.rhai_lines.specs.Vocabulary.{Word, a_truth, a_position, a_bit, an_int, a_tag, a_kind, a_token, a_question, a_scanner, a_host, a_place, a_name}

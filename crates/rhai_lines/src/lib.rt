@@ -4,6 +4,7 @@
 mod args;
 mod commands;
 mod journals;
+pub mod laws;
 mod lines;
 mod numbers;
 mod print;

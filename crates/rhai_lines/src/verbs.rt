@@ -3,10 +3,10 @@ ghost use Rattle.std.specs.Prelude.{◌≡◌};
 ghost use Rattle.rhai_lines.specs.Words.{named};
 ghost use Rattle.rhai_lines.specs.Cursor.{verb_rows, verb_text};
 
-use crate::words::named_in_order;
+use crate::words::{called, named_in_order};
 
 /// What the first word of a line can be. `range` and `rangeeq`, and `slice` and `sliceeq`, are the same command with another end.
-#[derive(Clone, Copy)]
+#[derive(Clone, Copy, PartialEq, Eq)]
 pub(crate) enum Verb {
     SetAlias,
     Aliases,
@@ -169,6 +169,9 @@ impl Verb {
     pub(crate) fn text(self) -> &'static str
         ensures { result.now ≡ verb_text self }
     {
-        VERBS[self as usize].0
+        match called(&VERBS, self) {
+            Some(text) => text,
+            None => "",
+        }
     }
 }

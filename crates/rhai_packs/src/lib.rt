@@ -1,0 +1,5 @@
+//! Functions of scripts on arrays, maps, ints, texts and blobs, by the names that rhai's own packages give them.
+#![tactic(auto)]
+
+pub mod arrays;
+mod sizes;

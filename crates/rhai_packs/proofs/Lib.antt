@@ -1,0 +1,2 @@
+mod Mixed
+mod Sames

@@ -1,5 +1,5 @@
 -- Limits of sizes, and why a value doesn't grow.
-use Rattle.std.specs.Prelude.{◌≡◌, ℕ, Bool, true, false, ◌||◌, nat_eq, nat_le, Result, Ok, Err}
+use Rattle.std.specs.Prelude.{◌≡◌, ℕ, ◌+◌, Bool, true, false, ◌||◌, nat_eq, nat_le, Result, Ok, Err}
 use Rattle.rhai_text.specs.declared.error.EvalAltResult.{EvalAltResult}
 use Rattle.rhai_text.specs.declared.error.EvalAltResult.TheVariants.{ErrorMismatchDataType, ErrorDataRace, ErrorArithmetic, ErrorDataTooLarge, ErrorMemory}
 use Rattle.rhai_text.specs.declared.error.SizeKind.{SizeKind}
@@ -24,3 +24,7 @@ IsRefusal k allowed (ErrorArithmetic f p) = ⊥
 abbrev pub IsLimited : {A : Type 0} → SizeKind → Bool → Result A EvalAltResult → Type 0
 IsLimited k allowed (Ok x) = allowed ≡ true
 IsLimited k allowed (Err e) = IsRefusal k allowed e
+
+-- whether a value of so many may get so many more: where nothing is added, no limit is asked
+abbrev pub may_grow : ℕ → ℕ → ℕ → Bool
+may_grow limit n more = nat_eq more 0 || is_allowed limit (n + more)

@@ -5,14 +5,19 @@
 ghost use Rattle.std.specs.Prelude.{◌≡◌, ◌++◌, ◌∷◌, ◌+◌, ◌-◌, ◌↔◌, [], length, take, drop, replicate, reverse, is_ok, is_some, if◌then◌else◌, option_copied, slice_get, IfOk, IfSome, IfNone, IsTrue, IsOk, OnErr, OnOk, MatchOption, Some, None};
 ghost use Rattle.std.specs.List.{insert, splice};
 ghost use Rattle.rhai_text.specs.declared.error.SizeKind.TheVariants as size;
-ghost use Rattle.rhai_target.specs.Offset.{offset};
-ghost use Rattle.rhai_packs.specs.Places.{item_place, item_at, with_placed, without_placed, before, after, first_of, last_of};
-ghost use Rattle.rhai_packs.specs.Sizes.{IsLimited, is_allowed as allowed};
+ghost use Rattle.rhai_value.specs.Steps.{item_place as place_of_item};
+ghost use Rattle.rhai_packs.specs.Places.{cut_place as place_of_cut, item_at, with_placed, without_placed, before, after, first_of, last_of};
+ghost use Rattle.rhai_packs.specs.Sizes.{IsLimited, may_grow as may_grow_by};
 
-use crate::sizes::{is_allowed, too_large};
-use rhai_target::{calc_index, calc_offset_len};
+mod copies;
+mod search;
+
+use crate::places::{at_most, cut_place, item_place};
+use crate::sizes::{may_grow, too_large};
+pub use copies::{extract, pad};
 use rhai_text::{EvalAltResult, Limits, SizeKind};
 use rhai_value::{Array, Dynamic, INT};
+pub use search::{contains, index_of};
 use std::alloc::{AllocError, Global};
 
 /// Counts the items. Cost: constant.
@@ -33,16 +38,16 @@ pub fn is_empty(items: &Array) -> bool
 pub fn get(items: &Array, index: INT) -> Option<&Dynamic>
     ensures { option_copied result ≡ item_at items.now.items index }
 {
-    let place = calc_index(items.len(), index, true)?;
+    let place = item_place(items.len(), index)?;
     items.as_slice().get(place)
 }
 
 /// Sets the item at an index, and answers whether there is one. Cost: constant, and the drop of what was there.
 pub fn set(items: &mut Array, index: INT, item: Dynamic) -> bool
-    ensures answer { result ≡ is_some (item_place items.old.items index) }
-    ensures items { items.new.items ≡ with_placed items.old.items (item_place items.old.items index) item }
+    ensures answer { result ≡ is_some (place_of_item (length items.old.items) index) }
+    ensures items { items.new.items ≡ with_placed items.old.items (place_of_item (length items.old.items) index) item }
 {
-    match calc_index(items.len(), index, true) {
+    match item_place(items.len(), index) {
         Some(place) => {
             items[place] = item;
             true
@@ -54,10 +59,10 @@ pub fn set(items: &mut Array, index: INT, item: Dynamic) -> bool
 /// Puts an item behind the others. Errors: more items than the limit allows, or memory; the items stay, and the new one is gone.
 /// Cost: constant, but where the array has to grow.
 pub fn push(items: &mut Array, limits: &Limits, item: Dynamic) -> Result<(), EvalAltResult>
-    ensures answer { IsLimited size.Items (allowed limits.now.items (length items.old.items + 1)) result }
+    ensures answer { IsLimited size.Items (may_grow_by limits.now.items (length items.old.items) 1) result }
     ensures items { items.new.items ≡ (if is_ok result then items.old.items ++ item ∷ [] else items.old.items) }
 {
-    if !is_allowed(limits.items, items.len(), 1) {
+    if !may_grow(limits.items, items.len(), 1) {
         return Err(too_large(SizeKind::Items));
     }
     items.reserve(1)?;
@@ -68,14 +73,17 @@ pub fn push(items: &mut Array, limits: &Limits, item: Dynamic) -> Result<(), Eva
 /// Puts all items of another array behind the others. Errors: more items than the limit allows, or memory; both stay as they are.
 /// Cost: the number of items that are moved, and where the array has to grow that of all.
 pub fn append(items: &mut Array, limits: &Limits, more: &mut Array) -> Result<(), EvalAltResult>
-    ensures answer { IsLimited size.Items (allowed limits.now.items (length items.old.items + length more.old.items)) result }
+    ensures answer { IsLimited size.Items (may_grow_by limits.now.items (length items.old.items) (length more.old.items)) result }
     ensures items { items.new.items ≡ (if is_ok result then items.old.items ++ more.old.items else items.old.items) }
+    ensures free { more.old.items ≡ [] → IsOk result }
     ensures more { more.new.items ≡ (if is_ok result then [] else more.old.items) }
 {
-    if !is_allowed(limits.items, items.len(), more.len()) {
+    if !may_grow(limits.items, items.len(), more.len()) {
         return Err(too_large(SizeKind::Items));
     }
-    items.append(more)?;
+    if !more.is_empty() {
+        items.append(more)?;
+    }
     Ok(())
 }
 
@@ -87,13 +95,13 @@ pub fn insert(
     index: INT,
     item: Dynamic,
 ) -> Result<(), EvalAltResult>
-    ensures answer { IsLimited size.Items (allowed limits.now.items (length items.old.items + 1)) result }
-    ensures items { items.new.items ≡ (if is_ok result then insert items.old.items (offset (length items.old.items) index) item else items.old.items) }
+    ensures answer { IsLimited size.Items (may_grow_by limits.now.items (length items.old.items) 1) result }
+    ensures items { items.new.items ≡ (if is_ok result then insert items.old.items (place_of_cut (length items.old.items) index) item else items.old.items) }
 {
-    if !is_allowed(limits.items, items.len(), 1) {
+    if !may_grow(limits.items, items.len(), 1) {
         return Err(too_large(SizeKind::Items));
     }
-    let (place, _) = calc_offset_len(items.len(), index, 0);
+    let place = cut_place(items.len(), index);
     match items.insert(place, item) {
         Ok(()) => Ok(()),
         Err(_) => Err(EvalAltResult::ErrorMemory(AllocError)),
@@ -120,9 +128,9 @@ pub fn shift(items: &mut Array) -> Option<Dynamic>
 /// Takes the item at an index out, if there is one. Cost: the number of items behind it.
 pub fn remove(items: &mut Array, index: INT) -> Option<Dynamic>
     ensures item { result ≡ item_at items.old.items index }
-    ensures items { items.new.items ≡ without_placed items.old.items (item_place items.old.items index) }
+    ensures items { items.new.items ≡ without_placed items.old.items (place_of_item (length items.old.items) index) }
 {
-    let place = calc_index(items.len(), index, true)?;
+    let place = item_place(items.len(), index)?;
     Some(items.remove(place))
 }
 
@@ -137,7 +145,7 @@ pub fn clear(items: &mut Array)
 pub fn truncate(items: &mut Array, count: INT)
     ensures { items.new.items ≡ first_of items.old.items count }
 {
-    let (_, kept) = calc_offset_len(items.len(), 0, count);
+    let kept = at_most(items.len(), count);
     items.truncate(kept);
 }
 
@@ -145,7 +153,7 @@ pub fn truncate(items: &mut Array, count: INT)
 pub fn chop(items: &mut Array, count: INT)
     ensures { items.new.items ≡ last_of items.old.items count }
 {
-    let (_, kept) = calc_offset_len(items.len(), 0, count);
+    let kept = at_most(items.len(), count);
     drop(items.drain(0..items.len() - kept));
 }
 
@@ -158,11 +166,11 @@ pub fn reverse(items: &mut Array)
 
 /// Cuts the items off from an index on, and gives them. An index past the end cuts nothing off, one before the front all. Errors:
 /// memory; the items stay. Cost: the number of items that are cut off.
-pub fn split(items: &mut Array, index: INT) -> Result<Array, EvalAltResult>
+pub fn split(items: &mut Array, index: INT) -> Result<Array, AllocError>
     ensures left { OnOk result (items.new.items ≡ before items.old.items index) }
     ensures cut { IfOk result (λ rest. rest.items ≡ after items.old.items index) }
     ensures err { OnErr result (items.new.items ≡ items.old.items) }
 {
-    let (place, _) = calc_offset_len(items.len(), index, 0);
-    Ok(items.split_off(place)?)
+    let place = cut_place(items.len(), index);
+    items.split_off(place)
 }

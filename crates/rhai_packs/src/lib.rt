@@ -2,4 +2,8 @@
 #![tactic(auto)]
 
 pub mod arrays;
+pub mod blobs;
+pub mod ints;
+pub mod maps;
+mod places;
 mod sizes;

@@ -1,15 +1,17 @@
 //! Limits of sizes.
-ghost use Rattle.std.specs.Prelude.{◌≡◌, ◌+◌, IfErr, IfOk, OnErr, OnOk};
+ghost use Rattle.std.specs.Prelude.{◌≡◌};
 ghost use Rattle.rhai_text.specs.declared.error.EvalAltResult.TheVariants.{ErrorDataTooLarge};
-ghost use Rattle.rhai_packs.specs.Sizes.{IsLimited, is_allowed as allowed, no_place};
+ghost use Rattle.rhai_packs.specs.Sizes.{may_grow as may_grow_by, no_place};
 
 use rhai_text::{EvalAltResult, Position, SizeKind};
 
-/// Whether a limit allows so many and then so many more. A limit of 0 is none.
-pub(crate) fn is_allowed(limit: usize, first: usize, more: usize) -> bool
-    ensures { result ≡ allowed limit (first + more) }
+/// Whether a limit allows so many more beside so many; where none are added, it isn't asked. A limit of 0 is none.
+pub(crate) fn may_grow(limit: usize, first: usize, more: usize) -> bool
+    ensures { result ≡ may_grow_by limit first more }
 {
-    if limit == 0 {
+    if more == 0 {
+        true
+    } else if limit == 0 {
         true
     } else if limit < first {
         false

@@ -3,7 +3,13 @@
 
 pub mod arrays;
 pub mod blobs;
+mod callers;
+mod held;
 pub mod ints;
 pub mod maps;
 mod places;
 mod sizes;
+mod tests;
+pub mod texts;
+
+pub use held::mismatch;

@@ -1,8 +1,8 @@
 //! Copies of items, and items in the place of others.
-ghost use Rattle.std.specs.Prelude.{◌≡◌, ◌++◌, length, map, replicate, is_ok, if◌then◌else◌, IfOk, IsOk, OnOk};
+ghost use Rattle.std.specs.Prelude.{◌≡◌, ◌++◌, length, map, replicate, is_ok, if◌then◌else◌, IfOk, IsOk};
 ghost use Rattle.rhai_text.specs.declared.error.SizeKind.TheVariants as size;
 ghost use Rattle.rhai_value.specs.Tree.{copy};
-ghost use Rattle.rhai_packs.specs.Places.{after, before, first_of, missing as missing_of};
+ghost use Rattle.rhai_packs.specs.Places.{after, first_of, missing as missing_of};
 ghost use Rattle.rhai_packs.specs.Sizes.{IsLimited, may_grow as may_grow_by};
 
 use crate::places::{at_most, cut_place, missing};

@@ -56,7 +56,7 @@ fn items_are_found_by_value(rt: HostRuntime) {
     assert!(rt; matches!(items_are_found(rt.alloc()), Ok(true)));
 }
 
-fn a_cell_is_pushed_to(alloc: Global) -> Result<bool, EvalAltResult> {
+fn an_array_is_pushed_to(alloc: Global) -> Result<bool, EvalAltResult> {
     let mut store = Store::new(alloc);
     let mut array = Dynamic::from_array(array_of(alloc, &[1])?);
     let mut number = Dynamic::ONE;
@@ -70,7 +70,7 @@ fn a_cell_is_pushed_to(alloc: Global) -> Result<bool, EvalAltResult> {
 
 #[test]
 fn what_is_no_array_is_named(rt: HostRuntime) {
-    assert!(rt; matches!(a_cell_is_pushed_to(rt.alloc()), Ok(true)));
+    assert!(rt; matches!(an_array_is_pushed_to(rt.alloc()), Ok(true)));
 }
 
 fn maps_mix(alloc: Global) -> Result<bool, EvalAltResult> {

@@ -1,0 +1,4 @@
+mod Found
+mod Mixed
+mod Parts
+mod Sames

@@ -1,0 +1,15 @@
+-- Values of another type than is wanted.
+use Rattle.std.specs.Prelude.{◌≡◌, ℕ, List}
+use Rattle.rhai_text.specs.declared.error.EvalAltResult.{EvalAltResult}
+use Rattle.rhai_text.specs.declared.error.EvalAltResult.TheVariants.{ErrorMismatchDataType, ErrorDataRace, ErrorArithmetic, ErrorDataTooLarge, ErrorMemory}
+use Rattle.rhai_value.specs.declared.type_id.TypeId.{TypeId}
+use Rattle.rhai_value.specs.Types.{type_name}
+use Rattle.rhai_packs.specs.Sizes.{no_place}
+
+-- the error names the type that is wanted, and the one that is held
+abbrev pub IsMismatch : TypeId → List ℕ → EvalAltResult → Type 0
+IsMismatch wanted held (ErrorMismatchDataType w h p) = (w.now ≡ type_name wanted) × (h.now ≡ held) × (p ≡ no_place)
+IsMismatch wanted held (ErrorDataTooLarge k p) = ⊥
+IsMismatch wanted held (ErrorMemory e) = ⊥
+IsMismatch wanted held (ErrorDataRace p) = ⊥
+IsMismatch wanted held (ErrorArithmetic f p) = ⊥

@@ -1,0 +1,6 @@
+pub mod Entries
+pub mod Held
+pub mod Places
+pub mod Same
+pub mod Sizes
+pub mod Texts

@@ -1,0 +1,176 @@
+//! Arrays. A call works at the items of an array that is at hand, as `Dynamic::as_array_mut`, `InStore::array_mut` or `Array::own_mut` gives them.
+//!
+//! An index below 0 counts from the end. What the release answers by `()` or doesn't do, where an index is outside or an array is
+//! empty, is `None` or `false` here.
+ghost use Rattle.std.specs.Prelude.{◌≡◌, ◌++◌, ◌∷◌, ◌+◌, ◌-◌, ◌↔◌, [], length, take, drop, replicate, reverse, is_ok, is_some, if◌then◌else◌, option_copied, slice_get, IfOk, IfSome, IfNone, IsTrue, IsOk, OnErr, OnOk, MatchOption, Some, None};
+ghost use Rattle.std.specs.List.{insert, splice};
+ghost use Rattle.rhai_text.specs.declared.error.SizeKind.TheVariants as size;
+ghost use Rattle.rhai_value.specs.Steps.{item_place as place_of_item};
+ghost use Rattle.rhai_packs.specs.Places.{cut_place as place_of_cut, item_at, with_placed, without_placed, before, after, first_of, last_of};
+ghost use Rattle.rhai_packs.specs.Sizes.{IsLimited, may_grow as may_grow_by};
+
+mod copies;
+mod search;
+
+use crate::places::{at_most, cut_place, item_place};
+use crate::sizes::{may_grow, too_large};
+pub use copies::{extract, pad};
+use rhai_text::{EvalAltResult, Limits, SizeKind};
+use rhai_value::{Array, Dynamic, INT};
+pub use search::{contains, index_of};
+use std::alloc::{AllocError, Global};
+
+/// Counts the items. Cost: constant.
+pub fn len(items: &Array) -> usize
+    ensures { result ≡ length items.now.items }
+{
+    items.len()
+}
+
+/// Answers whether there is no item. Cost: constant.
+pub fn is_empty(items: &Array) -> bool
+    ensures { IsTrue result ↔ (items.now.items ≡ []) }
+{
+    items.is_empty()
+}
+
+/// Gives the item at an index, if there is one. Cost: constant.
+pub fn get(items: &Array, index: INT) -> Option<&Dynamic>
+    ensures { option_copied result ≡ item_at items.now.items index }
+{
+    let place = item_place(items.len(), index)?;
+    items.as_slice().get(place)
+}
+
+/// Sets the item at an index, and answers whether there is one. Cost: constant, and the drop of what was there.
+pub fn set(items: &mut Array, index: INT, item: Dynamic) -> bool
+    ensures answer { result ≡ is_some (place_of_item (length items.old.items) index) }
+    ensures items { items.new.items ≡ with_placed items.old.items (place_of_item (length items.old.items) index) item }
+{
+    match item_place(items.len(), index) {
+        Some(place) => {
+            items[place] = item;
+            true
+        }
+        None => false,
+    }
+}
+
+/// Puts an item behind the others. Errors: more items than the limit allows, or memory; the items stay, and the new one is gone.
+/// Cost: constant, but where the array has to grow.
+pub fn push(items: &mut Array, limits: &Limits, item: Dynamic) -> Result<(), EvalAltResult>
+    ensures answer { IsLimited size.Items (may_grow_by limits.now.items (length items.old.items) 1) result }
+    ensures items { items.new.items ≡ (if is_ok result then items.old.items ++ item ∷ [] else items.old.items) }
+{
+    if !may_grow(limits.items, items.len(), 1) {
+        return Err(too_large(SizeKind::Items));
+    }
+    items.reserve(1)?;
+    items.push_reserved(item);
+    Ok(())
+}
+
+/// Puts all items of another array behind the others. Errors: more items than the limit allows, or memory; both stay as they are.
+/// Cost: the number of items that are moved, and where the array has to grow that of all.
+pub fn append(items: &mut Array, limits: &Limits, more: &mut Array) -> Result<(), EvalAltResult>
+    ensures answer { IsLimited size.Items (may_grow_by limits.now.items (length items.old.items) (length more.old.items)) result }
+    ensures items { items.new.items ≡ (if is_ok result then items.old.items ++ more.old.items else items.old.items) }
+    ensures free { more.old.items ≡ [] → IsOk result }
+    ensures more { more.new.items ≡ (if is_ok result then [] else more.old.items) }
+{
+    if !may_grow(limits.items, items.len(), more.len()) {
+        return Err(too_large(SizeKind::Items));
+    }
+    if !more.is_empty() {
+        items.append(more)?;
+    }
+    Ok(())
+}
+
+/// Puts an item before the one at an index; past the end behind all, and before the front before all. Errors: as `push`. Cost: the
+/// number of items behind it.
+pub fn insert(
+    items: &mut Array,
+    limits: &Limits,
+    index: INT,
+    item: Dynamic,
+) -> Result<(), EvalAltResult>
+    ensures answer { IsLimited size.Items (may_grow_by limits.now.items (length items.old.items) 1) result }
+    ensures items { items.new.items ≡ (if is_ok result then insert items.old.items (place_of_cut (length items.old.items) index) item else items.old.items) }
+{
+    if !may_grow(limits.items, items.len(), 1) {
+        return Err(too_large(SizeKind::Items));
+    }
+    let place = cut_place(items.len(), index);
+    match items.insert(place, item) {
+        Ok(()) => Ok(()),
+        Err(_) => Err(EvalAltResult::ErrorMemory(AllocError)),
+    }
+}
+
+/// Takes the last item out, if there is one. Cost: constant.
+pub fn pop(items: &mut Array) -> Option<Dynamic>
+    ensures { MatchOption result ((items.old.items ≡ []) × (items.new.items ≡ [])) (λ last. items.old.items ≡ items.new.items ++ last ∷ []) }
+{
+    items.pop()
+}
+
+/// Takes the first item out, if there is one. Cost: the number of items.
+pub fn shift(items: &mut Array) -> Option<Dynamic>
+    ensures { MatchOption result ((items.old.items ≡ []) × (items.new.items ≡ [])) (λ first. items.old.items ≡ first ∷ items.new.items) }
+{
+    if items.is_empty() {
+        return None;
+    }
+    Some(items.remove(0))
+}
+
+/// Takes the item at an index out, if there is one. Cost: the number of items behind it.
+pub fn remove(items: &mut Array, index: INT) -> Option<Dynamic>
+    ensures item { result ≡ item_at items.old.items index }
+    ensures items { items.new.items ≡ without_placed items.old.items (place_of_item (length items.old.items) index) }
+{
+    let place = item_place(items.len(), index)?;
+    Some(items.remove(place))
+}
+
+/// Takes all items out. Cost: their drop.
+pub fn clear(items: &mut Array)
+    ensures { items.new.items ≡ [] }
+{
+    items.clear();
+}
+
+/// Keeps the first so many items, all where there are no more, and none of a negative number. Cost: the drop of the others.
+pub fn truncate(items: &mut Array, count: INT)
+    ensures { items.new.items ≡ first_of items.old.items count }
+{
+    let kept = at_most(items.len(), count);
+    items.truncate(kept);
+}
+
+/// Keeps the last so many items, all where there are no more, and none of a negative number. Cost: the number of items.
+pub fn chop(items: &mut Array, count: INT)
+    ensures { items.new.items ≡ last_of items.old.items count }
+{
+    let kept = at_most(items.len(), count);
+    drop(items.drain(0..items.len() - kept));
+}
+
+/// Turns the order of the items round. Cost: the number of items.
+pub fn reverse(items: &mut Array)
+    ensures { items.new.items ≡ reverse items.old.items }
+{
+    items.reverse();
+}
+
+/// Cuts the items off from an index on, and gives them. An index past the end cuts nothing off, one before the front all. Errors:
+/// memory; the items stay. Cost: the number of items that are cut off.
+pub fn split(items: &mut Array, index: INT) -> Result<Array, AllocError>
+    ensures left { OnOk result (items.new.items ≡ before items.old.items index) }
+    ensures cut { IfOk result (λ rest. rest.items ≡ after items.old.items index) }
+    ensures err { OnErr result (items.new.items ≡ items.old.items) }
+{
+    let place = cut_place(items.len(), index);
+    items.split_off(place)
+}

@@ -1,0 +1,58 @@
+//! Items that are sought, as plain values: without tags, modes and holders. A value that isn't anything without them, as one with a
+//! holder of a marked cell, is the same as nothing.
+ghost use Rattle.std.specs.Prelude.{◌≡◌, ◌↔◌, [], is_some, IfOk, IsTrue, Some, None, true};
+ghost use Rattle.rhai_value.specs.Tree.{Tree};
+ghost use Rattle.rhai_show.specs.InRange.{IsHashed};
+ghost use Rattle.rhai_packs.specs.Same.{AreSame, IsFirst};
+
+use rhai_show::laws::hashes::hash_bytes_tell_values_apart;
+use rhai_show::{Hashed, hashed};
+use rhai_value::{Array, Dynamic, Store};
+use std::alloc::{AllocError, Global};
+
+/// Answers whether an item is the same as a value. Errors: memory. Cost: the hash bytes of the value, and of the items up to the one
+/// that is found.
+pub fn contains(
+    alloc: Global,
+    items: &Array,
+    s: &Store,
+    wanted: &Dynamic,
+) -> Result<bool, AllocError>
+    ensures { IfOk result (λ b. (o : _) × IsFirst s.now wanted.now items.now.items o × (b ≡ is_some o)) }
+{
+    Ok(index_of(alloc, items, s, wanted)?.is_some())
+}
+
+/// Finds the place of the first item that is the same as a value; where the release answers -1, that is `None`. Errors and cost: as
+/// `contains`.
+#[tactic(auto, using(crate::proofs::Sames::same_as_nothing))]
+pub fn index_of(
+    alloc: Global,
+    items: &Array,
+    s: &Store,
+    wanted: &Dynamic,
+) -> Result<Option<usize>, AllocError>
+    ensures { IfOk result (IsFirst s.now wanted.now items.now.items) }
+{
+    let Some(bytes) = hashed(alloc, wanted, s)? else {
+        return Ok(None);
+    };
+    for (index, item) in items.iter().enumerate() {
+        if is_same(alloc, item, s, &bytes)? {
+            return Ok(Some(index));
+        }
+    }
+    Ok(None)
+}
+
+/// Whether a value is the same as the one with these hash bytes.
+#[tactic(auto, using(crate::proofs::Sames::same_where_plain, crate::proofs::Sames::same_as_nothing))]
+fn is_same(alloc: Global, value: &Dynamic, s: &Store, bytes: &Hashed) -> Result<bool, AllocError>
+    ensures { IfOk result (λ b. (y : Tree) → IsHashed s.now y bytes.now → IsTrue b ↔ AreSame s.now value.now y) }
+{
+    hash_bytes_tell_values_apart();
+    match hashed(alloc, value, s)? {
+        Some(own) => Ok(&own == bytes),
+        None => Ok(false),
+    }
+}

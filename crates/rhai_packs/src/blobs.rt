@@ -1,0 +1,144 @@
+//! Blobs. A call works at the bytes of a blob that is at hand, as `Dynamic::as_blob_mut`, `InStore::blob_mut` or `Blob::own_mut` gives
+//! them.
+//!
+//! An index below 0 counts from the end. What the release answers by 0 or doesn't do, where an index is outside or a blob is empty, is
+//! `None` or `false` here. Of an int that becomes a byte the low eight bits count.
+ghost use Rattle.std.specs.Prelude.{◌≡◌, ◌++◌, ◌∷◌, ◌↔◌, [], pos, length, map, replicate, reverse, is_ok, is_some, if◌then◌else◌, option_map, IfOk, IsOk, IsTrue, OnErr, OnOk, MatchOption};
+ghost use Rattle.rhai_text.specs.declared.error.SizeKind.TheVariants as size;
+ghost use Rattle.rhai_value.specs.Bytes.{low_byte};
+ghost use Rattle.rhai_value.specs.Steps.{item_place as place_of_item};
+ghost use Rattle.rhai_value.specs.Tree.{fresh, int};
+ghost use Rattle.rhai_packs.specs.Places.{after, first_of, item_at, missing as missing_of, with_placed, without_placed};
+ghost use Rattle.rhai_packs.specs.Sizes.{IsLimited, may_grow as may_grow_by};
+
+use crate::places::{at_most, cut_place, item_place, missing};
+use crate::sizes::{may_grow, too_large};
+use rhai_text::{EvalAltResult, Limits, SizeKind};
+use rhai_value::{Array, Blob, Dynamic, INT};
+use std::alloc::{AllocError, Global};
+
+/// The low byte of an int.
+fn low_byte_of(number: INT) -> u8
+    ensures { result ≡ low_byte number }
+{
+    number.rem_euclid(256) as u8
+}
+
+/// Makes a blob of so many times a byte; none, where the number is negative. Errors: more bytes than the limit allows, or memory.
+/// Cost: the number of bytes.
+pub fn blob(alloc: Global, limits: &Limits, count: INT, byte: INT) -> Result<Blob, EvalAltResult>
+    ensures answer { IsLimited size.Items (may_grow_by limits.now.items 0 (missing_of 0 count)) result }
+    ensures bytes { IfOk result (λ made. made.items ≡ replicate (missing_of 0 count) (low_byte byte)) }
+{
+    let count = missing(0, count);
+    if !may_grow(limits.items, 0, count) {
+        return Err(too_large(SizeKind::Items));
+    }
+    Ok(Vec::from_elem(alloc, low_byte_of(byte), count)?)
+}
+
+/// Counts the bytes. Cost: constant.
+pub fn len(bytes: &Blob) -> usize
+    ensures { result ≡ length bytes.now.items }
+{
+    bytes.len()
+}
+
+/// Gives the byte at an index as an int, if there is one. Cost: constant.
+pub fn get(bytes: &Blob, index: INT) -> Option<INT>
+    ensures { result ≡ option_map pos (item_at bytes.now.items index) }
+{
+    let place = item_place(bytes.len(), index)?;
+    Some(bytes[place] as INT)
+}
+
+/// Sets the byte at an index, and answers whether there is one. Cost: constant.
+pub fn set(bytes: &mut Blob, index: INT, byte: INT) -> bool
+    ensures answer { result ≡ is_some (place_of_item (length bytes.old.items) index) }
+    ensures bytes { bytes.new.items ≡ with_placed bytes.old.items (place_of_item (length bytes.old.items) index) (low_byte byte) }
+{
+    match item_place(bytes.len(), index) {
+        Some(place) => {
+            bytes[place] = low_byte_of(byte);
+            true
+        }
+        None => false,
+    }
+}
+
+/// Puts a byte behind the others. Errors: more bytes than the limit allows, or memory; the bytes stay. Cost: constant, but where the
+/// blob has to grow.
+pub fn push(bytes: &mut Blob, limits: &Limits, byte: INT) -> Result<(), EvalAltResult>
+    ensures answer { IsLimited size.Items (may_grow_by limits.now.items (length bytes.old.items) 1) result }
+    ensures bytes { bytes.new.items ≡ (if is_ok result then bytes.old.items ++ low_byte byte ∷ [] else bytes.old.items) }
+{
+    if !may_grow(limits.items, bytes.len(), 1) {
+        return Err(too_large(SizeKind::Items));
+    }
+    bytes.reserve(1)?;
+    bytes.push_reserved(low_byte_of(byte));
+    Ok(())
+}
+
+/// Puts bytes behind the others; of none no memory is wanted. Errors: as `push`. Cost: the number of new bytes, and where the blob has
+/// to grow that of all.
+pub fn append(bytes: &mut Blob, limits: &Limits, more: &[u8]) -> Result<(), EvalAltResult>
+    ensures answer { IsLimited size.Items (may_grow_by limits.now.items (length bytes.old.items) (length more.now)) result }
+    ensures bytes { bytes.new.items ≡ (if is_ok result then bytes.old.items ++ more.now else bytes.old.items) }
+    ensures free { more.now ≡ [] → IsOk result }
+{
+    if !may_grow(limits.items, bytes.len(), more.len()) {
+        return Err(too_large(SizeKind::Items));
+    }
+    if !more.is_empty() {
+        bytes.extend_from_slice(more)?;
+    }
+    Ok(())
+}
+
+/// Takes the last byte out, if there is one. Cost: constant.
+pub fn pop(bytes: &mut Blob) -> Option<INT>
+    ensures { MatchOption result ((bytes.old.items ≡ []) × (bytes.new.items ≡ [])) (λ last. (b : _) × (last ≡ pos b) × (bytes.old.items ≡ bytes.new.items ++ b ∷ [])) }
+{
+    match bytes.pop() {
+        Some(byte) => Some(byte as INT),
+        None => None,
+    }
+}
+
+/// Takes the byte at an index out, if there is one. Cost: the number of bytes behind it.
+pub fn remove(bytes: &mut Blob, index: INT) -> Option<INT>
+    ensures byte { result ≡ option_map pos (item_at bytes.old.items index) }
+    ensures bytes { bytes.new.items ≡ without_placed bytes.old.items (place_of_item (length bytes.old.items) index) }
+{
+    let place = item_place(bytes.len(), index)?;
+    Some(bytes.remove(place) as INT)
+}
+
+/// Turns the order of the bytes round. Cost: the number of bytes.
+pub fn reverse(bytes: &mut Blob)
+    ensures { bytes.new.items ≡ reverse bytes.old.items }
+{
+    bytes.reverse();
+}
+
+/// Copies so many bytes from an index on, as many as there are; an index before the front means the front. Errors: memory. Cost: the
+/// bytes that are copied.
+pub fn extract(alloc: Global, bytes: &Blob, index: INT, count: INT) -> Result<Blob, AllocError>
+    ensures { IfOk result (λ part. part.items ≡ first_of (after bytes.now.items index) count) }
+{
+    let start = cut_place(bytes.len(), index);
+    let len = at_most(bytes.len() - start, count);
+    Vec::from_slice(alloc, &bytes.as_slice()[start..start + len])
+}
+
+/// Makes an array of the bytes as ints. Errors: memory. Cost: the number of bytes.
+pub fn to_array(alloc: Global, bytes: &Blob) -> Result<Array, AllocError>
+    ensures { IfOk result (λ items. items.items ≡ map (λ b. fresh (int (pos b))) bytes.now.items) }
+{
+    let mut items = Vec::with_capacity(alloc, bytes.len())?;
+    for byte in bytes {
+        items.push_reserved(Dynamic::from_int(*byte as INT));
+    }
+    Ok(items)
+}

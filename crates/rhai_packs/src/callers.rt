@@ -1,0 +1,33 @@
+//! The proved caller of the README.
+ghost use Rattle.std.specs.Prelude.{◌≡◌, ◌++◌, ◌∷◌, [], List, OnOk, Some};
+ghost use Rattle.rhai_value.specs.End.{end, held_part, value_after, store_after};
+ghost use Rattle.rhai_value.specs.Items.{with_items};
+ghost use Rattle.rhai_value.specs.Parts.{array_of};
+ghost use Rattle.rhai_value.specs.Rows.{trees_of};
+ghost use Rattle.rhai_value.specs.Tree.{Tree};
+
+use crate::arrays;
+use crate::held::mismatch;
+use rhai_text::{EvalAltResult, Limits};
+use rhai_value::{Array, Dynamic, InStore, Store};
+
+/// Puts an item behind those of the array that is held.
+pub(crate) fn push_held(
+    array: &mut Dynamic,
+    m: &mut Store,
+    limits: &Limits,
+    item: Dynamic,
+) -> Result<(), EvalAltResult>
+    ensures { OnOk result ((ts : List Tree) × (held_part array_of (end m.old [] array.old) ≡ Some (trees_of ts))
+        × (array.new ≡ value_after (with_items (ts ++ item ∷ [])) (end m.old [] array.old) array.old)
+        × (m.new ≡ store_after (with_items (ts ++ item ∷ [])) (end m.old [] array.old) m.old)) }
+{
+    let mut place = InStore {
+        value: array,
+        store: m,
+    };
+    match place.array_mut() {
+        Ok(items) => arrays::push(items, limits, item),
+        Err(found) => Err(mismatch::<Array>(found)),
+    }
+}

@@ -1,0 +1,57 @@
+//! Ints.
+ghost use Rattle.std.specs.Prelude.{◌≡◌, pos, negsuc, unsigned_abs, ◌^◌, ◌-◌, IfErr, IfOk, OnErr, OnOk, string_bytes};
+ghost use Rattle.std.specs.Fmt.{signed_decimal};
+ghost use Rattle.std.specs.Int.{w64};
+ghost use Rattle.std.specs.Str.{chars, trim};
+ghost use Rattle.std.specs.Str.Parse.{ExplainsSignedError, ParsesSigned};
+ghost use Rattle.std.specs.Ordering.{int_cmp, ord_max, ord_min};
+ghost use Rattle.rhai_text.specs.declared.error.ArithmeticFault.TheVariants.{Overflow};
+ghost use Rattle.rhai_text.specs.declared.error.EvalAltResult.TheVariants.{ErrorArithmetic};
+ghost use Rattle.rhai_packs.specs.Sizes.{no_place};
+
+use rhai_text::{ArithmeticFault, EvalAltResult, ImmutableString, Position};
+use rhai_value::INT;
+use std::alloc::{AllocError, Global};
+use std::num::ParseIntError;
+
+/// The distance of an int from 0. Errors: `Overflow` exactly of the least int, whose distance is no int. Cost: constant.
+pub fn abs(number: INT) -> Result<INT, EvalAltResult>
+    ensures ok { IfOk result (λ n. n ≡ pos (unsigned_abs number)) }
+    ensures err { IfErr result (λ e. (number ≡ negsuc (2 ^ 63 - 1)) × (e ≡ ErrorArithmetic Overflow no_place)) }
+{
+    if number == INT::MIN {
+        return Err(EvalAltResult::ErrorArithmetic(ArithmeticFault::Overflow, Position::NONE));
+    }
+    Ok(number.abs())
+}
+
+/// The lesser of two ints. Cost: constant.
+pub fn min(first: INT, second: INT) -> INT
+    ensures { result ≡ ord_min int_cmp first second }
+{
+    first.min(second)
+}
+
+/// The greater of two ints. Cost: constant.
+pub fn max(first: INT, second: INT) -> INT
+    ensures { result ≡ ord_max int_cmp first second }
+{
+    first.max(second)
+}
+
+/// Writes an int in decimal. Errors: memory. Cost: its digits.
+pub fn to_string(alloc: Global, number: INT) -> Result<ImmutableString, AllocError>
+    ensures { IfOk result (λ text. text ≡ chars (signed_decimal number)) }
+{
+    let written = format!(in alloc; "{number}")?;
+    ImmutableString::from_str(alloc, written.as_str())
+}
+
+/// Reads an int in decimal, with or without a sign; white space at both ends doesn't count. Errors: what is wrong with the text. Cost:
+/// the length of the text.
+pub fn parse_int(text: &str) -> Result<INT, ParseIntError>
+    ensures value { ParsesSigned w64 10 (trim text.now) result }
+    ensures err { ExplainsSignedError 10 (trim text.now) result }
+{
+    INT::from_str_radix(text.trim(), 10)
+}

@@ -1,0 +1,127 @@
+//! Maps. A call works at a map that is at hand, as `Dynamic::as_map_mut`, `InStore::map_mut` or `Map::own_mut` gives it. Contracts see
+//! its rows, by rising keys.
+//!
+//! What the release answers by `()` where there is no such key is `None` here. No limit is asked: `Limits` has none of entries.
+ghost use Rattle.std.specs.Prelude.{map as map_list, ◌≡◌, ◌↔◌, [], length, true, is_some, option_copied, Some, IfOk, IfErr, IsOk, IsTrue, OnErr, OnOk};
+ghost use Rattle.std.specs.BTreeMap.{insert_entry, is_at};
+ghost use Rattle.std.specs.Map.{keys_of, lookup, remove_entry, values_of};
+ghost use Rattle.std.specs.Str.{chars};
+ghost use Rattle.rhai_value.specs.Rows.{bytes_cmp};
+ghost use Rattle.rhai_value.specs.Tree.{copy, fresh, text};
+ghost use Rattle.rhai_packs.specs.Entries.{IsPartly, filled, mixed};
+
+use rhai_value::{Array, Dynamic, Map};
+use std::alloc::{AllocError, Global};
+
+/// Counts the entries. Cost: constant.
+pub fn len(map: &Map) -> usize
+    ensures { result ≡ length map.now }
+{
+    map.len()
+}
+
+/// Answers whether there is no entry. Cost: constant.
+pub fn is_empty(map: &Map) -> bool
+    ensures { IsTrue result ↔ (map.now ≡ []) }
+{
+    map.is_empty()
+}
+
+/// Answers whether there is such a key. Cost: the logarithm of the number of entries.
+pub fn contains(map: &Map, key: &str) -> bool
+    ensures { result ≡ is_some (lookup (is_at (bytes_cmp key.now)) map.now) }
+{
+    map.contains_key(key)
+}
+
+/// Gives the value of a key, if there is such a key. Cost: the logarithm of the number of entries.
+pub fn get<'m>(map: &'m Map, key: &str) -> Option<&'m Dynamic>
+    ensures { option_copied result ≡ lookup (is_at (bytes_cmp key.now)) map.now }
+{
+    map.get(key)
+}
+
+/// Sets the value of a key. Errors: memory, for a key that is new; the map stays, and the value is gone. Cost: the logarithm of the
+/// number of entries; for a new key its length.
+pub fn set(map: &mut Map, key: &str, value: Dynamic) -> Result<(), AllocError>
+    ensures set { OnOk result (map.new ≡ insert_entry bytes_cmp map.old key.now value) }
+    ensures err { OnErr result (map.new ≡ map.old) }
+    ensures free { is_some (lookup (is_at (bytes_cmp key.now)) map.old) ≡ true → IsOk result }
+{
+    match map.set(key, value) {
+        Ok(_) => Ok(()),
+        Err(_) => Err(AllocError),
+    }
+}
+
+/// Takes a key out, and gives its value, if there is such a key. Cost: the logarithm of the number of entries.
+pub fn remove(map: &mut Map, key: &str) -> Option<Dynamic>
+    ensures value { result ≡ lookup (is_at (bytes_cmp key.now)) map.old }
+    ensures removed { map.new ≡ remove_entry (is_at (bytes_cmp key.now)) map.old }
+{
+    map.remove(key)
+}
+
+/// Takes all entries out. Cost: their drop.
+pub fn clear(map: &mut Map)
+    ensures { map.new ≡ [] }
+{
+    map.clear();
+}
+
+/// Makes an array of the keys, by rising order. Errors: memory. Cost: the length of the keys.
+pub fn keys(alloc: Global, map: &Map) -> Result<Array, AllocError>
+    ensures { IfOk result (λ keys. keys.items ≡ map_list (λ k. fresh (text (chars k))) (keys_of map.now)) }
+{
+    let mut keys = Vec::with_capacity(alloc, map.len())?;
+    for (key, _) in map {
+        keys.push(Dynamic::from_text(alloc, key)?)?;
+    }
+    Ok(keys)
+}
+
+/// Makes an array of copies of the values, by rising keys. Errors: memory. Cost: the copies.
+pub fn values(alloc: Global, map: &Map) -> Result<Array, AllocError>
+    ensures { IfOk result (λ values. values.items ≡ map_list copy (values_of map.now)) }
+{
+    let mut values = Vec::with_capacity(alloc, map.len())?;
+    for (_, value) in map {
+        values.push(value.copy(alloc)?)?;
+    }
+    Ok(values)
+}
+
+/// Sets the entries of another map, of which each takes the place of one with its key. Errors: memory, for a key that is new; then the
+/// first entries were set, and the others are gone. Cost: for each entry the logarithm of the number of entries.
+#[tactic(auto, using(crate::proofs::Mixed::mixed_more))]
+pub fn mixin(map: &mut Map, other: Map) -> Result<(), AllocError>
+    ensures ok { OnOk result (map.new ≡ mixed map.old other) }
+    ensures err { OnErr result (IsPartly mixed map.old other map.new) }
+{
+    for (key, value) in other {
+        match map.insert(key, value) {
+            Ok(_) => {}
+            Err(_) => return Err(AllocError),
+        }
+    }
+    Ok(())
+}
+
+/// Sets the entries of another map whose keys aren't there. Errors: memory; then the first entries were set, and the others are gone.
+/// Cost: for each entry the logarithm of the number of entries.
+#[tactic(auto, using(crate::proofs::Mixed::filled_more))]
+pub fn fill_with(map: &mut Map, other: Map) -> Result<(), AllocError>
+    ensures ok { OnOk result (map.new ≡ filled map.old other) }
+    ensures err { OnErr result (IsPartly filled map.old other map.new) }
+{
+    for (key, value) in other {
+        if map.contains_key(key.as_str()) {
+            continue;
+        }
+        match map.insert(key, value) {
+            Ok(_) => {}
+            Err(_) => return Err(AllocError),
+        }
+    }
+    Ok(())
+}

@@ -1,0 +1,28 @@
+//! Limits of sizes.
+ghost use Rattle.std.specs.Prelude.{◌≡◌};
+ghost use Rattle.rhai_text.specs.declared.error.EvalAltResult.TheVariants.{ErrorDataTooLarge};
+ghost use Rattle.rhai_packs.specs.Sizes.{may_grow as may_grow_by, no_place};
+
+use rhai_text::{EvalAltResult, Position, SizeKind};
+
+/// Whether a limit allows so many more beside so many; where none are added, it isn't asked. A limit of 0 is none.
+pub(crate) fn may_grow(limit: usize, first: usize, more: usize) -> bool
+    ensures { result ≡ may_grow_by limit first more }
+{
+    if more == 0 {
+        true
+    } else if limit == 0 {
+        true
+    } else if limit < first {
+        false
+    } else {
+        more <= limit - first
+    }
+}
+
+/// That a value would grow past its limit.
+pub(crate) fn too_large(kind: SizeKind) -> EvalAltResult
+    ensures { result ≡ ErrorDataTooLarge kind no_place }
+{
+    EvalAltResult::ErrorDataTooLarge(kind, Position::NONE)
+}

@@ -1,0 +1,120 @@
+//! That calls succeed while memory is there, and what they make of worked values.
+use crate::callers::push_held;
+use crate::{arrays, blobs, ints, maps, texts};
+use rhai_show::display_text;
+use rhai_text::{EvalAltResult, ImmutableString, Limits};
+use rhai_value::{Array, Dynamic, INT, Map, Store};
+use std::alloc::{AllocError, Global};
+
+const LIMITS: Limits = Limits { text: 8, items: 4 };
+
+/// An array of these ints.
+fn array_of(alloc: Global, numbers: &[INT]) -> Result<Array, AllocError> {
+    let mut items = Vec::new(alloc);
+    for number in numbers {
+        items.push(Dynamic::from_int(*number))?;
+    }
+    Ok(items)
+}
+
+/// Whether these items print so.
+fn prints(alloc: Global, items: Array, wanted: &str) -> Result<bool, AllocError> {
+    let store = Store::new(alloc);
+    let text = display_text(alloc, &Dynamic::from_array(items), &store)?;
+    Ok(text.as_str() == wanted)
+}
+
+fn arrays_change(alloc: Global) -> Result<bool, EvalAltResult> {
+    let mut items = array_of(alloc, &[1, 2, 3])?;
+    let set = arrays::set(&mut items, -1, Dynamic::from_int(9))
+        && !arrays::set(&mut items, 3, Dynamic::UNIT);
+    arrays::insert(&mut items, &LIMITS, -1, Dynamic::from_int(7))?;
+    let full = arrays::push(&mut items, &LIMITS, Dynamic::UNIT).is_err();
+    let gone = arrays::remove(&mut items, 0).is_some() && arrays::remove(&mut items, -4).is_none();
+    arrays::pad(alloc, &mut items, &LIMITS, 4, &Dynamic::TRUE)?;
+    arrays::chop(&mut items, 3);
+    arrays::reverse(&mut items);
+    let rest = arrays::split(&mut items, -1)?;
+    Ok(set && full && gone && prints(alloc, items, "[true, 9]")? && prints(alloc, rest, "[7]")?)
+}
+
+#[test]
+fn arrays_change_as_scripts_see_it(rt: HostRuntime) {
+    assert!(rt; matches!(arrays_change(rt.alloc()), Ok(true)));
+}
+
+fn items_are_found(alloc: Global) -> Result<bool, EvalAltResult> {
+    let store = Store::new(alloc);
+    let items = array_of(alloc, &[4, 5, 4])?;
+    let four = Dynamic::from_int(4);
+    let first = arrays::index_of(alloc, &items, &store, &four)? == Some(0);
+    Ok(first && !arrays::contains(alloc, &items, &store, &Dynamic::UNIT)?)
+}
+
+#[test]
+fn items_are_found_by_value(rt: HostRuntime) {
+    assert!(rt; matches!(items_are_found(rt.alloc()), Ok(true)));
+}
+
+fn an_array_is_pushed_to(alloc: Global) -> Result<bool, EvalAltResult> {
+    let mut store = Store::new(alloc);
+    let mut array = Dynamic::from_array(array_of(alloc, &[1])?);
+    let mut number = Dynamic::ONE;
+    push_held(&mut array, &mut store, &LIMITS, Dynamic::ONE)?;
+    let refused = matches!(
+        push_held(&mut number, &mut store, &LIMITS, Dynamic::ONE),
+        Err(EvalAltResult::ErrorMismatchDataType("array", "i64", _))
+    );
+    Ok(refused && display_text(alloc, &array, &store)?.as_str() == "[1, 1]")
+}
+
+#[test]
+fn what_is_no_array_is_named(rt: HostRuntime) {
+    assert!(rt; matches!(an_array_is_pushed_to(rt.alloc()), Ok(true)));
+}
+
+fn maps_mix(alloc: Global) -> Result<bool, EvalAltResult> {
+    let mut map = Map::new(alloc);
+    let mut other = Map::new(alloc);
+    maps::set(&mut map, "b", Dynamic::ONE)?;
+    maps::set(&mut other, "a", Dynamic::TWO)?;
+    maps::set(&mut other, "b", Dynamic::TWO)?;
+    maps::fill_with(&mut map, other)?;
+    let keys = prints(alloc, maps::keys(alloc, &map)?, "[\"a\", \"b\"]")?;
+    Ok(keys && prints(alloc, maps::values(alloc, &map)?, "[2, 1]")?)
+}
+
+#[test]
+fn maps_are_filled(rt: HostRuntime) {
+    assert!(rt; matches!(maps_mix(rt.alloc()), Ok(true)));
+}
+
+fn texts_change(alloc: Global) -> Result<bool, EvalAltResult> {
+    let mut text = ImmutableString::from_str(alloc, " héé ")?;
+    texts::trim(alloc, &mut text)?;
+    texts::replace(alloc, &LIMITS, &mut text, "é", "ab")?;
+    let upper = texts::to_upper(alloc, &LIMITS, &text)?.as_str() == "HABAB";
+    let found = texts::index_of(&text, "b") == Some(2) && texts::ends_with(&text, "bab");
+    let part = texts::sub_string(alloc, &text, -2, 9)?.as_str() == "ab";
+    let full = texts::replace(alloc, &LIMITS, &mut text, "a", "123").is_err();
+    Ok(upper && found && part && full && texts::len(&text) == 5)
+}
+
+#[test]
+fn texts_change_by_characters(rt: HostRuntime) {
+    assert!(rt; matches!(texts_change(rt.alloc()), Ok(true)));
+}
+
+fn blobs_and_ints(alloc: Global) -> Result<bool, EvalAltResult> {
+    let mut bytes = blobs::blob(alloc, &LIMITS, 2, 258)?;
+    blobs::push(&mut bytes, &LIMITS, -1)?;
+    let ends = blobs::get(&bytes, -1) == Some(255) && blobs::get(&bytes, 3).is_none();
+    let ints = prints(alloc, blobs::to_array(alloc, &bytes)?, "[2, 2, 255]")?;
+    let least = ints::abs(INT::MIN).is_err() && matches!(ints::parse_int(" -7 "), Ok(-7));
+    Ok(ends && ints && least && ints::to_string(alloc, -12)?.as_str() == "-12")
+}
+
+#[test]
+fn blobs_have_the_low_bytes_of_ints(rt: HostRuntime) {
+    assert!(rt; matches!(blobs_and_ints(rt.alloc()), Ok(true)));
+}

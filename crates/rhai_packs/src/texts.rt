@@ -1,0 +1,216 @@
+//! Texts. A call that the release's scripts see change a text puts another in its place, since none is changed where it stands; the
+//! others make a new one. Indices and lengths count characters; `Limits` counts bytes.
+ghost use Rattle.std.specs.Prelude.{◌≡◌, ◌++◌, ◌-◌, ◌↔◌, [], ℕ, List, length, map, true, IfErr, IfOk, IsTrue, OnErr, OnOk, string_bytes};
+ghost use Rattle.std.specs.Str.{chars as characters_of, encode_utf8_all, trim as trimmed};
+ghost use Rattle.std.specs.StrCase.Lower.{str_to_lowercase};
+ghost use Rattle.std.specs.StrCase.Upper.{str_to_uppercase};
+ghost use Rattle.rhai_value.specs.Tree.{char, fresh};
+ghost use Rattle.rhai_packs.specs.Places.{after, first_of};
+ghost use Rattle.rhai_packs.specs.Sizes.{may_grow as may_grow_by};
+ghost use Rattle.rhai_packs.specs.Texts.{HasPart, IsFoundAt, IsMadeText, IsRefusedText, IsReplaced};
+
+use crate::places::{at_most, cut_place};
+use crate::sizes::{may_grow, too_large};
+use rhai_text::{EvalAltResult, ImmutableString, Limits, SizeKind};
+use rhai_value::{Array, Dynamic, INT};
+use std::alloc::{AllocError, Global};
+
+/// Counts the characters. Cost: the length of the text.
+pub fn len(text: &ImmutableString) -> usize
+    ensures { result ≡ length text.now }
+{
+    count(text.as_str())
+}
+
+fn count(text: &str) -> usize
+    ensures { result ≡ length (characters_of text.now) }
+{
+    text.chars().count()
+}
+
+/// Answers whether there is no character. Cost: constant.
+pub fn is_empty(text: &ImmutableString) -> bool
+    ensures { IsTrue result ↔ (text.now ≡ []) }
+{
+    text.is_empty()
+}
+
+/// Answers whether a part stands in the text. Cost: the length of the text, for a given part.
+pub fn contains(text: &ImmutableString, part: &str) -> bool
+    ensures { IsTrue result ↔ HasPart (encode_utf8_all text.now) part.now }
+{
+    text.as_str().contains(part)
+}
+
+/// Answers whether the text begins with a part. Cost: the length of the part.
+pub fn starts_with(text: &ImmutableString, part: &str) -> bool
+    ensures { IsTrue result ↔ ((rest : List ℕ) × (encode_utf8_all text.now ≡ part.now ++ rest)) }
+{
+    text.as_str().starts_with(part)
+}
+
+/// Answers whether the text ends with a part. Cost: the length of the part.
+pub fn ends_with(text: &ImmutableString, part: &str) -> bool
+    ensures { IsTrue result ↔ ((front : List ℕ) × (encode_utf8_all text.now ≡ front ++ part.now)) }
+{
+    text.as_str().ends_with(part)
+}
+
+/// Copies so many characters from an index on, as many as there are; an index before the front means the front. Errors: memory. Cost:
+/// the length of the text.
+pub fn sub_string(
+    alloc: Global,
+    text: &ImmutableString,
+    index: INT,
+    count: INT,
+) -> Result<ImmutableString, AllocError>
+    ensures { IfOk result (λ part. part ≡ first_of (after text.now index) count) }
+{
+    let length = len(text);
+    let start = cut_place(length, index);
+    let kept = at_most(length - start, count);
+    let front = text.with_slice(alloc, start + kept, length, true, "")?;
+    if start == 0 {
+        return Ok(front);
+    }
+    let part = front.with_slice(alloc, 0, start, true, "")?;
+    Ok(part)
+}
+
+/// Keeps so many characters from an index on, as `sub_string` copies them. Errors: memory; the text stays. Cost: as `sub_string`.
+pub fn crop(
+    alloc: Global,
+    text: &mut ImmutableString,
+    index: INT,
+    count: INT,
+) -> Result<(), AllocError>
+    ensures ok { OnOk result (text.new ≡ first_of (after text.old index) count) }
+    ensures err { OnErr result (text.new ≡ text.old) }
+{
+    *text = sub_string(alloc, text, index, count)?;
+    Ok(())
+}
+
+/// Keeps the first so many characters, all where there are no more, and none of a negative number. Errors: memory; the text stays.
+/// Cost: the length of the text.
+pub fn truncate(alloc: Global, text: &mut ImmutableString, count: INT) -> Result<(), AllocError>
+    ensures ok { OnOk result (text.new ≡ first_of text.old count) }
+    ensures err { OnErr result (text.new ≡ text.old) }
+{
+    let length = len(text);
+    let kept = at_most(length, count);
+    *text = text.with_slice(alloc, kept, length, true, "")?;
+    Ok(())
+}
+
+/// Cuts the white space off both ends. Errors: memory; the text stays. Cost: the length of the text.
+pub fn trim(alloc: Global, text: &mut ImmutableString) -> Result<(), AllocError>
+    ensures ok { OnOk result (text.new ≡ characters_of (trimmed (encode_utf8_all text.old))) }
+    ensures err { OnErr result (text.new ≡ text.old) }
+{
+    *text = ImmutableString::from_str(alloc, text.as_str().trim())?;
+    Ok(())
+}
+
+/// Makes the text in upper case, by Unicode. Errors: more bytes than the limit allows, where it has more than the text, or memory.
+/// Cost: the length of the text.
+pub fn to_upper(
+    alloc: Global,
+    limits: &Limits,
+    text: &ImmutableString,
+) -> Result<ImmutableString, EvalAltResult>
+    ensures answer { IsMadeText limits.now (length (encode_utf8_all text.now)) (length (str_to_uppercase (encode_utf8_all text.now))) result }
+    ensures ok { IfOk result (λ made. made ≡ characters_of (str_to_uppercase (encode_utf8_all text.now))) }
+{
+    let made = text.as_str().to_uppercase(alloc)?;
+    kept_text(alloc, limits, text, &made)
+}
+
+/// Makes the text in lower case, by Unicode. Errors and cost: as `to_upper`.
+pub fn to_lower(
+    alloc: Global,
+    limits: &Limits,
+    text: &ImmutableString,
+) -> Result<ImmutableString, EvalAltResult>
+    ensures answer { IsMadeText limits.now (length (encode_utf8_all text.now)) (length (str_to_lowercase (encode_utf8_all text.now))) result }
+    ensures ok { IfOk result (λ made. made ≡ characters_of (str_to_lowercase (encode_utf8_all text.now))) }
+{
+    let made = text.as_str().to_lowercase(alloc)?;
+    kept_text(alloc, limits, text, &made)
+}
+
+/// A text that is made of another, if the limit allows it or it is no longer.
+fn kept_text(
+    alloc: Global,
+    limits: &Limits,
+    text: &ImmutableString,
+    made: &String,
+) -> Result<ImmutableString, EvalAltResult>
+    ensures answer { IsMadeText limits.now (length (encode_utf8_all text.now)) (length (string_bytes made.now)) result }
+    ensures ok { IfOk result (λ kept. kept ≡ characters_of (string_bytes made.now)) }
+{
+    let length = text.len();
+    if !may_grow(limits.text, length, made.len().saturating_sub(length)) {
+        return Err(too_large(SizeKind::Text));
+    }
+    Ok(ImmutableString::from_str(alloc, made.as_str())?)
+}
+
+/// Puts a text in the place of each occurrence of a part, which are found from left to right and don't overlap; an empty part stands
+/// before each character and at the end. Errors: more bytes than the limit allows, where there get more, or memory; the text stays.
+/// Cost: the length of the text and of the new one.
+pub fn replace(
+    alloc: Global,
+    limits: &Limits,
+    text: &mut ImmutableString,
+    part: &str,
+    with: &str,
+) -> Result<(), EvalAltResult>
+    ensures ok { OnOk result ((out : List ℕ) × IsReplaced (encode_utf8_all text.old) part.entry with.now out
+        × (may_grow_by limits.now.text (length (encode_utf8_all text.old)) (length out - length (encode_utf8_all text.old)) ≡ true) × (text.new ≡ characters_of out)) }
+    ensures refused { IfErr result (IsRefusedText limits.now (length (encode_utf8_all text.old)) (IsReplaced (encode_utf8_all text.old) part.entry with.now)) }
+    ensures err { OnErr result (text.new ≡ text.old) }
+{
+    let made = text.as_str().replace(alloc, part, with)?;
+    match kept_text(alloc, limits, text, &made) {
+        Ok(kept) => {
+            *text = kept;
+            Ok(())
+        }
+        Err(error) => Err(error),
+    }
+}
+
+/// Finds the first occurrence of a part, and counts the characters before it; where the release answers -1, that is `None`. Cost: the
+/// length of the text, for a given part.
+pub fn index_of(text: &ImmutableString, part: &str) -> Option<usize>
+    ensures { IsFoundAt (encode_utf8_all text.now) part.now result }
+{
+    place_of(text.as_str(), part)
+}
+
+fn place_of(text: &str, part: &str) -> Option<usize>
+    ensures { IsFoundAt text.now part.now result }
+{
+    let place = text.find(part)?;
+    let (front, _) = text.split_at(place);
+    Some(count(front))
+}
+
+/// Makes an array of the characters. Errors: memory. Cost: the length of the text; four bytes for each character are wanted meanwhile.
+pub fn chars(alloc: Global, text: &ImmutableString) -> Result<Array, AllocError>
+    ensures { IfOk result (λ items. items.items ≡ map (λ c. fresh (char c)) text.now) }
+{
+    let characters = characters(alloc, text.as_str())?;
+    let mut items = Vec::with_capacity(alloc, characters.len())?;
+    for character in &characters {
+        items.push_reserved(Dynamic::from_char(*character));
+    }
+    Ok(items)
+}
+
+fn characters(alloc: Global, text: &str) -> Result<Vec<char>, AllocError>
+    ensures { IfOk result (λ all. all.items ≡ characters_of text.now) }
+{
+    text.chars().collect(alloc)
+}

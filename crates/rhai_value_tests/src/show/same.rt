@@ -10,12 +10,7 @@ use std::alloc::{AllocError, Global};
 use std::test::Fail;
 
 /// Whether two values are the same, where both can be compared.
-fn are_same(
-    alloc: Global,
-    value: &Dynamic,
-    other: &Dynamic,
-    s: &Store,
-) -> Result<bool, AllocError>
+fn are_same(alloc: Global, value: &Dynamic, other: &Dynamic, s: &Store) -> Result<bool, AllocError>
     ensures { IfOk result (λ same. OnTrue same (plain s.now [] value.now ≡ plain s.now [] other.now)) }
 {
     match same_value(alloc, value, other, s)? {

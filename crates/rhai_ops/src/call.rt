@@ -157,6 +157,7 @@ impl FnBuiltin {
             FnBuiltin::BlobChar => blobs::join_char(alloc, limits, s, x, y),
             FnBuiltin::RangeEqual(false, n) => ranges::equal_exclusive(n, s, x, y),
             FnBuiltin::RangeEqual(true, n) => ranges::equal_inclusive(n, s, x, y),
+            // Rows of operators and of assignments are one type, as what a look-up hands out; the `requires` asks for an operator's.
             FnBuiltin::IntAssign(_)
             | FnBuiltin::BoolAssign(_)
             | FnBuiltin::CharJoinAssign

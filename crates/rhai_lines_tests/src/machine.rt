@@ -1,7 +1,8 @@
 //! Calls of `rhai_run` that no line makes: one command, and what a host sees of a world.
 ghost use Rattle.std.specs.Prelude.{◌≡◌, IfOk};
 ghost use Rattle.rhai_run.specs.Reply.{reply_of};
-ghost use Rattle.rhai_run.specs.Scope.{step_pop};
+ghost use Rattle.rhai_run.specs.declared.command.Command.TheVariants as command;
+ghost use Rattle.rhai_run.specs.Step.{step};
 
 use rhai_run::{Answer, Command, Literal, World, apply};
 use rhai_text::Limits;
@@ -11,7 +12,7 @@ const UNLIMITED: Limits = Limits { text: 0, items: 0 };
 
 /// The caller that the README of `rhai_run` shows.
 fn leave_scope(world: &mut World) -> Result<Answer, AllocError>
-    ensures { IfOk result (λ a. (reply_of a ≡ (step_pop world.old).reply) × (world.new ≡ (step_pop world.old).after)) }
+    ensures { IfOk result (λ a. (reply_of a ≡ (step world.old command.Pop).reply) × (world.new ≡ (step world.old command.Pop).after)) }
 {
     apply(world, &Command::Pop)
 }

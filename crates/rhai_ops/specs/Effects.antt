@@ -7,60 +7,13 @@ use Rattle.rhai_value.specs.Tree.{Tree, node, leaf, char, text, content_of, fres
 use Rattle.rhai_value.specs.Parts.{with_content}
 use Rattle.rhai_value.specs.End.{end, value_after, store_after}
 use Rattle.rhai_ops.specs.declared.builtin.FnBuiltin.{FnBuiltin}
-use Rattle.rhai_ops.specs.declared.builtin.FnBuiltin.TheVariants as row
 use Rattle.rhai_ops.specs.Outcome.{Outcome, IsOutcome, fault, too_large, answers, unsuited}
+pub use Rattle.rhai_ops.specs.Outcome.{Second, stays, taken, Effect, operator, assignment}
+use Rattle.rhai_ops.specs.Results.{rule}
 
--- the second operand of an assignment stays, or unit is left of it
-pub data Second : Type 0 where
-  stays : Second
-  taken : Second
-
--- a row is of an operator, or of an assignment, which says what becomes of the second operand
-pub data Effect : Type 0 where
-  operator : Effect
-  assignment : Second → Effect
-
--- each row's effect: operators answer, assignments write
+-- each row's effect
 abbrev pub effect : FnBuiltin → Effect
-effect (row.Int t) = operator
-effect (row.IntCompare t) = operator
-effect (row.IntRange inclusive) = operator
-effect (row.BoolCompare t) = operator
-effect (row.Bool t) = operator
-effect row.TextJoin = operator
-effect row.TextMinus = operator
-effect (row.TextCompare t) = operator
-effect row.CharJoin = operator
-effect (row.CharCompare t) = operator
-effect row.BlobJoin = operator
-effect (row.BlobEqual negated) = operator
-effect row.ConstTrue = operator
-effect row.ConstFalse = operator
-effect (row.RangeFrom inclusive) = operator
-effect (row.RangeTo inclusive) = operator
-effect row.CharText = operator
-effect (row.CharTextCompare t) = operator
-effect row.TextChar = operator
-effect row.TextMinusChar = operator
-effect (row.TextCharCompare t) = operator
-effect row.FirstCopy = operator
-effect row.SecondCopy = operator
-effect row.BlobChar = operator
-effect (row.RangeEqual inclusive negated) = operator
-effect (row.IntAssign t) = assignment stays
-effect (row.BoolAssign t) = assignment stays
-effect row.CharJoinAssign = assignment stays
-effect row.TextJoinAssign = assignment stays
-effect row.TextMinusAssign = assignment stays
-effect row.ArrayAppend = assignment taken
-effect row.BlobAppend = assignment taken
-effect row.TextCharAssign = assignment stays
-effect row.TextMinusCharAssign = assignment stays
-effect row.CharTextAssign = assignment stays
-effect row.ArrayPush = assignment taken
-effect row.BlobPush = assignment stays
-effect row.BlobCharAssign = assignment stays
-effect row.BlobTextAssign = assignment stays
+effect b = (rule b).effect
 
 -- whether a row writes
 abbrev pub writes : Effect → Bool

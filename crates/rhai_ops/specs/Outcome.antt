@@ -19,6 +19,16 @@ pub data Outcome : Type 0 where
   answers : Tree → Outcome
   unsuited : Outcome
 
+-- the second operand of an assignment stays, or unit is left of it
+pub data Second : Type 0 where
+  stays : Second
+  taken : Second
+
+-- a row is of an operator, or of an assignment, which says what becomes of the second operand
+pub data Effect : Type 0 where
+  operator : Effect
+  assignment : Second → Effect
+
 -- of what both hold
 abbrev pub both : {A B : Type 0} → (A → B → Outcome) → Option A → Option B → Outcome
 both f (Some a) (Some b) = f a b

@@ -24,7 +24,7 @@ use Rattle.rhai_ops.specs.declared.role.Bits.{Bits}
 use Rattle.rhai_ops.specs.declared.role.Comparison.{Comparison}
 use Rattle.rhai_ops.specs.Tokens.{role, arithmetic, base_operation, bits, comparison}
 use Rattle.rhai_ops.specs.Numbers.{number_by, bits_by, compared_by}
-use Rattle.rhai_ops.specs.Outcome.{Outcome, answers, too_large, both, number_answer, bool_answer, is_allowed, limited_text, limited_blob}
+use Rattle.rhai_ops.specs.Outcome.{Outcome, Effect, operator, assignment, Second, stays, taken, answers, too_large, both, number_answer, bool_answer, is_allowed, limited_text, limited_blob}
 
 -- what is held of a kind
 abbrev pub part : {A : Type 0} → (Tree → Option A) → List Cell → Tree → Option A
@@ -113,17 +113,18 @@ joined_items l (tree_then t ts) (tree_then u us) = limited_array l (then_items (
 abbrev pub Holds : {A : Type 0} → (Tree → Option A) → List Cell → Tree → Type 0
 Holds of s t = IsSome (part of s t)
 
--- What a row says: what it asks of its operator and of its operands, what it comes to on them, when memory may be wanted for that, and
--- whether it looks at the limits. Both operands are read before anything is written.
+-- What a row says: what it asks of its operator and of its operands, what it comes to on them, when memory may be wanted for that, whether
+-- it looks at the limits, and whether it answers or writes. Both operands are read before anything is written.
 pub record Rule : Type 1 where
   pub asks : List Cell → Tree → Tree → Type 0
   pub comes_to : Limits → List Cell → Tree → Tree → Outcome
   pub wants : Tree → Tree → Type 0
   pub looks : Bool
+  pub effect : Effect
 
--- of any two operands; no memory is wanted, and no limit is looked at
+-- of any two operands; no memory is wanted, no limit is looked at, and nothing is written
 abbrev pub of_any : (Tree → Tree → Outcome) → Rule
-of_any f = record { asks = λ s x y. Unit {0}; comes_to = λ l s x y. f x y; wants = λ x y. ⊥; looks = false }
+of_any f = record { asks = λ s x y. Unit {0}; comes_to = λ l s x y. f x y; wants = λ x y. ⊥; looks = false; effect = operator }
 
 -- the same of a first operand that holds such a part, and a second one that is as asked, of which this is read
 abbrev pub of_read : {A B : Type 0} → (Tree → Option A) → (List Cell → Tree → Type 0) → (List Cell → Tree → Option B) → (Limits → A → B → Outcome) → Rule
@@ -132,6 +133,7 @@ of_read first asked second f = record {
   comes_to = λ l s x y. both (f l) (part first s x) (second s y);
   wants = λ x y. ⊥;
   looks = false;
+  effect = operator;
 }
 
 -- the same of two operands that hold such parts
@@ -148,6 +150,10 @@ making r = record r { wants = λ x y. Unit {0} }
 
 abbrev pub limited : Rule → Rule
 limited r = record r { wants = λ x y. Unit {0}; looks = true }
+
+-- a rule of an assignment, which writes what it comes to, and after which the second operand stays, or unit is left of it
+abbrev pub writing : Second → Rule → Rule
+writing second r = record r { effect = assignment second }
 
 -- a comparison, by the order of such parts
 abbrev pub comparing : {A B : Type 0} → Option Comparison → (Tree → Option A) → (Tree → Option B) → (A → B → Ordering) → Rule
@@ -203,20 +209,20 @@ rule row.FirstCopy = record (of_any (λ x y. answers (copy x))) { wants = λ x y
 rule row.SecondCopy = record (of_any (λ x y. answers (copy y))) { wants = λ x y. TakesNoMemory y → ⊥ }
 rule row.BlobChar = blob_and_char
 rule (row.RangeEqual i n) = of_parts (typed_host_of (range_type i)) (typed_host_of (range_type i)) (λ l a b. range_answer n (same_range a b))
-rule (row.IntAssign t) = of_ints (base_operation (role t))
-rule (row.BoolAssign t) = of_bools (bits (base_operation (role t)))
-rule row.CharJoinAssign = making (of_parts char_of char_of (λ l c d. answers (fresh (text (c ∷ d ∷ [])))))
-rule row.TextJoinAssign = limited (of_parts text_of text_of joined_texts)
-rule row.TextMinusAssign = text_minus
-rule row.ArrayAppend = limited (of_read array_of (Holds array_of) array_moved joined_items)
-rule row.BlobAppend = limited (of_parts blob_of blob_of appended)
-rule row.TextCharAssign = text_and_char
-rule row.TextMinusCharAssign = text_minus_char
-rule row.CharTextAssign = limited (of_parts char_of text_of joined_to_char)
-rule row.ArrayPush = limited (of_read array_of (λ s y. Unit {0}) (λ s y. Some y) pushed)
-rule row.BlobPush = limited (of_read blob_of (Holds int_of) (λ s y. option_map (λ n. low_byte n ∷ []) (part int_of s y)) appended)
-rule row.BlobCharAssign = blob_and_char
-rule row.BlobTextAssign = limited (of_parts blob_of text_of blob_and_text)
+rule (row.IntAssign t) = writing stays (of_ints (base_operation (role t)))
+rule (row.BoolAssign t) = writing stays (of_bools (bits (base_operation (role t))))
+rule row.CharJoinAssign = writing stays (making (of_parts char_of char_of (λ l c d. answers (fresh (text (c ∷ d ∷ []))))))
+rule row.TextJoinAssign = writing stays (limited (of_parts text_of text_of joined_texts))
+rule row.TextMinusAssign = writing stays text_minus
+rule row.ArrayAppend = writing taken (limited (of_read array_of (Holds array_of) array_moved joined_items))
+rule row.BlobAppend = writing taken (limited (of_parts blob_of blob_of appended))
+rule row.TextCharAssign = writing stays text_and_char
+rule row.TextMinusCharAssign = writing stays text_minus_char
+rule row.CharTextAssign = writing stays (limited (of_parts char_of text_of joined_to_char))
+rule row.ArrayPush = writing taken (limited (of_read array_of (λ s y. Unit {0}) (λ s y. Some y) pushed))
+rule row.BlobPush = writing stays (limited (of_read blob_of (Holds int_of) (λ s y. option_map (λ n. low_byte n ∷ []) (part int_of s y)) appended))
+rule row.BlobCharAssign = writing stays blob_and_char
+rule row.BlobTextAssign = writing stays (limited (of_parts blob_of text_of blob_and_text))
 
 -- what a row comes to on x and y in the store s, under the limits l
 abbrev pub outcome : FnBuiltin → Limits → List Cell → Tree → Tree → Outcome

@@ -9,15 +9,19 @@ use Rattle.rhai_value.proofs.ForCallers.{same_tag, same_mode, same_host, same_sh
 use Rattle.rhai_value.specs.declared.type_id.TypeId.TheVariants as id
 use Rattle.rhai_cast.proofs.ForCallers.{same_is}
 use Rattle.rhai_show.specs.declared.form.Form.{Form}
+use Rattle.rhai_show.specs.declared.form.Form.TheVariants.{Display, Debug}
+use Rattle.rhai_show.specs.Text.{printed}
 use Rattle.rhai_show.proofs.ForCallers.{same_plain, same_printed}
 use Rattle.rhai_run.specs.declared.command.Question.{Question}
 use Rattle.rhai_run.specs.declared.command.Question.TheVariants as question
 use Rattle.rhai_run.specs.State.{State}
-use Rattle.rhai_run.specs.Ask.{asked, asked_of_held, hash_of, step_ask, step_show, step_hash}
-use Rattle.rhai_run.specs.Outcome.{Outcome, free, growing, given}
+use Rattle.rhai_run.specs.Ask.{asked, asked_of_held, hash_of}
+use Rattle.rhai_run.specs.Outcome.{Outcome, free, growing, given, with_value}
 use Rattle.rhai_run.specs.Reply.{done, truth, number, told, mismatch}
 use Rattle.rhai_run.specs.Correspondence.{RelatedStates}
 use Rattle.rhai_run.proofs.Outcome.{Matches, alike_same, m_stays, m_given, m_value}
+use Rattle.rhai_run.specs.declared.command.Command.TheVariants as command
+use Rattle.rhai_run.specs.Step.{step}
 
 same_constant : (r : Renaming) (o q : Option Tree) → Alike (Related r) o q → constant_in o ≡ constant_in q
 same_constant r None None h = refl
@@ -62,14 +66,20 @@ module _ (r : Renaming) (w v : State) (h : RelatedStates r w v) where
       by question.Bool = same_of_held bool_of e f (λ x b. free (truth b) x) (same_held_leaf r leaf_bool e f ends) kind (λ a. m_stays r w v h (truth a) (truth a) refl)
       by question.Char = same_of_held char_of e f (λ x c. growing (told (c ∷ [])) x) (same_held_leaf r leaf_char e f ends) kind (λ a. m_stays r w v h (told (a ∷ [])) (told (a ∷ [])) refl)
 
-  pub same_ask : (i : ℕ) (q : Question) → Matches r w v (step_ask w i q) (step_ask v i q)
+  pub same_ask : (i : ℕ) (q : Question) → Matches r w v (step w (command.Ask i q)) (step v (command.Ask i q))
   same_ask i q = m_value r w v h i _ _ (λ t u e. same_asked t u e q)
 
-  pub same_show : (form : Form) (i : ℕ) → Matches r w v (step_show form w i) (step_show form v i)
-  same_show form i = m_value r w v h i _ _ (λ t u e. m_stays r w v h _ _ (ap (λ f. told (f form)) (same_printed r w.store v.store t u h.one h.cells e)))
+  same_text_of : (form : Form) (i : ℕ) → Matches r w v (with_value w i (λ t. growing (told (printed w.store [] t form)) w)) (with_value v i (λ t. growing (told (printed v.store [] t form)) v))
+  same_text_of form i = m_value r w v h i _ _ (λ t u e. m_stays r w v h _ _ (ap (λ f. told (f form)) (same_printed r w.store v.store t u h.one h.cells e)))
 
-  pub same_hash : (i : ℕ) → Matches r w v (step_hash w i) (step_hash v i)
+  pub same_show : (i : ℕ) → Matches r w v (step w (command.Show i)) (step v (command.Show i))
+  same_show = same_text_of Display
+
+  pub same_debug : (i : ℕ) → Matches r w v (step w (command.Debug i)) (step v (command.Debug i))
+  same_debug = same_text_of Debug
+
+  pub same_hash : (i : ℕ) → Matches r w v (step w (command.Hash i)) (step v (command.Hash i))
   same_hash i = m_value r w v h i _ _ (λ t u e. m_stays r w v h _ _ (ap hash_of (same_plain r w.store v.store t u h.one h.cells e)))
 
 -- the steps of this file
-pub ruleset ask_steps = (same_ask, same_show, same_hash)
+pub ruleset ask_steps = (same_ask, same_show, same_debug, same_hash)

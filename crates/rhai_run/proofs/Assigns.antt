@@ -11,7 +11,7 @@ use Rattle.rhai_value.proofs.ForCallers.{get_set_other}
 use Rattle.rhai_scope.specs.Entry.{Entry}
 use Rattle.rhai_ops.specs.AssignTable.{assign_row}
 use Rattle.rhai_ops.specs.Outcome as call
-use Rattle.rhai_ops.specs.Outcome.{IsOutcome, is_answer}
+use Rattle.rhai_ops.specs.Outcome.{IsOutcome}
 use Rattle.rhai_ops.specs.Results.{MayWant, Suits, outcome}
 use Rattle.rhai_ops.specs.Effects.{Effect, operator, assignment, effect, answered, first_left, second_left, store_left}
 use Rattle.rhai_ops.specs.declared.builtin.FnBuiltin.{FnBuiltin}
@@ -22,12 +22,14 @@ use Rattle.rhai_run.specs.State.{State, with_hand}
 use Rattle.rhai_run.specs.Reply.{done}
 use Rattle.rhai_run.specs.Outcome.{growing}
 use Rattle.rhai_run.specs.Does.{Calls, IsError, not_done_of}
-use Rattle.rhai_run.specs.Operators.{called, step_assign}
+use Rattle.rhai_run.specs.Operators.{called}
 use Rattle.rhai_run.specs.Places.{source, is_at}
 use Rattle.rhai_run.specs.Slots.{assigned_in, both_assigned, called_in, is_in, slot_of, value_in, HasOperands}
 use Rattle.rhai_run.proofs.Slots.{same_put}
 use Rattle.rhai_run.proofs.Called.{refusal_of}
 use Rattle.rhai_run.proofs.Moves.{set_own}
+use Rattle.rhai_run.specs.declared.command.Command.TheVariants as command
+use Rattle.rhai_run.specs.Step.{step}
 
 -- writes to two places of a list
 set_other : (ts : List Tree) (i j : ℕ) (x y d : Tree) → (i ≡ j → ⊥) → slice_set (slice_set (slice_set ts j d) i x) j y ≡ slice_set (slice_set ts j y) i x
@@ -58,7 +60,7 @@ answered_value w (assignment q) after d call.unsuited e = cc
 
 -- the step of a row that was looked up
 pub assign_is : (w : State) (op : Token) (p : Place) (q : Slot) (j : ℕ) (t u x : Tree) (row : FnBuiltin) → slice_get w.hand j ≡ Some u → is_at p j ≡ false → slot_of w.entries p ≡ Some q
-    → source w.hand w.entries p ≡ Ok t → value_in w.hand w.entries q ≡ Some t → first w.store t ≡ Some x → assign_row op x u ≡ Some row → step_assign w op p j ≡ called_in w q j row
+    → source w.hand w.entries p ≡ Ok t → value_in w.hand w.entries q ≡ Some t → first w.store t ≡ Some x → assign_row op x u ≡ Some row → step w (command.Assign op p j) ≡ called_in w q j row
 assign_is w op p q j t u x row b c is d v e f =
     let how = effect row in
     let o = outcome row w.limits w.store t u in

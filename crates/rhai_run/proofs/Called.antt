@@ -20,8 +20,10 @@ use Rattle.rhai_run.specs.State.{State, appended}
 use Rattle.rhai_run.specs.Reply.{done}
 use Rattle.rhai_run.specs.Outcome.{growing}
 use Rattle.rhai_run.specs.Does.{Gives, IsError, not_done_of}
-use Rattle.rhai_run.specs.Operators.{value_at, called, step_binary}
+use Rattle.rhai_run.specs.Operators.{value_at, called}
 use Rattle.rhai_run.proofs.Moves.{set_own}
+use Rattle.rhai_run.specs.declared.command.Command.TheVariants as command
+use Rattle.rhai_run.specs.Step.{step}
 
 -- the value at a place, and the one at another after the first was taken
 pub first_of : (ts : List Tree) (i : ℕ) (t : Tree) → slice_get ts i ≡ Some t → t ≡ value_at ts i
@@ -54,7 +56,7 @@ answered_by_operator M b o r e h = subst (λ w. IsOutcome M r (answered w o)) e 
 
 -- what the step comes to
 pub binary_is : (w : State) (op : Token) (i j : ℕ) (x y : Tree) (row : FnBuiltin) → slice_get w.hand i ≡ Some x → slice_get w.hand j ≡ Some y → nat_eq i j ≡ false → row_of op w.store x y ≡ Some row
-    → step_binary w op i j ≡ called w (appended w) (outcome row w.limits w.store x y)
+    → step w (command.Binary op i j) ≡ called w (appended w) (outcome row w.limits w.store x y)
 binary_is w op i j x y row ex ey e f = rw (ex, ey, e, f) refl
 
 pub gives_value : (MayWant : Type 0) (w : State) (d : Tree) (o : call.Outcome) → IsOutcome MayWant (Ok d) o → called w (appended w) o ≡ growing done (appended w d)
@@ -95,11 +97,11 @@ module _ (w v : State) (op : Token) (i j : ℕ) (x y : Tree) (row : FnBuiltin) (
       let b : value_at v.hand j ≡ y = ap (λ (z : State). value_at z.hand j) view ∙ sym (first_of w.hand j y ey) in
       subst (λ z. of_operands result z x y) view (rw (a, b) at h)
 
-  pub called_value : (d : Tree) → of_operands (Ok d) v (value_at v.hand i) (value_at v.hand j) → step_binary w op i j ≡ growing done (appended w d)
+  pub called_value : (d : Tree) → of_operands (Ok d) v (value_at v.hand i) (value_at v.hand j) → step w (command.Binary op i j) ≡ growing done (appended w d)
   called_value d h = binary_is w op i j x y row ex ey differ found ∙ gives_value (MayWant row x y) w d (outcome row w.limits w.store x y) (seen (Ok d) h)
 
-  pub called_refusal : (e : EvalAltResult) (why : NotDone) (r : Result Tree NotDone) → of_operands (Err e) v (value_at v.hand i) (value_at v.hand j) → r ≡ Err why → why ≡ not_done_of e → Gives r w (step_binary w op i j)
+  pub called_refusal : (e : EvalAltResult) (why : NotDone) (r : Result Tree NotDone) → of_operands (Err e) v (value_at v.hand i) (value_at v.hand j) → r ≡ Err why → why ≡ not_done_of e → Gives r w (step w (command.Binary op i j))
   called_refusal e why r h k m =
-      subst (λ q. Gives q w (step_binary w op i j)) (sym k)
+      subst (λ q. Gives q w (step w (command.Binary op i j))) (sym k)
       (subst (λ o. IsError why w o) (sym (binary_is w op i j x y row ex ey differ found))
       (subst (λ n. IsError n w (called w (appended w) (outcome row w.limits w.store x y))) (sym m) (refusal_of (MayWant row x y) w operator (appended w) e (outcome row w.limits w.store x y) (seen (Err e) h))))

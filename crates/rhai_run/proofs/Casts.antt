@@ -11,7 +11,7 @@ use Rattle.rhai_variant.specs.Reads.{held_type, read, viewed}
 use Rattle.rhai_cast.specs.Casts.{is_castable}
 use Rattle.rhai_cast.proofs.ForCallers.{copied_castable, moved_castable}
 use Rattle.rhai_run.specs.Entries.{viewed_as}
-use Rattle.rhai_run.specs.Hand.{read_as}
+use Rattle.rhai_run.specs.Entries.{read_as}
 
 pub castable_other : (k : TypeId) (e : End) → is_type k id.Dynamic ≡ false → is_castable k e ≡ is_type (held_type k) (end_type e)
 castable_other id.Dynamic e h = cc

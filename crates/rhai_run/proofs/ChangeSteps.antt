@@ -11,10 +11,12 @@ use Rattle.rhai_value.proofs.ForCallers.{zip_set, zip_weaker, one_pair, paired_m
 use Rattle.rhai_run.specs.State.{State, with_cells}
 use Rattle.rhai_run.specs.Reply.{done, refused, mismatch, fault, data_race}
 use Rattle.rhai_run.specs.Outcome.{growing}
-use Rattle.rhai_run.specs.Change.{shared_at, step_share, step_flatten, step_make_read_only, step_set_tag, int_written, step_write_int, nowhere, step_write}
+use Rattle.rhai_run.specs.Change.{shared_at, int_written, nowhere}
 use Rattle.rhai_scope.specs.Relation.{RelatedEntry}
 use Rattle.rhai_run.specs.Correspondence.{RelatedStates}
 use Rattle.rhai_run.proofs.Outcome.{Matches, same_marked, m_either, m_stays, m_given, m_value, m_two, m_cells, m_replaced, m_hand, set_hand, moved_hand}
+use Rattle.rhai_run.specs.declared.command.Command.TheVariants as command
+use Rattle.rhai_run.specs.Step.{step}
 
 module _ (r : Renaming) (w v : State) (h : RelatedStates r w v) where
   -- one more pair, and new values at a hand position
@@ -44,22 +46,22 @@ module _ (r : Renaming) (w v : State) (h : RelatedStates r w v) where
         keeps = same_marked w.store _ w.marks (marked_added w.store t);
       }
 
-  pub same_share : (i : ℕ) → Matches r w v (step_share w i) (step_share v i)
+  pub same_share : (i : ℕ) → Matches r w v (step w (command.Share i)) (step v (command.Share i))
   same_share i = m_value r w v h i _ _ (by_trees r (λ t u. Matches r w v (shared_at w i t) (shared_at v i u))
       (λ l g m. new_cell i (node (leaf l) g m) (node (leaf l) g m) (refl, refl, refl))
       (λ k ts us g m e. new_cell i (node (branch k ts) g m) (node (branch k us) g m) ((refl, e), refl, refl))
       (λ fs hs g m e. new_cell i (node (fields fs) g m) (node (fields hs) g m) (e, refl, refl))
       (λ c d g m p. m_stays r w v h done done refl))
 
-  pub same_flatten : (i : ℕ) → Matches r w v (step_flatten w i) (step_flatten v i)
+  pub same_flatten : (i : ℕ) → Matches r w v (step w (command.Flatten i)) (step v (command.Flatten i))
   same_flatten i =
       m_value r w v h i _ _ (λ t u e. m_either r w v h _ _ (same_shared r t u e)
       (m_hand r w v h _ _ (set_hand r w v h i _ _ (same_flattened r w.store v.store t u h.one h.cells e))) (m_stays r w v h done done refl))
 
-  pub same_make_read_only : (i : ℕ) → Matches r w v (step_make_read_only w i) (step_make_read_only v i)
+  pub same_make_read_only : (i : ℕ) → Matches r w v (step w (command.MakeReadOnly i)) (step v (command.MakeReadOnly i))
   same_make_read_only i = m_replaced r w v h i _ _ (same_paint r ReadOnly)
 
-  pub same_set_tag : (i : ℕ) (g : ℤ) → Matches r w v (step_set_tag w i g) (step_set_tag v i g)
+  pub same_set_tag : (i : ℕ) (g : ℤ) → Matches r w v (step w (command.SetTag i g)) (step v (command.SetTag i g))
   same_set_tag i g = m_replaced r w v h i _ _ (same_with_tag r g)
 
   int_at_end : (i : ℕ) (n : ℤ) (t u : Tree) (e f : End) → Related r t u → RelatedEnds r e f → Matches r w v (int_written w i n t e) (int_written v i n u f)
@@ -70,10 +72,10 @@ module _ (r : Renaming) (w v : State) (h : RelatedStates r w v) where
       (set_hand r w v h i _ _ (same_value_after r (with_int n) (with_int n) t u (same_with_int r n) k e f o)))
       (m_stays r w v h _ _ (ap (λ k. refused (mismatch (type_name k))) (same_end_type r e f o)))
 
-  pub same_write_int : (i : ℕ) (n : ℤ) → Matches r w v (step_write_int w i n) (step_write_int v i n)
+  pub same_write_int : (i : ℕ) (n : ℤ) → Matches r w v (step w (command.WriteInt i n)) (step v (command.WriteInt i n))
   same_write_int i n = m_value r w v h i _ _ (λ t u e. int_at_end i n t u (end w.store [] t) (end v.store [] u) e (same_end r w.store v.store t u h.one h.cells e))
 
-  pub same_write : (i j : ℕ) → Matches r w v (step_write w i j) (step_write v i j)
+  pub same_write : (i j : ℕ) → Matches r w v (step w (command.Write i j)) (step v (command.Write i j))
   same_write i j =
       m_two r w v h i j _ _ (λ t u x y e d. m_given r w v h (Related r) (fault (data_race nowhere)) (first w.store t) (first v.store u) _ _ (same_first r w.store v.store h.cells t u e) (λ a b c.
       m_cells r w v h _ _ _ _ (length_with_first x w.store t) (length_with_first y v.store u) (marked_with_first x w.store t)

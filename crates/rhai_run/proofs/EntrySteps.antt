@@ -16,15 +16,17 @@ use Rattle.rhai_scope.specs.Lookup.{last_position}
 use Rattle.rhai_scope.specs.Typed.{set_or_pushed, removed_at}
 use Rattle.rhai_run.specs.State.{State, with_entries}
 use Rattle.rhai_run.specs.Reply.{told, nothing, no_entry, constant_entry, shared_entry}
-use Rattle.rhai_run.specs.Entries.{step_set_entry, step_set_or_push, is_there_constant, step_set_value, step_get, appended_or_nothing, step_get_value, viewed_as, step_get_ref, step_set_ref, step_remove, step_set_alias, step_aliases}
+use Rattle.rhai_run.specs.Entries.{is_there_constant, appended_or_nothing, viewed_as}
 use Rattle.rhai_scope.specs.NamesText.{aliases_text}
 use Rattle.rhai_scope.specs.Relation.{RelatedEntry}
 use Rattle.rhai_run.specs.Correspondence.{RelatedStates}
 use Rattle.rhai_run.proofs.HandSteps.{unless_shared, same_flat_read}
 use Rattle.rhai_run.proofs.Outcome.{Matches, alike_same, m_either, no_cell, m_stays, m_unless, m_given, m_value, m_entries, m_scope, m_appended, moved_hand}
+use Rattle.rhai_run.specs.declared.command.Command.TheVariants as command
+use Rattle.rhai_run.specs.Step.{step}
 
 module _ (r : Renaming) (w v : State) (h : RelatedStates r w v) where
-  pub same_set_entry : (name : List ℕ) (i : ℕ) → Matches r w v (step_set_entry w name i) (step_set_entry v name i)
+  pub same_set_entry : (name : List ℕ) (i : ℕ) → Matches r w v (step w (command.SetEntry name i)) (step v (command.SetEntry name i))
   same_set_entry name i =
       m_value r w v h i _ _ (λ t u e.
       m_given r w v h (RelatedEntry r) no_entry _ _ _ _ (same_last_entry r name w.entries v.entries h.entries) (λ a b n.
@@ -36,7 +38,7 @@ module _ (r : Renaming) (w v : State) (h : RelatedStates r w v) where
   entries_set o p k name i t u e =
       subst (λ q. AllZip (RelatedEntry r) (set_or_pushed o name t w.entries) (set_or_pushed q name u v.entries)) k (same_set_or_pushed r o name t u w.entries v.entries e h.entries)
 
-  pub same_set_or_push : (name : List ℕ) (i : ℕ) → Matches r w v (step_set_or_push w name i) (step_set_or_push v name i)
+  pub same_set_or_push : (name : List ℕ) (i : ℕ) → Matches r w v (step w (command.SetOrPush name i)) (step v (command.SetOrPush name i))
   same_set_or_push name i =
       m_value r w v h i _ _ (λ t u e. m_scope r w v h _ _ _ _ (entries_set _ _ (same_writable r name w.entries v.entries h.entries) name i t u e) (moved_hand r w v h i))
 
@@ -46,13 +48,13 @@ module _ (r : Renaming) (w v : State) (h : RelatedStates r w v) where
   same_there_constant None (Some f) k = absurd k
   same_there_constant (Some e) None k = absurd k
 
-  pub same_set_value : (name : List ℕ) (i : ℕ) → Matches r w v (step_set_value w name i) (step_set_value v name i)
+  pub same_set_value : (name : List ℕ) (i : ℕ) → Matches r w v (step w (command.SetValue name i)) (step v (command.SetValue name i))
   same_set_value name i =
       m_value r w v h i _ _ (λ t u e.
       m_unless r w v h constant_entry _ _ _ _ (same_there_constant _ _ (same_last_entry r name w.entries v.entries h.entries))
       (m_scope r w v h _ _ _ _ (entries_set _ _ (same_position r name w.entries v.entries h.entries) name i t u e) (moved_hand r w v h i)))
 
-  pub same_get : (name : List ℕ) → Matches r w v (step_get w name) (step_get v name)
+  pub same_get : (name : List ℕ) → Matches r w v (step w (command.Get name)) (step v (command.Get name))
   same_get name =
       m_given r w v h (Related r) no_entry _ _ _ _ (same_named r name w.entries v.entries h.entries) (λ t u e. m_appended r w v h (copy t) (copy u) (same_copy r t u e))
 
@@ -62,15 +64,15 @@ module _ (r : Renaming) (w v : State) (h : RelatedStates r w v) where
   m_appended_or_nothing None (Some u) k = absurd k
   m_appended_or_nothing (Some t) None k = absurd k
 
-  pub same_get_value : (name : List ℕ) (kind : TypeId) → Matches r w v (step_get_value w name kind) (step_get_value v name kind)
+  pub same_get_value : (name : List ℕ) (kind : TypeId) → Matches r w v (step w (command.GetValue name kind)) (step v (command.GetValue name kind))
   same_get_value name kind =
       m_given r w v h (Related r) no_entry _ _ _ _ (same_named r name w.entries v.entries h.entries)
       (λ t u e. m_appended_or_nothing _ _ (same_flat_read r w v h kind t u e))
 
-  pub same_set_alias : (name alias : List ℕ) → Matches r w v (step_set_alias w name alias) (step_set_alias v name alias)
+  pub same_set_alias : (name alias : List ℕ) → Matches r w v (step w (command.SetAlias name alias)) (step v (command.SetAlias name alias))
   same_set_alias name alias = m_entries r w v h _ _ (same_changed_named r _ _ name w.entries v.entries (same_aliased r (meant_alias name alias)) h.entries)
 
-  pub same_aliases : (name : List ℕ) → Matches r w v (step_aliases w name) (step_aliases v name)
+  pub same_aliases : (name : List ℕ) → Matches r w v (step w (command.Aliases name)) (step v (command.Aliases name))
   same_aliases name =
       m_given r w v h (λ a b. a ≡ b) no_entry _ _ _ _ (alike_same _ _ (same_aliases_named r name w.entries v.entries h.entries)) (λ a b e. m_stays r w v h _ _ (ap (λ bs. told (aliases_text bs)) e))
 
@@ -83,7 +85,7 @@ module _ (r : Renaming) (w v : State) (h : RelatedStates r w v) where
   copies_alike None (Some u) e = absurd e
   copies_alike (Some t) None e = absurd e
 
-  pub same_get_ref : (name : List ℕ) (kind : TypeId) → Matches r w v (step_get_ref w name kind) (step_get_ref v name kind)
+  pub same_get_ref : (name : List ℕ) (kind : TypeId) → Matches r w v (step w (command.GetRef name kind)) (step v (command.GetRef name kind))
   same_get_ref name kind =
       m_given r w v h (Related r) no_entry _ _ _ _ (same_named r name w.entries v.entries h.entries) (λ t u e.
       m_unless r w v h shared_entry _ _ _ _ (same_shared r t u e) (m_appended_or_nothing _ _ (copies_alike _ _ (same_viewed_as kind t u e))))
@@ -94,7 +96,7 @@ module _ (r : Renaming) (w v : State) (h : RelatedStates r w v) where
   some_alike None (Some u) e = absurd e
   some_alike (Some t) None e = absurd e
 
-  pub same_set_ref : (name : List ℕ) (n : ℤ) → Matches r w v (step_set_ref w name n) (step_set_ref v name n)
+  pub same_set_ref : (name : List ℕ) (n : ℤ) → Matches r w v (step w (command.SetRef name n)) (step v (command.SetRef name n))
   same_set_ref name n =
       m_given r w v h (Related r) no_entry _ _ _ _ (same_named r name w.entries v.entries h.entries) (λ t u e.
       m_unless r w v h shared_entry _ _ _ _ (same_shared r t u e)
@@ -113,7 +115,7 @@ module _ (r : Renaming) (w v : State) (h : RelatedStates r w v) where
   m_taken es fs None (Some u) e k = absurd k
   m_taken es fs (Some t) None e k = absurd k
 
-  pub same_remove : (name : List ℕ) (kind : TypeId) → Matches r w v (step_remove w name kind) (step_remove v name kind)
+  pub same_remove : (name : List ℕ) (kind : TypeId) → Matches r w v (step w (command.Remove name kind)) (step v (command.Remove name kind))
   same_remove name kind =
       m_given r w v h (Related r) no_entry _ _ _ _ (same_named r name w.entries v.entries h.entries) (λ t u e.
       m_taken _ _ _ _ (removed_entries name) (unless_shared r w v h (is_type kind id.Shared) _ _ (same_moved r kind w.store v.store t u h.one h.cells e)))

@@ -10,11 +10,13 @@ use Rattle.rhai_scope.specs.Entry.{Entry, is_constant_entry, with_value as holdi
 use Rattle.rhai_scope.specs.Lookup.{last_position, value_named, unless_constant, changed_at}
 use Rattle.rhai_scope.proofs.ForCallers.{written_there}
 use Rattle.rhai_variant.specs.Reads.{viewed, written_as}
-use Rattle.rhai_run.specs.Entries.{viewed_as, appended_or_nothing, set_at, is_there_constant, step_get_ref, step_remove, step_set_entry, step_set_or_push, step_set_ref, step_set_value}
-use Rattle.rhai_run.specs.Hand.{read_as}
+use Rattle.rhai_run.specs.Entries.{viewed_as, appended_or_nothing, set_at, is_there_constant}
+use Rattle.rhai_run.specs.Entries.{read_as}
 use Rattle.rhai_run.specs.Outcome.{Outcome, free, given, unless}
 use Rattle.rhai_run.specs.Reply.{done, nothing, no_entry, constant_entry, shared_entry}
 use Rattle.rhai_run.specs.State.{State, with_entries, with_scope, moved_from}
+use Rattle.rhai_run.specs.declared.command.Command.TheVariants as command
+use Rattle.rhai_run.specs.Step.{step}
 
 -- something is made where a value is found
 pub appended_makes : (w : State) (o : Option Tree) → is_some o ≡ true → (appended_or_nothing w o).wants ≡ true
@@ -23,23 +25,23 @@ appended_makes w (Some t) h = refl
 
 -- what is written to the entry at the last position of a name, and what becomes of it where it is taken out
 pub set_ref_is : (w : State) (name : List ℕ) (n : ℤ) (k : ℕ) (t : Tree) → last_position name w.entries ≡ Some k → option_map (λ e. e.value) (slice_get w.entries k) ≡ Some t
-    → step_set_ref w name n ≡ unless (is_some (cell_of t)) shared_entry w
+    → step w (command.SetRef name n) ≡ unless (is_some (cell_of t)) shared_entry w
     (if is_some (viewed id.Int t) then free done (with_entries w (changed_at (holding (written_as id.Int (fresh (int n)) t)) w.entries k)) else free nothing w)
 set_ref_is w name n k t p h = rw (p, h, ← written_there id.Int (fresh (int n)) t w.entries k h) refl
 
 pub set_ref_written : (w : State) (name : List ℕ) (n : ℤ) (k : ℕ) (t u : Tree) → last_position name w.entries ≡ Some k → option_map (λ e. e.value) (slice_get w.entries k) ≡ Some t
     → is_some (cell_of t) ≡ false → is_some (viewed id.Int t) ≡ true → u ≡ written_as id.Int (fresh (int n)) t
-    → step_set_ref w name n ≡ free done (with_entries w (changed_at (holding u) w.entries k))
+    → step w (command.SetRef name n) ≡ free done (with_entries w (changed_at (holding u) w.entries k))
 set_ref_written w name n k t u p h own there is = set_ref_is w name n k t p h ∙ rw (own, there, is) refl
 
 pub remove_is : (w : State) (name : List ℕ) (kind : TypeId) (k : ℕ) (t : Tree) → last_position name w.entries ≡ Some k → option_map (λ e. e.value) (slice_get w.entries k) ≡ Some t
-    → step_remove w name kind ≡ appended_or_nothing (with_entries w (remove w.entries k)) (read_as kind (flattened w.store t))
+    → step w (command.Remove name kind) ≡ appended_or_nothing (with_entries w (remove w.entries k)) (read_as kind (flattened w.store t))
 remove_is w name kind k t p h = rw (p, h) refl
 
 -- A value of the hand is moved into the entry at the last position of a name, if that is no constant.
 pub set_entry_is : (w : State) (name : List ℕ) (i k : ℕ) (t : Tree) (b : Bool) → slice_get w.hand i ≡ Some t → last_position name w.entries ≡ Some k
     → option_map is_constant_entry (slice_get w.entries k) ≡ Some b
-    → step_set_entry w name i ≡ unless b constant_entry w (free done (with_scope w (changed_at (holding t) w.entries k) (moved_from w.hand i)))
+    → step w (command.SetEntry name i) ≡ unless b constant_entry w (free done (with_scope w (changed_at (holding t) w.entries k) (moved_from w.hand i)))
 set_entry_is w name i k t b h p c = rw (h, p) (at (slice_get w.entries k) c)
   where
     at : (o : Option Entry) → option_map is_constant_entry o ≡ Some b
@@ -50,7 +52,7 @@ set_entry_is w name i k t b h p c = rw (h, p) (at (slice_get w.entries k) c)
 
 -- the same, where a new entry is pushed in place of a constant
 pub set_or_push_is : (w : State) (name : List ℕ) (i k : ℕ) (t : Tree) (b : Bool) → slice_get w.hand i ≡ Some t → last_position name w.entries ≡ Some k
-    → option_map is_constant_entry (slice_get w.entries k) ≡ Some b → step_set_or_push w name i ≡ set_at (if b then None else Some k) w name i t
+    → option_map is_constant_entry (slice_get w.entries k) ≡ Some b → step w (command.SetOrPush name i) ≡ set_at (if b then None else Some k) w name i t
 set_or_push_is w name i k t b h p c = rw (h, p) (at (slice_get w.entries k) c)
   where
     at : (o : Option Entry) → option_map is_constant_entry o ≡ Some b → set_at (option_and_then (unless_constant k) o) w name i t ≡ set_at (if b then None else Some k) w name i t
@@ -59,7 +61,7 @@ set_or_push_is w name i k t b h p c = rw (h, p) (at (slice_get w.entries k) c)
 
 -- the same, where a constant is refused
 pub set_value_is : (w : State) (name : List ℕ) (i k : ℕ) (t : Tree) (b : Bool) → slice_get w.hand i ≡ Some t → last_position name w.entries ≡ Some k
-    → option_map is_constant_entry (slice_get w.entries k) ≡ Some b → step_set_value w name i ≡ unless b constant_entry w (set_at (Some k) w name i t)
+    → option_map is_constant_entry (slice_get w.entries k) ≡ Some b → step w (command.SetValue name i) ≡ unless b constant_entry w (set_at (Some k) w name i t)
 set_value_is w name i k t b h p c = rw (h, p) (at (slice_get w.entries k) c)
   where
     at : (o : Option Entry) → option_map is_constant_entry o ≡ Some b → unless (is_there_constant o) constant_entry w (set_at (Some k) w name i t) ≡ unless b constant_entry w (set_at (Some k) w name i t)
@@ -68,10 +70,10 @@ set_value_is w name i k t b h p c = rw (h, p) (at (slice_get w.entries k) c)
 
 -- what becomes of an entry that is no holder
 pub get_ref_is : (w : State) (name : List ℕ) (kind : TypeId) (t : Tree) (o : Option Tree) → value_named name w.entries ≡ Some t → is_some (cell_of t) ≡ false → option_map copy (viewed_as kind t) ≡ o
-    → step_get_ref w name kind ≡ appended_or_nothing w o
+    → step w (command.GetRef name kind) ≡ appended_or_nothing w o
 get_ref_is w name kind t o e f g = rw (e, f, g) refl
 
 pub get_ref_makes : (w : State) (name : List ℕ) (kind : TypeId) (t : Tree) → value_named name w.entries ≡ Some t → is_some (cell_of t) ≡ false → is_some (option_map copy (viewed_as kind t)) ≡ true
-    → (step_get_ref w name kind).wants ≡ true
+    → (step w (command.GetRef name kind)).wants ≡ true
 get_ref_makes w name kind t e h f =
     ap (λ (o : Outcome). o.wants) (get_ref_is w name kind t (option_map copy (viewed_as kind t)) e h refl) ∙ appended_makes w (option_map copy (viewed_as kind t)) f

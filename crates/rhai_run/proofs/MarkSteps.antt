@@ -10,13 +10,14 @@ use Rattle.rhai_value.proofs.ForCallers.{Paired, length_changed, same_copy, same
 use Rattle.rhai_run.specs.declared.command.Place.{Place}
 use Rattle.rhai_run.specs.Change.{nowhere}
 use Rattle.rhai_run.specs.Correspondence.{RelatedStates}
-use Rattle.rhai_run.specs.Marks.{step_mark, step_unmark, step_write_marked, step_read_marked}
 use Rattle.rhai_run.specs.Reply.{done, no_mark, wrong_source, fault, data_race}
 use Rattle.rhai_run.specs.Outcome.{growing_if}
 use Rattle.rhai_run.specs.State.{State, with_marks}
 use Rattle.rhai_run.proofs.MarkLists.{first_is_free, mark_added, mark_taken}
 use Rattle.rhai_run.proofs.Outcome.{Keeps, Matches, m_appended, m_cells, m_given, m_there, m_unless, m_value, moved_hand, no_cell}
 use Rattle.rhai_run.proofs.PlaceSteps.{m_place}
+use Rattle.rhai_run.specs.declared.command.Command.TheVariants as command
+use Rattle.rhai_run.specs.Step.{step}
 
 -- a value is written over in a cell: marks stay
 put_marks : (s : List Cell) (c d : ℕ) (t : Tree) → is_marked_at (put s c t) d ≡ is_marked_at s d
@@ -33,7 +34,7 @@ module _ (r : Renaming) (w v : State) (h : RelatedStates r w v) where
   m_marks s z ms ns f g c e k =
       no_cell r w v h _ _ done done refl f g (record { one = h.one; cells = c; entries = h.entries; marks = e; hand = h.hand; limits = h.limits }) k
 
-  pub same_mark : (p : Place) → Matches r w v (step_mark w p) (step_mark v p)
+  pub same_mark : (p : Place) → Matches r w v (step w (command.Mark p)) (step v (command.Mark p))
   same_mark p =
       m_place r w v h p _ _ (λ t u e. m_unless r w v h wrong_source _ _ _ _ (ap not (same_shared r t u e))
       (m_there r w v h (Paired r) (fault (data_race nowhere)) (first_cell w.store t) (first_cell v.store u) _ _ (same_first_cell r w.store v.store t u h.cells e) (λ c d at same.
@@ -44,14 +45,14 @@ module _ (r : Renaming) (w v : State) (h : RelatedStates r w v) where
   same_mark_at : (k : ℕ) → Alike (Paired r) (slice_get w.marks k) (slice_get v.marks k)
   same_mark_at k = zip_get (Paired r) w.marks v.marks k h.marks
 
-  pub same_unmark : (k : ℕ) → Matches r w v (step_unmark w k) (step_unmark v k)
+  pub same_unmark : (k : ℕ) → Matches r w v (step w (command.Unmark k)) (step v (command.Unmark k))
   same_unmark k =
       m_there r w v h (Paired r) no_mark (slice_get w.marks k) (slice_get v.marks k) _ _ (same_mark_at k) (λ c d at same.
       m_marks _ _ _ _ (length_changed _ w.store c) (length_changed _ v.store d) (same_set_mark r w.store v.store c d false h.one h.cells same)
       (zip_append (Paired r) _ _ _ _ (zip_take (Paired r) k w.marks v.marks h.marks) (zip_drop (Paired r) (suc k) w.marks v.marks h.marks))
       (λ marks. mark_taken w.store w.marks k c marks at))
 
-  pub same_write_marked : (k i : ℕ) → Matches r w v (step_write_marked w k i) (step_write_marked v k i)
+  pub same_write_marked : (k i : ℕ) → Matches r w v (step w (command.WriteMarked k i)) (step v (command.WriteMarked k i))
   same_write_marked k i =
       m_value r w v h i _ _ (λ t u e. m_given r w v h (Paired r) no_mark (slice_get w.marks k) (slice_get v.marks k) _ _ (same_mark_at k) (λ c d same.
       m_cells r w v h _ _ _ _ (length_changed _ w.store c) (length_changed _ v.store d) (λ x. put_marks w.store c x t)
@@ -60,7 +61,7 @@ module _ (r : Renaming) (w v : State) (h : RelatedStates r w v) where
   same_content_at : (c d : ℕ) → Paired r c d → Alike (Related r) (content_at w.store c) (content_at v.store d)
   same_content_at c d same = let x = h.cells c d same in rw (x.2, x.3) x.4.1
 
-  pub same_read_marked : (k : ℕ) → Matches r w v (step_read_marked w k) (step_read_marked v k)
+  pub same_read_marked : (k : ℕ) → Matches r w v (step w (command.ReadMarked k)) (step v (command.ReadMarked k))
   same_read_marked k =
       m_given r w v h (Paired r) no_mark (slice_get w.marks k) (slice_get v.marks k) _ _ (same_mark_at k) (λ c d same.
       m_given r w v h (Related r) no_mark (content_at w.store c) (content_at v.store d) _ _ (same_content_at c d same) (λ t u e. m_appended r w v h (copy t) (copy u) (same_copy r t u e)))

@@ -12,7 +12,8 @@ use Rattle.rhai_scope.specs.Entry.{Entry}
 use Rattle.rhai_run.specs.State.{State, with_hand, with_scope, with_cells}
 use Rattle.rhai_run.specs.Scope.{moved_into_entry}
 use Rattle.rhai_run.specs.Reply.{done, mismatch, refused}
-use Rattle.rhai_run.specs.Change.{step_share, step_flatten, step_write_int}
+use Rattle.rhai_run.specs.declared.command.Command.TheVariants as command
+use Rattle.rhai_run.specs.Step.{step}
 
 -- another value comes into a place that a value was taken from
 moved_in : (ts us : List Tree) (i : ℕ) (u d t : Tree) → d ≡ t → us ≡ slice_set (slice_set ts i u) i d → us ≡ slice_set ts i t
@@ -37,50 +38,50 @@ in_hand : (w v : State) (i : ℕ) (t d : Tree) (s : List Cell) → v ≡ w → s
 in_hand w v i t d s same e h k = ap₂ (λ c x. with_cells v c (slice_set v.hand i x)) k h ∙ ap (with_cells v v.store) (set_own v.hand i t e) ∙ same
 
 shared_in_hand : (w : State) (i : ℕ) (t : Tree) → slice_get w.hand i ≡ Some t
-    → (done ≡ (step_share w i).reply) × (with_cells w (shared_store w.store t) (slice_set w.hand i (shared_value w.store t)) ≡ (step_share w i).after)
+    → (done ≡ (step w (command.Share i)).reply) × (with_cells w (shared_store w.store t) (slice_set w.hand i (shared_value w.store t)) ≡ (step w (command.Share i)).after)
 shared_in_hand w i (node (holder c) g m) e = rw e (refl, in_hand w w i (node (holder c) g m) (node (holder c) g m) w.store refl e refl refl)
 shared_in_hand w i (node (leaf l) g m) e = rw e (refl, refl)
 shared_in_hand w i (node (branch k ts) g m) e = rw e (refl, refl)
 shared_in_hand w i (node (fields fs) g m) e = rw e (refl, refl)
 
 pub share_done : (w v : State) (i : ℕ) (t d : Tree) (s : List Cell) → v ≡ w → slice_get v.hand i ≡ Some t → d ≡ shared_value v.store t → s ≡ shared_store v.store t
-    → (done ≡ (step_share w i).reply) × (with_cells v s (slice_set v.hand i d) ≡ (step_share w i).after)
+    → (done ≡ (step w (command.Share i)).reply) × (with_cells v s (slice_set v.hand i d) ≡ (step w (command.Share i)).after)
 share_done w v i t d s same e h k =
-    subst (λ q. (done ≡ (step_share q i).reply) × (with_cells v s (slice_set v.hand i d) ≡ (step_share q i).after)) same
+    subst (λ q. (done ≡ (step q (command.Share i)).reply) × (with_cells v s (slice_set v.hand i d) ≡ (step q (command.Share i)).after)) same
     (let r = shared_in_hand v i t e in (r.0, ap₂ (λ c x. with_cells v c (slice_set v.hand i x)) k h ∙ r.1))
 
 flattened_in_hand : (w : State) (i : ℕ) (t : Tree) → slice_get w.hand i ≡ Some t
-    → (done ≡ (step_flatten w i).reply) × (with_hand w (slice_set w.hand i (flattened w.store t)) ≡ (step_flatten w i).after)
+    → (done ≡ (step w (command.Flatten i)).reply) × (with_hand w (slice_set w.hand i (flattened w.store t)) ≡ (step w (command.Flatten i)).after)
 flattened_in_hand w i (node (holder c) g m) e = rw e (refl, refl)
 flattened_in_hand w i (node (leaf l) g m) e = rw e (refl, in_hand w w i (node (leaf l) g m) (node (leaf l) g m) w.store refl e refl refl)
 flattened_in_hand w i (node (branch k ts) g m) e = rw e (refl, in_hand w w i (node (branch k ts) g m) (node (branch k ts) g m) w.store refl e refl refl)
 flattened_in_hand w i (node (fields fs) g m) e = rw e (refl, in_hand w w i (node (fields fs) g m) (node (fields fs) g m) w.store refl e refl refl)
 
 pub flatten_done : (w v : State) (i : ℕ) (t d : Tree) → v ≡ w → slice_get v.hand i ≡ Some t → d ≡ flattened v.store t
-    → (done ≡ (step_flatten w i).reply) × (with_hand v (slice_set v.hand i d) ≡ (step_flatten w i).after)
+    → (done ≡ (step w (command.Flatten i)).reply) × (with_hand v (slice_set v.hand i d) ≡ (step w (command.Flatten i)).after)
 flatten_done w v i t d same e h =
-    subst (λ q. (done ≡ (step_flatten q i).reply) × (with_hand v (slice_set v.hand i d) ≡ (step_flatten q i).after)) same
+    subst (λ q. (done ≡ (step q (command.Flatten i)).reply) × (with_hand v (slice_set v.hand i d) ≡ (step q (command.Flatten i)).after)) same
     (let r = flattened_in_hand v i t e in (r.0, ap (λ x. with_hand v (slice_set v.hand i x)) h ∙ r.1))
 
-share_wants : (w : State) (i : ℕ) (t : Tree) → slice_get w.hand i ≡ Some t → (is_some (cell_of t) ≡ true → false ≡ true) → (step_share w i).wants ≡ true
+share_wants : (w : State) (i : ℕ) (t : Tree) → slice_get w.hand i ≡ Some t → (is_some (cell_of t) ≡ true → false ≡ true) → (step w (command.Share i)).wants ≡ true
 share_wants w i (node (holder c) g m) e f = let h = f refl in cc
 share_wants w i (node (leaf l) g m) e f = rw e refl
 share_wants w i (node (branch k ts) g m) e f = rw e refl
 share_wants w i (node (fields fs) g m) e f = rw e refl
 
 pub share_stopped : (w v : State) (i : ℕ) (t d : Tree) (s : List Cell) → v ≡ w → slice_get v.hand i ≡ Some t → (is_some (cell_of t) ≡ true → false ≡ true) → d ≡ t → s ≡ v.store
-    → ((step_share w i).wants ≡ true) × (with_cells v s (slice_set v.hand i d) ≡ w)
-share_stopped w v i t d s same e f h k = (subst (λ q. (step_share q i).wants ≡ true) same (share_wants v i t e f), in_hand w v i t d s same e h k)
+    → ((step w (command.Share i)).wants ≡ true) × (with_cells v s (slice_set v.hand i d) ≡ w)
+share_stopped w v i t d s same e f h k = (subst (λ q. (step q (command.Share i)).wants ≡ true) same (share_wants v i t e f), in_hand w v i t d s same e h k)
 
-flatten_wants : (w : State) (i : ℕ) (t : Tree) → slice_get w.hand i ≡ Some t → (cell_of t ≡ None → false ≡ true) → (step_flatten w i).wants ≡ true
+flatten_wants : (w : State) (i : ℕ) (t : Tree) → slice_get w.hand i ≡ Some t → (cell_of t ≡ None → false ≡ true) → (step w (command.Flatten i)).wants ≡ true
 flatten_wants w i (node (holder c) g m) e f = rw e refl
 flatten_wants w i (node (leaf l) g m) e f = let h = f refl in cc
 flatten_wants w i (node (branch k ts) g m) e f = let h = f refl in cc
 flatten_wants w i (node (fields fs) g m) e f = let h = f refl in cc
 
 pub flatten_stopped : (w v : State) (i : ℕ) (t d : Tree) → v ≡ w → slice_get v.hand i ≡ Some t → (cell_of t ≡ None → false ≡ true) → d ≡ t
-    → ((step_flatten w i).wants ≡ true) × (with_hand v (slice_set v.hand i d) ≡ w)
-flatten_stopped w v i t d same e f h = (subst (λ q. (step_flatten q i).wants ≡ true) same (flatten_wants v i t e f), in_hand w v i t d v.store same e h refl)
+    → ((step w (command.Flatten i)).wants ≡ true) × (with_hand v (slice_set v.hand i d) ≡ w)
+flatten_stopped w v i t d same e f h = (subst (λ q. (step q (command.Flatten i)).wants ≡ true) same (flatten_wants v i t e f), in_hand w v i t d v.store same e h refl)
 
 -- the value at a hand position that was looked at in one of two equal states, as it is read in the other
 pub read_at : (w v : State) (i : ℕ) (t u : Tree) → v ≡ w → slice_get w.hand i ≡ Some t → u ≡ get_or v.hand i u → slice_get v.hand i ≡ Some u
@@ -89,12 +90,12 @@ read_at w v i t u same e h = slice_get_read v.hand (length v.hand) i u refl (sli
 -- an int is written over the one that is held, or none is held
 pub int_done : (w : State) (i : ℕ) (n : ℤ) (t d : Tree) (s : List Cell) → slice_get w.hand i ≡ Some t → is_some (held_part int_of (end w.store [] t)) ≡ true
     → (d ≡ value_after (with_int n) (end w.store [] t) t) × (s ≡ store_after (with_int n) (end w.store [] t) w.store)
-    → (done ≡ (step_write_int w i n).reply) × (with_cells w s (slice_set w.hand i d) ≡ (step_write_int w i n).after)
+    → (done ≡ (step w (command.WriteInt i n)).reply) × (with_cells w s (slice_set w.hand i d) ≡ (step w (command.WriteInt i n)).after)
 int_done w i n t d s e f h = rw e (rw f (refl, ap₂ (λ c x. with_cells w c (slice_set w.hand i x)) h.1 h.0))
 
 pub int_refused : (w : State) (i : ℕ) (n : ℤ) (t d : Tree) (s : List Cell) (name : List ℕ) → slice_get w.hand i ≡ Some t → is_some (held_part int_of (end w.store [] t)) ≡ false
     → (d ≡ t) × (s ≡ w.store) → name ≡ end_name (end w.store [] t)
-    → (refused (mismatch name) ≡ (step_write_int w i n).reply) × (with_cells w s (slice_set w.hand i d) ≡ (step_write_int w i n).after)
+    → (refused (mismatch name) ≡ (step w (command.WriteInt i n)).reply) × (with_cells w s (slice_set w.hand i d) ≡ (step w (command.WriteInt i n)).after)
 int_refused w i n t d s name e f h k =
     rw e (rw f (ap (λ x. refused (mismatch x)) k, ap₂ (λ c x. with_cells w c (slice_set w.hand i x)) h.1 h.0 ∙ ap (with_cells w w.store) (set_own w.hand i t e)))
 

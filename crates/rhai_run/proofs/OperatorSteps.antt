@@ -15,10 +15,12 @@ use Rattle.rhai_run.specs.Change.{nowhere}
 use Rattle.rhai_run.specs.Outcome.{growing}
 use Rattle.rhai_run.specs.State.{State}
 use Rattle.rhai_run.specs.Reply.{done, refused, no_builtin, same_value, fault, arithmetic, data_race, too_large}
-use Rattle.rhai_run.specs.Operators.{assigned, called, step_assign, step_binary}
+use Rattle.rhai_run.specs.Operators.{assigned, called}
 use Rattle.rhai_run.specs.Correspondence.{RelatedStates}
 use Rattle.rhai_run.proofs.Outcome.{Matches, alike_same, m_stays, m_unless, m_given, m_two, m_appended}
 use Rattle.rhai_run.proofs.PlaceSteps.{hand_states, m_place_and, m_put, m_with_hand}
+use Rattle.rhai_run.specs.declared.command.Command.TheVariants as command
+use Rattle.rhai_run.specs.Step.{step}
 
 module _ (r : Renaming) (w v : State) (h : RelatedStates r w v) where
   same_called : (f g : Tree → State) (o p : call.Outcome) → RelatedOutcomes r o p → ((t u : Tree) → o ≡ call.answers t → p ≡ call.answers u → Related r t u → Matches r w v (growing done (f t)) (growing done (g u)))
@@ -45,7 +47,7 @@ module _ (r : Renaming) (w v : State) (h : RelatedStates r w v) where
       subst (λ b. RelatedOutcomes r (outcome row w.limits w.store t x) (outcome b v.limits v.store u y)) same
       (subst (λ l. RelatedOutcomes r (outcome row w.limits w.store t x) (outcome row l v.store u y)) h.limits (same_outcome r w.store v.store h.one h.cells t u x y e d row w.limits))
 
-  pub same_binary : (op : Token) (i j : ℕ) → Matches r w v (step_binary w op i j) (step_binary v op i j)
+  pub same_binary : (op : Token) (i j : ℕ) → Matches r w v (step w (command.Binary op i j)) (step v (command.Binary op i j))
   same_binary op i j =
       m_two r w v h i j _ _ (λ t u x y e d.
       m_given r w v h (λ a b. a ≡ b) no_builtin _ _ _ _ (alike_same _ _ (same_row r w.store v.store h.one h.cells op t u x y e d)) (λ row row' same.
@@ -62,7 +64,7 @@ module _ (r : Renaming) (w v : State) (h : RelatedStates r w v) where
       (length_store_left how o w.store t) (length_store_left how q v.store u) (marked_store_left how o w.store t)
       (same_store_left r w.store v.store h.one h.cells t u e o q k how) (same_first_left r w.store v.store h.one h.cells t u e o q k how))))
 
-  pub same_assign : (op : Token) (p : Place) (j : ℕ) → Matches r w v (step_assign w op p j) (step_assign v op p j)
+  pub same_assign : (op : Token) (p : Place) (j : ℕ) → Matches r w v (step w (command.Assign op p j)) (step v (command.Assign op p j))
   same_assign op p j =
       m_place_and r w v h p j _ _ (λ t u x y e d.
       m_unless r w v h same_value _ _ _ _ refl (m_given r w v h (Related r) (fault (data_race nowhere)) _ _ _ _ (same_first r w.store v.store h.cells t u e) (λ a b k.

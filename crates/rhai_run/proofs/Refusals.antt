@@ -28,7 +28,7 @@ use Rattle.rhai_run.specs.declared.pieces.Piece.{Piece}
 use Rattle.rhai_run.specs.declared.pieces.Piece.TheVariants as piece
 use Rattle.rhai_run.specs.Ask.{asked, asked_of_held, hash_of}
 use Rattle.rhai_run.specs.Entries.{appended_or_nothing, is_there_constant}
-use Rattle.rhai_run.specs.Hand.{read_as}
+use Rattle.rhai_run.specs.Entries.{read_as}
 use Rattle.rhai_run.specs.Made.{array_tree, map_tree, function_tree}
 use Rattle.rhai_run.specs.Operators.{called}
 use Rattle.rhai_run.specs.Outcome.{Outcome, growing_if, free, growing, refuse, unless, given, with_value, with_two, taken_off, gathered}

@@ -7,12 +7,13 @@ use Rattle.rhai_value.specs.Tree.{Tree, node, branch, Kind, array, function, Tre
 use Rattle.rhai_value.proofs.ForCallers.{by_trees, same_shared, same_visits, same_with_int, same_with_tag}
 use Rattle.rhai_run.specs.declared.command.Scanner.{Scanner}
 use Rattle.rhai_run.specs.declared.command.Scanner.TheVariants as scanner
-use Rattle.rhai_run.specs.Change.{step_scan}
 use Rattle.rhai_run.specs.Correspondence.{RelatedStates}
 use Rattle.rhai_run.specs.Reply.{number}
 use Rattle.rhai_run.specs.Scanners.{first_trees, scanned, visited, unvisited}
 use Rattle.rhai_run.specs.State.{State}
 use Rattle.rhai_run.proofs.Outcome.{Matches, no_cell, m_value, set_hand}
+use Rattle.rhai_run.specs.declared.command.Command.TheVariants as command
+use Rattle.rhai_run.specs.Step.{step}
 
 module _ (r : Renaming) where
   same_first_trees : (n : ℕ) (ts us : Trees) → AllRelated r ts us → AllRelated r (first_trees n ts) (first_trees n us)
@@ -48,7 +49,7 @@ module _ (r : Renaming) where
   scanners_same v t u h = (refl, same_scanned v.scanner t u h)
 
 module _ (r : Renaming) (w v : State) (h : RelatedStates r w v) where
-  pub same_scan_step : (i : ℕ) (k : Scanner) → Matches r w v (step_scan w i k) (step_scan v i k)
+  pub same_scan_step : (i : ℕ) (k : Scanner) → Matches r w v (step w (command.Scan i k)) (step v (command.Scan i k))
   same_scan_step i k =
       m_value r w v h i _ _ (λ t u e.
       let o = same_visits r visited (scanners_same r) (unvisited k) t u e in

@@ -1,5 +1,5 @@
--- What a question about a value is answered, and steps that tell of a value.
-use Rattle.std.specs.Prelude.{ℕ, Bool, not, ◌&&◌, [], ◌∷◌, Option, Some, None, is_some}
+-- What a question about a value is answered, and what its hash bytes are.
+use Rattle.std.specs.Prelude.{Bool, not, ◌&&◌, [], ◌∷◌, Option, Some, None, is_some}
 use Rattle.rhai_value.specs.Tree.{Tree, tag_of, cell_of, is_host}
 use Rattle.rhai_value.specs.Parts.{unit_of, int_of, bool_of, char_of}
 use Rattle.rhai_value.specs.End.{End, end, held_part, first, constant_in, end_type, end_name}
@@ -8,15 +8,13 @@ use Rattle.rhai_value.specs.Types.{is_type}
 use Rattle.rhai_value.specs.declared.type_id.TypeId.{TypeId}
 use Rattle.rhai_value.specs.declared.type_id.TypeId.TheVariants as id
 use Rattle.rhai_cast.specs.Casts.{is_of}
-use Rattle.rhai_show.specs.declared.form.Form.{Form}
 use Rattle.rhai_show.specs.HashBytes.{plain_bytes}
 use Rattle.rhai_show.specs.Plain.{Plain, plain}
-use Rattle.rhai_show.specs.Text.{printed}
 use Rattle.rhai_run.specs.declared.command.Question.{Question}
 use Rattle.rhai_run.specs.declared.command.Question.TheVariants as question
 use Rattle.rhai_run.specs.State.{State}
 use Rattle.rhai_run.specs.Reply.{Reply, done, truth, number, told, bytes, refused, mismatch, not_hashable}
-use Rattle.rhai_run.specs.Outcome.{Outcome, free, growing, given, with_value}
+use Rattle.rhai_run.specs.Outcome.{Outcome, free, growing, given}
 
 -- what is asked of a part of what is held, or a mismatch where another type is held
 abbrev pub asked_of_held : {A : Type 0} → State → (Tree → Option A) → End → (A → Outcome) → Outcome
@@ -42,17 +40,8 @@ asked w t question.Int = asked_of_held w int_of (end w.store [] t) (λ n. free (
 asked w t question.Bool = asked_of_held w bool_of (end w.store [] t) (λ b. free (truth b) w)
 asked w t question.Char = asked_of_held w char_of (end w.store [] t) (λ c. growing (told (c ∷ [])) w)
 
-abbrev pub step_ask : State → ℕ → Question → Outcome
-step_ask w i q = with_value w i (λ t. asked w t q)
-
--- the text of the value
-abbrev pub step_show : Form → State → ℕ → Outcome
-step_show form w i = with_value w i (λ t. growing (told (printed w.store [] t form)) w)
-
 -- the hash bytes of the value, where it has some; memory is wanted before it is known whether it has
 abbrev pub hash_of : Option Plain → Reply
 hash_of None = refused not_hashable
 hash_of (Some p) = bytes (plain_bytes p)
 
-abbrev pub step_hash : State → ℕ → Outcome
-step_hash w i = with_value w i (λ t. growing (hash_of (plain w.store [] t)) w)

@@ -9,13 +9,10 @@ pub mod StateCode
 pub mod Reply
 pub mod Outcome
 pub mod Made
-pub mod Hand
 pub mod Change
 pub mod Places
 pub mod Lent
-pub mod Marks
 pub mod WriteBack
-pub mod Indices
 pub mod Scanners
 pub mod Scope
 pub mod Entries

@@ -20,7 +20,9 @@ use Rattle.rhai_run.specs.declared.slot.Slot.TheVariants as slot
 use Rattle.rhai_run.specs.State.{State, with_hand, with_cells}
 use Rattle.rhai_run.specs.Reply.{no_value, reason_of}
 use Rattle.rhai_run.specs.Outcome.{Outcome, given, refuse, with_value}
-use Rattle.rhai_run.specs.Operators.{called, step_assign}
+use Rattle.rhai_run.specs.Operators.{called}
+use Rattle.rhai_run.specs.declared.command.Command.TheVariants as command
+use Rattle.rhai_run.specs.Step.{step}
 
 -- where the value of a place stands, if there is one
 abbrev pub slot_of : List Entry → Place → Option Slot
@@ -66,6 +68,6 @@ HasOperands row w q j =
 
 -- a row that is looked up has its operands, and the step is its call; or the step is the refusal
 abbrev pub Looks : Result (FnBuiltin × Slot) NotDone → State → Token → Place → ℕ → Type 0
-Looks (Ok found) w op place j = HasOperands found.0 w found.1 j × (step_assign w op place j ≡ called_in w found.1 j found.0)
-Looks (Err (Refused why)) w op place j = step_assign w op place j ≡ refuse (reason_of why) w
+Looks (Ok found) w op place j = HasOperands found.0 w found.1 j × (step w (command.Assign op place j) ≡ called_in w found.1 j found.0)
+Looks (Err (Refused why)) w op place j = step w (command.Assign op place j) ≡ refuse (reason_of why) w
 Looks (Err Memory) w op place j = ⊥

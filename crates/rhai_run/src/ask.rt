@@ -1,10 +1,12 @@
 //! Commands that tell of a value.
 ghost use Rattle.std.specs.Prelude.{◌≡◌, IfOk};
 ghost use Rattle.std.specs.Str.{chars};
-ghost use Rattle.rhai_show.specs.declared.form.Form.TheVariants.{Display, Debug};
-ghost use Rattle.rhai_run.specs.Ask.{asked, step_ask, step_show, step_hash};
+ghost use Rattle.rhai_show.specs.declared.form.Form.TheVariants.{Debug};
+ghost use Rattle.rhai_run.specs.Ask.{asked};
 ghost use Rattle.rhai_run.specs.Reply.{reply_of, told as a_text};
 ghost use Rattle.rhai_run.specs.Does.{Does};
+ghost use Rattle.rhai_run.specs.declared.command.Command.TheVariants as command;
+ghost use Rattle.rhai_run.specs.Step.{step};
 
 use crate::answer::{Answer, Refusal};
 use crate::cast::is_value_of;
@@ -17,21 +19,21 @@ use std::alloc::{AllocError, Global};
 
 impl WorldState {
     pub(crate) fn show(&self, i: usize) -> Result<Answer, NotDone>
-        ensures { Does result self.now self.now (step_show Display self.now i) }
+        ensures { Does result self.now self.now (step self.now (command.Show i)) }
     {
         let text = display_text(self.alloc, self.value(i)?, &self.store)?;
         Ok(Answer::Text(text))
     }
 
     pub(crate) fn debug(&self, i: usize) -> Result<Answer, NotDone>
-        ensures { Does result self.now self.now (step_show Debug self.now i) }
+        ensures { Does result self.now self.now (step self.now (command.Debug i)) }
     {
         let text = debug_text(self.alloc, self.value(i)?, &self.store)?;
         Ok(Answer::Text(text))
     }
 
     pub(crate) fn hash(&self, i: usize) -> Result<Answer, NotDone>
-        ensures { Does result self.now self.now (step_hash self.now i) }
+        ensures { Does result self.now self.now (step self.now (command.Hash i)) }
     {
         match hashed(self.alloc, self.value(i)?, &self.store)? {
             None => Err(NotDone::Refused(Refusal::NotHashable)),
@@ -40,7 +42,7 @@ impl WorldState {
     }
 
     pub(crate) fn ask(&self, i: usize, question: &Question) -> Result<Answer, NotDone>
-        ensures { Does result self.now self.now (step_ask self.now i question.now) }
+        ensures { Does result self.now self.now (step self.now (command.Ask i question.now)) }
     {
         self.answer_to(self.value(i)?, question)
     }

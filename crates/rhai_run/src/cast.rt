@@ -1,13 +1,13 @@
 //! Casts to a type that is known when a command is done.
 ghost use Rattle.std.specs.Prelude.{◌≡◌, [], true, false, Some, is_some, IfOk, IsTrue};
 ghost use Rattle.rhai_value.specs.declared.type_id.TypeId.TheVariants as type_id;
-ghost use Rattle.rhai_value.specs.End.{end, end_type, flat, flattened};
-ghost use Rattle.rhai_value.specs.Tree.{cell_of, content_of, made};
+ghost use Rattle.rhai_value.specs.End.{end, flat, flattened};
+ghost use Rattle.rhai_value.specs.Tree.{content_of, made};
 ghost use Rattle.rhai_value.specs.Types.{is_type};
 ghost use Rattle.rhai_variant.specs.Reads.{held_type, read};
-ghost use Rattle.rhai_cast.specs.Casts.{is_of, is_castable};
+ghost use Rattle.rhai_cast.specs.Casts.{is_castable};
 ghost use Rattle.rhai_run.specs.Ask.{is_value_of};
-ghost use Rattle.rhai_run.specs.Hand.{read_as};
+ghost use Rattle.rhai_run.specs.Entries.{read_as};
 
 use rhai_cast::DynamicCast;
 use rhai_text::ImmutableString;

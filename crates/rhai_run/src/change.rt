@@ -1,6 +1,7 @@
 //! Commands that change values, in the hand and in cells.
-ghost use Rattle.rhai_run.specs.Change.{step_share, step_flatten, step_make_read_only, step_set_tag, step_write_int, step_write, step_scan};
 ghost use Rattle.rhai_run.specs.Does.{Does};
+ghost use Rattle.rhai_run.specs.declared.command.Command.TheVariants as command;
+ghost use Rattle.rhai_run.specs.Step.{step};
 
 use crate::answer::{Answer, Refusal};
 use crate::command::Scanner;
@@ -15,7 +16,7 @@ use rhai_value::{AccessMode, Dynamic, INT, Tag};
 
 impl WorldState {
     pub(crate) fn share(&mut self, i: usize) -> Result<Answer, NotDone>
-        ensures { Does result self.old self.new (step_share self.old i) }
+        ensures { Does result self.old self.new (step self.old (command.Share i)) }
     {
         self.value(i)?;
         self.hand[i].share_in_place(&mut self.store)?;
@@ -23,7 +24,7 @@ impl WorldState {
     }
 
     pub(crate) fn flatten(&mut self, i: usize) -> Result<Answer, NotDone>
-        ensures { Does result self.old self.new (step_flatten self.old i) }
+        ensures { Does result self.old self.new (step self.old (command.Flatten i)) }
     {
         self.value(i)?;
         self.hand[i].flatten_in_place(self.alloc, &self.store)?;
@@ -31,7 +32,7 @@ impl WorldState {
     }
 
     pub(crate) fn make_read_only(&mut self, i: usize) -> Result<Answer, NotDone>
-        ensures { Does result self.old self.new (step_make_read_only self.old i) }
+        ensures { Does result self.old self.new (step self.old (command.MakeReadOnly i)) }
     {
         self.value(i)?;
         self.hand[i].set_access_mode(AccessMode::ReadOnly);
@@ -39,7 +40,7 @@ impl WorldState {
     }
 
     pub(crate) fn set_tag(&mut self, i: usize, tag: Tag) -> Result<Answer, NotDone>
-        ensures { Does result self.old self.new (step_set_tag self.old i tag) }
+        ensures { Does result self.old self.new (step self.old (command.SetTag i tag)) }
     {
         self.value(i)?;
         self.hand[i].set_tag(tag);
@@ -47,7 +48,7 @@ impl WorldState {
     }
 
     pub(crate) fn scan(&mut self, i: usize, scanner: Scanner) -> Result<Answer, NotDone>
-        ensures { Does result self.old self.new (step_scan self.old i scanner) }
+        ensures { Does result self.old self.new (step self.old (command.Scan i scanner)) }
     {
         self.value(i)?;
         let mut visits = Visits { scanner, visits: 0 };
@@ -56,7 +57,7 @@ impl WorldState {
     }
 
     pub(crate) fn write_int(&mut self, i: usize, value: INT) -> Result<Answer, NotDone>
-        ensures { Does result self.old self.new (step_write_int self.old i value) }
+        ensures { Does result self.old self.new (step self.old (command.WriteInt i value)) }
     {
         self.value(i)?;
         let target = &mut self.hand[i];
@@ -68,7 +69,7 @@ impl WorldState {
     }
 
     pub(crate) fn write(&mut self, i: usize, j: usize) -> Result<Answer, NotDone>
-        ensures { Does result self.old self.new (step_write self.old i j) }
+        ensures { Does result self.old self.new (step self.old (command.Write i j)) }
     {
         let target = self.value(i)?;
         self.value(j)?;

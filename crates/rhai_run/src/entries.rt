@@ -7,8 +7,9 @@ ghost use Rattle.rhai_variant.specs.Reads.{viewed, written_as};
 ghost use Rattle.rhai_scope.specs.Entry.{with_value as holding};
 ghost use Rattle.rhai_scope.specs.Lookup.{changed_at};
 ghost use Rattle.rhai_run.specs.State.{with_scope, moved_from};
-ghost use Rattle.rhai_run.specs.Entries.{step_set_entry, step_set_or_push, step_set_value, step_get, step_get_value, step_get_ref, step_set_ref, step_remove, step_set_alias, step_aliases};
 ghost use Rattle.rhai_run.specs.Does.{Does, GivesIfAny};
+ghost use Rattle.rhai_run.specs.declared.command.Command.TheVariants as command;
+ghost use Rattle.rhai_run.specs.Step.{step};
 
 use crate::answer::{Answer, Refusal};
 use crate::cast::{can_cast, can_move, cast_to, moved_as};
@@ -64,7 +65,7 @@ impl WorldState {
     #[inline(never)]
     #[tactic(auto, using(rhai_scope::proofs::ForCallers::position_within, crate::proofs::LastEntry::set_entry_is))]
     pub(crate) fn set_entry(&mut self, name: &ImmutableString, i: usize) -> Result<Answer, NotDone>
-        ensures { Does result self.old self.new (step_set_entry self.old name.now i) }
+        ensures { Does result self.old self.new (step self.old (command.SetEntry name.now i)) }
     {
         self.value(i)?;
         let k = self.scope.search(name.as_str()).ok_or(Refusal::NoEntry)?;
@@ -82,7 +83,7 @@ impl WorldState {
         name: &ImmutableString,
         i: usize,
     ) -> Result<Answer, NotDone>
-        ensures { Does result self.old self.new (step_set_or_push self.old name.now i) }
+        ensures { Does result self.old self.new (step self.old (command.SetOrPush name.now i)) }
     {
         self.value(i)?;
         match self.scope.search(name.as_str()) {
@@ -97,7 +98,7 @@ impl WorldState {
     #[inline(never)]
     #[tactic(auto, using(rhai_scope::proofs::ForCallers::position_within, crate::proofs::LastEntry::set_value_is))]
     pub(crate) fn set_value(&mut self, name: &ImmutableString, i: usize) -> Result<Answer, NotDone>
-        ensures { Does result self.old self.new (step_set_value self.old name.now i) }
+        ensures { Does result self.old self.new (step self.old (command.SetValue name.now i)) }
     {
         self.value(i)?;
         let Some(k) = self.scope.search(name.as_str()) else {
@@ -111,7 +112,7 @@ impl WorldState {
     }
 
     pub(crate) fn get(&mut self, name: &ImmutableString) -> Result<Answer, NotDone>
-        ensures { Does result self.old self.new (step_get self.old name.now) }
+        ensures { Does result self.old self.new (step self.old (command.Get name.now)) }
     {
         let value = self
             .scope
@@ -127,7 +128,7 @@ impl WorldState {
         name: &ImmutableString,
         kind: TypeId,
     ) -> Result<Answer, NotDone>
-        ensures { Does result self.old self.new (step_get_value self.old name.now kind) }
+        ensures { Does result self.old self.new (step self.old (command.GetValue name.now kind)) }
     {
         let value = self.scope.get(name.as_str()).ok_or(Refusal::NoEntry)?;
         if !can_cast(value, &self.store, kind) {
@@ -141,7 +142,7 @@ impl WorldState {
     /// A copy of what the last entry of a name itself is as a type, by reference, if it is of the type.
     #[tactic(auto, using(crate::proofs::Casts::viewed_some, crate::proofs::Casts::viewed_none, crate::proofs::Casts::unviewed_string))]
     fn viewed(&self, name: &ImmutableString, kind: TypeId) -> Result<Option<Dynamic>, NotDone>
-        ensures { GivesIfAny result self.now (step_get_ref self.now name.now kind) }
+        ensures { GivesIfAny result self.now (step self.now (command.GetRef name.now kind)) }
     {
         let value = self.scope.get(name.as_str()).ok_or(Refusal::NoEntry)?;
         if value.is_shared() {
@@ -159,7 +160,7 @@ impl WorldState {
         name: &ImmutableString,
         kind: TypeId,
     ) -> Result<Answer, NotDone>
-        ensures { Does result self.old self.new (step_get_ref self.old name.now kind) }
+        ensures { Does result self.old self.new (step self.old (command.GetRef name.now kind)) }
     {
         match self.viewed(name, kind)? {
             None => Ok(Answer::Nothing),
@@ -173,7 +174,7 @@ impl WorldState {
     #[inline(never)]
     #[tactic(auto, using(rhai_scope::proofs::ForCallers::position_within, rhai_scope::proofs::ForCallers::kept_there, crate::proofs::LastEntry::set_ref_is, crate::proofs::LastEntry::set_ref_written))]
     pub(crate) fn set_ref(&mut self, name: &ImmutableString, value: INT) -> Result<Answer, NotDone>
-        ensures { Does result self.old self.new (step_set_ref self.old name.now value) }
+        ensures { Does result self.old self.new (step self.old (command.SetRef name.now value)) }
     {
         let k = self.scope.search(name.as_str()).ok_or(Refusal::NoEntry)?;
         if self.scope.at(k).is_shared() {
@@ -188,7 +189,7 @@ impl WorldState {
     #[inline(never)]
     #[tactic(auto, using(rhai_scope::proofs::ForCallers::position_within, crate::proofs::LastEntry::remove_is))]
     pub(crate) fn remove(&mut self, name: &ImmutableString, kind: TypeId) -> Result<Answer, NotDone>
-        ensures { Does result self.old self.new (step_remove self.old name.now kind) }
+        ensures { Does result self.old self.new (step self.old (command.Remove name.now kind)) }
     {
         let k = self.scope.search(name.as_str()).ok_or(Refusal::NoEntry)?;
         if !can_move(self.scope.at(k), &self.store, kind) {
@@ -206,14 +207,14 @@ impl WorldState {
         name: &ImmutableString,
         alias: &ImmutableString,
     ) -> Result<Answer, NotDone>
-        ensures { Does result self.old self.new (step_set_alias self.old name.now alias.now) }
+        ensures { Does result self.old self.new (step self.old (command.SetAlias name.now alias.now)) }
     {
         self.scope.set_alias(name.as_str(), alias.as_str())?;
         Ok(Answer::Done)
     }
 
     pub(crate) fn aliases(&self, name: &ImmutableString) -> Result<Answer, NotDone>
-        ensures { Does result self.now self.now (step_aliases self.now name.now) }
+        ensures { Does result self.now self.now (step self.now (command.Aliases name.now)) }
     {
         let aliases = self.scope.aliases(name.as_str()).ok_or(Refusal::NoEntry)?;
         let text = aliases_shown(self.alloc, aliases)?.into_text();

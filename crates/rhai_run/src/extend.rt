@@ -1,7 +1,8 @@
 //! Commands that add entries for names in a list, and those that list the entries.
 ghost use Rattle.std.specs.Prelude.{◌≡◌, IfOk};
-ghost use Rattle.rhai_run.specs.Scope.{step_entries, step_names, step_extend, step_extend_flagged};
 ghost use Rattle.rhai_run.specs.Does.{Does};
+ghost use Rattle.rhai_run.specs.declared.command.Command.TheVariants as command;
+ghost use Rattle.rhai_run.specs.Step.{step};
 
 use crate::answer::Answer;
 use crate::lists::{FlaggedNames, Names};
@@ -39,7 +40,7 @@ fn flagged_copies_of(
 
 impl WorldState {
     pub(crate) fn entries(&mut self) -> Result<Answer, NotDone>
-        ensures { Does result self.old self.new (step_entries self.old) }
+        ensures { Does result self.old self.new (step self.old command.Entries) }
     {
         let mut values = self.scope.flat_values(&self.store)?;
         self.hand.append(&mut values)?;
@@ -47,14 +48,14 @@ impl WorldState {
     }
 
     pub(crate) fn names(&self) -> Result<Answer, NotDone>
-        ensures { Does result self.now self.now (step_names self.now) }
+        ensures { Does result self.now self.now (step self.now command.Names) }
     {
         let text = self.scope.names_shown(&self.store)?.into_text();
         Ok(Answer::Text(text))
     }
 
     pub(crate) fn extend(&mut self, names: &Names) -> Result<Answer, NotDone>
-        ensures { Does result self.old self.new (step_extend self.old names.now) }
+        ensures { Does result self.old self.new (step self.old (command.Extend names.now)) }
     {
         let names = names.as_slice();
         let count = names.len();
@@ -69,7 +70,7 @@ impl WorldState {
     }
 
     pub(crate) fn extend_flagged(&mut self, names: &FlaggedNames) -> Result<Answer, NotDone>
-        ensures { Does result self.old self.new (step_extend_flagged self.old names.now) }
+        ensures { Does result self.old self.new (step self.old (command.ExtendFlagged names.now)) }
     {
         let names = names.as_slice();
         let count = names.len();

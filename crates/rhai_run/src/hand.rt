@@ -1,6 +1,7 @@
 //! Commands that put values into the hand, and move them there.
-ghost use Rattle.rhai_run.specs.Hand.{step_put, step_make_array, step_make_map, step_make_fn, step_copy, step_flatten_clone, step_cast, step_take, step_drop};
 ghost use Rattle.rhai_run.specs.Does.{Does};
+ghost use Rattle.rhai_run.specs.declared.command.Command.TheVariants as command;
+ghost use Rattle.rhai_run.specs.Step.{step};
 
 use crate::answer::{Answer, Refusal};
 use crate::cast::{can_cast, cast_to};
@@ -15,7 +16,7 @@ use rhai_value::{Dynamic, FnPtr, TypeId};
 
 impl WorldState {
     pub(crate) fn put(&mut self, literal: &Literal) -> Result<Answer, NotDone>
-        ensures { Does result self.old self.new (step_put self.old literal.now) }
+        ensures { Does result self.old self.new (step self.old (command.Put literal.now)) }
     {
         let value = match literal {
             Literal::Unit => Dynamic::UNIT,
@@ -36,7 +37,7 @@ impl WorldState {
     }
 
     pub(crate) fn make_array(&mut self, n: usize) -> Result<Answer, NotDone>
-        ensures { Does result self.old self.new (step_make_array self.old n) }
+        ensures { Does result self.old self.new (step self.old (command.MakeArray n)) }
     {
         self.has_values(n)?;
         let items = take_last(&mut self.hand, n)?;
@@ -45,7 +46,7 @@ impl WorldState {
     }
 
     pub(crate) fn make_map(&mut self, keys: &Names) -> Result<Answer, NotDone>
-        ensures { Does result self.old self.new (step_make_map self.old keys.now) }
+        ensures { Does result self.old self.new (step self.old (command.MakeMap keys.now)) }
     {
         let keys = keys.as_slice();
         self.has_values(keys.len())?;
@@ -57,7 +58,7 @@ impl WorldState {
     }
 
     pub(crate) fn make_fn(&mut self, name: &ImmutableString, n: usize) -> Result<Answer, NotDone>
-        ensures { Does result self.old self.new (step_make_fn self.old name.now n) }
+        ensures { Does result self.old self.new (step self.old (command.MakeFn name.now n)) }
     {
         self.has_values(n)?;
         let name = name.copy(self.alloc)?;
@@ -68,7 +69,7 @@ impl WorldState {
     }
 
     pub(crate) fn copy(&mut self, i: usize) -> Result<Answer, NotDone>
-        ensures { Does result self.old self.new (step_copy self.old i) }
+        ensures { Does result self.old self.new (step self.old (command.Copy i)) }
     {
         let value = self.value(i)?.copy(self.alloc)?;
         self.hand.push(value)?;
@@ -76,7 +77,7 @@ impl WorldState {
     }
 
     pub(crate) fn flatten_clone(&mut self, i: usize) -> Result<Answer, NotDone>
-        ensures { Does result self.old self.new (step_flatten_clone self.old i) }
+        ensures { Does result self.old self.new (step self.old (command.FlattenClone i)) }
     {
         let value = self.value(i)?.flatten_clone(self.alloc, &self.store)?;
         self.hand.push(value)?;
@@ -84,7 +85,7 @@ impl WorldState {
     }
 
     pub(crate) fn cast(&mut self, i: usize, kind: TypeId) -> Result<Answer, NotDone>
-        ensures { Does result self.old self.new (step_cast self.old i kind) }
+        ensures { Does result self.old self.new (step self.old (command.Cast i kind)) }
     {
         let value = self.value(i)?;
         if !can_cast(value, &self.store, kind) {
@@ -97,7 +98,7 @@ impl WorldState {
     }
 
     pub(crate) fn take(&mut self, i: usize) -> Result<Answer, NotDone>
-        ensures { Does result self.old self.new (step_take self.old i) }
+        ensures { Does result self.old self.new (step self.old (command.Take i)) }
     {
         self.value(i)?;
         self.hand.reserve(1)?;
@@ -107,7 +108,7 @@ impl WorldState {
     }
 
     pub(crate) fn drop_last(&mut self) -> Result<Answer, NotDone>
-        ensures { Does result self.old self.new (step_drop self.old) }
+        ensures { Does result self.old self.new (step self.old command.Drop) }
     {
         self.hand.pop().ok_or(Refusal::NoValue)?;
         Ok(Answer::Done)

@@ -1,6 +1,7 @@
 //! Questions about places in lists.
-ghost use Rattle.rhai_run.specs.Indices.{step_offset, step_index};
 ghost use Rattle.rhai_run.specs.Does.{Does};
+ghost use Rattle.rhai_run.specs.declared.command.Command.TheVariants as command;
+ghost use Rattle.rhai_run.specs.Step.{step};
 
 use crate::answer::Answer;
 use crate::not_done::NotDone;
@@ -10,14 +11,14 @@ use rhai_value::INT;
 
 impl WorldState {
     pub(crate) fn offset(&self, length: usize, start: INT, len: INT) -> Result<Answer, NotDone>
-        ensures { Does result self.now self.now (step_offset self.now length start len) }
+        ensures { Does result self.now self.now (step self.now (command.Offset length start len)) }
     {
         let (start, len) = calc_offset_len(length, start, len);
         Ok(Answer::Pair(start, len))
     }
 
     pub(crate) fn index(&self, length: usize, index: INT, from_end: bool) -> Result<Answer, NotDone>
-        ensures { Does result self.now self.now (step_index self.now length index from_end) }
+        ensures { Does result self.now self.now (step self.now (command.Index length index from_end)) }
     {
         match calc_index(length, index, from_end) {
             Some(place) => Ok(Answer::Int(place as i128)),

@@ -5,8 +5,9 @@ ghost use Rattle.rhai_value.specs.Store.{is_marked_at, put, set_mark};
 ghost use Rattle.rhai_run.specs.declared.answer.Refusal.TheVariants.{NoMark};
 ghost use Rattle.rhai_run.specs.declared.not_done.NotDone.TheVariants.{Refused};
 ghost use Rattle.rhai_run.specs.Fits.{Fits, MarksAre};
-ghost use Rattle.rhai_run.specs.Marks.{step_mark, step_unmark, step_write_marked, step_read_marked};
 ghost use Rattle.rhai_run.specs.Does.{Does};
+ghost use Rattle.rhai_run.specs.declared.command.Command.TheVariants as command;
+ghost use Rattle.rhai_run.specs.Step.{step};
 
 use crate::answer::{Answer, Refusal};
 use crate::command::Place;
@@ -66,7 +67,7 @@ fn token(marks: &[WriteToken], k: usize) -> Result<&WriteToken, NotDone>
 impl WorldState {
     #[tactic(auto, using(crate::proofs::MarkLists::first_is_free, crate::proofs::Slots::source_is))]
     pub(crate) fn mark(&mut self, place: &Place) -> Result<Answer, NotDone>
-        ensures { Does result self.old self.new (step_mark self.old place.now) }
+        ensures { Does result self.old self.new (step self.old (command.Mark place.now)) }
     {
         let slot = Slot::of(&self.hand, &self.scope, place)?;
         let holder = slot.value(&self.hand, &self.scope);
@@ -88,7 +89,7 @@ impl WorldState {
 
     pub(crate) fn unmark(&mut self, k: usize) -> Result<Answer, NotDone>
         requires { Fits self.old }
-        ensures { Does result self.old self.new (step_unmark self.old k) }
+        ensures { Does result self.old self.new (step self.old (command.Unmark k)) }
     {
         token(&self.marks, k)?;
         release_at(&mut self.store, &mut self.marks, k);
@@ -98,7 +99,7 @@ impl WorldState {
     #[tactic(auto, using(crate::proofs::MarkLists::mark_is_set))]
     pub(crate) fn write_marked(&mut self, k: usize, i: usize) -> Result<Answer, NotDone>
         requires { Fits self.old }
-        ensures { Does result self.old self.new (step_write_marked self.old k i) }
+        ensures { Does result self.old self.new (step self.old (command.WriteMarked k i)) }
     {
         self.value(i)?;
         let token = token(&self.marks, k)?;
@@ -110,7 +111,7 @@ impl WorldState {
     #[tactic(auto, using(crate::proofs::MarkLists::mark_is_set))]
     pub(crate) fn read_marked(&mut self, k: usize) -> Result<Answer, NotDone>
         requires { Fits self.old }
-        ensures { Does result self.old self.new (step_read_marked self.old k) }
+        ensures { Does result self.old self.new (step self.old (command.ReadMarked k)) }
     {
         let token = token(&self.marks, k)?;
         let value = self.store.through(token).copy(self.alloc)?;

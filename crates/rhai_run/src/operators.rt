@@ -3,9 +3,11 @@ ghost use Rattle.std.specs.Prelude.{◌≡◌, ◌<◌, false, nat_eq, length, v
 ghost use Rattle.rhai_ops.specs.Outcome.{IsOutcome};
 ghost use Rattle.rhai_ops.specs.Results.{MayWant, Suits, outcome};
 ghost use Rattle.rhai_ops.specs.Effects.{answered, operator, second_left, effect};
-ghost use Rattle.rhai_run.specs.Operators.{value_at, step_assign, step_binary};
+ghost use Rattle.rhai_run.specs.Operators.{value_at};
 ghost use Rattle.rhai_run.specs.Slots.{assigned_in, called_in, value_in, HasOperands, Looks};
 ghost use Rattle.rhai_run.specs.Does.{Calls, Does, Gives};
+ghost use Rattle.rhai_run.specs.declared.command.Command.TheVariants as command;
+ghost use Rattle.rhai_run.specs.Step.{step};
 
 use crate::answer::{Answer, Refusal};
 use crate::command::Place;
@@ -70,7 +72,7 @@ fn call_on(
 impl WorldState {
     /// What an operator answers on two values of the hand, which stay.
     fn operate(&mut self, op: Token, i: usize, j: usize) -> Result<Dynamic, NotDone>
-        ensures value { Gives result self.old (step_binary self.old op i j) }
+        ensures value { Gives result self.old (step self.old (command.Binary op i j)) }
         ensures same { self.new ≡ self.old }
     {
         let x = self.value(i)?;
@@ -92,7 +94,7 @@ impl WorldState {
     }
 
     pub(crate) fn binary(&mut self, op: Token, i: usize, j: usize) -> Result<Answer, NotDone>
-        ensures { Does result self.old self.new (step_binary self.old op i j) }
+        ensures { Does result self.old self.new (step self.old (command.Binary op i j)) }
     {
         let value = self.operate(op, i, j)?;
         self.hand.push(value)?;
@@ -154,7 +156,7 @@ impl WorldState {
     }
 
     pub(crate) fn assign(&mut self, op: Token, place: &Place, j: usize) -> Result<Answer, NotDone>
-        ensures { Does result self.old self.new (step_assign self.old op place.now j) }
+        ensures { Does result self.old self.new (step self.old (command.Assign op place.now j)) }
     {
         let (row, slot) = self.assignment(op, place, j)?;
         self.assign_by(row, slot, j)?;

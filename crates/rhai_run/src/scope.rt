@@ -1,8 +1,9 @@
 //! Commands on the scope as a whole, and pushes.
-ghost use Rattle.rhai_value.specs.Tree.{mode_of};
 ghost use Rattle.rhai_value.specs.declared.access_mode.AccessMode.TheVariants.{ReadWrite, ReadOnly};
-ghost use Rattle.rhai_run.specs.Scope.{step_push, step_push_dynamic, step_push_constant, step_pop, step_rewind, step_clear, step_len, step_is_empty, step_contains, step_search, step_is_constant, step_keep_visible, step_copy_scope, step_show_scope, step_hash_scope, moved_into_entry};
+ghost use Rattle.rhai_run.specs.Scope.{moved_into_entry};
 ghost use Rattle.rhai_run.specs.Does.{Does};
+ghost use Rattle.rhai_run.specs.declared.command.Command.TheVariants as command;
+ghost use Rattle.rhai_run.specs.Step.{step};
 
 use crate::answer::{Answer, Refusal};
 use crate::not_done::NotDone;
@@ -32,7 +33,7 @@ impl WorldState {
     }
 
     pub(crate) fn push(&mut self, name: &ImmutableString, i: usize) -> Result<Answer, NotDone>
-        ensures { Does result self.old self.new (step_push self.old name.now i) }
+        ensures { Does result self.old self.new (step self.old (command.Push name.now i)) }
     {
         self.push_as(name, AccessMode::ReadWrite, i)
     }
@@ -42,7 +43,7 @@ impl WorldState {
         name: &ImmutableString,
         i: usize,
     ) -> Result<Answer, NotDone>
-        ensures { Does result self.old self.new (step_push_dynamic self.old name.now i) }
+        ensures { Does result self.old self.new (step self.old (command.PushDynamic name.now i)) }
     {
         let access = self.value(i)?.access_mode();
         self.push_as(name, access, i)
@@ -53,13 +54,13 @@ impl WorldState {
         name: &ImmutableString,
         i: usize,
     ) -> Result<Answer, NotDone>
-        ensures { Does result self.old self.new (step_push_constant self.old name.now i) }
+        ensures { Does result self.old self.new (step self.old (command.PushConstant name.now i)) }
     {
         self.push_as(name, AccessMode::ReadOnly, i)
     }
 
     pub(crate) fn pop(&mut self) -> Result<Answer, NotDone>
-        ensures { Does result self.old self.new (step_pop self.old) }
+        ensures { Does result self.old self.new (step self.old command.Pop) }
     {
         if self.scope.is_empty() {
             return Err(NotDone::Refused(Refusal::EmptyScope));
@@ -69,39 +70,39 @@ impl WorldState {
     }
 
     pub(crate) fn rewind(&mut self, n: usize) -> Result<Answer, NotDone>
-        ensures { Does result self.old self.new (step_rewind self.old n) }
+        ensures { Does result self.old self.new (step self.old (command.Rewind n)) }
     {
         self.scope.rewind(n);
         Ok(Answer::Done)
     }
 
     pub(crate) fn clear(&mut self) -> Result<Answer, NotDone>
-        ensures { Does result self.old self.new (step_clear self.old) }
+        ensures { Does result self.old self.new (step self.old command.Clear) }
     {
         self.scope.clear();
         Ok(Answer::Done)
     }
 
     pub(crate) fn len(&self) -> Result<Answer, NotDone>
-        ensures { Does result self.now self.now (step_len self.now) }
+        ensures { Does result self.now self.now (step self.now command.Len) }
     {
         Ok(Answer::Int(self.scope.len() as i128))
     }
 
     pub(crate) fn is_empty(&self) -> Result<Answer, NotDone>
-        ensures { Does result self.now self.now (step_is_empty self.now) }
+        ensures { Does result self.now self.now (step self.now command.IsEmpty) }
     {
         Ok(Answer::Bool(self.scope.is_empty()))
     }
 
     pub(crate) fn contains(&self, name: &ImmutableString) -> Result<Answer, NotDone>
-        ensures { Does result self.now self.now (step_contains self.now name.now) }
+        ensures { Does result self.now self.now (step self.now (command.Contains name.now)) }
     {
         Ok(Answer::Bool(self.scope.contains(name.as_str())))
     }
 
     pub(crate) fn search(&self, name: &ImmutableString) -> Result<Answer, NotDone>
-        ensures { Does result self.now self.now (step_search self.now name.now) }
+        ensures { Does result self.now self.now (step self.now (command.Search name.now)) }
     {
         match self.scope.search(name.as_str()) {
             Some(position) => Ok(Answer::Int(position as i128)),
@@ -110,7 +111,7 @@ impl WorldState {
     }
 
     pub(crate) fn is_constant(&self, name: &ImmutableString) -> Result<Answer, NotDone>
-        ensures { Does result self.now self.now (step_is_constant self.now name.now) }
+        ensures { Does result self.now self.now (step self.now (command.IsConstant name.now)) }
     {
         match self.scope.is_constant(name.as_str()) {
             Some(is_constant) => Ok(Answer::Bool(is_constant)),
@@ -119,28 +120,28 @@ impl WorldState {
     }
 
     pub(crate) fn keep_visible(&mut self) -> Result<Answer, NotDone>
-        ensures { Does result self.old self.new (step_keep_visible self.old) }
+        ensures { Does result self.old self.new (step self.old command.KeepVisible) }
     {
         self.scope = self.scope.clone_visible()?;
         Ok(Answer::Done)
     }
 
     pub(crate) fn copy_scope(&mut self) -> Result<Answer, NotDone>
-        ensures { Does result self.old self.new (step_copy_scope self.old) }
+        ensures { Does result self.old self.new (step self.old command.CopyScope) }
     {
         self.scope = self.scope.copy()?;
         Ok(Answer::Done)
     }
 
     pub(crate) fn show_scope(&self) -> Result<Answer, NotDone>
-        ensures { Does result self.now self.now (step_show_scope self.now) }
+        ensures { Does result self.now self.now (step self.now command.ShowScope) }
     {
         let text = self.scope.shown(&self.store)?.into_text();
         Ok(Answer::Text(text))
     }
 
     pub(crate) fn hash_scope(&self) -> Result<Answer, NotDone>
-        ensures { Does result self.now self.now (step_hash_scope self.now) }
+        ensures { Does result self.now self.now (step self.now command.HashScope) }
     {
         match self.scope.hashed(&self.store)? {
             None => Err(NotDone::Refused(Refusal::NotHashable)),

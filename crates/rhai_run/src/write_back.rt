@@ -3,8 +3,10 @@ ghost use Rattle.std.specs.Prelude.{◌≡◌, [], true, is_some, None, IfSome, 
 ghost use Rattle.rhai_value.specs.End.{end};
 ghost use Rattle.rhai_run.specs.declared.pieces.Piece.TheVariants.{Bit, Field, Byte, Character};
 ghost use Rattle.rhai_run.specs.Slots.{changed_in, value_in};
-ghost use Rattle.rhai_run.specs.WriteBack.{lack, change, makes_text, slice_from, step_write_back};
+ghost use Rattle.rhai_run.specs.WriteBack.{lack, change, makes_text, step_write_back};
 ghost use Rattle.rhai_run.specs.Does.{Does};
+ghost use Rattle.rhai_run.specs.declared.command.Command.TheVariants as command;
+ghost use Rattle.rhai_run.specs.Step.{step};
 
 use crate::answer::Answer;
 use crate::command::Place;
@@ -49,7 +51,7 @@ impl WorldState {
     }
 
     pub(crate) fn write_bit(&mut self, place: &Place, bit: u8, j: usize) -> Result<Answer, NotDone>
-        ensures { Does result self.old self.new (step_write_back self.old place.now (Bit bit) j) }
+        ensures { Does result self.old self.new (step self.old (command.WriteBit place.now bit j)) }
     {
         self.write_back(place, Piece::Bit(bit), j)
     }
@@ -61,7 +63,7 @@ impl WorldState {
         shift: u8,
         j: usize,
     ) -> Result<Answer, NotDone>
-        ensures { Does result self.old self.new (step_write_back self.old place.now (Field mask shift) j) }
+        ensures { Does result self.old self.new (step self.old (command.WriteField place.now mask shift j)) }
     {
         self.write_back(place, Piece::Field(mask, shift), j)
     }
@@ -72,7 +74,7 @@ impl WorldState {
         index: usize,
         j: usize,
     ) -> Result<Answer, NotDone>
-        ensures { Does result self.old self.new (step_write_back self.old place.now (Byte index) j) }
+        ensures { Does result self.old self.new (step self.old (command.WriteByte place.now index j)) }
     {
         self.write_back(place, Piece::Byte(index), j)
     }
@@ -83,7 +85,7 @@ impl WorldState {
         index: usize,
         j: usize,
     ) -> Result<Answer, NotDone>
-        ensures { Does result self.old self.new (step_write_back self.old place.now (Character index) j) }
+        ensures { Does result self.old self.new (step self.old (command.WriteChar place.now index j)) }
     {
         self.write_back(place, Piece::Character(index), j)
     }
@@ -96,7 +98,7 @@ impl WorldState {
         exclusive: bool,
         j: usize,
     ) -> Result<Answer, NotDone>
-        ensures { Does result self.old self.new (step_write_back self.old place.now (slice_from start end exclusive) j) }
+        ensures { Does result self.old self.new (step self.old (command.WriteSlice place.now start end exclusive j)) }
     {
         let slice = Slice {
             start,

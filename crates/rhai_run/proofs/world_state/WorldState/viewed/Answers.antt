@@ -7,7 +7,7 @@ use Rattle.rhai_value.specs.Types.{is_type}
 use Rattle.rhai_variant.specs.Reads.{read}
 use Rattle.rhai_scope.specs.Lookup.{value_named}
 use Rattle.rhai_run.specs.State.{State}
-use Rattle.rhai_run.specs.Hand.{read_as}
+use Rattle.rhai_run.specs.Entries.{read_as}
 use Rattle.rhai_run.proofs.Casts.{viewed_some, viewed_is_there}
 use Rattle.rhai_run.proofs.LastEntry.{get_ref_is, get_ref_makes}
 use Rattle.rhai_run.proofs.world_state.WorldState.viewed.Goals as goal

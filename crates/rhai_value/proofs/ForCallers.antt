@@ -37,8 +37,9 @@ pub use Rattle.rhai_value.proofs.Zips.{by_alike, by_zip, get_append, get_last, g
 pub use Rattle.rhai_value.proofs.Slots.{or_false}
 -- the list of the cell numbers in a value
 pub use Rattle.rhai_value.proofs.CellNumbers.{cells_renumbered, each_in, each_of}
--- flags, and rising numbers
+-- flags, flags of lists one after the other, and rising numbers
 pub use Rattle.rhai_value.proofs.Flags.{flagged_met, flags_length, flags_rise}
 pub use Rattle.rhai_value.proofs.Rising.{rising_distinct, rising_same}
+pub use Rattle.rhai_value.proofs.Rooted.{met_more}
 -- the places of true
 pub use Rattle.rhai_value.proofs.Trues.{false_more, from_zero, true_more, trues-append}

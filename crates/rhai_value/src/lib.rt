@@ -76,7 +76,7 @@ pub use place::Place;
 pub use reach::{Kept, Reach};
 pub use roots::Roots;
 pub use scan::Visitor;
-pub use step::{PlaceError, PlaceErrorKind, Step};
+pub use step::{PlaceError, PlaceErrorKind, Step, item_place};
 pub use store::{Cell, Store};
 pub use type_id::TypeId;
 pub use union::{Array, Blob, INT, Tag, Union};

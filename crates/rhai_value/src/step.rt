@@ -40,8 +40,8 @@ pub enum PlaceErrorKind {
     Lost,
 }
 
-/// The place of an item in a list of this length, if there is one; a negative index counts from the end.
-pub(crate) fn item_place(length: usize, index: INT) -> Option<usize>
+/// Tells the place of an item in a list of this length, if there is one; a negative index counts from the end.
+pub fn item_place(length: usize, index: INT) -> Option<usize>
     ensures { result ≡ item_place length index }
 {
     let distance = index.unsigned_abs() as usize;

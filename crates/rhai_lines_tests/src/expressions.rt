@@ -3,7 +3,7 @@
 use crate::rows::{printed_lines, row_of};
 use rhai_lines::command;
 use rhai_run::eval::eval;
-use rhai_run::{Answer, Command, Expr, Literal, World, apply};
+use rhai_run::{Answer, Command, Expr, Literal, Refusal, World, apply};
 use rhai_text::{ImmutableString, Limits, Token};
 use std::alloc::{AllocError, Global};
 use std::process::Abort;
@@ -154,7 +154,7 @@ fn take_words(alloc: Global, made: &mut Vec<Expr>, words: &str) -> Result<(), Al
     Ok(made.push(expr)?)
 }
 
-fn expr_of(alloc: Global, row: &str) -> Result<Expr, AllocError> {
+pub(crate) fn expr_of(alloc: Global, row: &str) -> Result<Expr, AllocError> {
     let mut made = Vec::new(alloc);
     for words in row.split(';') {
         take_words(alloc, &mut made, words.trim())?;
@@ -173,17 +173,27 @@ fn last_text(world: &mut World) -> Result<Answer, AllocError> {
     }
 }
 
-/// The text of what an expression comes to, and how many values and entries there are then.
-fn outcome(alloc: Global, world: &mut World, expr: &Expr) -> Result<String, AllocError> {
-    let answer = match eval(world, expr) {
-        Ok(None) => last_text(world)?,
-        Ok(Some(why)) => Answer::Refused(why),
-        Err(_) => return Err(AllocError),
+/// The text of what an expression came to, and how many values and entries there are then.
+pub(crate) fn outcome_text(
+    alloc: Global,
+    world: &mut World,
+    outcome: Option<Refusal>,
+) -> Result<String, AllocError> {
+    let answer = match outcome {
+        None => last_text(world)?,
+        Some(why) => Answer::Refused(why),
     };
     let text = printed_lines(alloc, &[answer])?;
     let values = world.hand().len();
     let entries = world.scope().len();
     format!(in alloc; "{} in {values}, {entries}", text.trim_end())
+}
+
+fn outcome(alloc: Global, world: &mut World, expr: &Expr) -> Result<String, AllocError> {
+    match eval(world, expr) {
+        Ok(outcome) => outcome_text(alloc, world, outcome),
+        Err(_) => Err(AllocError),
+    }
 }
 
 /// The first row that comes to something else on the world, with what it comes to.

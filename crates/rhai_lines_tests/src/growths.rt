@@ -1,6 +1,8 @@
 //! Runs in which memory may be refused. Each test is to pass, or to end by want of memory, whichever of its requests is refused, once or from then on;
 //! `growths/run` tries them all. What is refused is said on standard error.
 
+mod expressions;
+
 use crate::page::SECTIONS;
 use crate::rows::{commands_of, input_of, lines_of, row_of, wanted, wanted_of_commands};
 use crate::session::SESSIONS;

@@ -119,8 +119,7 @@ impl WorldState {
             .get(name.as_str())
             .ok_or(Refusal::NoEntry)?
             .copy(self.alloc)?;
-        self.hand.push(value)?;
-        Ok(Answer::Done)
+        self.append(value)
     }
 
     pub(crate) fn get_value(
@@ -135,8 +134,7 @@ impl WorldState {
             return Ok(Answer::Nothing);
         }
         let value = cast_to(value, self.alloc, &self.store, kind)?;
-        self.hand.push(value)?;
-        Ok(Answer::Done)
+        self.append(value)
     }
 
     /// A copy of what the last entry of a name itself is as a type, by reference, if it is of the type.
@@ -164,10 +162,7 @@ impl WorldState {
     {
         match self.viewed(name, kind)? {
             None => Ok(Answer::Nothing),
-            Some(value) => {
-                self.hand.push(value)?;
-                Ok(Answer::Done)
-            }
+            Some(value) => self.append(value),
         }
     }
 

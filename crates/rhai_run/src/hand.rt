@@ -32,8 +32,7 @@ impl WorldState {
             Literal::Range(range) => Dynamic::from(*range),
             Literal::RangeEq(range) => Dynamic::from(*range),
         };
-        self.hand.push(value)?;
-        Ok(Answer::Done)
+        self.append(value)
     }
 
     pub(crate) fn make_array(&mut self, n: usize) -> Result<Answer, NotDone>
@@ -72,16 +71,14 @@ impl WorldState {
         ensures { Does result self.old self.new (step self.old (command.Copy i)) }
     {
         let value = self.value(i)?.copy(self.alloc)?;
-        self.hand.push(value)?;
-        Ok(Answer::Done)
+        self.append(value)
     }
 
     pub(crate) fn flatten_clone(&mut self, i: usize) -> Result<Answer, NotDone>
         ensures { Does result self.old self.new (step self.old (command.FlattenClone i)) }
     {
         let value = self.value(i)?.flatten_clone(self.alloc, &self.store)?;
-        self.hand.push(value)?;
-        Ok(Answer::Done)
+        self.append(value)
     }
 
     pub(crate) fn cast(&mut self, i: usize, kind: TypeId) -> Result<Answer, NotDone>
@@ -93,8 +90,7 @@ impl WorldState {
             return Err(NotDone::Refused(Refusal::Mismatch(name)));
         }
         let value = cast_to(value, self.alloc, &self.store, kind)?;
-        self.hand.push(value)?;
-        Ok(Answer::Done)
+        self.append(value)
     }
 
     pub(crate) fn take(&mut self, i: usize) -> Result<Answer, NotDone>

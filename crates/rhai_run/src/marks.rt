@@ -115,7 +115,6 @@ impl WorldState {
     {
         let token = token(&self.marks, k)?;
         let value = self.store.through(token).copy(self.alloc)?;
-        self.hand.push(value)?;
-        Ok(Answer::Done)
+        self.append(value)
     }
 }

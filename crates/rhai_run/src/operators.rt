@@ -97,8 +97,7 @@ impl WorldState {
         ensures { Does result self.old self.new (step self.old (command.Binary op i j)) }
     {
         let value = self.operate(op, i, j)?;
-        self.hand.push(value)?;
-        Ok(Answer::Done)
+        self.append(value)
     }
 
     /// Calls a row of an assignment on the value in a slot and on another one, which is in none.

@@ -2,7 +2,9 @@
 ghost use Rattle.std.specs.Prelude.{◌≡◌, ◌≤◌, ◌<◌, length, slice_get, Some, None, IfOk, IfErr, OnOk};
 ghost use Rattle.rhai_run.specs.declared.answer.Refusal.TheVariants.{NoValue};
 ghost use Rattle.rhai_run.specs.declared.not_done.NotDone.TheVariants.{Refused};
-ghost use Rattle.rhai_run.specs.State.{empty_state};
+ghost use Rattle.rhai_run.specs.Outcome.{growing};
+ghost use Rattle.rhai_run.specs.Reply.{done};
+ghost use Rattle.rhai_run.specs.State.{appended, empty_state};
 ghost use Rattle.rhai_run.specs.Step.{step};
 ghost use Rattle.rhai_run.specs.Fits.{Fits};
 ghost use Rattle.rhai_run.specs.Does.{Does};
@@ -89,6 +91,16 @@ impl WorldState {
             return Err(NotDone::Refused(Refusal::NoValue));
         }
         Ok(())
+    }
+
+    /// Puts a value at the end of the hand.
+    #[inline(always)]
+    pub(crate) fn append(&mut self, value: Dynamic) -> Result<Answer, NotDone>
+        ensures { Does result self.old self.new (growing done (appended self.old value)) }
+    {
+        self.hand.reserve(1)?;
+        self.hand.push_reserved(value);
+        Ok(Answer::Done)
     }
 
     /// Does one command.

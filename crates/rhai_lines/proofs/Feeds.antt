@@ -57,39 +57,39 @@ Appends-kept (Some xs) (Some ys) (Some zs) a h k = k ∙ h
 -- ---- Fed
 
 pub fed_start : (input : List ℕ) (w : State) (old : Option (List ℕ)) → Fed input input [] w w old old
-fed_start input w old = record { lines = []; input_is = refl; has_no_feed = All-nil _; state_is = refl; told = Appends-nil old }
+fed_start input w old = record { lines = []; input_is = refl; has_no_feed = All-nil _; state_is = refl; replied = Appends-nil old }
 
 -- a byte of the line has come
 pub fed_byte : {input rest partial : List ℕ} {start now : State} {old new : Option (List ℕ)} (b : ℕ) → Fed input (b ∷ rest) partial start now old new → (b == 10) ≡ false → Fed input rest (partial ++ b ∷ []) start now old new
 fed_byte {rest} {partial} b h e =
-    record { lines = h.lines; input_is = h.input_is ∙ ap (λ xs. h.lines ++ lines_of xs) (sym (append_assoc partial (b ∷ []) rest)); has_no_feed = All-push (λ b. (b == 10) ≡ false) partial b h.has_no_feed e; state_is = h.state_is; told = h.told }
+    record { lines = h.lines; input_is = h.input_is ∙ ap (λ xs. h.lines ++ lines_of xs) (sym (append_assoc partial (b ∷ []) rest)); has_no_feed = All-push (λ b. (b == 10) ≡ false) partial b h.has_no_feed e; state_is = h.state_is; replied = h.replied }
 
 -- a whole line is answered
 pub fed_line : {input rest partial next : List ℕ} {start now : State} {old mid : Option (List ℕ)} (after : State) (new : Option (List ℕ)) → Fed input rest partial start now old mid → lines_of (partial ++ rest) ≡ partial ∷ lines_of next → after ≡ line_state now partial → Appends mid new (line_answer now partial) → Fed input next [] start after old new
 fed_line {partial} {next} {start} {now} {old} {mid} after new h e s t =
-    let told : answers_to_lines start (h.lines ++ partial ∷ []) ≡ answers_to_lines start h.lines ++ line_answer now partial =
+    let replied : answers_to_lines start (h.lines ++ partial ∷ []) ≡ answers_to_lines start h.lines ++ line_answer now partial =
     answers-push h.lines start partial ∙ ap (λ w. answers_to_lines start h.lines ++ line_answer w partial) (sym h.state_is) in
     record {
       lines = h.lines ++ partial ∷ [];
       input_is = h.input_is ∙ ap (λ ls. h.lines ++ ls) e ∙ sym (append_assoc h.lines (partial ∷ []) (lines_of next));
       has_no_feed = All-nil _;
       state_is = s ∙ ap (λ w. line_state w partial) h.state_is ∙ sym (state-push h.lines start partial);
-      told = subst (Appends old new) (sym told) (Appends-more old mid new (answers_to_lines start h.lines) (line_answer now partial) h.told t);
+      replied = subst (Appends old new) (sym replied) (Appends-more old mid new (answers_to_lines start h.lines) (line_answer now partial) h.replied t);
     }
 
 -- the writer's bytes are kept
 pub fed_kept : {input rest partial : List ℕ} {start now : State} {old mid : Option (List ℕ)} (new : Option (List ℕ)) → Fed input rest partial start now old mid → Keeps mid new → Fed input rest partial start now old new
 fed_kept {start} {old} {mid} new h k =
-    record { lines = h.lines; input_is = h.input_is; has_no_feed = h.has_no_feed; state_is = h.state_is; told = Appends-kept old mid new (answers_to_lines start h.lines) h.told k }
+    record { lines = h.lines; input_is = h.input_is; has_no_feed = h.has_no_feed; state_is = h.state_is; replied = Appends-kept old mid new (answers_to_lines start h.lines) h.replied k }
 
 -- nothing is left
 pub fed_end : {input : List ℕ} {start now : State} {old new : Option (List ℕ)} → Fed input [] [] start now old new → Appends old new (output_from start input)
-fed_end {start} {old} {new} h = subst (λ ls. Appends old new (answers_to_lines start ls)) (sym (h.input_is ∙ append-nil h.lines)) h.told
+fed_end {start} {old} {new} h = subst (λ ls. Appends old new (answers_to_lines start ls)) (sym (h.input_is ∙ append-nil h.lines)) h.replied
 
 -- some first lines are answered
 pub fed_first : {input rest partial : List ℕ} {start now : State} {old new : Option (List ℕ)} → Fed input rest partial start now old new → (n : ℕ) × Appends old new (output_of_first_from start n input)
 fed_first {rest} {partial} {start} {old} {new} h =
-    (length h.lines, subst (λ ls. Appends old new (answers_to_lines start ls)) (sym (ap (take (length h.lines)) h.input_is ∙ take-append_seam h.lines (lines_of (partial ++ rest)))) h.told)
+    (length h.lines, subst (λ ls. Appends old new (answers_to_lines start ls)) (sym (ap (take (length h.lines)) h.input_is ∙ take-append_seam h.lines (lines_of (partial ++ rest)))) h.replied)
 
 -- ---- taking bytes
 

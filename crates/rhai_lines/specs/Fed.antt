@@ -11,7 +11,7 @@ pub record Fed (input rest partial : List ℕ) (start now : State) (old new : Op
   pub input_is : lines_of input ≡ lines ++ lines_of (partial ++ rest)
   pub has_no_feed : All (λ b. (b == 10) ≡ false) partial
   pub state_is : now ≡ state_after_lines start lines
-  pub told : Appends old new (answers_to_lines start lines)
+  pub replied : Appends old new (answers_to_lines start lines)
 
 -- Taking the bytes leads from a partial line, a world and what is written to others, wherever they stand in the input.
 abbrev pub Feeds : List ℕ → List ℕ → State → Option (List ℕ) → List ℕ → State → Option (List ℕ) → Type 0

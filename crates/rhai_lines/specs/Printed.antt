@@ -5,7 +5,7 @@ use Rattle.rhai_text.specs.declared.error.ArithmeticFault.{ArithmeticFault}
 use Rattle.rhai_text.specs.declared.error.ArithmeticFault.TheVariants.{Overflow, DivisionByZero, NegativePower, PowerTooLarge}
 use Rattle.rhai_text.specs.declared.error.SizeKind.{SizeKind}
 use Rattle.rhai_text.specs.declared.error.SizeKind.TheVariants.{Text, Items}
-use Rattle.rhai_run.specs.Reply.{Reply, done, truth, number, told, bytes, pair, nothing, refused, Reason, no_value, same_value, no_entry, empty_scope, constant_entry, shared_entry, no_mark, wrong_source, bit_place, byte_place, no_builtin, not_hashable, mismatch, fault, Fault, wrong_type, data_race, arithmetic, too_large, out_of_memory}
+use Rattle.rhai_run.specs.Reply.{Reply, done, truth, number, text_answer, bytes, pair, nothing, refused, Reason, no_value, same_value, no_entry, empty_scope, constant_entry, shared_entry, no_mark, wrong_source, bit_place, byte_place, no_builtin, not_hashable, mismatch, fault, Fault, wrong_type, data_race, arithmetic, too_large, out_of_memory}
 
 -- why a calculation has no result, and which of the sizes is too large
 abbrev pub arithmetic_text : ArithmeticFault → List ℕ
@@ -52,7 +52,7 @@ abbrev pub printed : Reply → List ℕ
 printed done = codes "ok"
 printed (truth b) = if b then codes "true" else codes "false"
 printed (number n) = signed_decimal n
-printed (told characters) = encode_utf8_all characters
+printed (text_answer characters) = encode_utf8_all characters
 printed (bytes bs) = flat_map byte_text bs
 printed (pair m n) = signed_decimal (pos m) ++ codes " " ++ signed_decimal (pos n)
 printed nothing = codes "none"

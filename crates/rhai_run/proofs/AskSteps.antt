@@ -17,7 +17,7 @@ use Rattle.rhai_run.specs.declared.command.Question.TheVariants as question
 use Rattle.rhai_run.specs.State.{State}
 use Rattle.rhai_run.specs.Ask.{asked, asked_of_held, hash_of}
 use Rattle.rhai_run.specs.Outcome.{Outcome, free, growing, given, with_value}
-use Rattle.rhai_run.specs.Reply.{done, truth, number, told, mismatch}
+use Rattle.rhai_run.specs.Reply.{done, truth, number, text_answer, mismatch}
 use Rattle.rhai_run.specs.Correspondence.{RelatedStates}
 use Rattle.rhai_run.proofs.Outcome.{Matches, alike_same, m_stays, m_given, m_value}
 use Rattle.rhai_run.specs.declared.command.Command.TheVariants as command
@@ -57,20 +57,20 @@ module _ (r : Renaming) (w v : State) (h : RelatedStates r w v) where
       by question.Shared = m_stays r w v h _ _ (ap truth (same_shared r t u k))
       by question.ReadOnly = m_stays r w v h _ _ (ap truth (same_constant r _ _ (same_first r w.store v.store h.cells t u k)))
       by question.Locked = m_stays r w v h _ _ (ap truth (same_locked r w.store v.store h.cells t u k))
-      by question.TypeName = m_stays r w v h _ _ (ap (λ n. told (type_name n)) kind)
+      by question.TypeName = m_stays r w v h _ _ (ap (λ n. text_answer (type_name n)) kind)
       by (question.Held x) = m_stays r w v h _ _ (ap (λ n. truth (is_type x n)) kind)
       by question.Hashable = m_stays r w v h _ _ (ap (λ o. truth (is_some o)) (same_plain r w.store v.store t u h.one h.cells k))
       by (question.Is x) = m_stays r w v h _ _ (ap (λ b. truth (not (is_type x id.Shared) && b)) (same_is r x w.store v.store t u h.one h.cells k))
       by question.Unit = same_of_held unit_of e f (λ x _. free done x) (same_held_leaf r leaf_unit e f ends) kind (λ a. m_stays r w v h done done refl)
       by question.Int = same_of_held int_of e f (λ x n. free (number n) x) (same_held_leaf r leaf_int e f ends) kind (λ a. m_stays r w v h (number a) (number a) refl)
       by question.Bool = same_of_held bool_of e f (λ x b. free (truth b) x) (same_held_leaf r leaf_bool e f ends) kind (λ a. m_stays r w v h (truth a) (truth a) refl)
-      by question.Char = same_of_held char_of e f (λ x c. growing (told (c ∷ [])) x) (same_held_leaf r leaf_char e f ends) kind (λ a. m_stays r w v h (told (a ∷ [])) (told (a ∷ [])) refl)
+      by question.Char = same_of_held char_of e f (λ x c. growing (text_answer (c ∷ [])) x) (same_held_leaf r leaf_char e f ends) kind (λ a. m_stays r w v h (text_answer (a ∷ [])) (text_answer (a ∷ [])) refl)
 
   pub same_ask : (i : ℕ) (q : Question) → Matches r w v (step w (command.Ask i q)) (step v (command.Ask i q))
   same_ask i q = m_value r w v h i _ _ (λ t u e. same_asked t u e q)
 
-  same_text_of : (form : Form) (i : ℕ) → Matches r w v (with_value w i (λ t. growing (told (printed w.store [] t form)) w)) (with_value v i (λ t. growing (told (printed v.store [] t form)) v))
-  same_text_of form i = m_value r w v h i _ _ (λ t u e. m_stays r w v h _ _ (ap (λ f. told (f form)) (same_printed r w.store v.store t u h.one h.cells e)))
+  same_text_of : (form : Form) (i : ℕ) → Matches r w v (with_value w i (λ t. growing (text_answer (printed w.store [] t form)) w)) (with_value v i (λ t. growing (text_answer (printed v.store [] t form)) v))
+  same_text_of form i = m_value r w v h i _ _ (λ t u e. m_stays r w v h _ _ (ap (λ f. text_answer (f form)) (same_printed r w.store v.store t u h.one h.cells e)))
 
   pub same_show : (i : ℕ) → Matches r w v (step w (command.Show i)) (step v (command.Show i))
   same_show = same_text_of Display

@@ -15,7 +15,7 @@ use Rattle.rhai_scope.specs.Entry.{Entry, with_value as holding}
 use Rattle.rhai_scope.specs.Lookup.{last_position}
 use Rattle.rhai_scope.specs.Typed.{set_or_pushed, removed_at}
 use Rattle.rhai_run.specs.State.{State, with_entries}
-use Rattle.rhai_run.specs.Reply.{told, nothing, no_entry, constant_entry, shared_entry}
+use Rattle.rhai_run.specs.Reply.{text_answer, nothing, no_entry, constant_entry, shared_entry}
 use Rattle.rhai_run.specs.Entries.{is_there_constant, appended_or_nothing, viewed_as}
 use Rattle.rhai_scope.specs.NamesText.{aliases_text}
 use Rattle.rhai_scope.specs.Relation.{RelatedEntry}
@@ -74,7 +74,7 @@ module _ (r : Renaming) (w v : State) (h : RelatedStates r w v) where
 
   pub same_aliases : (name : List ℕ) → Matches r w v (step w (command.Aliases name)) (step v (command.Aliases name))
   same_aliases name =
-      m_given r w v h (λ a b. a ≡ b) no_entry _ _ _ _ (alike_same _ _ (same_aliases_named r name w.entries v.entries h.entries)) (λ a b e. m_stays r w v h _ _ (ap (λ bs. told (aliases_text bs)) e))
+      m_given r w v h (λ a b. a ≡ b) no_entry _ _ _ _ (alike_same _ _ (same_aliases_named r name w.entries v.entries h.entries)) (λ a b e. m_stays r w v h _ _ (ap (λ bs. text_answer (aliases_text bs)) e))
 
   same_viewed_as : (kind : TypeId) (t u : Tree) → Related r t u → Alike (Related r) (viewed_as kind t) (viewed_as kind u)
   same_viewed_as kind t u e = unless_shared r w v h (is_type kind id.Shared) _ _ (same_viewed r kind t u e)

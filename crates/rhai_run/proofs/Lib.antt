@@ -27,12 +27,12 @@ pub mod Collecting
 pub mod Refusals
 pub mod Runs
 pub mod GoingOn
-pub mod Wents
+pub mod Progress
 pub mod Meant
 pub mod Layered
 pub mod Framed
 pub mod Sheds
-pub mod StandsAlike
+pub mod ProgramsAlike
 pub mod LastRows
 pub mod Left
 pub mod Moves

@@ -33,7 +33,7 @@ use Rattle.rhai_run.specs.Made.{array_tree, map_tree, function_tree}
 use Rattle.rhai_run.specs.Operators.{called}
 use Rattle.rhai_run.specs.Outcome.{Outcome, growing_if, free, growing, refuse, unless, given, with_value, with_two, taken_off, gathered}
 use Rattle.rhai_run.specs.Places.{found, value_found, entry_found, with_place, with_place_and, is_at}
-use Rattle.rhai_run.specs.Reply.{Reply, Reason, done, truth, number, told, nothing, refused, fault, out_of_memory, no_value, same_value, no_entry, empty_scope, constant_entry, shared_entry, no_mark, wrong_source, bit_place, byte_place, no_builtin, not_hashable, mismatch}
+use Rattle.rhai_run.specs.Reply.{Reply, Reason, done, truth, number, text_answer, nothing, refused, fault, out_of_memory, no_value, same_value, no_entry, empty_scope, constant_entry, shared_entry, no_mark, wrong_source, bit_place, byte_place, no_builtin, not_hashable, mismatch}
 use Rattle.rhai_run.specs.Scope.{or_nothing, bytes_or_refused}
 use Rattle.rhai_run.specs.State.{State, appended, with_hand, with_scope}
 use Rattle.rhai_run.specs.Step.{step}
@@ -177,8 +177,8 @@ is_truth w b c = answers w w b (truth c) (λ why e. cc)
 is_number : (w v : State) (n : ℤ) → Refuses w (free (number n) v)
 is_number w v n = answers w v false (number n) (λ why e. cc)
 
-is_told : (w : State) (t : List ℕ) → Refuses w (growing (told t) w)
-is_told w t = answers w w true (told t) (λ why e. cc)
+is_text_answer : (w : State) (t : List ℕ) → Refuses w (growing (text_answer t) w)
+is_text_answer w t = answers w w true (text_answer t) (λ why e. cc)
 
 asks : (w : State) (t : Tree) (q : Question) → Refuses w (asked w t q)
 asks w t question.Tag = is_number w w _
@@ -186,14 +186,14 @@ asks w t question.Variant = is_truth w false _
 asks w t question.Shared = is_truth w false _
 asks w t question.ReadOnly = is_truth w false _
 asks w t question.Locked = is_truth w false _
-asks w t question.TypeName = is_told w _
+asks w t question.TypeName = is_text_answer w _
 asks w t (question.Held kind) = is_truth w false _
 asks w t question.Hashable = is_truth w true _
 asks w t (question.Is kind) = is_truth w false _
 asks w t question.Unit = of_held w unit_of (end w.store [] t) _ (λ a. is_done w w false)
 asks w t question.Int = of_held w int_of (end w.store [] t) _ (λ a. is_number w w a)
 asks w t question.Bool = of_held w bool_of (end w.store [] t) _ (λ a. is_truth w false a)
-asks w t question.Char = of_held w char_of (end w.store [] t) _ (λ a. is_told w _)
+asks w t question.Char = of_held w char_of (end w.store [] t) _ (λ a. is_text_answer w _)
 
 -- the two hashes
 unhashed : (w : State) → Refuses w (growing (refused not_hashable) w)
@@ -253,14 +253,14 @@ steps_refuse w (command.SetRef name n) = is_given w (value_named name w.entries)
     (either w (is_some (viewed id.Int t)) _ _ (is_done w _ false) (answers w w false nothing (λ why e. cc))))
 steps_refuse w (command.Remove name kind) = is_given w (value_named name w.entries) no_entry _ (λ e. cc) (λ t. found_or_nothing w _ (read_as kind (flattened w.store t)))
 steps_refuse w (command.SetAlias name alias) = is_done w _ _
-steps_refuse w (command.Aliases name) = is_given w (aliases_named name w.entries) no_entry _ (λ e. cc) (λ bs. is_told w _)
+steps_refuse w (command.Aliases name) = is_given w (aliases_named name w.entries) no_entry _ (λ e. cc) (λ bs. is_text_answer w _)
 steps_refuse w command.KeepVisible = is_done w _ true
 steps_refuse w command.CopyScope = is_done w _ true
 steps_refuse w command.Entries = is_done w _ true
-steps_refuse w command.Names = is_told w _
+steps_refuse w command.Names = is_text_answer w _
 steps_refuse w (command.Extend names) = takes_off w (length names) (λ before last. growing done (with_scope w (extended w.entries (zip names last)) before)) (λ b l. is_done w _ true)
 steps_refuse w (command.ExtendFlagged names) = takes_off w (length names) (λ before last. growing done (with_scope w (extended_flagged w.entries (flagged_values names last)) before)) (λ b l. is_done w _ true)
-steps_refuse w command.ShowScope = is_told w _
+steps_refuse w command.ShowScope = is_text_answer w _
 steps_refuse w command.HashScope = hashes_scope w (scope_bytes w.store w.entries)
 steps_refuse w (command.Mark p) = has_place w p _ (λ t. if_not w (not (is_some (cell_of t))) wrong_source _ (λ e. cc) (is_given w (first_cell w.store t) _ _ (λ e. cc) (λ c. is_done w _ true)))
 steps_refuse w (command.Unmark k) = is_given w (slice_get w.marks k) no_mark _ (λ e. cc) (λ c. is_done w _ false)
@@ -273,6 +273,6 @@ steps_refuse w (command.WriteChar p index j) = writes_back w p (piece.Character 
 steps_refuse w (command.WriteSlice p start stop exclusive j) = writes_back w p (slice_from start stop exclusive) j
 steps_refuse w (command.Offset count start len) = answers w w false _ (λ why e. cc)
 steps_refuse w (command.Index count index from_end) = answers_if_any w (λ k. number (pos k)) (offset.place count index from_end) (λ k why e. cc)
-steps_refuse w (command.Show i) = has_value w i _ (λ t. is_told w _)
-steps_refuse w (command.Debug i) = has_value w i _ (λ t. is_told w _)
+steps_refuse w (command.Show i) = has_value w i _ (λ t. is_text_answer w _)
+steps_refuse w (command.Debug i) = has_value w i _ (λ t. is_text_answer w _)
 steps_refuse w (command.Hash i) = has_value w i _ (λ t. hashes w (plain w.store [] t))

@@ -13,7 +13,7 @@ use Rattle.rhai_show.specs.Plain.{Plain, plain}
 use Rattle.rhai_run.specs.declared.command.Question.{Question}
 use Rattle.rhai_run.specs.declared.command.Question.TheVariants as question
 use Rattle.rhai_run.specs.State.{State}
-use Rattle.rhai_run.specs.Reply.{Reply, done, truth, number, told, bytes, refused, mismatch, not_hashable}
+use Rattle.rhai_run.specs.Reply.{Reply, done, truth, number, text_answer, bytes, refused, mismatch, not_hashable}
 use Rattle.rhai_run.specs.Outcome.{Outcome, free, growing, given}
 
 -- what is asked of a part of what is held, or a mismatch where another type is held
@@ -31,14 +31,14 @@ asked w t question.Variant = free (truth (is_host t)) w
 asked w t question.Shared = free (truth (is_some (cell_of t))) w
 asked w t question.ReadOnly = free (truth (constant_in (first w.store t))) w
 asked w t question.Locked = free (truth (is_locked w.store t)) w
-asked w t question.TypeName = growing (told (end_name (end w.store [] t))) w
+asked w t question.TypeName = growing (text_answer (end_name (end w.store [] t))) w
 asked w t (question.Held kind) = free (truth (is_type kind (end_type (end w.store [] t)))) w
 asked w t question.Hashable = growing (truth (is_some (plain w.store [] t))) w
 asked w t (question.Is kind) = free (truth (is_value_of kind t (end w.store [] t))) w
 asked w t question.Unit = asked_of_held w unit_of (end w.store [] t) (λ u. free done w)
 asked w t question.Int = asked_of_held w int_of (end w.store [] t) (λ n. free (number n) w)
 asked w t question.Bool = asked_of_held w bool_of (end w.store [] t) (λ b. free (truth b) w)
-asked w t question.Char = asked_of_held w char_of (end w.store [] t) (λ c. growing (told (c ∷ [])) w)
+asked w t question.Char = asked_of_held w char_of (end w.store [] t) (λ c. growing (text_answer (c ∷ [])) w)
 
 -- the hash bytes of the value, where it has some; memory is wanted before it is known whether it has
 abbrev pub hash_of : Option Plain → Reply

@@ -18,8 +18,8 @@ StopsBoth (Second answers s) w v commands x y =
     (map reply_of answers.items ≡ replies w commands) × (x ≡ state_after w commands) × Stops v commands (map reply_of s.answers.items) y
 
 -- Equal answers, as many new cells in both, and states that correspond by the renaming that these have grown.
-pub record AlikeEnds (r : Renaming) (w v : State) (told heard : List Reply) (x y : State) : Type 0 where
-  pub answers : told ≡ heard
+pub record AlikeEnds (r : Renaming) (w v : State) (replied heard : List Reply) (x y : State) : Type 0 where
+  pub answers : replied ≡ heard
   pub made : ℕ
   pub first : length x.store ≡ length w.store + made
   pub second : length y.store ≡ length v.store + made

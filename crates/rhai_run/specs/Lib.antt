@@ -27,7 +27,7 @@ pub mod KeptWorld
 pub mod Stop
 pub mod Both
 pub mod Does
-pub mod Stands
+pub mod Programs
 pub mod Bindings
 pub mod Layers
 pub mod Taken

@@ -3,7 +3,7 @@ ghost use Rattle.std.specs.Prelude.{◌≡◌, IfOk};
 ghost use Rattle.std.specs.Str.{chars};
 ghost use Rattle.rhai_show.specs.declared.form.Form.TheVariants.{Debug};
 ghost use Rattle.rhai_run.specs.Ask.{asked};
-ghost use Rattle.rhai_run.specs.Reply.{reply_of, told as a_text};
+ghost use Rattle.rhai_run.specs.Reply.{reply_of, text_answer as a_text};
 ghost use Rattle.rhai_run.specs.Does.{Does};
 ghost use Rattle.rhai_run.specs.declared.command.Command.TheVariants as command;
 ghost use Rattle.rhai_run.specs.Step.{step};
@@ -57,7 +57,7 @@ impl WorldState {
             Question::Shared => Ok(Answer::Bool(value.is_shared())),
             Question::ReadOnly => Ok(Answer::Bool(value.is_read_only(s))),
             Question::Locked => Ok(Answer::Bool(value.is_locked(s))),
-            Question::TypeName => Ok(told(self.alloc, value.type_name(s))?),
+            Question::TypeName => Ok(text_answer(self.alloc, value.type_name(s))?),
             Question::Held(kind) => Ok(Answer::Bool(value.type_id(s) == *kind)),
             Question::Hashable => Ok(Answer::Bool(is_hashable(self.alloc, value, s)?)),
             Question::Is(kind) => Ok(Answer::Bool(is_value_of(value, s, *kind))),
@@ -75,13 +75,13 @@ impl WorldState {
             }
             Question::Char => {
                 let character = value.as_char(s).map_err(Refusal::Mismatch)?;
-                Ok(told(self.alloc, character.encode_utf8(&mut [0; 4]))?)
+                Ok(text_answer(self.alloc, character.encode_utf8(&mut [0; 4]))?)
             }
         }
     }
 }
 
-fn told(alloc: Global, text: &str) -> Result<Answer, AllocError>
+fn text_answer(alloc: Global, text: &str) -> Result<Answer, AllocError>
     ensures { IfOk result (λ a. reply_of a ≡ a_text (chars text.now)) }
 {
     Ok(Answer::Text(String::from_str(alloc, text)?))

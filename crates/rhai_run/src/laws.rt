@@ -27,7 +27,7 @@ ghost use Rattle.rhai_scope.specs.Entry.{Entry, is_constant_entry};
 ghost use Rattle.rhai_scope.specs.Lookup.{last_entry};
 ghost use Rattle.rhai_run.specs.Bindings.{bindings};
 ghost use Rattle.rhai_run.specs.Captures.{SharesEntry, entry_content};
-ghost use Rattle.rhai_run.specs.Stands.{all, capture, in_order, last_of, operate, part_of, refusal, set, stands};
+ghost use Rattle.rhai_run.specs.Programs.{all, capture, sequence, last_of, operate, program_of, refusal, set, commands_of};
 ghost use Rattle.rhai_run.specs.State.{State, empty_state, with_store};
 ghost use Rattle.rhai_run.specs.Reply.{Reply, Reason, refused, fault, out_of_memory, not_hashable};
 ghost use Rattle.rhai_run.specs.Step.{step};
@@ -138,9 +138,9 @@ pub fn free_commands_are_granted()
 {}
 
 /// Where states correspond, an expression stands for the same commands on both.
-#[tactic(auto, using(crate::proofs::StandsAlike::stands_alike))]
+#[tactic(auto, using(crate::proofs::ProgramsAlike::commands_alike))]
 pub fn expressions_stand_alike()
-    ensures { (r : Renaming) (w v : State) (e : Expr) → Corresponds r w v → stands w e ≡ stands v e }
+    ensures { (r : Renaming) (w v : State) (e : Expr) → Corresponds r w v → commands_of w e ≡ commands_of v e }
 {}
 
 /// A map that a command makes has at each key, by its bytes, the value that is given last for it, and nothing at any other key.
@@ -152,53 +152,53 @@ pub fn maps_have_the_last_values()
 
 /// What each kind of expression does on a state: its parts one after another, each on what those before it have left.
 pub fn expressions_by_kind()
-    ensures literal { (l : Literal) (w : State) → part_of (expr.Literal l) w ≡ all (command.Put l ∷ []) w }
-    ensures variable { (x : List ℕ) (w : State) → part_of (expr.Var x) w ≡ all (command.Get x ∷ command.Flatten (length w.hand) ∷ []) w }
-    ensures operator { (t : Token) (a b : Box Expr Global) (w : State) → part_of (expr.Op t a b) w ≡ in_order (part_of a.value ∷ part_of b.value ∷ all (operate t (length w.hand)) ∷ []) w }
+    ensures literal { (l : Literal) (w : State) → program_of (expr.Literal l) w ≡ all (command.Put l ∷ []) w }
+    ensures variable { (x : List ℕ) (w : State) → program_of (expr.Var x) w ≡ all (command.Get x ∷ command.Flatten (length w.hand) ∷ []) w }
+    ensures operator { (t : Token) (a b : Box Expr Global) (w : State) → program_of (expr.Op t a b) w ≡ sequence (program_of a.value ∷ program_of b.value ∷ all (operate t (length w.hand)) ∷ []) w }
     ensures array { (items : Vec Expr Global) (w : State)
-        → part_of (expr.Array items) w ≡ in_order (in_order (map part_of items.items) ∷ all (command.MakeArray (length items.items) ∷ []) ∷ []) w }
-    ensures variable_made { (x : List ℕ) (e : Box Expr Global) (w : State) → part_of (expr.Let x e) w ≡ in_order (part_of e.value ∷ all (command.Push x (length w.hand) ∷ []) ∷ []) w }
-    ensures constant_made { (x : List ℕ) (e : Box Expr Global) (w : State) → part_of (expr.Const x e) w ≡ in_order (part_of e.value ∷ all (command.PushConstant x (length w.hand) ∷ []) ∷ []) w }
-    ensures written { (x : List ℕ) (e : Box Expr Global) (w : State) → part_of (expr.Set x e) w ≡ in_order (part_of e.value ∷ set x (length w.hand) ∷ []) w }
+        → program_of (expr.Array items) w ≡ sequence (sequence (map program_of items.items) ∷ all (command.MakeArray (length items.items) ∷ []) ∷ []) w }
+    ensures variable_made { (x : List ℕ) (e : Box Expr Global) (w : State) → program_of (expr.Let x e) w ≡ sequence (program_of e.value ∷ all (command.Push x (length w.hand) ∷ []) ∷ []) w }
+    ensures constant_made { (x : List ℕ) (e : Box Expr Global) (w : State) → program_of (expr.Const x e) w ≡ sequence (program_of e.value ∷ all (command.PushConstant x (length w.hand) ∷ []) ∷ []) w }
+    ensures written { (x : List ℕ) (e : Box Expr Global) (w : State) → program_of (expr.Set x e) w ≡ sequence (program_of e.value ∷ set x (length w.hand) ∷ []) w }
     ensures updated { (t : Token) (x : List ℕ) (e : Box Expr Global) (w : State)
-        → part_of (expr.Update t x e) w ≡ in_order (part_of e.value ∷ all (command.Assign t (place.Entry x) (length w.hand) ∷ command.Drop ∷ command.Put literal.Unit ∷ []) ∷ []) w }
-    ensures captured { (x : List ℕ) (w : State) → part_of (expr.Capture x) w ≡ capture x w }
+        → program_of (expr.Update t x e) w ≡ sequence (program_of e.value ∷ all (command.Assign t (place.Entry x) (length w.hand) ∷ command.Drop ∷ command.Put literal.Unit ∷ []) ∷ []) w }
+    ensures captured { (x : List ℕ) (w : State) → program_of (expr.Capture x) w ≡ capture x w }
     ensures closure { (f : List ℕ) (names : Vec (List ℕ) Global) (w : State)
-        → part_of (expr.Closure f names) w ≡ in_order (in_order (map capture names.items) ∷ all (command.MakeFn f (length names.items) ∷ []) ∷ []) w }
+        → program_of (expr.Closure f names) w ≡ sequence (sequence (map capture names.items) ∷ all (command.MakeFn f (length names.items) ∷ []) ∷ []) w }
     ensures block { (parts : Vec Expr Global) (w : State)
-        → part_of (expr.Block parts) w ≡ in_order (in_order (last_of (map part_of parts.items)) ∷ all (command.Rewind (length w.entries) ∷ []) ∷ []) w }
+        → program_of (expr.Block parts) w ≡ sequence (sequence (last_of (map program_of parts.items)) ∷ all (command.Rewind (length w.entries) ∷ []) ∷ []) w }
 {}
 
 /// A run, or the commands of an expression, that stopped goes on with the rest of its list: the answers so far and those of the rest are the machine's on the whole list,
 /// and so is the state in the end.
 #[tactic(auto, using(crate::proofs::GoingOn::answers_go_on, crate::proofs::GoingOn::state_goes_on))]
 pub fn stopped_runs_go_on()
-    ensures answers { (w v : State) (commands : List Command) (told : List Reply) → StopsAfter w commands told v
-        → told ++ replies v (drop (length told) commands) ≡ replies w commands }
-    ensures state { (w v : State) (commands : List Command) (told : List Reply) → StopsAfter w commands told v
-        → state_after v (drop (length told) commands) ≡ state_after w commands }
+    ensures answers { (w v : State) (commands : List Command) (replied : List Reply) → StopsAfter w commands replied v
+        → replied ++ replies v (drop (length replied) commands) ≡ replies w commands }
+    ensures state { (w v : State) (commands : List Command) (replied : List Reply) → StopsAfter w commands replied v
+        → state_after v (drop (length replied) commands) ≡ state_after w commands }
 {}
 
 /// A variable that is captured, and whose entry is there, is never refused. The entry's first content stays, but for modes, of which a copy has
 /// ReadWrite alone; and where the entry is no constant, it and the captured value, which is new behind the hand of before, name one cell.
 #[tactic(auto, using(crate::proofs::Captured::granted, crate::proofs::Captured::content_stays, crate::proofs::Captured::cell_shared))]
 pub fn captures_share_a_cell()
-    ensures granted { (w : State) (x : List ℕ) (e : Entry) → last_entry x w.entries ≡ Some e → refusal w (stands w (expr.Capture x)) ≡ None }
+    ensures granted { (w : State) (x : List ℕ) (e : Entry) → last_entry x w.entries ≡ Some e → refusal w (commands_of w (expr.Capture x)) ≡ None }
     ensures content { (w : State) (x : List ℕ) (e : Entry) → last_entry x w.entries ≡ Some e
-        → option_map copy (entry_content x (state_after w (stands w (expr.Capture x)))) ≡ option_map copy (entry_content x w) }
+        → option_map copy (entry_content x (state_after w (commands_of w (expr.Capture x)))) ≡ option_map copy (entry_content x w) }
     ensures shared { (w : State) (x : List ℕ) (e : Entry) → last_entry x w.entries ≡ Some e → is_constant_entry e ≡ false
-        → SharesEntry x w (state_after w (stands w (expr.Capture x))) }
+        → SharesEntry x w (state_after w (commands_of w (expr.Capture x))) }
 {}
 
 /// Where no command of an expression is refused, the hand has one value more, behind those of before, and the scope one entry more for
 /// each `Let` and `Const` that stands in no `Block` of the expression.
 pub fn expressions_leave_a_value()
-    ensures hand { (w : State) (e : Expr) → refusal w (stands w e) ≡ None → (t : Tree) × ((state_after w (stands w e)).hand ≡ w.hand ++ t ∷ []) }
-    ensures scope { (w : State) (e : Expr) → refusal w (stands w e) ≡ None → length (state_after w (stands w e)).entries ≡ length w.entries + bindings e }
+    ensures hand { (w : State) (e : Expr) → refusal w (commands_of w e) ≡ None → (t : Tree) × ((state_after w (commands_of w e)).hand ≡ w.hand ++ t ∷ []) }
+    ensures scope { (w : State) (e : Expr) → refusal w (commands_of w e) ≡ None → length (state_after w (commands_of w e)).entries ≡ length w.entries + bindings e }
 {}
 
 /// Where one is refused, the hand is as before, and the scope as long as before.
 pub fn refused_expressions_leave_nothing()
-    ensures hand { (w : State) (e : Expr) (why : Reason) → refusal w (stands w e) ≡ Some why → (state_after w (stands w e)).hand ≡ w.hand }
-    ensures scope { (w : State) (e : Expr) (why : Reason) → refusal w (stands w e) ≡ Some why → length (state_after w (stands w e)).entries ≡ length w.entries }
+    ensures hand { (w : State) (e : Expr) (why : Reason) → refusal w (commands_of w e) ≡ Some why → (state_after w (commands_of w e)).hand ≡ w.hand }
+    ensures scope { (w : State) (e : Expr) (why : Reason) → refusal w (commands_of w e) ≡ Some why → length (state_after w (commands_of w e)).entries ≡ length w.entries }
 {}

@@ -21,8 +21,8 @@ loop-byte-preserved g c =
     feeds_more c.args.bytes.now c.loop-byte.byte-index c.loop-byte-test.true c.loop-byte.invariant (elim c.if-byte-eq10.branch [
       | then-byte-eq10+in_ok-answer_line w ↦
           let line = w.deref.ensures.value in
-          let told = rw line at w.in_ok-answer_line.ensures.answer in
-          feeds_line (eq-eqb byte 10 w.if-byte-eq10.true) (ap (λ v. v.items) w.partial-is ∙ w.clear.ensures.items) (w.world-is ∙ w.in_ok-answer_line.ensures.state ∙ ap (line_state world) line) (rw w.writer-is told)
+          let replied = rw line at w.in_ok-answer_line.ensures.answer in
+          feeds_line (eq-eqb byte 10 w.if-byte-eq10.true) (ap (λ v. v.items) w.partial-is ∙ w.clear.ensures.items) (w.world-is ∙ w.in_ok-answer_line.ensures.state ∙ ap (line_state world) line) (rw w.writer-is replied)
       | else-byte-eq10+else-is_err w ↦
           feeds_byte (search (arith, w.if-byte-eq10.false)) (ap (λ v. v.items) w.partial-is ∙ rw w.if-is_err.ensures.negation at w.push.ensures.items) w.world-is (ap g.W.Write.contents w.writer-is)
     ])

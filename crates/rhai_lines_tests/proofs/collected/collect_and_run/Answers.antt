@@ -18,5 +18,5 @@ returns c =
     let w = c.args.world.now in
     let v = c.collect.new.self in
     let cs = c.args.commands.now in
-    let told = same w v cs c.collect.result c.collect.ensures.collected c.collect.ensures.err (λ h. c.collecting_is_not_seen.ensures w v h cs) in
-    subst (λ qs. IfOk c.run.result (λ answers. map reply_of answers.items ≡ qs)) told c.run.ensures.answers
+    let replied = same w v cs c.collect.result c.collect.ensures.collected c.collect.ensures.err (λ h. c.collecting_is_not_seen.ensures w v h cs) in
+    subst (λ qs. IfOk c.run.result (λ answers. map reply_of answers.items ≡ qs)) replied c.run.ensures.answers

@@ -2,13 +2,13 @@
 #![tactic(auto)]
 
 #[cfg(test)]
+mod alloc_failures;
+#[cfg(test)]
 mod both;
 #[cfg(test)]
 mod collected;
 #[cfg(test)]
 mod expressions;
-#[cfg(test)]
-mod growths;
 #[cfg(test)]
 mod journals;
 #[cfg(test)]

@@ -2,7 +2,7 @@
 #![tactic(auto)]
 
 #[cfg(test)]
-mod growths;
+mod alloc_failures;
 #[cfg(test)]
 mod ops;
 #[cfg(test)]

@@ -2,9 +2,9 @@
 #![tactic(auto)]
 
 #[cfg(test)]
-mod cast;
+mod alloc_failures;
 #[cfg(test)]
-mod growths;
+mod cast;
 #[cfg(test)]
 mod show;
 #[cfg(test)]

@@ -1,5 +1,5 @@
 //! Runs in which memory may be refused. Each test is to pass, or to end by want of memory, whichever of its requests is refused, once or from then on;
-//! `growths/run` tries them all. What is refused is said on standard error.
+//! `alloc_failures/run` tries them all. What is refused is said on standard error.
 
 mod expressions;
 

@@ -2,3 +2,4 @@ mod Found
 mod Mixed
 mod Parts
 mod Sames
+mod Splits

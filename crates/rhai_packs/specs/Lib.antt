@@ -4,4 +4,5 @@ pub mod Places
 pub mod Radix
 pub mod Same
 pub mod Sizes
+pub mod Splits
 pub mod Texts

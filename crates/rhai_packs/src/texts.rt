@@ -9,10 +9,13 @@ ghost use Rattle.rhai_packs.specs.Places.{after, first_of};
 ghost use Rattle.rhai_packs.specs.Sizes.{may_grow as may_grow_by};
 ghost use Rattle.rhai_packs.specs.Texts.{HasPart, IsFoundAt, IsMadeText, IsRefusedText, IsReplaced};
 
+mod cuts;
+
 use crate::places::{at_most, cut_place};
 use crate::sizes::{may_grow, too_large};
 use rhai_text::{EvalAltResult, ImmutableString, Limits, SizeKind};
 use rhai_value::{Array, Dynamic, INT};
+pub use cuts::{split, split_at, split_char};
 use std::alloc::{AllocError, Global};
 
 /// Counts the characters. Cost: the length of the text.

@@ -1,5 +1,6 @@
 pub mod Entries
 pub mod Held
+pub mod Padding
 pub mod Places
 pub mod Radix
 pub mod Same

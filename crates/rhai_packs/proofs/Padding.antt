@@ -1,7 +1,7 @@
 -- Texts that get a number of characters.
 use Rattle.std.proofs.Common.{◌≡◌, ℕ, zero, suc, ◌+◌, ◌*◌, ◌-◌, ◌/◌, ◌%◌, ◌<◌, ◌≤◌, List, [], ◌∷◌, ◌++◌, length, take, drop, replicate, refl, sym, ap, subst, ◌∙◌, append_assoc, arith, length-append, length-drop}
 use Rattle.std.proofs.lemmas.List.{append-nil, take-append-drop, take_all, drop-drop, take_at}
-use Rattle.std.proofs.lemmas.Str.{chars-append, chars_from_encodes, cons_from_encodes, encodes-append, encodes-chars, length-le-encodes, IsCharBoundary-at_seam}
+use Rattle.std.proofs.lemmas.Str.{chars-append, chars_from_encodes, cons_from_encodes, chars-nil, encodes-append, encodes-chars, length-le-encodes, IsCharBoundary-at_seam}
 use Rattle.std.specs.Char.{encode_utf8}
 use Rattle.std.specs.List.{repeat}
 use Rattle.std.specs.Str.{chars, encode_utf8_all, IsCharBoundary, IsUtf8}
@@ -67,3 +67,26 @@ module _ (text : List ℕ) (u : IsUtf8 text) (n : ℕ) (back : List ℕ) (ub : I
 
   pub front_cut : take (length text - length back) text ≡ encode_utf8_all (take n (chars text))
   front_cut = ap (take (length text - length back)) both ∙ take_at (encode_utf8_all (take n (chars text))) back (length text - length back) seam
+
+cycled-some : (m : ℕ) (cs : List ℕ) → 0 < length cs → cycled m cs ≡ repeat (m / length cs) cs ++ take (m % length cs) cs
+cycled-some m [] h = absurd (omega (arith, h))
+cycled-some m (c ∷ cs) h = refl
+
+-- a text over and over, and a part of it: its characters, and the number of its bytes
+module _ (padding part : List ℕ) (m w : ℕ) (u : IsUtf8 padding) (v : IsUtf8 part) (long : w ≡ length (chars padding)) (some : 0 < w) (is : part ≡ encode_utf8_all (take (m % w) (chars padding))) where
+  whole : cycled m (chars padding) ≡ repeat (m / w) (chars padding) ++ take (m % w) (chars padding)
+  whole = cycled-some m (chars padding) (omega (arith, long, some)) ∙ ap (λ n. repeat (m / n) (chars padding) ++ take (m % n) (chars padding)) (sym long)
+
+  pub padding_spelled : repeat (m / w) (chars padding) ++ chars part ≡ cycled m (chars padding)
+  padding_spelled = ap (λ cs. repeat (m / w) (chars padding) ++ cs) (sym (chars_from_encodes (take (m % w) (chars padding)) part v (sym is))) ∙ sym whole
+
+  pub padding_bytes : (m / w) * length padding + length part ≡ length (encode_utf8_all (cycled m (chars padding)))
+  padding_bytes =
+      ap (λ bs. (m / w) * length bs + length part) (sym (encodes-chars padding u))
+      ∙ ap (λ bs. (m / w) * length (encode_utf8_all (chars padding)) + length bs) is
+      ∙ sym (length-repeat (m / w) (chars padding) (take (m % w) (chars padding)))
+      ∙ ap (λ cs. length (encode_utf8_all cs)) (sym whole)
+
+-- a text that has characters isn't empty
+pub not_empty : (bs : List ℕ) (w : ℕ) → w ≡ length (chars bs) → (w ≡ 0 → ⊥) → bs ≡ [] → ⊥
+not_empty bs w long some e = some (long ∙ ap (λ b. length (chars b)) e ∙ ap length chars-nil)

@@ -1,5 +1,5 @@
 //! Texts that get a number of characters.
-ghost use Rattle.std.specs.Prelude.{◌≡◌, ◌+◌, ◌*◌, ◌^◌, ◌≤◌, ◌++◌, [], ℕ, is_ok, if◌then◌else◌, length, replicate, take, IfOk, IsOk, MatchOption};
+ghost use Rattle.std.specs.Prelude.{◌≡◌, ◌+◌, ◌*◌, ◌^◌, ◌<◌, ◌≤◌, ◌++◌, [], ℕ, is_ok, if◌then◌else◌, length, replicate, take, IfOk, IsOk, MatchOption};
 ghost use Rattle.std.specs.List.{repeat};
 ghost use Rattle.std.specs.Str.{chars as characters_of, encode_utf8_all};
 ghost use Rattle.rhai_text.specs.declared.error.SizeKind.TheVariants as size;
@@ -58,11 +58,38 @@ pub fn pad_with_string(
     if more == 0 || width == 0 {
         return Ok(());
     }
+    match extended(alloc, limits, text, more, padding, width) {
+        Ok(made) => {
+            *text = made;
+            Ok(())
+        }
+        Err(refusal) => Err(refusal),
+    }
+}
+
+/// The text with so many characters of a padding behind it, which has so many and isn't empty.
+fn extended(
+    alloc: Global,
+    limits: &Limits,
+    text: &ImmutableString,
+    more: usize,
+    padding: &str,
+    width: usize,
+) -> Result<ImmutableString, EvalAltResult>
+    requires long { width ≡ length (characters_of padding.now) }
+    requires some { 0 < width }
+    ensures answer { IsLimited size.Text (may_grow_by limits.now.text (length (encode_utf8_all text.now)) (length (encode_utf8_all (cycled more (characters_of padding.now))))) result }
+    ensures ok { IfOk result (λ made. made ≡ text.now ++ cycled more (characters_of padding.now)) }
+{
     let whole = more / width;
     let part = first_characters(padding, more % width);
-    may_pad(limits, text.len(), bytes_of(whole, padding.len(), part.len()))?;
-    *text = padded(alloc, text, whole, padding, part)?;
-    Ok(())
+    if let Err(refusal) = may_pad(limits, text.len(), bytes_of(whole, padding.len(), part.len())) {
+        return Err(refusal);
+    }
+    match padded(alloc, text, whole, padding, part) {
+        Ok(made) => Ok(made),
+        Err(error) => Err(EvalAltResult::ErrorMemory(error)),
+    }
 }
 
 /// That so many bytes are allowed beside so many, where `None` is more of them than a number can say.

@@ -1,5 +1,5 @@
 -- Ints that are read in a radix.
-use Rattle.std.specs.Prelude.{◌≡◌, ℕ, ◌≤◌, cond, ℤ, pos, negsuc, List, unsigned_abs}
+use Rattle.std.specs.Prelude.{ℕ, ◌≤◌, cond, ℤ, pos, negsuc, List, unsigned_abs}
 use Rattle.std.specs.Str.Parse.{IsParseIntError, error_kind, starts_with_minus, without_leading_sign}
 use Rattle.std.specs.declared.num.IntErrorKind.TheVariants.{NegOverflow, PosOverflow}
 use Rattle.rhai_packs.specs.declared.ints.ParseRadixError.{ParseRadixError}

@@ -14,10 +14,10 @@ mod padding;
 
 use crate::places::{at_most, cut_place};
 use crate::sizes::{may_grow, too_large};
-use rhai_text::{EvalAltResult, ImmutableString, Limits, SizeKind};
-use rhai_value::{Array, Dynamic, INT};
 pub use cuts::{split, split_at, split_char};
 pub use padding::{pad, pad_with_string};
+use rhai_text::{EvalAltResult, ImmutableString, Limits, SizeKind};
+use rhai_value::{Array, Dynamic, INT};
 use std::alloc::{AllocError, Global};
 
 /// Counts the characters. Cost: the length of the text.

@@ -29,11 +29,7 @@ pub fn split_at(alloc: Global, text: &ImmutableString, index: INT) -> Result<Arr
 
 /// Makes an array of the texts between the occurrences of a separator, which are found from left to right and don't overlap; an empty
 /// separator stands before each character and at the end. Errors: memory. Cost: the length of the text, for a given separator.
-pub fn split(
-    alloc: Global,
-    text: &ImmutableString,
-    separator: &str,
-) -> Result<Array, AllocError>
+pub fn split(alloc: Global, text: &ImmutableString, separator: &str) -> Result<Array, AllocError>
     ensures { IfOk result (λ parts. (all : List (List ℕ)) × IsSplit separator.now (encode_utf8_all text.now) all × (parts.items ≡ map (λ t. fresh (text_leaf t)) all)) }
 {
     if separator.is_empty() {

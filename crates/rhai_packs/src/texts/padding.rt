@@ -83,7 +83,11 @@ fn extended(
 {
     let whole = more / width;
     let part = first_characters(padding, more % width);
-    if let Err(refusal) = may_pad(limits, text.len(), bytes_of(whole, padding.len(), part.len())) {
+    if let Err(refusal) = may_pad(
+        limits,
+        text.len(),
+        bytes_of(whole, padding.len(), part.len()),
+    ) {
         return Err(refusal);
     }
     match padded(alloc, text, whole, padding, part) {

@@ -1,6 +1,6 @@
-use Rattle.std.proofs.Common.{◌≡◌, ◌++◌, ◌∷◌, [], ℕ, List, map, take, arith, refl, ap, ◌∙◌, sym}
+use Rattle.std.proofs.Common.{◌≡◌, ◌++◌, ◌∷◌, [], map, arith, refl, ap, ◌∙◌}
 use Rattle.std.proofs.lemmas.Grind.{common_steps}
-use Rattle.std.proofs.lemmas.Str.{chars-nil, chars_from_encodes}
+use Rattle.std.proofs.lemmas.Str.{chars-nil}
 use Rattle.rhai_text.proofs.ForCallers.{chars-one}
 use Rattle.std.specs.Str.{chars}
 use Rattle.rhai_value.specs.Tree.{fresh, text}

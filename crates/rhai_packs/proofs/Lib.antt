@@ -1,4 +1,6 @@
 mod Found
 mod Mixed
+mod Padding
 mod Parts
 mod Sames
+mod Splits

@@ -1,6 +1,9 @@
 pub mod Entries
 pub mod Held
+pub mod Padding
 pub mod Places
+pub mod Radix
 pub mod Same
 pub mod Sizes
+pub mod Splits
 pub mod Texts

@@ -6,7 +6,7 @@ ghost use Rattle.std.specs.Prelude.{◌≡◌, ◌++◌, ◌∷◌, ◌+◌, ◌
 ghost use Rattle.std.specs.List.{insert, splice};
 ghost use Rattle.rhai_text.specs.declared.error.SizeKind.TheVariants as size;
 ghost use Rattle.rhai_value.specs.Steps.{item_place as place_of_item};
-ghost use Rattle.rhai_packs.specs.Places.{cut_place as place_of_cut, item_at, with_placed, without_placed, before, after, first_of, last_of};
+ghost use Rattle.rhai_packs.specs.Places.{cut_place as place_of_cut, part_count, item_at, with_placed, without_placed, before, after, first_of, last_of};
 ghost use Rattle.rhai_packs.specs.Sizes.{IsLimited, may_grow as may_grow_by};
 
 mod copies;
@@ -155,6 +155,30 @@ pub fn chop(items: &mut Array, count: INT)
 {
     let kept = at_most(items.len(), count);
     drop(items.drain(0..items.len() - kept));
+}
+
+/// Puts all items of another array in the place of so many items from an index on, of as many as there are; an index before the front
+/// means the front, and one past the end the end. Errors: more items than the limit allows, or memory; the items stay, and the new ones
+/// are gone. Cost: the number of the new items, and of those from the index on.
+pub fn splice(
+    items: &mut Array,
+    limits: &Limits,
+    index: INT,
+    count: INT,
+    more: Array,
+) -> Result<(), EvalAltResult>
+    ensures answer { let start = place_of_cut (length items.old.items) index in let gone = part_count (length items.old.items - start) count in
+        IsLimited size.Items (may_grow_by limits.now.items (length items.old.items) (length more.items - gone)) result }
+    ensures items { let start = place_of_cut (length items.old.items) index in let gone = part_count (length items.old.items - start) count in
+        items.new.items ≡ (if is_ok result then splice items.old.items start (start + gone) more.items else items.old.items) }
+{
+    let start = cut_place(items.len(), index);
+    let gone = at_most(items.len() - start, count);
+    if !may_grow(limits.items, items.len(), more.len().saturating_sub(gone)) {
+        return Err(too_large(SizeKind::Items));
+    }
+    drop(items.splice(start..start + gone, more)?);
+    Ok(())
 }
 
 /// Turns the order of the items round. Cost: the number of items.

@@ -7,6 +7,7 @@ ghost use Rattle.std.specs.Str.Parse.{ExplainsSignedError, ParsesSigned};
 ghost use Rattle.std.specs.Ordering.{int_cmp, ord_max, ord_min};
 ghost use Rattle.rhai_text.specs.declared.error.ArithmeticFault.TheVariants.{Overflow};
 ghost use Rattle.rhai_text.specs.declared.error.EvalAltResult.TheVariants.{ErrorArithmetic};
+ghost use Rattle.rhai_packs.specs.Radix.{IsRadix, IsUnread};
 ghost use Rattle.rhai_packs.specs.Sizes.{no_place};
 
 use rhai_text::{ArithmeticFault, EvalAltResult, ImmutableString, Position};
@@ -54,4 +55,30 @@ pub fn parse_int(text: &str) -> Result<INT, ParseIntError>
     ensures err { ExplainsSignedError 10 (trim text.now) result }
 {
     INT::from_str_radix(text.trim(), 10)
+}
+
+/// Why a text isn't read as an int in a radix.
+#[derive(Debug, Drop)]
+pub enum ParseRadixError {
+    /// The radix is below 2 or above 36.
+    InvalidRadix,
+    /// What is wrong with the text.
+    InvalidText(ParseIntError),
+}
+
+/// Reads an int in a radix from 2 to 36, whose digits above 9 are letters of either case; with or without a sign, and white space at
+/// both ends doesn't count. Errors: another radix, or what is wrong with the text. Cost: the length of the text.
+pub fn parse_int_radix(text: &str, radix: INT) -> Result<INT, ParseRadixError>
+    ensures value { IsRadix radix → ParsesSigned w64 (unsigned_abs radix) (trim text.now) result }
+    ensures ok { OnOk result (IsRadix radix) }
+    ensures err { IfErr result (IsUnread radix (trim text.now)) }
+{
+    let base = radix.unsigned_abs();
+    if radix < 0 || base < 2 || base > 36 {
+        return Err(ParseRadixError::InvalidRadix);
+    }
+    match INT::from_str_radix(text.trim(), base as u32) {
+        Ok(number) => Ok(number),
+        Err(error) => Err(ParseRadixError::InvalidText(error)),
+    }
 }

@@ -43,6 +43,18 @@ fn arrays_change_as_scripts_see_it(rt: HostRuntime) {
     assert!(rt; matches!(arrays_change(rt.alloc()), Ok(true)));
 }
 
+fn arrays_are_spliced(alloc: Global) -> Result<bool, EvalAltResult> {
+    let mut items = array_of(alloc, &[1, 2, 3])?;
+    arrays::splice(&mut items, &LIMITS, -2, 1, array_of(alloc, &[8, 9])?)?;
+    let full = arrays::splice(&mut items, &LIMITS, 4, 0, array_of(alloc, &[0])?).is_err();
+    Ok(full && prints(alloc, items, "[1, 8, 9, 3]")?)
+}
+
+#[test]
+fn items_are_put_in_the_place_of_others(rt: HostRuntime) {
+    assert!(rt; matches!(arrays_are_spliced(rt.alloc()), Ok(true)));
+}
+
 fn items_are_found(alloc: Global) -> Result<bool, EvalAltResult> {
     let store = Store::new(alloc);
     let items = array_of(alloc, &[4, 5, 4])?;
@@ -103,6 +115,49 @@ fn texts_change(alloc: Global) -> Result<bool, EvalAltResult> {
 #[test]
 fn texts_change_by_characters(rt: HostRuntime) {
     assert!(rt; matches!(texts_change(rt.alloc()), Ok(true)));
+}
+
+fn texts_are_split(alloc: Global) -> Result<bool, EvalAltResult> {
+    let text = ImmutableString::from_str(alloc, "a,é,")?;
+    let parts = texts::split(alloc, &text, ",")?;
+    let each = texts::split(alloc, &text, "")?;
+    let same = texts::split_char(alloc, &text, ',')?;
+    let two = texts::split_at(alloc, &text, -2)?;
+    Ok(
+        prints(alloc, parts, "[\"a\", \"é\", \"\"]")?
+            && prints(alloc, each, "[\"\", \"a\", \",\", \"é\", \",\", \"\"]")?
+            && prints(alloc, same, "[\"a\", \"é\", \"\"]")?
+            && prints(alloc, two, "[\"a,\", \"é,\"]")?,
+    )
+}
+
+#[test]
+fn texts_are_split_at_separators(rt: HostRuntime) {
+    assert!(rt; matches!(texts_are_split(rt.alloc()), Ok(true)));
+}
+
+fn texts_are_padded(alloc: Global) -> Result<bool, EvalAltResult> {
+    let mut text = ImmutableString::from_str(alloc, "x")?;
+    texts::pad_with_string(alloc, &LIMITS, &mut text, 4, "ab")?;
+    let over_and_over = text.as_str() == "xaba";
+    texts::pad(alloc, &LIMITS, &mut text, 6, 'é')?;
+    let full = texts::pad(alloc, &LIMITS, &mut text, 7, '.').is_err();
+    Ok(over_and_over && full && text.as_str() == "xabaéé")
+}
+
+#[test]
+fn texts_get_a_number_of_characters(rt: HostRuntime) {
+    assert!(rt; matches!(texts_are_padded(rt.alloc()), Ok(true)));
+}
+
+fn ints_in_a_radix() -> bool {
+    let read = matches!(ints::parse_int_radix(" -fF ", 16), Ok(-255));
+    read && ints::parse_int_radix("1", 37).is_err() && ints::parse_int_radix("2", 2).is_err()
+}
+
+#[test]
+fn ints_are_read_in_a_radix(rt: HostRuntime) {
+    assert!(rt; ints_in_a_radix());
 }
 
 fn blobs_and_ints(alloc: Global) -> Result<bool, EvalAltResult> {

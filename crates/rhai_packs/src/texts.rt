@@ -9,8 +9,13 @@ ghost use Rattle.rhai_packs.specs.Places.{after, first_of};
 ghost use Rattle.rhai_packs.specs.Sizes.{may_grow as may_grow_by};
 ghost use Rattle.rhai_packs.specs.Texts.{HasPart, IsFoundAt, IsMadeText, IsRefusedText, IsReplaced};
 
+mod cuts;
+mod padding;
+
 use crate::places::{at_most, cut_place};
 use crate::sizes::{may_grow, too_large};
+pub use cuts::{split, split_at, split_char};
+pub use padding::{pad, pad_with_string};
 use rhai_text::{EvalAltResult, ImmutableString, Limits, SizeKind};
 use rhai_value::{Array, Dynamic, INT};
 use std::alloc::{AllocError, Global};

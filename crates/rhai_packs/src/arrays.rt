@@ -12,11 +12,11 @@ ghost use Rattle.rhai_packs.specs.Sizes.{IsLimited, may_grow as may_grow_by};
 mod copies;
 mod search;
 
-use crate::places::{at_most, cut_place, item_place};
+use crate::places::{at_most, cut_place};
 use crate::sizes::{may_grow, too_large};
 pub use copies::{extract, pad};
 use rhai_text::{EvalAltResult, Limits, SizeKind};
-use rhai_value::{Array, Dynamic, INT};
+use rhai_value::{Array, Dynamic, INT, item_place};
 pub use search::{contains, index_of};
 use std::alloc::{AllocError, Global};
 

@@ -11,10 +11,10 @@ ghost use Rattle.rhai_value.specs.Tree.{fresh, int};
 ghost use Rattle.rhai_packs.specs.Places.{after, first_of, item_at, missing as missing_of, with_placed, without_placed};
 ghost use Rattle.rhai_packs.specs.Sizes.{IsLimited, may_grow as may_grow_by};
 
-use crate::places::{at_most, cut_place, item_place, missing};
+use crate::places::{at_most, cut_place, missing};
 use crate::sizes::{may_grow, too_large};
 use rhai_text::{EvalAltResult, Limits, SizeKind};
-use rhai_value::{Array, Blob, Dynamic, INT};
+use rhai_value::{Array, Blob, Dynamic, INT, item_place};
 use std::alloc::{AllocError, Global};
 
 /// The low byte of an int.

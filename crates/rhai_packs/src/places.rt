@@ -1,26 +1,8 @@
 //! What indices and lengths of a script mean in a list.
 ghost use Rattle.std.specs.Prelude.{◌≡◌, ◌≤◌};
-ghost use Rattle.rhai_value.specs.Steps.{item_place as place_of_item};
 ghost use Rattle.rhai_packs.specs.Places.{cut_place as place_of_cut, part_count, missing as missing_of};
 
 use rhai_value::INT;
-
-/// The place of an item in a list of this length, if there is one; a negative index counts from the end.
-pub(crate) fn item_place(length: usize, index: INT) -> Option<usize>
-    ensures { result ≡ place_of_item length index }
-{
-    let distance = index.unsigned_abs() as usize;
-    if index < 0 {
-        if length < distance {
-            return None;
-        }
-        Some(length - distance)
-    } else if distance < length {
-        Some(distance)
-    } else {
-        None
-    }
-}
 
 /// The place of a cut: a negative index counts from the end, and one outside means the nearer end.
 pub(crate) fn cut_place(length: usize, index: INT) -> usize

@@ -2,5 +2,6 @@ mod Found
 mod Mixed
 mod Padding
 mod Parts
+mod Repeats
 mod Sames
 mod Splits

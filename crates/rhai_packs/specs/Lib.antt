@@ -3,6 +3,7 @@ pub mod Held
 pub mod Padding
 pub mod Places
 pub mod Radix
+pub mod Repeats
 pub mod Same
 pub mod Sizes
 pub mod Splits

@@ -68,6 +68,19 @@ fn items_are_found_by_value(rt: HostRuntime) {
     assert!(rt; matches!(items_are_found(rt.alloc()), Ok(true)));
 }
 
+fn repeats_go(alloc: Global) -> Result<bool, EvalAltResult> {
+    let store = Store::new(alloc);
+    let mut items = array_of(alloc, &[1, 1, 2, 1, 1])?;
+    items[1].set_tag(5);
+    arrays::dedup(alloc, &mut items, &store)?;
+    Ok(prints(alloc, items, "[1, 2, 1]")?)
+}
+
+#[test]
+fn items_that_repeat_the_one_before_go(rt: HostRuntime) {
+    assert!(rt; matches!(repeats_go(rt.alloc()), Ok(true)));
+}
+
 fn an_array_is_pushed_to(alloc: Global) -> Result<bool, EvalAltResult> {
     let mut store = Store::new(alloc);
     let mut array = Dynamic::from_array(array_of(alloc, &[1])?);

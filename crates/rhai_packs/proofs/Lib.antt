@@ -4,4 +4,5 @@ mod Padding
 mod Parts
 mod Repeats
 mod Sames
+mod Sorting
 mod Splits

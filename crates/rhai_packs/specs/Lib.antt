@@ -6,5 +6,6 @@ pub mod Radix
 pub mod Repeats
 pub mod Same
 pub mod Sizes
+pub mod Sorting
 pub mod Splits
 pub mod Texts

@@ -12,6 +12,7 @@ ghost use Rattle.rhai_packs.specs.Sizes.{IsLimited, may_grow as may_grow_by};
 mod copies;
 mod repeats;
 mod search;
+mod sorting;
 
 use crate::places::{at_most, cut_place};
 use crate::sizes::{may_grow, too_large};
@@ -20,6 +21,7 @@ pub use repeats::dedup;
 use rhai_text::{EvalAltResult, Limits, SizeKind};
 use rhai_value::{Array, Dynamic, INT, item_place};
 pub use search::{contains, index_of};
+pub use sorting::sort;
 use std::alloc::{AllocError, Global};
 
 /// Counts the items. Cost: constant.

@@ -8,11 +8,13 @@ mod lexeme;
 mod literals;
 mod names;
 mod operators;
+mod parser;
 mod symbol;
 mod tree;
 mod words;
 
 pub use error::{SyntaxError, SyntaxFault};
+pub use parser::parse;
 pub use symbol::Symbol;
 pub use tree::{
     Arm, Assignment, Block, Callee, Expr, Field, Function, Operator, Program, Slot, Step, Term,

@@ -124,18 +124,25 @@ impl Parser {
 
     /// The place that an expression names: a variable, or an item or a property at any depth of one.
     fn place(&self, read: Expr) -> Result<Place, SyntaxError> {
-        let (root, steps) = match read {
-            Expr::Chain { root, steps } => (Box::into_inner(root), steps),
-            root => (root, Vec::new(self.alloc)),
-        };
-        match root {
-            Expr::Variable { variable, position } if !steps.iter().any(is_method_step) => {
-                Ok(Place {
-                    variable,
-                    position,
-                    steps,
-                })
+        match read {
+            Expr::Chain { root, steps } => {
+                if steps.iter().any(is_method_step) {
+                    return Err(self.fault(SyntaxFault::NoPlace));
+                }
+                self.rooted(Box::into_inner(root), steps)
             }
+            root => self.rooted(root, Vec::new(self.alloc)),
+        }
+    }
+
+    /// The place that these steps lead to from a variable.
+    fn rooted(&self, root: Expr, steps: Vec<Step>) -> Result<Place, SyntaxError> {
+        match root {
+            Expr::Variable { variable, position } => Ok(Place {
+                variable,
+                position,
+                steps,
+            }),
             _ => Err(self.fault(SyntaxFault::NoPlace)),
         }
     }

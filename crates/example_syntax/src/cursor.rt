@@ -38,14 +38,14 @@ impl Cursor {
         self.chars.len().saturating_sub(self.at)
     }
 
-    /// Whether these characters come next.
-    pub fn comes(&self, spelling: &str) -> bool {
+    /// Whether these characters come behind the next one.
+    pub fn comes_behind(&self, rest: &str) -> bool {
         let mut at = self.at;
-        for wanted in spelling.chars() {
+        for wanted in rest.chars() {
+            at = at.saturating_add(1);
             if self.chars.get(at) != Some(&wanted) {
                 return false;
             }
-            at = at.saturating_add(1);
         }
         true
     }

@@ -86,14 +86,15 @@ fn read_word(alloc: Global, cursor: &mut Cursor) -> Result<Lexeme, SyntaxError> 
     }
 }
 
-/// Reads a sign, the longest that comes.
-fn read_sign(cursor: &mut Cursor) -> Result<Lexeme, SyntaxError> {
-    for (spelling, symbol) in SIGNS.iter() {
-        if cursor.comes(spelling) {
+/// Reads a sign that begins with this character, the longest that comes.
+fn read_sign(cursor: &mut Cursor, next: char) -> Result<Lexeme, SyntaxError> {
+    for (first, rest, symbol) in SIGNS.iter() {
+        if *first == next && cursor.comes_behind(rest) {
             let Some(symbol) = symbol else {
                 return Err(SyntaxError::Fault(SyntaxFault::ReservedSign, cursor.position()));
             };
-            cursor.advance_by(spelling.len());
+            cursor.advance();
+            cursor.advance_by(rest.len());
             return Ok(Lexeme::Symbol(*symbol));
         }
     }
@@ -110,7 +111,7 @@ pub fn read_lexeme(alloc: Global, cursor: &mut Cursor) -> Result<(Lexeme, Positi
         Some('\'') => Lexeme::Char(read_char(alloc, cursor)?),
         Some(c) if c.is_ascii_digit() => Lexeme::Int(read_int(cursor)?),
         Some(c) if c.is_ascii_alphabetic() || c == '_' => read_word(alloc, cursor)?,
-        Some(_) => read_sign(cursor)?,
+        Some(c) => read_sign(cursor, c)?,
     };
     Ok((lexeme, position))
 }

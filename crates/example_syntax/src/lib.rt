@@ -10,6 +10,8 @@ mod names;
 mod operators;
 mod parser;
 mod symbol;
+#[cfg(test)]
+mod tests;
 mod tree;
 mod words;
 

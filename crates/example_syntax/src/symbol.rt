@@ -78,81 +78,81 @@ static KEYWORDS: [(&str, Symbol); 17] = [
     ("while", Symbol::While),
 ];
 
-/// The signs of rhai, longer ones first; those that this language lacks have no symbol.
-pub static SIGNS: [(&str, Option<Symbol>); 73] = [
-    ("..=", Some(Symbol::Operator(Token::InclusiveRange))),
-    ("**=", Some(Symbol::Operator(Token::PowerOfAssign))),
-    ("<<=", Some(Symbol::Operator(Token::LeftShiftAssign))),
-    (">>=", Some(Symbol::Operator(Token::RightShiftAssign))),
-    ("...", None),
-    ("===", None),
-    ("!==", None),
-    ("::<", None),
-    ("..", Some(Symbol::Operator(Token::ExclusiveRange))),
-    ("**", Some(Symbol::Operator(Token::PowerOf))),
-    ("<<", Some(Symbol::Operator(Token::LeftShift))),
-    (">>", Some(Symbol::Operator(Token::RightShift))),
-    ("==", Some(Symbol::Operator(Token::EqualsTo))),
-    ("!=", Some(Symbol::Operator(Token::NotEqualsTo))),
-    ("<=", Some(Symbol::Operator(Token::LessThanEqualsTo))),
-    (">=", Some(Symbol::Operator(Token::GreaterThanEqualsTo))),
-    ("+=", Some(Symbol::Operator(Token::PlusAssign))),
-    ("-=", Some(Symbol::Operator(Token::MinusAssign))),
-    ("*=", Some(Symbol::Operator(Token::MultiplyAssign))),
-    ("/=", Some(Symbol::Operator(Token::DivideAssign))),
-    ("%=", Some(Symbol::Operator(Token::ModuloAssign))),
-    ("&=", Some(Symbol::Operator(Token::AndAssign))),
-    ("|=", Some(Symbol::Operator(Token::OrAssign))),
-    ("^=", Some(Symbol::Operator(Token::XOrAssign))),
-    ("&&", Some(Symbol::And)),
-    ("||", Some(Symbol::Or)),
-    ("#{", Some(Symbol::OpenMap)),
-    ("#!", None),
-    ("=>", None),
-    ("->", None),
-    ("<-", None),
-    ("<|", None),
-    ("|>", None),
-    ("++", None),
-    ("--", None),
-    ("::", None),
-    (":=", None),
-    (":;", None),
-    ("??", None),
-    ("?.", None),
-    ("?[", None),
-    ("(*", None),
-    ("*)", None),
-    ("!.", None),
-    ("+", Some(Symbol::Operator(Token::Plus))),
-    ("-", Some(Symbol::Operator(Token::Minus))),
-    ("*", Some(Symbol::Operator(Token::Multiply))),
-    ("/", Some(Symbol::Operator(Token::Divide))),
-    ("%", Some(Symbol::Operator(Token::Modulo))),
-    ("&", Some(Symbol::Operator(Token::Ampersand))),
-    ("|", Some(Symbol::Operator(Token::Pipe))),
-    ("^", Some(Symbol::Operator(Token::XOr))),
-    ("<", Some(Symbol::Operator(Token::LessThan))),
-    (">", Some(Symbol::Operator(Token::GreaterThan))),
-    ("=", Some(Symbol::Operator(Token::Equals))),
-    ("!", Some(Symbol::Not)),
-    ("(", Some(Symbol::OpenParenthesis)),
-    (")", Some(Symbol::CloseParenthesis)),
-    ("[", Some(Symbol::OpenBracket)),
-    ("]", Some(Symbol::CloseBracket)),
-    ("{", Some(Symbol::OpenBrace)),
-    ("}", Some(Symbol::CloseBrace)),
-    (",", Some(Symbol::Comma)),
-    (";", Some(Symbol::Semicolon)),
-    (":", Some(Symbol::Colon)),
-    (".", Some(Symbol::Dot)),
-    ("#", None),
-    ("?", None),
-    ("@", None),
-    ("$", None),
-    ("~", None),
-    ("`", None),
-    ("\\", None),
+/// The signs of rhai by their first character and the others, longer ones first; those that this language lacks have no symbol.
+pub static SIGNS: [(char, &str, Option<Symbol>); 73] = [
+    ('.', ".=", Some(Symbol::Operator(Token::InclusiveRange))),
+    ('*', "*=", Some(Symbol::Operator(Token::PowerOfAssign))),
+    ('<', "<=", Some(Symbol::Operator(Token::LeftShiftAssign))),
+    ('>', ">=", Some(Symbol::Operator(Token::RightShiftAssign))),
+    ('.', "..", None),
+    ('=', "==", None),
+    ('!', "==", None),
+    (':', ":<", None),
+    ('.', ".", Some(Symbol::Operator(Token::ExclusiveRange))),
+    ('*', "*", Some(Symbol::Operator(Token::PowerOf))),
+    ('<', "<", Some(Symbol::Operator(Token::LeftShift))),
+    ('>', ">", Some(Symbol::Operator(Token::RightShift))),
+    ('=', "=", Some(Symbol::Operator(Token::EqualsTo))),
+    ('!', "=", Some(Symbol::Operator(Token::NotEqualsTo))),
+    ('<', "=", Some(Symbol::Operator(Token::LessThanEqualsTo))),
+    ('>', "=", Some(Symbol::Operator(Token::GreaterThanEqualsTo))),
+    ('+', "=", Some(Symbol::Operator(Token::PlusAssign))),
+    ('-', "=", Some(Symbol::Operator(Token::MinusAssign))),
+    ('*', "=", Some(Symbol::Operator(Token::MultiplyAssign))),
+    ('/', "=", Some(Symbol::Operator(Token::DivideAssign))),
+    ('%', "=", Some(Symbol::Operator(Token::ModuloAssign))),
+    ('&', "=", Some(Symbol::Operator(Token::AndAssign))),
+    ('|', "=", Some(Symbol::Operator(Token::OrAssign))),
+    ('^', "=", Some(Symbol::Operator(Token::XOrAssign))),
+    ('&', "&", Some(Symbol::And)),
+    ('|', "|", Some(Symbol::Or)),
+    ('#', "{", Some(Symbol::OpenMap)),
+    ('#', "!", None),
+    ('=', ">", None),
+    ('-', ">", None),
+    ('<', "-", None),
+    ('<', "|", None),
+    ('|', ">", None),
+    ('+', "+", None),
+    ('-', "-", None),
+    (':', ":", None),
+    (':', "=", None),
+    (':', ";", None),
+    ('?', "?", None),
+    ('?', ".", None),
+    ('?', "[", None),
+    ('(', "*", None),
+    ('*', ")", None),
+    ('!', ".", None),
+    ('+', "", Some(Symbol::Operator(Token::Plus))),
+    ('-', "", Some(Symbol::Operator(Token::Minus))),
+    ('*', "", Some(Symbol::Operator(Token::Multiply))),
+    ('/', "", Some(Symbol::Operator(Token::Divide))),
+    ('%', "", Some(Symbol::Operator(Token::Modulo))),
+    ('&', "", Some(Symbol::Operator(Token::Ampersand))),
+    ('|', "", Some(Symbol::Operator(Token::Pipe))),
+    ('^', "", Some(Symbol::Operator(Token::XOr))),
+    ('<', "", Some(Symbol::Operator(Token::LessThan))),
+    ('>', "", Some(Symbol::Operator(Token::GreaterThan))),
+    ('=', "", Some(Symbol::Operator(Token::Equals))),
+    ('!', "", Some(Symbol::Not)),
+    ('(', "", Some(Symbol::OpenParenthesis)),
+    (')', "", Some(Symbol::CloseParenthesis)),
+    ('[', "", Some(Symbol::OpenBracket)),
+    (']', "", Some(Symbol::CloseBracket)),
+    ('{', "", Some(Symbol::OpenBrace)),
+    ('}', "", Some(Symbol::CloseBrace)),
+    (',', "", Some(Symbol::Comma)),
+    (';', "", Some(Symbol::Semicolon)),
+    (':', "", Some(Symbol::Colon)),
+    ('.', "", Some(Symbol::Dot)),
+    ('#', "", None),
+    ('?', "", None),
+    ('@', "", None),
+    ('$', "", None),
+    ('~', "", None),
+    ('`', "", None),
+    ('\\', "", None),
 ];
 
 /// The keyword that a word is.
@@ -166,21 +166,6 @@ pub fn keyword(word: &str) -> Option<Symbol> {
 }
 
 impl Symbol {
-    /// How the symbol is written.
-    fn spelling(self) -> &'static str {
-        for (spelling, symbol) in KEYWORDS.iter() {
-            if *symbol == self {
-                return spelling;
-            }
-        }
-        for (spelling, symbol) in SIGNS.iter() {
-            if *symbol == Some(self) {
-                return spelling;
-            }
-        }
-        "the end"
-    }
-
     /// Whether a statement that begins so ends by itself, without a semicolon.
     pub fn begins_block(self) -> bool {
         matches!(
@@ -195,14 +180,19 @@ impl Symbol {
     }
 }
 
+/// A symbol is printed as it is written, in back-ticks.
 impl fmt::Display for Symbol {
     fn fmt<W: fmt::Write>(&self, f: &mut fmt::Formatter<W>) -> fmt::Result {
-        match self {
-            Symbol::End => write!(f, "the end"),
-            symbol => {
-                let spelling = symbol.spelling();
-                write!(f, "`{spelling}`")
+        for (spelling, symbol) in KEYWORDS.iter() {
+            if symbol == self {
+                return write!(f, "`{spelling}`");
             }
         }
+        for (first, rest, symbol) in SIGNS.iter() {
+            if *symbol == Some(*self) {
+                return write!(f, "`{first}{rest}`");
+            }
+        }
+        write!(f, "the end")
     }
 }

@@ -1,4 +1,5 @@
 // The names of variables, and where the frames of functions have them.
+ghost use Rattle.std.specs.Prelude.{◌≡◌, ◌≤◌, vec_len};
 
 use crate::tree::Slot;
 use std::alloc::{AllocError, Global};
@@ -26,6 +27,7 @@ pub struct FunctionNames {
     slots: usize,
     /// How many loops are around what is read.
     loops: usize,
+    ghost room: { vec_len declared ≤ slots },
 }
 
 impl FunctionNames {
@@ -44,11 +46,12 @@ impl FunctionNames {
         let alloc = *self.declared.allocator();
         let slot = self.declared.len();
         let hidden = self.newest.insert(String::from_str(alloc, name)?, slot)?;
-        self.declared.push(Declared {
+        let declared = Declared {
             name: String::from_str(alloc, name)?,
             hidden,
-        })?;
-        self.slots = self.slots.max(self.declared.len());
+        };
+        self.slots = self.slots.max(slot.saturating_add(1));
+        self.declared.push(declared)?;
         Ok(slot)
     }
 
@@ -102,7 +105,9 @@ impl FunctionNames {
     }
 
     /// How many variables lived at once at most, and where the function outside has the captured ones.
-    pub fn into_parts(self) -> (usize, Vec<Slot>) {
+    pub fn into_parts(self) -> (usize, Vec<Slot>)
+        ensures { vec_len self.declared ≤ result.0 }
+    {
         let FunctionNames {
             declared: _,
             newest: _,
@@ -139,7 +144,9 @@ impl Names {
     }
 
     /// Ends the function that is read, and goes on with the one around it, or with a new one where there is none.
-    pub fn leave(&mut self) -> FunctionNames {
+    pub fn leave(&mut self) -> FunctionNames
+        ensures { result ≡ self.old.function }
+    {
         match self.outer.pop() {
             Some(outer) => mem::replace(&mut self.function, outer),
             None => {
@@ -155,7 +162,9 @@ impl Names {
     }
 
     /// How many variables of the function live: the slot that the next one gets.
-    pub fn count(&self) -> usize {
+    pub fn count(&self) -> usize
+        ensures { result ≡ vec_len self.now.function.declared }
+    {
         self.function.declared.len()
     }
 

@@ -1,5 +1,5 @@
 // Lexemes to trees. Each function that reads a part of a tree is told how many levels of it are left.
-ghost use Rattle.std.specs.Prelude.{◌≡◌, ◌+◌, IfOk};
+ghost use Rattle.std.specs.Prelude.{◌≡◌, ◌+◌, ◌≤◌, IfOk};
 
 use crate::MOST_LEVELS;
 use crate::callees::Callees;
@@ -40,7 +40,10 @@ struct Parser {
 /// Reads a script.
 ///
 /// It takes a time in the length of the text, and no deeper a stack than `MOST_LEVELS` asks for.
-pub fn parse(alloc: Global, text: &str) -> Result<Program, SyntaxError> {
+pub fn parse(alloc: Global, text: &str) -> Result<Program, SyntaxError>
+    ensures first { IfOk result (λ program. program.body.first_slot ≡ 0) }
+    ensures room { IfOk result (λ program. program.body.end_slot ≤ program.slots) }
+{
     let mut parser = Parser::new(alloc, text)?;
     let mut statements = Vec::new(alloc);
     for _ in 0..parser.lexemes_left() {
@@ -73,7 +76,10 @@ impl Parser {
         })
     }
 
-    fn into_program(self, statements: Vec<Expr>) -> Program {
+    fn into_program(self, statements: Vec<Expr>) -> Program
+        ensures first { result.body.first_slot ≡ 0 }
+        ensures room { result.body.end_slot ≤ result.slots }
+    {
         let Parser {
             alloc: _,
             cursor: _,

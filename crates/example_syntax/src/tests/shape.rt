@@ -51,8 +51,15 @@ fn add(out: &mut String, part: &Expr) -> Result<(), AllocError> {
             operand,
             ..
         } => add_unary(out, *operator, operand),
-        Expr::Run { first, rest } => add_run(out, first, rest),
-        Expr::Chain { root, steps } => add_chain(out, root, steps),
+        Expr::Run { first, rest } => {
+            out.push_str("(")?;
+            add(out, first)?;
+            add_terms(out, rest)
+        }
+        Expr::Chain { root, steps } => {
+            add(out, root)?;
+            add_steps(out, steps)
+        }
         Expr::Call {
             callee,
             arguments,
@@ -67,7 +74,10 @@ fn add(out: &mut String, part: &Expr) -> Result<(), AllocError> {
             ..
         } => add_closure(out, *function, captured),
         Expr::Block(block) => add_block(out, "block", block),
-        Expr::If { arms, otherwise } => add_if(out, arms, otherwise),
+        Expr::If { arms, otherwise } => {
+            add_arms(out, arms)?;
+            add_otherwise(out, otherwise)
+        }
         Expr::While(arm) => add_arm(out, "while", arm),
         Expr::Loop(block) => add_block(out, "loop", block),
         Expr::For {
@@ -154,10 +164,15 @@ fn add_arm(out: &mut String, name: &str, arm: &Arm) -> Result<(), AllocError> {
 }
 
 #[cycle(shape)]
-fn add_if(out: &mut String, arms: &[Arm], otherwise: &Option<Block>) -> Result<(), AllocError> {
+fn add_arms(out: &mut String, arms: &[Arm]) -> Result<(), AllocError> {
     for arm in arms {
         add_arm(out, "if", arm)?;
     }
+    Ok(())
+}
+
+#[cycle(shape)]
+fn add_otherwise(out: &mut String, otherwise: &Option<Block>) -> Result<(), AllocError> {
     match otherwise {
         Some(block) => add_block(out, "else", block),
         None => Ok(()),
@@ -205,21 +220,13 @@ fn symbol_of(operator: Operator) -> Symbol {
 }
 
 #[cycle(shape)]
-fn add_run(out: &mut String, first: &Expr, rest: &[Term]) -> Result<(), AllocError> {
-    out.push_str("(")?;
-    add(out, first)?;
-    for term in rest {
+fn add_terms(out: &mut String, terms: &[Term]) -> Result<(), AllocError> {
+    for term in terms {
         let symbol = symbol_of(term.operator);
         write!(out, " {symbol} ")?;
         add(out, &term.operand)?;
     }
     out.push_str(")")
-}
-
-#[cycle(shape)]
-fn add_chain(out: &mut String, root: &Expr, steps: &[Step]) -> Result<(), AllocError> {
-    add(out, root)?;
-    add_steps(out, steps)
 }
 
 #[cycle(shape)]

@@ -2,5 +2,7 @@ mod Found
 mod Mixed
 mod Padding
 mod Parts
+mod Repeats
 mod Sames
+mod Sorting
 mod Splits

@@ -1,5 +1,5 @@
 -- Values that are the same.
-use Rattle.std.proofs.Common.{◌≡◌, ◌↔◌, ℕ, Bool, List, [], Option, Some, None, IfSome, IsTrue, false, nat_eq, option_map, refl, sym, ◌∙◌}
+use Rattle.std.proofs.Common.{◌≡◌, ◌↔◌, ◌&&◌, ℕ, Bool, true, false, List, [], Option, Some, None, is_some, IfSome, IsTrue, nat_eq, option_map, refl, sym, ◌∙◌}
 use Rattle.std.specs.Cmp.Lexicographic.{bytes_decides, pointwise}
 use Rattle.rhai_value.specs.declared.store.Cell.{Cell}
 use Rattle.rhai_value.specs.Tree.{Tree}
@@ -44,3 +44,22 @@ nothing_plain s x o e n = none_mapped plain_bytes (plain s [] x) (sym e ∙ n)
 -- a value that has no bytes is the same as none that has
 pub nothing_told : (s : List Cell) (x y : Tree) → plain s [] x ≡ None → IsTrue false ↔ AreSame s x y
 nothing_told s x y n = (λ t. absurd (cc), λ same. absurd (nothing_same s x y n same))
+
+-- what the comparison of two values tells
+both_there : {P : Type 0} (o q : Option P) (b : Bool) → IsTrue b ↔ (o ≡ q) → true ≡ (is_some o && is_some q) → IsTrue b ↔ ((p : P) × (o ≡ Some p) × (q ≡ Some p))
+both_there (Some p) (Some q) b h w = (λ t. (p, refl, sym (h.0 t)), λ k. h.1 (k.1 ∙ sym k.2))
+both_there (Some p) None b h w = cc
+both_there None q b h w = cc
+
+one_missing : {P : Type 0} (o q : Option P) → false ≡ (is_some o && is_some q) → IsTrue false ↔ ((p : P) × (o ≡ Some p) × (q ≡ Some p))
+one_missing (Some p) (Some q) w = cc
+one_missing (Some p) None w = (λ t. absurd (cc), λ k. absurd (let e = k.2 in cc))
+one_missing None q w = (λ t. absurd (cc), λ k. absurd (let e = k.1 in cc))
+
+pub told_same : (s : List Cell) (x y : Tree) (b : Bool) → IsTrue b ↔ (plain s [] x ≡ plain s [] y) → true ≡ (is_some (plain s [] x) && is_some (plain s [] y)) → IsTrue b ↔ AreSame s x y
+unfolding AreSame
+told_same s x y b h w = both_there (plain s [] x) (plain s [] y) b h w
+
+pub told_other : (s : List Cell) (x y : Tree) → false ≡ (is_some (plain s [] x) && is_some (plain s [] y)) → IsTrue false ↔ AreSame s x y
+unfolding AreSame
+told_other s x y w = one_missing (plain s [] x) (plain s [] y) w

@@ -3,7 +3,9 @@ pub mod Held
 pub mod Padding
 pub mod Places
 pub mod Radix
+pub mod Repeats
 pub mod Same
 pub mod Sizes
+pub mod Sorting
 pub mod Splits
 pub mod Texts

@@ -10,14 +10,18 @@ ghost use Rattle.rhai_packs.specs.Places.{cut_place as place_of_cut, part_count,
 ghost use Rattle.rhai_packs.specs.Sizes.{IsLimited, may_grow as may_grow_by};
 
 mod copies;
+mod repeats;
 mod search;
+mod sorting;
 
 use crate::places::{at_most, cut_place};
 use crate::sizes::{may_grow, too_large};
 pub use copies::{extract, pad};
+pub use repeats::dedup;
 use rhai_text::{EvalAltResult, Limits, SizeKind};
 use rhai_value::{Array, Dynamic, INT, item_place};
 pub use search::{contains, index_of};
+pub use sorting::sort;
 use std::alloc::{AllocError, Global};
 
 /// Counts the items. Cost: constant.

@@ -68,6 +68,56 @@ fn items_are_found_by_value(rt: HostRuntime) {
     assert!(rt; matches!(items_are_found(rt.alloc()), Ok(true)));
 }
 
+fn repeats_go(alloc: Global) -> Result<bool, EvalAltResult> {
+    let store = Store::new(alloc);
+    let mut items = array_of(alloc, &[1, 1, 2, 1, 1])?;
+    let mut tagged = Dynamic::ONE;
+    tagged.set_tag(5);
+    let set = arrays::set(&mut items, 1, tagged);
+    arrays::dedup(alloc, &mut items, &store)?;
+    Ok(set && prints(alloc, items, "[1, 2, 1]")?)
+}
+
+#[test]
+fn items_that_repeat_the_one_before_go(rt: HostRuntime) {
+    assert!(rt; matches!(repeats_go(rt.alloc()), Ok(true)));
+}
+
+/// An array of these texts.
+fn texts_of(alloc: Global, texts: &[&str]) -> Result<Array, AllocError> {
+    let mut items = Vec::new(alloc);
+    for text in texts {
+        items.push(Dynamic::from_text(alloc, text)?)?;
+    }
+    Ok(items)
+}
+
+fn arrays_are_sorted(alloc: Global) -> Result<bool, EvalAltResult> {
+    let store = Store::new(alloc);
+    let mut ints = array_of(alloc, &[3, -1, 2])?;
+    arrays::sort(&mut ints, &store)?;
+    let mut mixed = array_of(alloc, &[1, 2])?;
+    let set = arrays::set(&mut mixed, 1, Dynamic::TRUE);
+    let named = matches!(
+        arrays::sort(&mut mixed, &store),
+        Err(EvalAltResult::ErrorMismatchDataType("i64", "bool", _))
+    );
+    Ok(set && named && prints(alloc, ints, "[-1, 2, 3]")?)
+}
+
+fn texts_are_sorted(alloc: Global) -> Result<bool, EvalAltResult> {
+    let store = Store::new(alloc);
+    let mut texts = texts_of(alloc, &["b", "ab", "a"])?;
+    arrays::sort(&mut texts, &store)?;
+    Ok(prints(alloc, texts, "[\"a\", \"ab\", \"b\"]")?)
+}
+
+#[test]
+fn items_are_put_in_order(rt: HostRuntime) {
+    assert!(rt; matches!(arrays_are_sorted(rt.alloc()), Ok(true)));
+    assert!(rt; matches!(texts_are_sorted(rt.alloc()), Ok(true)));
+}
+
 fn an_array_is_pushed_to(alloc: Global) -> Result<bool, EvalAltResult> {
     let mut store = Store::new(alloc);
     let mut array = Dynamic::from_array(array_of(alloc, &[1])?);

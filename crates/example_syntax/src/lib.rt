@@ -1,0 +1,27 @@
+//! The syntax of a small script language, a subset of rhai's: texts to trees, in which names are resolved.
+#![tactic(auto)]
+
+mod callees;
+mod cursor;
+mod error;
+mod lexeme;
+mod literals;
+mod names;
+mod operators;
+mod parser;
+mod symbol;
+#[cfg(test)]
+mod tests;
+mod tree;
+mod words;
+
+pub use error::{SyntaxError, SyntaxFault};
+pub use parser::parse;
+pub use symbol::Symbol;
+pub use tree::{
+    Arm, Assignment, Block, Callee, Expr, Field, Function, Operator, Program, Slot, Step, Term,
+    UnaryOperator, Variable,
+};
+
+/// How many levels a tree has at most, from a body down to a leaf.
+pub const MOST_LEVELS: usize = 64;

@@ -1,0 +1,66 @@
+//! Steps through commands over a world of script values, a line of standard input each, and shows the world behind each: the scope,
+//! the values of the hand, and which of them are closed by a mark.
+#![tactic(auto)]
+
+use anyhow::Result;
+use rhai_lines::{command, write_answer};
+use rhai_run::{Answer, Command, Question, World, apply};
+use rhai_text::Limits;
+
+/// Prints a value of the hand.
+fn show_value(rt: &(impl Print + AllocGlobal), world: &mut World, at: usize) -> Result<()> {
+    let text = apply(world, &Command::Debug(at))?;
+    let is_locked = matches!(
+        apply(world, &Command::Ask(at, Question::Locked))?,
+        Answer::Bool(true)
+    );
+    let state = if is_locked { " (closed by a mark)" } else { "" };
+    if let Answer::Text(text) = text {
+        println!(rt; "  hand {at}: {text}{state}")?;
+    }
+    Ok(())
+}
+
+/// Prints the entries of the scope.
+fn show_scope(rt: &(impl Print + AllocGlobal), world: &mut World) -> Result<()> {
+    if let Answer::Text(text) = apply(world, &Command::ShowScope)? {
+        for line in text.lines() {
+            println!(rt; "  scope: {line}")?;
+        }
+    }
+    Ok(())
+}
+
+/// Does a command and prints its answer and the world behind it.
+fn step(rt: &(impl Print + AllocGlobal), world: &mut World, line: &str) -> Result<()> {
+    println!(rt; "> {line}")?;
+    let Some(command) = command(rt.alloc(), line.as_bytes())? else {
+        println!(rt; "no command")?;
+        return Ok(());
+    };
+    let answer = apply(world, &command)?;
+    let mut printed = Vec::new(rt.alloc());
+    write_answer(&answer, &mut printed)?;
+    let text = String::from_utf8_lossy(rt.alloc(), &printed)?;
+    print!(rt; "{text}")?;
+    show_scope(rt, world)?;
+    for at in 0..world.hand().len() {
+        show_value(rt, world, at)?;
+    }
+    Ok(())
+}
+
+/// Steps through the lines of standard input.
+fn debug(rt: &(impl Input + Print + AllocGlobal), world: &mut World) -> Result<()> {
+    for line in rt.lines(rt.alloc()) {
+        step(rt, world, line?.as_str())?;
+    }
+    Ok(())
+}
+
+fn main(rt: HostRuntime) -> Result<()> {
+    let mut world = World::new(rt.alloc(), Limits { text: 0, items: 0 });
+    let outcome = debug(&rt, &mut world);
+    world.close();
+    outcome
+}

@@ -1,0 +1,70 @@
+//! A host that keeps one world of script values between runs. It does the commands of standard input, a line each; an empty line ends
+//! a run, after which it collects the cells that nothing reaches. The line `replay` does all commands again on a new world.
+#![tactic(auto)]
+
+mod journal;
+
+use crate::journal::Journal;
+use anyhow::Result;
+use rhai_lines::{command, write_answer};
+use rhai_run::{World, apply};
+use rhai_text::Limits;
+
+/// Does the command of a line, prints its answer, and keeps both.
+fn do_line(
+    rt: &(impl Print + AllocGlobal),
+    world: &mut World,
+    journal: &mut Journal,
+    line: &str,
+) -> Result<()> {
+    let Some(command) = command(rt.alloc(), line.as_bytes())? else {
+        println!(rt; "no command: {line}")?;
+        return Ok(());
+    };
+    let answer = apply(world, &command)?;
+    let mut printed = Vec::new(rt.alloc());
+    write_answer(&answer, &mut printed)?;
+    let text = String::from_utf8_lossy(rt.alloc(), &printed)?;
+    print!(rt; "{text}")?;
+    journal.keep(command, &printed)?;
+    Ok(())
+}
+
+/// Says whether a new world answers the same to all commands.
+fn replay(rt: &(impl Print + AllocGlobal), journal: &Journal) -> Result<()> {
+    let count = journal.commands.len();
+    match journal.replayed(rt.alloc())? {
+        Some(answers) if answers.as_slice() == journal.answers.as_slice() => {
+            println!(rt; "replayed {count} commands: the same answers")?;
+        }
+        Some(_) => println!(rt; "replayed {count} commands: other answers")?,
+        None => println!(rt; "a command has no line")?,
+    }
+    Ok(())
+}
+
+/// Does the lines of standard input on a world.
+fn host(rt: &(impl Input + Print + AllocGlobal), world: &mut World) -> Result<()> {
+    let mut journal = Journal::new(rt.alloc());
+    let mut runs = 0u64;
+    for line in rt.lines(rt.alloc()) {
+        let line = line?;
+        match line.as_str() {
+            "" => {
+                world.collect()?;
+                runs = runs.saturating_add(1);
+                println!(rt; "run {runs} is done")?;
+            }
+            "replay" => replay(rt, &journal)?,
+            command => do_line(rt, world, &mut journal, command)?,
+        }
+    }
+    Ok(())
+}
+
+fn main(rt: HostRuntime) -> Result<()> {
+    let mut world = World::new(rt.alloc(), Limits { text: 0, items: 0 });
+    let outcome = host(&rt, &mut world);
+    world.close();
+    outcome
+}

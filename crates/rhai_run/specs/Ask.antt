@@ -44,4 +44,3 @@ asked w t question.Char = asked_of_held w char_of (end w.store [] t) (λ c. grow
 abbrev pub hash_of : Option Plain → Reply
 hash_of None = refused not_hashable
 hash_of (Some p) = bytes (plain_bytes p)
-

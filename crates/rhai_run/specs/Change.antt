@@ -33,4 +33,3 @@ scan_done w i o = free (number (pos o.0.visits)) (with_hand w (slice_set w.hand 
 -- no place of a script
 abbrev pub nowhere : Position
 nowhere = record { line = 0; position = 0 }
-

@@ -31,4 +31,3 @@ read_as kind t = if is_type kind id.Shared then None else read kind t
 
 abbrev pub viewed_as : TypeId → Tree → Option Tree
 viewed_as kind t = if is_type kind id.Shared then None else viewed kind t
-

@@ -28,4 +28,3 @@ assigned_at w place how t o = put_at w (store_left how o w.store t) place (first
 -- the same with what is left of the second operand, u, at its hand position
 abbrev pub assigned : State → Place → ℕ → Effect → Tree → Tree → call.Outcome → Outcome
 assigned w place j how t u o = called w (λ d. assigned_at (with_hand w (slice_set w.hand j (second_left how o u))) place how t o) o
-

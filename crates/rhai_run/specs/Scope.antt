@@ -20,4 +20,3 @@ or_nothing reply (Some x) = reply x
 abbrev pub bytes_or_refused : Option (List ℕ) → Reply
 bytes_or_refused None = refused not_hashable
 bytes_or_refused (Some bs) = bytes bs
-

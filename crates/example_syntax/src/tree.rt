@@ -1,0 +1,235 @@
+// Scripts as trees.
+
+use rhai_text::{ImmutableString, Position, Token};
+use rhai_value::INT;
+
+/// A whole script.
+///
+/// No tree in it has more than `MOST_LEVELS` levels.
+#[derive(Drop)]
+pub struct Program {
+    /// The functions of the script, in their order, and the bodies of its anonymous functions.
+    pub functions: Vec<Function>,
+    /// What the calls and methods of the script name, each name with its number of arguments once.
+    pub callees: Vec<Callee>,
+    /// How many own variables of the body live at once at most.
+    pub slots: usize,
+    /// The statements outside of functions.
+    pub body: Block,
+}
+
+/// A function of the script, or an anonymous one.
+///
+/// Its frame begins with the values that it captured, then come its parameters, then its variables. The variables of a
+/// block that has ended give their slots to later ones.
+#[derive(Drop)]
+pub struct Function {
+    /// The name. That of an anonymous function is one that no script can spell.
+    pub name: ImmutableString,
+    /// How many values of outside an anonymous function is given before its arguments.
+    pub captured: usize,
+    /// How many parameters the function has; these are its own variables from slot 0 on.
+    pub parameters: usize,
+    /// How many own variables live at once at most, with the parameters.
+    pub slots: usize,
+    pub body: Block,
+}
+
+/// What is called by a name and a number of arguments; the receiver of a method counts as one.
+#[derive(Drop)]
+pub struct Callee {
+    pub name: ImmutableString,
+    pub arguments: usize,
+    /// The function of the script that has the name and that many parameters. A method is none of these.
+    pub function: Option<usize>,
+}
+
+/// Which variable a name means, at the place where it stands.
+#[derive(Drop)]
+pub enum Variable {
+    /// A parameter or a variable of the function itself, by its slot.
+    Own(usize),
+    /// A variable of outside, by its number among the captured ones of the anonymous function.
+    Captured(usize),
+    /// Nothing has the name.
+    Unknown(ImmutableString),
+}
+
+/// Statements in braces, or those of the whole script. The value is that of the last.
+#[cycle(tree)]
+#[derive(Drop)]
+pub struct Block {
+    pub statements: Vec<Expr>,
+    /// The variables that the block itself declares have the slots from here ..
+    pub first_slot: usize,
+    /// .. to before here.
+    pub end_slot: usize,
+}
+
+/// An expression or a statement.
+#[cycle(tree)]
+#[derive(Drop)]
+pub enum Expr {
+    Unit,
+    Bool(bool),
+    Int(INT),
+    Char(char),
+    Text(ImmutableString),
+    /// `[a, b]`
+    Array(Vec<Expr>),
+    /// `#{a: b}`; no key stands twice.
+    Object(Vec<Field>),
+    Variable {
+        variable: Variable,
+        position: Position,
+    },
+    /// `-a`
+    Unary {
+        operator: UnaryOperator,
+        operand: Box<Expr>,
+        position: Position,
+    },
+    /// `a + b - c`: operators of one level, which go from left to right.
+    Run {
+        first: Box<Expr>,
+        rest: Vec<Term>,
+    },
+    /// `a[i].k.f(x)`: the indices and arguments are evaluated from left to right, and the root after them.
+    Chain {
+        root: Box<Expr>,
+        steps: Vec<Step>,
+    },
+    /// `f(x)`: `callee` numbers one of the program's.
+    Call {
+        callee: usize,
+        arguments: Vec<Expr>,
+        position: Position,
+    },
+    /// `|x| a`: makes a function value of one of the program's functions, and shares these variables with it.
+    Closure {
+        function: usize,
+        captured: Vec<Variable>,
+        position: Position,
+    },
+    Block(Block),
+    /// `if a { } else if b { } else { }`: the arms in their order.
+    If {
+        arms: Vec<Arm>,
+        otherwise: Option<Block>,
+    },
+    While(Box<Arm>),
+    Loop(Block),
+    /// `for x in a { }`, or `for (x, i) in a { }`. The position is that of what is gone through.
+    For {
+        item: usize,
+        index: Option<usize>,
+        source: Box<Expr>,
+        position: Position,
+        body: Block,
+    },
+    /// `let x = a`, or `const X = a`; without a value it is `()`.
+    Let {
+        slot: usize,
+        is_constant: bool,
+        value: Option<Box<Expr>>,
+    },
+    /// `a[i].k = b`, or `a[i].k += b`: each step is an index or a property. The position is that of the operator.
+    Assign {
+        variable: Variable,
+        variable_position: Position,
+        steps: Vec<Step>,
+        operator: Option<Assignment>,
+        value: Box<Expr>,
+        position: Position,
+    },
+    Break(Option<Box<Expr>>),
+    Continue,
+    Return(Option<Box<Expr>>),
+    /// `throw a`: the position is that of the word.
+    Throw(Option<Box<Expr>>, Position),
+    /// `try { } catch (e) { }`: what was caught is the variable of the slot while the handler runs.
+    Try {
+        body: Block,
+        error: Option<usize>,
+        handler: Block,
+    },
+}
+
+/// An operator and its right operand.
+#[cycle(tree)]
+#[derive(Drop)]
+pub struct Term {
+    pub operator: Operator,
+    /// The place of the operator.
+    pub position: Position,
+    pub operand: Expr,
+}
+
+/// A step of a chain.
+#[cycle(tree)]
+#[derive(Drop)]
+pub enum Step {
+    /// `[i]`: the position is that of the index.
+    Index {
+        index: Expr,
+        position: Position,
+    },
+    /// `.k`
+    Property {
+        key: ImmutableString,
+        position: Position,
+    },
+    /// `.f(x)`: `callee` numbers one of the program's, which counts the receiver as its first argument.
+    Method {
+        callee: usize,
+        arguments: Vec<Expr>,
+        position: Position,
+    },
+}
+
+/// The field of an object map.
+#[cycle(tree)]
+#[derive(Drop)]
+pub struct Field {
+    pub key: ImmutableString,
+    pub value: Expr,
+}
+
+/// A condition and what is run where it holds.
+#[cycle(tree)]
+#[derive(Drop)]
+pub struct Arm {
+    pub condition: Expr,
+    /// The place of the condition.
+    pub position: Position,
+    pub body: Block,
+}
+
+/// An operator between two operands.
+#[derive(Clone, Copy, Debug, PartialEq, Eq)]
+pub enum Operator {
+    /// `&&`: the right operand is evaluated only where the left one is true.
+    And,
+    /// `||`: the right operand is evaluated only where the left one is false.
+    Or,
+    /// One of values.
+    Plain(Token),
+}
+
+/// An operator before its operand.
+#[derive(Clone, Copy, Debug, PartialEq, Eq)]
+pub enum UnaryOperator {
+    /// `!`
+    Not,
+    /// `-`
+    Minus,
+    /// `+`
+    Plus,
+}
+
+/// An operator that assigns, as `+=`, and the one that it stands for, as `+`.
+#[derive(Clone, Copy, Debug, PartialEq, Eq)]
+pub struct Assignment {
+    pub whole: Token,
+    pub plain: Token,
+}

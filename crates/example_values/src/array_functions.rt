@@ -135,12 +135,7 @@ fn extract_from(
     }
 }
 
-fn extracted(
-    means: &Means,
-    items: &Array,
-    start: INT,
-    length: INT,
-) -> Result<Dynamic, FaultKind> {
+fn extracted(means: &Means, items: &Array, start: INT, length: INT) -> Result<Dynamic, FaultKind> {
     let part = arrays::extract(means.alloc, items, start, length)?;
     Ok(Dynamic::from_array(part))
 }
@@ -165,7 +160,13 @@ pub(crate) fn change_array(
             arrays::insert(items, limits, int(first, s)?, arguments.second.take())?;
         }
         ArrayChange::Pad => {
-            arrays::pad(means.alloc, items, limits, int(first, s)?, &arguments.second)?;
+            arrays::pad(
+                means.alloc,
+                items,
+                limits,
+                int(first, s)?,
+                &arguments.second,
+            )?;
         }
         ArrayChange::Pop => return Ok(or_unit(arrays::pop(items))),
         ArrayChange::Shift => return Ok(or_unit(arrays::shift(items))),

@@ -69,11 +69,7 @@ fn held_binary(
             return Ok(answer);
         }
     }
-    Err(FaultKind::NoOperator(
-        op,
-        x.type_name(s),
-        y.type_name(s),
-    ))
+    Err(FaultKind::NoOperator(op, x.type_name(s), y.type_name(s)))
 }
 
 /// Whether two values are equal without tags, modes and holders; what isn't anything without them equals nothing.

@@ -92,7 +92,9 @@ impl FaultKind {
                 let op = symbol_of(*op);
                 format!(in alloc; "no operator {op} for {first} and {second}")
             }
-            FaultKind::NoParts(found) => format!(in alloc; "no such part of a value of type {found}"),
+            FaultKind::NoParts(found) => format!(in alloc;
+                "no such part of a value of type {found}"
+            ),
             FaultKind::OutOfRange(index, count) => {
                 format!(in alloc; "index {index} out of range of {count}")
             }
@@ -155,11 +157,7 @@ fn symbol_of(op: Token) -> &'static str {
 
 /// The fault of a value whose type isn't the wanted one.
 pub fn mismatch(wanted: &'static str, found: &'static str) -> FaultKind {
-    FaultKind::Layer(EvalAltResult::ErrorMismatchDataType(
-        wanted,
-        found,
-        Position::NONE,
-    ))
+    FaultKind::Layer(EvalAltResult::ErrorMismatchDataType(wanted, found, Position::NONE))
 }
 
 /// The fault of a value that is in use.
@@ -182,5 +180,17 @@ impl From<AllocError> for FaultKind {
 impl<T: Drop> From<AllocFailed<T>> for FaultKind {
     fn from(_failed: AllocFailed<T>) -> FaultKind {
         FaultKind::Layer(EvalAltResult::ErrorMemory(AllocError))
+    }
+}
+
+impl From<AllocError> for Fault {
+    fn from(error: AllocError) -> Fault {
+        FaultKind::from(error).at(Position::NONE)
+    }
+}
+
+impl<T: Drop> From<AllocFailed<T>> for Fault {
+    fn from(_failed: AllocFailed<T>) -> Fault {
+        FaultKind::from(AllocError).at(Position::NONE)
     }
 }

@@ -12,7 +12,7 @@ use rhai_value::{Array, Dynamic, INT, Map, Store, Union};
 
 /// What a key leads to.
 #[derive(Drop)]
-pub(crate) enum Found<'s> {
+pub enum Found<'s> {
     /// A value that stands in another.
     Item(&'s Dynamic),
     /// A value that is made: a part of a text, a blob or an int, or unit for a key that isn't there.

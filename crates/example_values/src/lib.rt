@@ -2,8 +2,8 @@
 #![tactic(auto)]
 
 mod any_functions;
-mod array_functions;
 mod argument_values;
+mod array_functions;
 mod assigning;
 mod binary_operators;
 mod blob_functions;
@@ -13,9 +13,9 @@ mod find;
 mod int_functions;
 mod keys;
 mod map_functions;
-mod resources;
 mod natives;
 mod reading;
+mod resources;
 mod text_functions;
 mod unary_operators;
 mod writing;
@@ -27,12 +27,13 @@ pub use assigning::{Assignment, assign};
 pub use binary_operators::binary;
 pub use blob_functions::{BlobChange, BlobFunction, BlobQuestion};
 pub use faults::{Fault, FaultKind, mismatch};
+pub use find::Found;
 pub use int_functions::IntFunction;
 pub use keys::Key;
 pub use map_functions::{MapChange, MapFunction, MapQuestion};
-pub use resources::Means;
 pub use natives::{Native, native_of};
-pub use reading::{PlaceFault, read};
+pub use reading::{PlaceFault, look, read};
+pub use resources::Means;
 pub use text_functions::{TextChange, TextFunction, TextQuestion};
 pub use unary_operators::{UnaryOperator, unary};
-pub use writing::{Change, write};
+pub use writing::{Change, change_at, write};

@@ -15,7 +15,32 @@ pub struct PlaceFault {
     pub kind: FaultKind,
 }
 
-/// Reads what the keys lead to from a value: a copy that is no holder. A key that a map lacks leads to unit.
+/// Finds what the keys lead to from a value: what stands there, or a value that is made. A key that a map lacks leads to unit.
+///
+/// Errors: the first key that leads nowhere, and why.
+pub fn look<'s>(
+    means: &Means,
+    s: &'s Store,
+    source: &'s Dynamic,
+    keys: &[Key<'_>],
+) -> Result<Found<'s>, PlaceFault> {
+    let mut place = source;
+    for (step, key) in keys.iter().enumerate() {
+        match find(means, s, place, key) {
+            Ok(Found::Item(item)) => place = item,
+            Ok(Found::Made(value)) => {
+                return match read_on(means, s, value, keys, step) {
+                    Ok(value) => Ok(Found::Made(value)),
+                    Err(fault) => Err(fault),
+                };
+            }
+            Err(kind) => return Err(PlaceFault { step, kind }),
+        }
+    }
+    Ok(Found::Item(place))
+}
+
+/// Reads what the keys lead to from a value, as `look` finds it: a copy that is no holder.
 ///
 /// Errors: the first key that leads nowhere, and why.
 pub fn read(
@@ -24,20 +49,16 @@ pub fn read(
     source: &Dynamic,
     keys: &[Key<'_>],
 ) -> Result<Dynamic, PlaceFault> {
-    let mut place = source;
-    for (step, key) in keys.iter().enumerate() {
-        match find(means, s, place, key) {
-            Ok(Found::Item(item)) => place = item,
-            Ok(Found::Made(value)) => return read_on(means, s, value, keys, step),
-            Err(kind) => return Err(PlaceFault { step, kind }),
-        }
-    }
-    match place.flatten_clone(means.alloc, s) {
-        Ok(value) => Ok(value),
-        Err(error) => Err(PlaceFault {
-            step: 0,
-            kind: FaultKind::from(error),
-        }),
+    match look(means, s, source, keys) {
+        Ok(Found::Item(item)) => match item.flatten_clone(means.alloc, s) {
+            Ok(value) => Ok(value),
+            Err(error) => Err(PlaceFault {
+                step: 0,
+                kind: FaultKind::from(error),
+            }),
+        },
+        Ok(Found::Made(value)) => Ok(value),
+        Err(fault) => Err(fault),
     }
 }
 

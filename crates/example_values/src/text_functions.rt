@@ -143,7 +143,12 @@ pub(crate) fn change_text(
     match change {
         TextChange::Crop => texts::crop(means.alloc, held, int(first, s)?, INT::MAX)?,
         TextChange::CropSome => {
-            texts::crop(means.alloc, held, int(first, s)?, int(&arguments.second, s)?)?;
+            texts::crop(
+                means.alloc,
+                held,
+                int(first, s)?,
+                int(&arguments.second, s)?,
+            )?;
         }
         TextChange::Truncate => texts::truncate(means.alloc, held, int(first, s)?)?,
         TextChange::Trim => texts::trim(means.alloc, held)?,

@@ -1,12 +1,14 @@
 //! Writing at a place inside a value.
 
+use crate::argument_values::Arguments;
 use crate::assigning::{Assignment, assign};
 use crate::binary_operators::binary;
 use crate::faults::{FaultKind, in_use, mismatch};
 use crate::find::part_at;
 use crate::keys::{Key, index_in, name_in};
-use crate::resources::Means;
+use crate::natives::Native;
 use crate::reading::PlaceFault;
+use crate::resources::Means;
 use rhai_packs::maps;
 use rhai_target::{ReadPart, calc_index};
 use rhai_text::{ImmutableString, Position};
@@ -56,6 +58,32 @@ pub fn write(
     }
 }
 
+/// Calls a function that may change its receiver at the place to which the keys lead, through arrays and maps; `None` where the type of
+/// what stands there has no such function.
+///
+/// Errors: the key that leads nowhere, and why, or what the function refuses.
+pub fn change_at(
+    means: &Means,
+    m: &mut Store,
+    root: &mut Dynamic,
+    keys: &[Key<'_>],
+    native: Native,
+    arguments: &mut Arguments,
+) -> Result<Option<Dynamic>, PlaceFault> {
+    let steps = steps_of(means, m, keys)?;
+    let done = root.with_place(m, steps.as_slice(), |held, m| {
+        native.change(means, m, held, arguments)
+    });
+    match done {
+        Ok(Ok(answer)) => Ok(answer),
+        Ok(Err(kind)) => Err(PlaceFault {
+            step: keys.len(),
+            kind,
+        }),
+        Err(error) => Err(fault_on_way(error, keys, m)),
+    }
+}
+
 /// The answer of the last step.
 fn done_at(done: Result<(), FaultKind>, step: usize) -> Result<(), PlaceFault> {
     match done {
@@ -98,11 +126,7 @@ fn set_item(m: &mut Store, item: &mut Dynamic, value: Dynamic) -> Result<(), Fau
 }
 
 /// The keys as steps. Errors: one that leads to no item and no key.
-fn steps_of<'k>(
-    means: &Means,
-    s: &Store,
-    keys: &[Key<'k>],
-) -> Result<Vec<Step<'k>>, PlaceFault> {
+fn steps_of<'k>(means: &Means, s: &Store, keys: &[Key<'k>]) -> Result<Vec<Step<'k>>, PlaceFault> {
     let mut steps = Vec::new(means.alloc);
     for (step, key) in keys.iter().enumerate() {
         let kind = match step_of(key, s) {

@@ -1,10 +1,23 @@
 //! The syntax of a small script language, a subset of rhai's: texts to trees, in which names are resolved.
 #![tactic(auto)]
 
+mod callees;
+mod cursor;
+mod error;
+mod lexeme;
+mod literals;
+mod names;
+mod operators;
+mod parser;
+mod symbol;
 mod tree;
+mod words;
 
+pub use error::{SyntaxError, SyntaxFault};
+pub use parser::parse;
+pub use symbol::Symbol;
 pub use tree::{
-    Arm, Assignment, Block, Callee, Expr, Field, Function, Operator, Program, Step, Term,
+    Arm, Assignment, Block, Callee, Expr, Field, Function, Operator, Program, Slot, Step, Term,
     UnaryOperator, Variable,
 };
 

@@ -44,13 +44,19 @@ pub struct Callee {
     pub function: Option<usize>,
 }
 
-/// Which variable a name means, at the place where it stands.
-#[derive(Drop)]
-pub enum Variable {
-    /// A parameter or a variable of the function itself, by its slot.
+/// Where the frame of a function has a variable.
+#[derive(Clone, Copy, Debug, PartialEq, Eq)]
+pub enum Slot {
+    /// A parameter or a variable of the function itself, by its number.
     Own(usize),
     /// A variable of outside, by its number among the captured ones of the anonymous function.
     Captured(usize),
+}
+
+/// Which variable a name means, at the place where it stands.
+#[derive(Drop)]
+pub enum Variable {
+    Known(Slot),
     /// Nothing has the name.
     Unknown(ImmutableString),
 }
@@ -108,7 +114,7 @@ pub enum Expr {
     /// `|x| a`: makes a function value of one of the program's functions, and shares these variables with it.
     Closure {
         function: usize,
-        captured: Vec<Variable>,
+        captured: Vec<Slot>,
         position: Position,
     },
     Block(Block),

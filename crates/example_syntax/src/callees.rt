@@ -1,0 +1,77 @@
+// What calls name, and the functions that have the names.
+
+use crate::tree::Callee;
+use rhai_text::ImmutableString;
+use std::alloc::{AllocError, Global};
+use std::collections::BTreeMap;
+use std::collections::btree_map::Entry;
+
+/// A name and a number of arguments.
+#[derive(PartialEq, Eq, PartialOrd, Ord, Drop)]
+struct Signature {
+    name: String,
+    arguments: usize,
+}
+
+/// What the calls of a script name, each name and number of arguments once.
+#[derive(Drop)]
+pub struct Callees {
+    callees: Vec<Callee>,
+    numbers: BTreeMap<Signature, usize>,
+}
+
+impl Callees {
+    /// Nothing is called.
+    pub fn new(alloc: Global) -> Callees {
+        Callees {
+            callees: Vec::new(alloc),
+            numbers: BTreeMap::new(alloc),
+        }
+    }
+
+    /// The number of what has this name and number of arguments.
+    pub fn number(&mut self, name: &str, arguments: usize) -> Result<usize, AllocError> {
+        let alloc = *self.callees.allocator();
+        let called = Callee {
+            name: ImmutableString::from_str(alloc, name)?,
+            arguments,
+            function: None,
+        };
+        let signature = Signature {
+            name: String::from_str(alloc, name)?,
+            arguments,
+        };
+        match self.numbers.entry(signature)? {
+            Entry::Occupied(entry) => Ok(*entry.get()),
+            Entry::Vacant(entry) => {
+                let number = self.callees.len();
+                self.callees.push(called)?;
+                let _number = entry.insert(number);
+                Ok(number)
+            }
+        }
+    }
+
+    /// Says which function has this name and number of arguments; `false` where one has them already.
+    pub fn define(
+        &mut self,
+        name: &str,
+        arguments: usize,
+        function: usize,
+    ) -> Result<bool, AllocError> {
+        let number = self.number(name, arguments)?;
+        match self.callees.get_mut(number) {
+            Some(callee) => Ok(callee.function.replace(function).is_none()),
+            None => Ok(false),
+        }
+    }
+
+    /// What is called, by its numbers.
+    pub fn into_vec(self) -> Vec<Callee> {
+        let Callees {
+            callees,
+            numbers: _,
+        } = self;
+        callees
+    }
+}

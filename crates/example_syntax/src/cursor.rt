@@ -1,0 +1,80 @@
+// A place in a text, which goes on a character at a time.
+ghost use Rattle.std.specs.Prelude.{◌≡◌, ◌≤◌, length};
+
+use rhai_text::Position;
+
+/// The characters of a text, and which of them comes next.
+#[derive(Drop)]
+pub struct Cursor {
+    chars: Vec<char>,
+    at: usize,
+    line: u32,
+    column: u32,
+}
+
+impl Cursor {
+    /// At the begin of a text.
+    pub fn new(chars: Vec<char>) -> Cursor {
+        Cursor {
+            chars,
+            at: 0,
+            line: 1,
+            column: 1,
+        }
+    }
+
+    /// The character that comes next.
+    pub fn peek(&self) -> Option<char> {
+        self.chars.get(self.at).copied()
+    }
+
+    /// The character behind the next one.
+    pub fn peek_second(&self) -> Option<char> {
+        self.chars.get(self.at.saturating_add(1)).copied()
+    }
+
+    /// How many characters are left.
+    pub fn left(&self) -> usize {
+        self.chars.len().saturating_sub(self.at)
+    }
+
+    /// Whether these characters come next.
+    pub fn comes(&self, spelling: &str) -> bool {
+        let mut at = self.at;
+        for wanted in spelling.chars() {
+            if self.chars.get(at) != Some(&wanted) {
+                return false;
+            }
+            at = at.saturating_add(1);
+        }
+        true
+    }
+
+    /// The line and column of the character that comes next.
+    pub fn position(&self) -> Position {
+        Position {
+            line: self.line,
+            position: self.column,
+        }
+    }
+
+    /// Goes on behind the next character.
+    pub fn advance(&mut self) {
+        match self.peek() {
+            Some('\n') => {
+                self.line = self.line.saturating_add(1);
+                self.column = 1;
+            }
+            Some(_) => self.column = self.column.saturating_add(1),
+            None => return,
+        }
+        self.at = self.at.saturating_add(1);
+    }
+
+    /// Goes on behind these many characters.
+    pub fn advance_by(&mut self, count: usize) {
+        for _ in 0..count {
+            self.advance();
+        }
+    }
+}

@@ -1,0 +1,116 @@
+// The lexemes of a script.
+
+use crate::cursor::Cursor;
+use crate::error::{SyntaxError, SyntaxFault};
+use crate::literals::{quoted, read_char, read_int};
+use crate::symbol::{SIGNS, Symbol, keyword};
+use rhai_text::Position;
+use rhai_value::INT;
+use std::alloc::Global;
+
+/// A lexeme of a script.
+#[derive(Drop)]
+pub enum Lexeme {
+    Int(INT),
+    Char(char),
+    Text(String),
+    /// A word that is no keyword.
+    Name(String),
+    /// A keyword, a sign, or the end.
+    Symbol(Symbol),
+}
+
+/// Goes on behind blanks and comments.
+fn skip_blanks(cursor: &mut Cursor) -> Result<(), SyntaxError> {
+    for _ in 0..cursor.left() {
+        match (cursor.peek(), cursor.peek_second()) {
+            (Some('/'), Some('/')) => skip_line(cursor),
+            (Some('/'), Some('*')) => skip_comment(cursor)?,
+            (Some(c), _) if c.is_ascii_whitespace() => cursor.advance(),
+            _ => return Ok(()),
+        }
+    }
+    Ok(())
+}
+
+/// Goes on to the end of the line.
+fn skip_line(cursor: &mut Cursor) {
+    for _ in 0..cursor.left() {
+        if cursor.peek() == Some('\n') {
+            return;
+        }
+        cursor.advance();
+    }
+}
+
+/// Goes on behind a comment, with those inside of it.
+fn skip_comment(cursor: &mut Cursor) -> Result<(), SyntaxError> {
+    let start = cursor.position();
+    let mut open = 0usize;
+    for _ in 0..cursor.left() {
+        match (cursor.peek(), cursor.peek_second()) {
+            (Some('/'), Some('*')) => {
+                cursor.advance_by(2);
+                open = open.saturating_add(1);
+            }
+            (Some('*'), Some('/')) => {
+                cursor.advance_by(2);
+                open = open.saturating_sub(1);
+                if open == 0 {
+                    return Ok(());
+                }
+            }
+            _ => cursor.advance(),
+        }
+    }
+    Err(SyntaxError::Fault(SyntaxFault::OpenComment, start))
+}
+
+/// Reads a word: a keyword or a name.
+fn read_word(alloc: Global, cursor: &mut Cursor) -> Result<Lexeme, SyntaxError> {
+    let start = cursor.position();
+    let mut word = String::new(alloc);
+    for _ in 0..cursor.left() {
+        match cursor.peek() {
+            Some(c) if c.is_ascii_alphanumeric() || c == '_' => word.push(c)?,
+            _ => break,
+        }
+        cursor.advance();
+    }
+    if let Some(keyword) = keyword(word.as_str()) {
+        return Ok(Lexeme::Symbol(keyword));
+    }
+    match word.chars().find(|c| *c != '_') {
+        Some(first) if first.is_ascii_alphabetic() => Ok(Lexeme::Name(word)),
+        _ => Err(SyntaxError::Fault(SyntaxFault::NoLetter, start)),
+    }
+}
+
+/// Reads a sign, the longest that comes.
+fn read_sign(cursor: &mut Cursor) -> Result<Lexeme, SyntaxError> {
+    for (spelling, symbol) in SIGNS.iter() {
+        if cursor.comes(spelling) {
+            let Some(symbol) = symbol else {
+                return Err(SyntaxError::Fault(SyntaxFault::ReservedSign, cursor.position()));
+            };
+            cursor.advance_by(spelling.len());
+            return Ok(Lexeme::Symbol(*symbol));
+        }
+    }
+    Err(SyntaxError::Fault(SyntaxFault::StrangeCharacter, cursor.position()))
+}
+
+/// Reads the next lexeme, and says where it begins.
+pub fn read_lexeme(alloc: Global, cursor: &mut Cursor) -> Result<(Lexeme, Position), SyntaxError> {
+    skip_blanks(cursor)?;
+    let position = cursor.position();
+    let lexeme = match cursor.peek() {
+        None => Lexeme::Symbol(Symbol::End),
+        Some('"') => Lexeme::Text(quoted(alloc, cursor, '"')?),
+        Some('\'') => Lexeme::Char(read_char(alloc, cursor)?),
+        Some(c) if c.is_ascii_digit() => Lexeme::Int(read_int(cursor)?),
+        Some(c) if c.is_ascii_alphabetic() || c == '_' => read_word(alloc, cursor)?,
+        Some(_) => read_sign(cursor)?,
+    };
+    Ok((lexeme, position))
+}

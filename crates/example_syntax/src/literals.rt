@@ -1,0 +1,144 @@
+// Ints, characters and texts as they are written.
+ghost use Rattle.std.specs.Prelude.{◌≤◌};
+
+use crate::cursor::Cursor;
+use crate::error::{SyntaxError, SyntaxFault};
+use rhai_text::Position;
+use rhai_value::INT;
+use std::alloc::Global;
+
+/// Reads an int, in digits of ten, or behind `0x` and `0b` the bits of one.
+pub fn read_int(cursor: &mut Cursor) -> Result<INT, SyntaxError> {
+    let start = cursor.position();
+    match (cursor.peek(), cursor.peek_second()) {
+        (Some('0'), Some('x' | 'X')) => {
+            cursor.advance_by(2);
+            Ok(read_digits(cursor, start, 16)?.cast_signed())
+        }
+        (Some('0'), Some('b' | 'B')) => {
+            cursor.advance_by(2);
+            Ok(read_digits(cursor, start, 2)?.cast_signed())
+        }
+        _ => match INT::try_from(read_digits(cursor, start, 10)?) {
+            Ok(number) => Ok(number),
+            Err(_) => Err(SyntaxError::Fault(SyntaxFault::NumberTooLarge, start)),
+        },
+    }
+}
+
+/// Reads the digits of a number, with `_` between them; no letter follows them, and no fraction.
+fn read_digits(cursor: &mut Cursor, start: Position, radix: u32) -> Result<u64, SyntaxError>
+    requires least { 2 ≤ radix }
+    requires most { radix ≤ 16 }
+{
+    let mut number = 0u64;
+    let mut has_digit = false;
+    for _ in 0..cursor.left() {
+        match cursor.peek() {
+            Some('_') => {}
+            Some(c) => match c.to_digit(radix) {
+                Some(digit) => {
+                    number = with_digit(number, radix, digit).ok_or(SyntaxError::Fault(
+                        SyntaxFault::NumberTooLarge,
+                        start,
+                    ))?;
+                    has_digit = true;
+                }
+                None => break,
+            },
+            None => break,
+        }
+        cursor.advance();
+    }
+    if !has_digit || goes_on(cursor) {
+        return Err(SyntaxError::Fault(SyntaxFault::BadNumber, start));
+    }
+    Ok(number)
+}
+
+/// The number with one more digit, if it fits.
+fn with_digit(number: u64, radix: u32, digit: u32) -> Option<u64> {
+    number
+        .checked_mul(u64::from(radix))?
+        .checked_add(u64::from(digit))
+}
+
+/// Whether digits go on with a letter, another digit or a fraction.
+fn goes_on(cursor: &Cursor) -> bool {
+    match (cursor.peek(), cursor.peek_second()) {
+        (Some('.'), Some(c)) => c.is_ascii_digit(),
+        (Some(c), _) => c.is_ascii_alphanumeric(),
+        (None, _) => false,
+    }
+}
+
+/// Reads a character in single quotation marks.
+pub fn read_char(alloc: Global, cursor: &mut Cursor) -> Result<char, SyntaxError> {
+    let start = cursor.position();
+    let text = quoted(alloc, cursor, '\'')?;
+    let mut chars = text.chars();
+    match (chars.next(), chars.next()) {
+        (Some(c), None) => Ok(c),
+        _ => Err(SyntaxError::Fault(SyntaxFault::BadCharacter, start)),
+    }
+}
+
+/// Reads a text between these quotation marks; two of them in a row are one that is meant.
+pub fn quoted(alloc: Global, cursor: &mut Cursor, mark: char) -> Result<String, SyntaxError> {
+    let start = cursor.position();
+    cursor.advance();
+    let mut text = String::new(alloc);
+    for _ in 0..cursor.left() {
+        match cursor.peek() {
+            Some('\\') => text.push(read_escape(cursor)?)?,
+            Some('\n') | None => break,
+            Some(c) => {
+                cursor.advance();
+                if c == mark {
+                    if cursor.peek() != Some(mark) {
+                        return Ok(text);
+                    }
+                    cursor.advance();
+                }
+                text.push(c)?;
+            }
+        }
+    }
+    Err(SyntaxError::Fault(SyntaxFault::OpenText, start))
+}
+
+/// Reads an escape, from its backslash on.
+fn read_escape(cursor: &mut Cursor) -> Result<char, SyntaxError> {
+    let start = cursor.position();
+    cursor.advance();
+    let letter = cursor.peek();
+    cursor.advance();
+    let meant = match letter {
+        Some('n') => Some('\n'),
+        Some('t') => Some('\t'),
+        Some('r') => Some('\r'),
+        Some('0') => Some('\0'),
+        Some('\\') => Some('\\'),
+        Some('"') => Some('"'),
+        Some('\'') => Some('\''),
+        Some('x') => read_code(cursor, 2),
+        Some('u') => read_code(cursor, 4),
+        Some('U') => read_code(cursor, 8),
+        _ => None,
+    };
+    match meant {
+        Some(c) => Ok(c),
+        None => Err(SyntaxError::Fault(SyntaxFault::BadEscape, start)),
+    }
+}
+
+/// The character whose code these many hexadecimal digits say.
+fn read_code(cursor: &mut Cursor, digits: u32) -> Option<char> {
+    let mut code = 0u32;
+    for _ in 0..digits {
+        let digit = cursor.peek()?.to_digit(16)?;
+        code = code.checked_mul(16)?.checked_add(digit)?;
+        cursor.advance();
+    }
+    char::from_u32(code)
+}

@@ -1,0 +1,208 @@
+// The names of variables, and where the frames of functions have them.
+
+use crate::tree::Slot;
+use std::alloc::{AllocError, Global};
+use std::collections::BTreeMap;
+use std::mem;
+
+/// A variable that is declared, and the earlier one of its name, which it hides.
+#[derive(Drop)]
+struct Declared {
+    name: String,
+    hidden: Option<usize>,
+}
+
+/// The variables of one function, while it is read.
+#[derive(Drop)]
+pub struct FunctionNames {
+    /// The variables that live, by their slots.
+    declared: Vec<Declared>,
+    /// The newest variable of each name.
+    newest: BTreeMap<String, usize>,
+    /// Where the function outside has the captured variables, by their numbers.
+    captured: Vec<Slot>,
+    captured_numbers: BTreeMap<String, usize>,
+    /// How many variables lived at once at most.
+    slots: usize,
+    /// How many loops are around what is read.
+    loops: usize,
+}
+
+impl FunctionNames {
+    fn new(alloc: Global) -> FunctionNames {
+        FunctionNames {
+            declared: Vec::new(alloc),
+            newest: BTreeMap::new(alloc),
+            captured: Vec::new(alloc),
+            captured_numbers: BTreeMap::new(alloc),
+            slots: 0,
+            loops: 0,
+        }
+    }
+
+    fn declare(&mut self, name: &str) -> Result<usize, AllocError> {
+        let alloc = *self.declared.allocator();
+        let slot = self.declared.len();
+        let hidden = self.newest.insert(String::from_str(alloc, name)?, slot)?;
+        self.declared.push(Declared {
+            name: String::from_str(alloc, name)?,
+            hidden,
+        })?;
+        self.slots = self.slots.max(self.declared.len());
+        Ok(slot)
+    }
+
+    fn close(&mut self, first: usize) -> Result<(), AllocError> {
+        for _ in first..self.declared.len() {
+            if let Some(Declared { name, hidden }) = self.declared.pop() {
+                match hidden {
+                    Some(slot) => {
+                        let _closed = self.newest.insert(name, slot)?;
+                    }
+                    None => {
+                        let _closed = self.newest.remove(name.as_str());
+                    }
+                }
+            }
+        }
+        Ok(())
+    }
+
+    fn slot(&self, name: &str) -> Option<Slot> {
+        match self.newest.get(name) {
+            Some(slot) => Some(Slot::Own(*slot)),
+            None => match self.captured_numbers.get(name) {
+                Some(number) => Some(Slot::Captured(*number)),
+                None => None,
+            },
+        }
+    }
+
+    /// The slot of a name, which is captured from this slot of outside where the function lacks it.
+    fn slot_or_captured(
+        &mut self,
+        name: &str,
+        outside: Option<Slot>,
+    ) -> Result<Option<Slot>, AllocError> {
+        let slot = self.slot(name);
+        match (slot, outside) {
+            (None, Some(outside)) => Ok(Some(self.capture(name, outside)?)),
+            _ => Ok(slot),
+        }
+    }
+
+    fn capture(&mut self, name: &str, outside: Slot) -> Result<Slot, AllocError> {
+        let alloc = *self.declared.allocator();
+        let number = self.captured.len();
+        let _none = self
+            .captured_numbers
+            .insert(String::from_str(alloc, name)?, number)?;
+        self.captured.push(outside)?;
+        Ok(Slot::Captured(number))
+    }
+
+    /// How many variables lived at once at most, and where the function outside has the captured ones.
+    pub fn into_parts(self) -> (usize, Vec<Slot>) {
+        let FunctionNames {
+            declared: _,
+            newest: _,
+            captured,
+            captured_numbers: _,
+            slots,
+            loops: _,
+        } = self;
+        (slots, captured)
+    }
+}
+
+/// The variables of the function that is read, and of those around it.
+#[derive(Drop)]
+pub struct Names {
+    function: FunctionNames,
+    outer: Vec<FunctionNames>,
+}
+
+impl Names {
+    /// No variable, in one function.
+    pub fn new(alloc: Global) -> Names {
+        Names {
+            function: FunctionNames::new(alloc),
+            outer: Vec::new(alloc),
+        }
+    }
+
+    /// Begins an anonymous function inside of the one that is read.
+    pub fn enter(&mut self) -> Result<(), AllocError> {
+        let inner = FunctionNames::new(*self.outer.allocator());
+        self.outer.push(mem::replace(&mut self.function, inner))?;
+        Ok(())
+    }
+
+    /// Ends the function that is read, and goes on with the one around it, or with a new one where there is none.
+    pub fn leave(&mut self) -> FunctionNames {
+        match self.outer.pop() {
+            Some(outer) => mem::replace(&mut self.function, outer),
+            None => {
+                let alloc = *self.outer.allocator();
+                mem::replace(&mut self.function, FunctionNames::new(alloc))
+            }
+        }
+    }
+
+    /// Declares a variable, which hides those of its name, and says its slot.
+    pub fn declare(&mut self, name: &str) -> Result<usize, AllocError> {
+        self.function.declare(name)
+    }
+
+    /// How many variables of the function live: the slot that the next one gets.
+    pub fn count(&self) -> usize {
+        self.function.declared.len()
+    }
+
+    /// Whether one of the variables from this slot on has the name.
+    pub fn has_since(&self, first: usize, name: &str) -> bool {
+        match self.function.newest.get(name) {
+            Some(slot) => *slot >= first,
+            None => false,
+        }
+    }
+
+    /// Ends the variables from this slot on.
+    pub fn close(&mut self, first: usize) -> Result<(), AllocError> {
+        self.function.close(first)
+    }
+
+    /// Where the function has the variable of a name, if there is one; one of outside is captured.
+    pub fn resolve(&mut self, name: &str) -> Result<Option<Slot>, AllocError> {
+        let mut slot = self.function.slot(name);
+        if slot.is_some() {
+            return Ok(slot);
+        }
+        let nearest = self
+            .outer
+            .iter()
+            .rposition(|names| names.slot(name).is_some());
+        let Some(nearest) = nearest else {
+            return Ok(None);
+        };
+        for names in self.outer.iter_mut().skip(nearest) {
+            slot = names.slot_or_captured(name, slot)?;
+        }
+        self.function.slot_or_captured(name, slot)
+    }
+
+    /// Begins a loop.
+    pub fn enter_loop(&mut self) {
+        self.function.loops = self.function.loops.saturating_add(1);
+    }
+
+    /// Ends a loop.
+    pub fn leave_loop(&mut self) {
+        self.function.loops = self.function.loops.saturating_sub(1);
+    }
+
+    /// Whether a loop of the function is around what is read.
+    pub fn is_in_loop(&self) -> bool {
+        self.function.loops > 0
+    }
+}

@@ -1,0 +1,116 @@
+// The operators between operands, from loose to tight, and those that assign.
+
+use crate::symbol::Symbol;
+use crate::tree::{Assignment, Operator};
+use rhai_text::Token;
+
+/// The loosest level of operators.
+pub const LOOSEST: u8 = 1;
+
+/// The tightest level of operators.
+pub const TIGHTEST: u8 = 9;
+
+/// The level of `**`, whose operators go to the right.
+pub const POWER: u8 = 8;
+
+/// The operator between two operands that a symbol is, with its level: higher ones are tighter.
+pub fn operator_of(symbol: Symbol) -> Option<(u8, Operator)> {
+    match symbol {
+        Symbol::And => Some((2, Operator::And)),
+        Symbol::Or => Some((1, Operator::Or)),
+        Symbol::Operator(token) => match level_of(token) {
+            Some(level) => Some((level, Operator::Plain(token))),
+            None => None,
+        },
+        _ => None,
+    }
+}
+
+fn level_of(token: Token) -> Option<u8> {
+    match token {
+        Token::Pipe | Token::XOr => Some(1),
+        Token::Ampersand => Some(2),
+        Token::EqualsTo | Token::NotEqualsTo => Some(3),
+        Token::LessThan
+        | Token::LessThanEqualsTo
+        | Token::GreaterThan
+        | Token::GreaterThanEqualsTo => Some(4),
+        Token::ExclusiveRange | Token::InclusiveRange => Some(5),
+        Token::Plus | Token::Minus => Some(6),
+        Token::Multiply | Token::Divide | Token::Modulo => Some(7),
+        Token::PowerOf => Some(POWER),
+        Token::LeftShift | Token::RightShift => Some(TIGHTEST),
+        Token::Equals
+        | Token::PlusAssign
+        | Token::MinusAssign
+        | Token::MultiplyAssign
+        | Token::DivideAssign
+        | Token::ModuloAssign
+        | Token::PowerOfAssign
+        | Token::RightShiftAssign
+        | Token::LeftShiftAssign
+        | Token::AndAssign
+        | Token::OrAssign
+        | Token::XOrAssign => None,
+    }
+}
+
+/// The operator that stands in an operator that assigns; `=` has none.
+fn plain_of(whole: Token) -> Option<Token> {
+    match whole {
+        Token::PlusAssign => Some(Token::Plus),
+        Token::MinusAssign => Some(Token::Minus),
+        Token::MultiplyAssign => Some(Token::Multiply),
+        Token::DivideAssign => Some(Token::Divide),
+        Token::ModuloAssign => Some(Token::Modulo),
+        Token::PowerOfAssign => Some(Token::PowerOf),
+        Token::RightShiftAssign => Some(Token::RightShift),
+        Token::LeftShiftAssign => Some(Token::LeftShift),
+        Token::AndAssign => Some(Token::Ampersand),
+        Token::OrAssign => Some(Token::Pipe),
+        Token::XOrAssign => Some(Token::XOr),
+        Token::Plus
+        | Token::Minus
+        | Token::Multiply
+        | Token::Divide
+        | Token::Modulo
+        | Token::PowerOf
+        | Token::RightShift
+        | Token::LeftShift
+        | Token::Ampersand
+        | Token::Pipe
+        | Token::XOr
+        | Token::EqualsTo
+        | Token::NotEqualsTo
+        | Token::GreaterThan
+        | Token::GreaterThanEqualsTo
+        | Token::LessThan
+        | Token::LessThanEqualsTo
+        | Token::ExclusiveRange
+        | Token::InclusiveRange
+        | Token::Equals => None,
+    }
+}
+
+/// How a symbol assigns, if it does.
+#[derive(Clone, Copy, Debug, PartialEq, Eq)]
+pub enum Assigning {
+    /// It does not.
+    No,
+    /// `=`
+    Plainly,
+    /// As `+=` does.
+    By(Assignment),
+}
+
+/// How a symbol assigns.
+pub fn assigning_of(symbol: Symbol) -> Assigning {
+    match symbol {
+        Symbol::Operator(Token::Equals) => Assigning::Plainly,
+        Symbol::Operator(whole) => match plain_of(whole) {
+            Some(plain) => Assigning::By(Assignment { whole, plain }),
+            None => Assigning::No,
+        },
+        _ => Assigning::No,
+    }
+}

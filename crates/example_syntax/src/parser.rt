@@ -1,0 +1,198 @@
+// Lexemes to trees. Each function that reads a part of a tree is told how many levels of it are left.
+ghost use Rattle.std.specs.Prelude.{◌≡◌, ◌+◌, IfOk};
+
+use crate::MOST_LEVELS;
+use crate::callees::Callees;
+use crate::cursor::Cursor;
+use crate::error::{SyntaxError, SyntaxFault};
+use crate::lexeme::{Lexeme, read_lexeme};
+use crate::names::Names;
+use crate::symbol::Symbol;
+use crate::tree::{Block, Expr, Function, Program};
+use crate::words::is_reserved;
+use rhai_text::Position;
+use std::alloc::Global;
+use std::mem;
+
+mod blocks;
+mod chains;
+mod expressions;
+mod functions;
+mod loops;
+mod primaries;
+mod statements;
+
+/// Reads a script, a lexeme after the other.
+#[derive(Drop)]
+struct Parser {
+    alloc: Global,
+    cursor: Cursor,
+    /// The lexeme that comes next, and its place.
+    lexeme: Lexeme,
+    position: Position,
+    names: Names,
+    callees: Callees,
+    functions: Vec<Function>,
+    /// The lowest level that the expression that is read has come to.
+    lowest: usize,
+}
+
+/// Reads a script.
+///
+/// It takes a time in the length of the text, and no deeper a stack than `MOST_LEVELS` asks for.
+pub fn parse(alloc: Global, text: &str) -> Result<Program, SyntaxError> {
+    let mut parser = Parser::new(alloc, text)?;
+    let mut statements = Vec::new(alloc);
+    for _ in 0..parser.lexemes_left() {
+        if parser.is_next(Symbol::End) {
+            break;
+        }
+        if parser.is_next(Symbol::Fn) {
+            parser.function()?;
+        } else {
+            parser.terminated_statement(MOST_LEVELS, &mut statements)?;
+        }
+    }
+    parser.expect(Symbol::End)?;
+    Ok(parser.into_program(statements))
+}
+
+impl Parser {
+    fn new(alloc: Global, text: &str) -> Result<Parser, SyntaxError> {
+        let mut cursor = Cursor::new(text.chars().collect(alloc)?);
+        let (lexeme, position) = read_lexeme(alloc, &mut cursor)?;
+        Ok(Parser {
+            alloc,
+            cursor,
+            lexeme,
+            position,
+            names: Names::new(alloc),
+            callees: Callees::new(alloc),
+            functions: Vec::new(alloc),
+            lowest: MOST_LEVELS,
+        })
+    }
+
+    fn into_program(self, statements: Vec<Expr>) -> Program {
+        let Parser {
+            alloc: _,
+            cursor: _,
+            lexeme: _,
+            position: _,
+            mut names,
+            callees,
+            functions,
+            lowest: _,
+        } = self;
+        let end_slot = names.count();
+        let (slots, _captured) = names.leave().into_parts();
+        Program {
+            functions,
+            callees: callees.into_vec(),
+            slots,
+            body: Block {
+                statements,
+                first_slot: 0,
+                end_slot,
+            },
+        }
+    }
+
+    /// What is wrong at the next lexeme.
+    fn fault(&self, fault: SyntaxFault) -> SyntaxError {
+        SyntaxError::Fault(fault, self.position)
+    }
+
+    /// How many lexemes are left at most, with the end.
+    fn lexemes_left(&self) -> usize {
+        self.cursor.left().saturating_add(2)
+    }
+
+    /// The symbol that comes next, if one does.
+    fn symbol(&self) -> Option<Symbol> {
+        match &self.lexeme {
+            Lexeme::Symbol(symbol) => Some(*symbol),
+            Lexeme::Int(_) | Lexeme::Char(_) | Lexeme::Text(_) | Lexeme::Name(_) => None,
+        }
+    }
+
+    /// Whether this symbol comes next.
+    fn is_next(&self, symbol: Symbol) -> bool {
+        self.symbol() == Some(symbol)
+    }
+
+    /// Goes on behind the next lexeme.
+    fn advance(&mut self) -> Result<(), SyntaxError> {
+        let (lexeme, position) = read_lexeme(self.alloc, &mut self.cursor)?;
+        self.lexeme = lexeme;
+        self.position = position;
+        Ok(())
+    }
+
+    /// Takes the next lexeme out, before `advance`.
+    fn take_lexeme(&mut self) -> Lexeme {
+        mem::replace(&mut self.lexeme, Lexeme::Symbol(Symbol::End))
+    }
+
+    /// Goes on behind this symbol, if it comes next.
+    fn takes(&mut self, symbol: Symbol) -> Result<bool, SyntaxError> {
+        let is_next = self.is_next(symbol);
+        if is_next {
+            self.advance()?;
+        }
+        Ok(is_next)
+    }
+
+    /// Goes on behind this symbol, which comes next.
+    fn expect(&mut self, symbol: Symbol) -> Result<(), SyntaxError> {
+        if self.is_next(symbol) {
+            self.advance()
+        } else {
+            Err(self.fault(SyntaxFault::Expected(symbol)))
+        }
+    }
+
+    /// Goes on behind a word that is no keyword.
+    fn word(&mut self) -> Result<String, SyntaxError> {
+        match self.take_lexeme() {
+            Lexeme::Name(word) => {
+                self.advance()?;
+                Ok(word)
+            }
+            Lexeme::Int(_) | Lexeme::Char(_) | Lexeme::Text(_) | Lexeme::Symbol(_) => {
+                Err(self.fault(SyntaxFault::ExpectedName))
+            }
+        }
+    }
+
+    /// Goes on behind the name of something, which is no reserved word.
+    fn name(&mut self) -> Result<String, SyntaxError> {
+        let position = self.position;
+        let word = self.word()?;
+        if is_reserved(word.as_str()) {
+            return Err(SyntaxError::Fault(SyntaxFault::ReservedWord, position));
+        }
+        Ok(word)
+    }
+
+    /// The levels that are left below one.
+    fn below(&self, levels: usize) -> Result<usize, SyntaxError>
+        ensures { IfOk result (λ below. below + 1 ≡ levels) }
+    {
+        match levels.checked_sub(1) {
+            Some(below) => Ok(below),
+            None => Err(self.fault(SyntaxFault::TooDeep)),
+        }
+    }
+
+    /// Says that the expression that is read has a part at this level.
+    fn reach(&mut self, levels: usize) {
+        self.lowest = self.lowest.min(levels);
+    }
+
+    /// Moves what was read of the expression one level down, since it is part of a larger one.
+    fn lower(&mut self) -> Result<(), SyntaxError> {
+        self.lowest = self.below(self.lowest)?;
+        Ok(())
+    }
+}

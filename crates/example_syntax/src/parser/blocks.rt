@@ -1,0 +1,133 @@
+// Blocks, and the statements of blocks alone.
+
+use super::Parser;
+use crate::error::{SyntaxError, SyntaxFault};
+use crate::operators::LOOSEST;
+use crate::symbol::Symbol;
+use crate::tree::{Arm, Block, Expr};
+
+impl Parser {
+    /// Reads a block; its statements stand on this level.
+    #[cycle(parse)]
+    pub(super) fn block(&mut self, levels: usize) -> Result<Block, SyntaxError> {
+        self.expect(Symbol::OpenBrace)?;
+        let first_slot = self.names.count();
+        let mut statements = Vec::new(self.alloc);
+        for _ in 0..self.lexemes_left() {
+            if self.is_next(Symbol::CloseBrace) {
+                break;
+            }
+            self.terminated_statement(levels, &mut statements)?;
+        }
+        self.expect(Symbol::CloseBrace)?;
+        let end_slot = self.names.count();
+        self.names.close(first_slot)?;
+        Ok(Block {
+            statements,
+            first_slot,
+            end_slot,
+        })
+    }
+
+    /// Reads a statement and the semicolon behind it. The last of a block has none, nor has one that ends in a block.
+    #[cycle(parse)]
+    pub(super) fn terminated_statement(
+        &mut self,
+        levels: usize,
+        statements: &mut Vec<Expr>,
+    ) -> Result<(), SyntaxError> {
+        if self.takes(Symbol::Semicolon)? {
+            return Ok(());
+        }
+        let ends_itself = match self.symbol() {
+            Some(symbol) => symbol.begins_block(),
+            None => false,
+        };
+        statements.push(self.statement(levels)?)?;
+        if ends_itself || self.takes(Symbol::Semicolon)? || self.is_statement_end() {
+            return Ok(());
+        }
+        Err(self.fault(SyntaxFault::Expected(Symbol::Semicolon)))
+    }
+
+    /// Whether a statement ends before the next lexeme.
+    pub(super) fn is_statement_end(&self) -> bool {
+        self.is_next(Symbol::Semicolon)
+            || self.is_next(Symbol::CloseBrace)
+            || self.is_next(Symbol::End)
+    }
+
+    /// Reads what consists of blocks.
+    #[cycle(parse)]
+    pub(super) fn construct(&mut self, levels: usize, symbol: Symbol) -> Result<Expr, SyntaxError> {
+        match symbol {
+            Symbol::OpenBrace => {
+                let below = self.below(levels)?;
+                Ok(Expr::Block(self.block(below)?))
+            }
+            Symbol::If => self.if_else(levels),
+            Symbol::While => self.while_loop(levels),
+            Symbol::Loop => self.endless_loop(levels),
+            Symbol::For => self.for_loop(levels),
+            _ => Err(self.fault(SyntaxFault::ExpectedExpression)),
+        }
+    }
+
+    #[cycle(parse)]
+    fn if_else(&mut self, levels: usize) -> Result<Expr, SyntaxError> {
+        let below = self.below(levels)?;
+        let mut arms = Vec::new(self.alloc);
+        let mut otherwise = None;
+        for _ in 0..self.lexemes_left() {
+            self.expect(Symbol::If)?;
+            arms.push(self.arm(below)?)?;
+            if !self.takes(Symbol::Else)? {
+                break;
+            }
+            if !self.is_next(Symbol::If) {
+                otherwise = Some(self.block(below)?);
+                break;
+            }
+        }
+        Ok(Expr::If { arms, otherwise })
+    }
+
+    #[cycle(parse)]
+    fn arm(&mut self, levels: usize) -> Result<Arm, SyntaxError> {
+        let position = self.position;
+        let condition = self.expression(levels, LOOSEST)?;
+        let body = self.block(levels)?;
+        Ok(Arm {
+            condition,
+            position,
+            body,
+        })
+    }
+
+    #[cycle(parse)]
+    pub(super) fn try_catch(&mut self, levels: usize) -> Result<Expr, SyntaxError> {
+        self.advance()?;
+        let below = self.below(levels)?;
+        let body = self.block(below)?;
+        self.expect(Symbol::Catch)?;
+        let first_slot = self.names.count();
+        let error = self.caught_name()?;
+        let handler = self.block(below)?;
+        self.names.close(first_slot)?;
+        Ok(Expr::Try {
+            body,
+            error,
+            handler,
+        })
+    }
+
+    /// Reads the name of what is caught, if one is given, and declares it.
+    fn caught_name(&mut self) -> Result<Option<usize>, SyntaxError> {
+        if !self.takes(Symbol::OpenParenthesis)? {
+            return Ok(None);
+        }
+        let name = self.name()?;
+        self.expect(Symbol::CloseParenthesis)?;
+        Ok(Some(self.names.declare(name.as_str())?))
+    }
+}

@@ -1,0 +1,108 @@
+// Indices, properties and methods.
+ghost use Rattle.std.specs.Prelude.{◌≡◌};
+
+use super::Parser;
+use crate::error::{SyntaxError, SyntaxFault};
+use crate::operators::LOOSEST;
+use crate::symbol::Symbol;
+use crate::tree::{Expr, Step};
+use crate::words::{is_method, is_reserved};
+use rhai_text::{ImmutableString, Position};
+
+impl Parser {
+    /// Reads an operand with the steps behind it.
+    #[cycle(parse)]
+    pub(super) fn chain(&mut self, levels: usize) -> Result<Expr, SyntaxError> {
+        let root = self.primary(levels)?;
+        if !self.is_step_next() {
+            return Ok(root);
+        }
+        self.lower()?;
+        let below = self.below(levels)?;
+        let mut steps = Vec::new(self.alloc);
+        for _ in 0..self.lexemes_left() {
+            if !self.is_step_next() {
+                break;
+            }
+            steps.push(self.step(below)?)?;
+        }
+        Ok(Expr::Chain {
+            root: Box::new(self.alloc, root)?,
+            steps,
+        })
+    }
+
+    fn is_step_next(&self) -> bool {
+        self.is_next(Symbol::OpenBracket) || self.is_next(Symbol::Dot)
+    }
+
+    #[cycle(parse)]
+    fn step(&mut self, levels: usize) -> Result<Step, SyntaxError> {
+        if self.takes(Symbol::OpenBracket)? {
+            let position = self.position;
+            let index = self.expression(levels, LOOSEST)?;
+            self.expect(Symbol::CloseBracket)?;
+            return Ok(Step::Index { index, position });
+        }
+        self.expect(Symbol::Dot)?;
+        let position = self.position;
+        let word = self.word()?;
+        if self.is_next(Symbol::OpenParenthesis) {
+            self.method(levels, word, position)
+        } else {
+            self.property(word, position)
+        }
+    }
+
+    #[cycle(parse)]
+    fn method(
+        &mut self,
+        levels: usize,
+        word: String,
+        position: Position,
+    ) -> Result<Step, SyntaxError> {
+        if !is_method(word.as_str()) {
+            return Err(SyntaxError::Fault(SyntaxFault::ReservedWord, position));
+        }
+        let arguments = self.arguments(levels)?;
+        let count = arguments.len().saturating_add(1);
+        let callee = self.callees.number(word.as_str(), count)?;
+        Ok(Step::Method {
+            callee,
+            arguments,
+            position,
+        })
+    }
+
+    fn property(&mut self, word: String, position: Position) -> Result<Step, SyntaxError> {
+        if is_reserved(word.as_str()) {
+            return Err(SyntaxError::Fault(SyntaxFault::ReservedWord, position));
+        }
+        let key = ImmutableString::from_str(self.alloc, word.as_str())?;
+        Ok(Step::Property { key, position })
+    }
+
+    /// Reads the arguments of a call, in parentheses.
+    #[cycle(parse)]
+    pub(super) fn arguments(&mut self, levels: usize) -> Result<Vec<Expr>, SyntaxError> {
+        self.expect(Symbol::OpenParenthesis)?;
+        self.list(levels, Symbol::CloseParenthesis)
+    }
+
+    /// Reads expressions, up to this symbol.
+    #[cycle(parse)]
+    pub(super) fn list(&mut self, levels: usize, end: Symbol) -> Result<Vec<Expr>, SyntaxError> {
+        let mut items = Vec::new(self.alloc);
+        for _ in 0..self.lexemes_left() {
+            if self.is_next(end) {
+                break;
+            }
+            items.push(self.expression(levels, LOOSEST)?)?;
+            if !self.is_next(end) {
+                self.expect(Symbol::Comma)?;
+            }
+        }
+        self.expect(end)?;
+        Ok(items)
+    }
+}

@@ -1,0 +1,128 @@
+// Operators and their operands.
+
+use super::Parser;
+use crate::error::SyntaxError;
+use crate::operators::{LOOSEST, POWER, TIGHTEST, operator_of};
+use crate::symbol::Symbol;
+use crate::tree::{Expr, Operator, Term, UnaryOperator};
+use rhai_text::{Position, Token};
+use std::mem;
+
+impl Parser {
+    /// Reads an expression, by operators of this level and tighter ones.
+    #[cycle(parse)]
+    pub(super) fn expression(&mut self, levels: usize, least: u8) -> Result<Expr, SyntaxError> {
+        let outer = mem::replace(&mut self.lowest, levels);
+        let mut read = self.unary(levels)?;
+        for _ in LOOSEST..=TIGHTEST {
+            let Some(level) = self.next_level(least) else {
+                break;
+            };
+            self.lower()?;
+            let rest = self.run(levels, level)?;
+            read = Expr::Run {
+                first: Box::new(self.alloc, read)?,
+                rest,
+            };
+        }
+        self.reach(outer);
+        Ok(read)
+    }
+
+    /// Reads a part one level below this one.
+    #[cycle(parse)]
+    pub(super) fn part(&mut self, levels: usize) -> Result<Box<Expr>, SyntaxError> {
+        let below = self.below(levels)?;
+        let part = self.expression(below, LOOSEST)?;
+        Ok(Box::new(self.alloc, part)?)
+    }
+
+    /// Reads the operators of one level that come, each with its right operand.
+    #[cycle(parse)]
+    fn run(&mut self, levels: usize, level: u8) -> Result<Vec<Term>, SyntaxError> {
+        let below = self.below(levels)?;
+        let mut terms = Vec::new(self.alloc);
+        for _ in 0..self.lexemes_left() {
+            let Some(operator) = self.next_operator(level) else {
+                break;
+            };
+            let position = self.position;
+            self.advance()?;
+            let operand = self.expression(below, least_behind(level))?;
+            terms.push(Term {
+                operator,
+                position,
+                operand,
+            })?;
+        }
+        Ok(terms)
+    }
+
+    /// Reads an operand, with the operators before it.
+    #[cycle(parse)]
+    fn unary(&mut self, levels: usize) -> Result<Expr, SyntaxError> {
+        self.reach(levels);
+        let Some(operator) = self.next_unary() else {
+            return self.chain(levels);
+        };
+        let position = self.position;
+        self.advance()?;
+        let below = self.below(levels)?;
+        let operand = self.unary(below)?;
+        self.with_unary(operator, operand, position)
+    }
+
+    /// The operand with an operator before it; an int is negated at once.
+    fn with_unary(
+        &mut self,
+        operator: UnaryOperator,
+        operand: Expr,
+        position: Position,
+    ) -> Result<Expr, SyntaxError> {
+        if let (UnaryOperator::Minus, Expr::Int(number)) = (operator, &operand) {
+            if let Some(negative) = number.checked_neg() {
+                return Ok(Expr::Int(negative));
+            }
+        }
+        Ok(Expr::Unary {
+            operator,
+            operand: Box::new(self.alloc, operand)?,
+            position,
+        })
+    }
+
+    /// The level of the operator that comes next, unless it is looser than this one.
+    fn next_level(&self, least: u8) -> Option<u8> {
+        let (level, _) = operator_of(self.symbol()?)?;
+        if level < least { None } else { Some(level) }
+    }
+
+    /// The operator that comes next, if it has this level.
+    fn next_operator(&self, wanted: u8) -> Option<Operator> {
+        let (level, operator) = operator_of(self.symbol()?)?;
+        if level == wanted {
+            Some(operator)
+        } else {
+            None
+        }
+    }
+
+    /// The operator before an operand that comes next.
+    fn next_unary(&self) -> Option<UnaryOperator> {
+        match self.symbol()? {
+            Symbol::Not => Some(UnaryOperator::Not),
+            Symbol::Operator(Token::Minus) => Some(UnaryOperator::Minus),
+            Symbol::Operator(Token::Plus) => Some(UnaryOperator::Plus),
+            _ => None,
+        }
+    }
+}
+
+/// The loosest level of operators in a right operand at this level.
+fn least_behind(level: u8) -> u8 {
+    if level == POWER {
+        level
+    } else {
+        level.saturating_add(1)
+    }
+}

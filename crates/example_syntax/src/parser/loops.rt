@@ -1,0 +1,81 @@
+// Loops.
+
+use super::Parser;
+use crate::error::{SyntaxError, SyntaxFault};
+use crate::operators::LOOSEST;
+use crate::symbol::Symbol;
+use crate::tree::{Arm, Block, Expr};
+
+impl Parser {
+    /// Reads the block of a loop.
+    #[cycle(parse)]
+    fn loop_body(&mut self, levels: usize) -> Result<Block, SyntaxError> {
+        self.names.enter_loop();
+        let body = self.block(levels)?;
+        self.names.leave_loop();
+        Ok(body)
+    }
+
+    #[cycle(parse)]
+    pub(super) fn while_loop(&mut self, levels: usize) -> Result<Expr, SyntaxError> {
+        self.advance()?;
+        let below = self.below(levels)?;
+        let position = self.position;
+        let condition = self.expression(below, LOOSEST)?;
+        let body = self.loop_body(below)?;
+        let arm = Arm {
+            condition,
+            position,
+            body,
+        };
+        Ok(Expr::While(Box::new(self.alloc, arm)?))
+    }
+
+    #[cycle(parse)]
+    pub(super) fn endless_loop(&mut self, levels: usize) -> Result<Expr, SyntaxError> {
+        self.advance()?;
+        let below = self.below(levels)?;
+        Ok(Expr::Loop(self.loop_body(below)?))
+    }
+
+    #[cycle(parse)]
+    pub(super) fn for_loop(&mut self, levels: usize) -> Result<Expr, SyntaxError> {
+        self.advance()?;
+        let (item, index) = self.loop_names()?;
+        self.expect(Symbol::In)?;
+        let position = self.position;
+        let source = self.part(levels)?;
+        let below = self.below(levels)?;
+        let first_slot = self.names.count();
+        let item = self.names.declare(item.as_str())?;
+        let index = match index {
+            Some(index) => Some(self.names.declare(index.as_str())?),
+            None => None,
+        };
+        let body = self.loop_body(below)?;
+        self.names.close(first_slot)?;
+        Ok(Expr::For {
+            item,
+            index,
+            source,
+            position,
+            body,
+        })
+    }
+
+    /// Reads the names of the item and of its index: `x`, or `(x, i)`.
+    fn loop_names(&mut self) -> Result<(String, Option<String>), SyntaxError> {
+        if !self.takes(Symbol::OpenParenthesis)? {
+            return Ok((self.name()?, None));
+        }
+        let item = self.name()?;
+        self.expect(Symbol::Comma)?;
+        let position = self.position;
+        let index = self.name()?;
+        if index.as_str() == item.as_str() {
+            return Err(SyntaxError::Fault(SyntaxFault::NameTwice, position));
+        }
+        self.expect(Symbol::CloseParenthesis)?;
+        Ok((item, Some(index)))
+    }
+}

@@ -1,0 +1,150 @@
+// Literals, variables, calls and what stands in brackets.
+ghost use Rattle.std.specs.Prelude.{◌≡◌};
+
+use super::Parser;
+use crate::error::{SyntaxError, SyntaxFault};
+use crate::lexeme::Lexeme;
+use crate::operators::LOOSEST;
+use crate::symbol::Symbol;
+use crate::tree::{Expr, Field, Variable};
+use crate::words::{is_callable, is_reserved};
+use rhai_text::{ImmutableString, Position, Token};
+use std::collections::BTreeSet;
+
+impl Parser {
+    /// Reads an operand without the steps behind it.
+    #[cycle(parse)]
+    pub(super) fn primary(&mut self, levels: usize) -> Result<Expr, SyntaxError> {
+        match self.symbol() {
+            Some(Symbol::OpenParenthesis) => self.parenthesized(levels),
+            Some(Symbol::OpenBracket) => self.array(levels),
+            Some(Symbol::OpenMap) => self.object(levels),
+            Some(Symbol::Operator(Token::Pipe) | Symbol::Or) => self.closure(levels),
+            Some(Symbol::True) => self.literal(Expr::Bool(true)),
+            Some(Symbol::False) => self.literal(Expr::Bool(false)),
+            Some(symbol) => self.construct(levels, symbol),
+            None => self.operand(levels),
+        }
+    }
+
+    /// Goes on behind the one lexeme of a literal.
+    fn literal(&mut self, literal: Expr) -> Result<Expr, SyntaxError> {
+        self.advance()?;
+        Ok(literal)
+    }
+
+    /// Reads an operand that begins with no symbol.
+    #[cycle(parse)]
+    fn operand(&mut self, levels: usize) -> Result<Expr, SyntaxError> {
+        let position = self.position;
+        match self.take_lexeme() {
+            Lexeme::Int(number) => self.literal(Expr::Int(number)),
+            Lexeme::Char(c) => self.literal(Expr::Char(c)),
+            Lexeme::Text(text) => {
+                let text = ImmutableString::from_str(self.alloc, text.as_str())?;
+                self.literal(Expr::Text(text))
+            }
+            Lexeme::Name(word) => {
+                self.advance()?;
+                if self.is_next(Symbol::OpenParenthesis) {
+                    self.call(levels, word, position)
+                } else {
+                    self.variable(word, position)
+                }
+            }
+            Lexeme::Symbol(_) => Err(self.fault(SyntaxFault::ExpectedExpression)),
+        }
+    }
+
+    /// Reads the arguments of a call.
+    #[cycle(parse)]
+    fn call(
+        &mut self,
+        levels: usize,
+        word: String,
+        position: Position,
+    ) -> Result<Expr, SyntaxError> {
+        if !is_callable(word.as_str()) {
+            return Err(SyntaxError::Fault(SyntaxFault::ReservedWord, position));
+        }
+        let below = self.below(levels)?;
+        let arguments = self.arguments(below)?;
+        let callee = self.callees.number(word.as_str(), arguments.len())?;
+        Ok(Expr::Call {
+            callee,
+            arguments,
+            position,
+        })
+    }
+
+    fn variable(&mut self, word: String, position: Position) -> Result<Expr, SyntaxError> {
+        if is_reserved(word.as_str()) {
+            return Err(SyntaxError::Fault(SyntaxFault::ReservedWord, position));
+        }
+        let variable = match self.names.resolve(word.as_str())? {
+            Some(slot) => Variable::Known(slot),
+            None => Variable::Unknown(ImmutableString::from_str(self.alloc, word.as_str())?),
+        };
+        Ok(Expr::Variable { variable, position })
+    }
+
+    #[cycle(parse)]
+    fn parenthesized(&mut self, levels: usize) -> Result<Expr, SyntaxError> {
+        self.advance()?;
+        if self.takes(Symbol::CloseParenthesis)? {
+            return Ok(Expr::Unit);
+        }
+        let below = self.below(levels)?;
+        let read = self.expression(below, LOOSEST)?;
+        self.expect(Symbol::CloseParenthesis)?;
+        Ok(read)
+    }
+
+    #[cycle(parse)]
+    fn array(&mut self, levels: usize) -> Result<Expr, SyntaxError> {
+        self.advance()?;
+        let below = self.below(levels)?;
+        Ok(Expr::Array(self.list(below, Symbol::CloseBracket)?))
+    }
+
+    #[cycle(parse)]
+    fn object(&mut self, levels: usize) -> Result<Expr, SyntaxError> {
+        self.advance()?;
+        let below = self.below(levels)?;
+        let mut keys = BTreeSet::new(self.alloc);
+        let mut fields = Vec::new(self.alloc);
+        for _ in 0..self.lexemes_left() {
+            if self.is_next(Symbol::CloseBrace) {
+                break;
+            }
+            let key = self.key(&mut keys)?;
+            let value = self.expression(below, LOOSEST)?;
+            fields.push(Field { key, value })?;
+            if !self.is_next(Symbol::CloseBrace) {
+                self.expect(Symbol::Comma)?;
+            }
+        }
+        self.expect(Symbol::CloseBrace)?;
+        Ok(Expr::Object(fields))
+    }
+
+    /// Reads the key of a field with its colon; it is none of those that were read.
+    fn key(&mut self, keys: &mut BTreeSet<String>) -> Result<ImmutableString, SyntaxError> {
+        let position = self.position;
+        let key = match self.take_lexeme() {
+            Lexeme::Text(text) => text,
+            Lexeme::Name(word) if !is_reserved(word.as_str()) => word,
+            Lexeme::Name(_) => return Err(self.fault(SyntaxFault::ReservedWord)),
+            Lexeme::Int(_) | Lexeme::Char(_) | Lexeme::Symbol(_) => {
+                return Err(self.fault(SyntaxFault::ExpectedKey));
+            }
+        };
+        let text = ImmutableString::from_str(self.alloc, key.as_str())?;
+        if !keys.insert(key)? {
+            return Err(SyntaxError::Fault(SyntaxFault::KeyTwice, position));
+        }
+        self.advance()?;
+        self.expect(Symbol::Colon)?;
+        Ok(text)
+    }
+}

@@ -1,0 +1,208 @@
+// Keywords and signs.
+
+use rhai_text::Token;
+use std::fmt;
+
+/// A keyword or a sign of the language, or the end of the text.
+#[derive(Clone, Copy, Debug, PartialEq, Eq)]
+pub enum Symbol {
+    Break,
+    Catch,
+    Const,
+    Continue,
+    Else,
+    False,
+    Fn,
+    For,
+    If,
+    In,
+    Let,
+    Loop,
+    Return,
+    Throw,
+    True,
+    Try,
+    While,
+    /// `(`
+    OpenParenthesis,
+    /// `)`
+    CloseParenthesis,
+    /// `[`
+    OpenBracket,
+    /// `]`
+    CloseBracket,
+    /// `{`
+    OpenBrace,
+    /// `}`
+    CloseBrace,
+    /// `#{`
+    OpenMap,
+    /// `,`
+    Comma,
+    /// `;`
+    Semicolon,
+    /// `:`
+    Colon,
+    /// `.`
+    Dot,
+    /// `!`
+    Not,
+    /// `&&`
+    And,
+    /// `||`
+    Or,
+    /// An operator of values.
+    Operator(Token),
+    /// The end of the text.
+    End,
+}
+
+/// The words that the language has. Other words are names, or are reserved.
+static KEYWORDS: [(&str, Symbol); 17] = [
+    ("break", Symbol::Break),
+    ("catch", Symbol::Catch),
+    ("const", Symbol::Const),
+    ("continue", Symbol::Continue),
+    ("else", Symbol::Else),
+    ("false", Symbol::False),
+    ("fn", Symbol::Fn),
+    ("for", Symbol::For),
+    ("if", Symbol::If),
+    ("in", Symbol::In),
+    ("let", Symbol::Let),
+    ("loop", Symbol::Loop),
+    ("return", Symbol::Return),
+    ("throw", Symbol::Throw),
+    ("true", Symbol::True),
+    ("try", Symbol::Try),
+    ("while", Symbol::While),
+];
+
+/// The signs of rhai, longer ones first; those that this language lacks have no symbol.
+pub static SIGNS: [(&str, Option<Symbol>); 73] = [
+    ("..=", Some(Symbol::Operator(Token::InclusiveRange))),
+    ("**=", Some(Symbol::Operator(Token::PowerOfAssign))),
+    ("<<=", Some(Symbol::Operator(Token::LeftShiftAssign))),
+    (">>=", Some(Symbol::Operator(Token::RightShiftAssign))),
+    ("...", None),
+    ("===", None),
+    ("!==", None),
+    ("::<", None),
+    ("..", Some(Symbol::Operator(Token::ExclusiveRange))),
+    ("**", Some(Symbol::Operator(Token::PowerOf))),
+    ("<<", Some(Symbol::Operator(Token::LeftShift))),
+    (">>", Some(Symbol::Operator(Token::RightShift))),
+    ("==", Some(Symbol::Operator(Token::EqualsTo))),
+    ("!=", Some(Symbol::Operator(Token::NotEqualsTo))),
+    ("<=", Some(Symbol::Operator(Token::LessThanEqualsTo))),
+    (">=", Some(Symbol::Operator(Token::GreaterThanEqualsTo))),
+    ("+=", Some(Symbol::Operator(Token::PlusAssign))),
+    ("-=", Some(Symbol::Operator(Token::MinusAssign))),
+    ("*=", Some(Symbol::Operator(Token::MultiplyAssign))),
+    ("/=", Some(Symbol::Operator(Token::DivideAssign))),
+    ("%=", Some(Symbol::Operator(Token::ModuloAssign))),
+    ("&=", Some(Symbol::Operator(Token::AndAssign))),
+    ("|=", Some(Symbol::Operator(Token::OrAssign))),
+    ("^=", Some(Symbol::Operator(Token::XOrAssign))),
+    ("&&", Some(Symbol::And)),
+    ("||", Some(Symbol::Or)),
+    ("#{", Some(Symbol::OpenMap)),
+    ("#!", None),
+    ("=>", None),
+    ("->", None),
+    ("<-", None),
+    ("<|", None),
+    ("|>", None),
+    ("++", None),
+    ("--", None),
+    ("::", None),
+    (":=", None),
+    (":;", None),
+    ("??", None),
+    ("?.", None),
+    ("?[", None),
+    ("(*", None),
+    ("*)", None),
+    ("!.", None),
+    ("+", Some(Symbol::Operator(Token::Plus))),
+    ("-", Some(Symbol::Operator(Token::Minus))),
+    ("*", Some(Symbol::Operator(Token::Multiply))),
+    ("/", Some(Symbol::Operator(Token::Divide))),
+    ("%", Some(Symbol::Operator(Token::Modulo))),
+    ("&", Some(Symbol::Operator(Token::Ampersand))),
+    ("|", Some(Symbol::Operator(Token::Pipe))),
+    ("^", Some(Symbol::Operator(Token::XOr))),
+    ("<", Some(Symbol::Operator(Token::LessThan))),
+    (">", Some(Symbol::Operator(Token::GreaterThan))),
+    ("=", Some(Symbol::Operator(Token::Equals))),
+    ("!", Some(Symbol::Not)),
+    ("(", Some(Symbol::OpenParenthesis)),
+    (")", Some(Symbol::CloseParenthesis)),
+    ("[", Some(Symbol::OpenBracket)),
+    ("]", Some(Symbol::CloseBracket)),
+    ("{", Some(Symbol::OpenBrace)),
+    ("}", Some(Symbol::CloseBrace)),
+    (",", Some(Symbol::Comma)),
+    (";", Some(Symbol::Semicolon)),
+    (":", Some(Symbol::Colon)),
+    (".", Some(Symbol::Dot)),
+    ("#", None),
+    ("?", None),
+    ("@", None),
+    ("$", None),
+    ("~", None),
+    ("`", None),
+    ("\\", None),
+];
+
+/// The keyword that a word is.
+pub fn keyword(word: &str) -> Option<Symbol> {
+    for (spelling, symbol) in KEYWORDS.iter() {
+        if *spelling == word {
+            return Some(*symbol);
+        }
+    }
+    None
+}
+
+impl Symbol {
+    /// How the symbol is written.
+    fn spelling(self) -> &'static str {
+        for (spelling, symbol) in KEYWORDS.iter() {
+            if *symbol == self {
+                return spelling;
+            }
+        }
+        for (spelling, symbol) in SIGNS.iter() {
+            if *symbol == Some(self) {
+                return spelling;
+            }
+        }
+        "the end"
+    }
+
+    /// Whether a statement that begins so ends by itself, without a semicolon.
+    pub fn begins_block(self) -> bool {
+        matches!(
+            self,
+            Symbol::OpenBrace
+                | Symbol::For
+                | Symbol::If
+                | Symbol::Loop
+                | Symbol::Try
+                | Symbol::While
+        )
+    }
+}
+
+impl fmt::Display for Symbol {
+    fn fmt<W: fmt::Write>(&self, f: &mut fmt::Formatter<W>) -> fmt::Result {
+        match self {
+            Symbol::End => write!(f, "the end"),
+            symbol => {
+                let spelling = symbol.spelling();
+                write!(f, "`{spelling}`")
+            }
+        }
+    }
+}

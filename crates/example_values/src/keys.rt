@@ -1,5 +1,6 @@
 //! What leads from a value to a part of it.
 
+use crate::any_functions::type_name_of;
 use crate::faults::{FaultKind, mismatch};
 use rhai_value::{Dynamic, INT, Store};
 
@@ -17,7 +18,7 @@ pub(crate) fn index_in(key: &Key<'_>, s: &Store, found: &'static str) -> Result<
     match key {
         Key::Index(index) => match index.as_int(s) {
             Ok(index) => Ok(index),
-            Err(other) => Err(mismatch("i64", other)),
+            Err(_) => Err(mismatch("i64", type_name_of(index, s))),
         },
         Key::Name(_) => Err(FaultKind::NoParts(found)),
     }
@@ -28,7 +29,7 @@ pub(crate) fn name_in<'k>(key: &Key<'k>, s: &'k Store) -> Result<&'k str, FaultK
     match *key {
         Key::Index(index) => match index.as_immutable_string_ref(s) {
             Ok(text) => Ok(text.as_str()),
-            Err(other) => Err(mismatch("string", other)),
+            Err(_) => Err(mismatch("string", type_name_of(index, s))),
         },
         Key::Name(name) => Ok(name),
     }

@@ -5,10 +5,8 @@
 use example_script::{ScriptLimits, run_script};
 use rhai_text::Limits;
 use std::alloc::{AllocError, Global};
-use std::env;
-use std::fs;
-use std::io;
 use std::rt::{Env, Files};
+use std::{env, fs, io};
 
 /// What a script may use here.
 const LIMITS: ScriptLimits = ScriptLimits {
@@ -31,10 +29,7 @@ fn printed(alloc: Global, text: &str) -> Result<String, AllocError> {
 }
 
 /// Whether the script of a name prints what is expected; it is told what it prints where not.
-fn is_as_expected(
-    rt: &(impl Files + Print + AllocGlobal),
-    name: &str,
-) -> io::Result<bool> {
+fn is_as_expected(rt: &(impl Files + Print + AllocGlobal), name: &str) -> io::Result<bool> {
     let path = format!(in rt.alloc(); "{name}.rhai")?;
     let text = fs::read_to_string(rt, path.as_str())?;
     let path = format!(in rt.alloc(); "{name}.txt")?;

@@ -1,0 +1,20 @@
+let counter = 0;
+let up = || { counter += 1 };
+let down = || { counter -= 1 };
+up.call(); up.call(); down.call();
+print(counter);
+counter = 10;
+up.call();
+print(counter);
+print(is_shared(counter));
+let own = 1;
+print(is_shared(own));
+fn make(start) { let n = start; || { n += 1; n } }
+let a = make(5);
+let b = make(50);
+a.call();
+print(a.call());
+print(b.call());
+let add = |x, y| x + y;
+print(add.curry(3).call(4));
+print(Fn("make").call(1).call());

@@ -1,0 +1,2 @@
+fn fib(n) { if n < 2 { n } else { fib(n - 1) + fib(n - 2) } }
+for i in 0..12 { print(fib(i)); }

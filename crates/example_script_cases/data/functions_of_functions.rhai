@@ -1,0 +1,20 @@
+let a = [1, 2, 3, 4];
+print(a.map(|x| x * x));
+print(a.map(|x, i| x * i));
+print(a.filter(|x| x % 2 == 0));
+print(a.reduce(|s, x| s + x, 0));
+print(["a", "b"].reduce(|s, x| s + x));
+print(a.all(|x| x > 0));
+print(a.some(|x| x > 3));
+print(a.some(|x, i| i > 3));
+let n = 10;
+print(a.map(|x| x + n));
+let p = [[2, "b"], [1, "a"], [2, "a"], [1, "b"]];
+p.sort(|x, y| x[0] - y[0]);
+print(p);
+fn double(x) { x * 2 }
+print(a.map(Fn("double")));
+print(filter(a, |x| x > 2));
+let m = #{ list: [3, 1, 2] };
+m.list.sort(|x, y| y - x);
+print(m.list);

@@ -1,0 +1,13 @@
+let m = #{ b: 2, a: 1 };
+print(m.keys());
+print(m.values());
+print(m.len());
+print(m.contains("a"));
+print(m.remove("a"));
+m.mixin(#{ c: 3, b: 5 });
+m.fill_with(#{ c: 9, d: 4 });
+print(m);
+m.set("e", 6);
+print(m.get("e"));
+m.clear();
+print(m.is_empty());

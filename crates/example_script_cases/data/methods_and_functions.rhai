@@ -1,0 +1,15 @@
+let a = [1];
+a.push(2);
+push(a, 3);
+print(a);
+push(a + [], 4);
+print(a);
+let f = || a.len();
+push(a, 5);
+print(a);
+a.push(6);
+print(a);
+const C = [1];
+push(C, 2);
+print(C);
+C.push(2);

@@ -1,0 +1,10 @@
+let m = #{ list: [#{ n: 1 }, #{ n: 2, t: "abc" }] };
+m.list[1].n += 40;
+m.list[-2].n = [1, 2];
+m.list[0].n[1] = 'x';
+m.list[1].t[0] = 'A';
+print(m);
+let get = || m.list[1].n;
+m.list[1].n += 1;
+print(get.call());
+m.list[1].t[5] = 'b';

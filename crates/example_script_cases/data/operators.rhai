@@ -1,0 +1,15 @@
+print(1 + 2 << 3);
+print(2 + 3 * 4 - 10 / 4);
+print(2 ** 3 ** 2);
+print(-7 % 3);
+print(-2 ** 2);
+print(7 & 3);
+print(4 | 3 ^ 1);
+print(1 + 2 == 3 && 2 < 3);
+print(!true || 5 >= 5);
+print(10 - 3 - 2);
+print(1 << 2 << 3);
+print(1..3);
+print(1..=2 + 3);
+print('a' + 'b' + "c");
+print("a" < "b");

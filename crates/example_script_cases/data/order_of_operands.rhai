@@ -1,0 +1,11 @@
+let log = "";
+let note = |n| { log += n; n };
+let a = [0, 0, 0, 0];
+a[note.call(1)] = note.call(2);
+print(log);
+log = "";
+let m = #{ k: [1, 2, 3] };
+let x = note.call(3) + note.call(4) * note.call(5);
+print(log);
+print(x);
+print(a);

@@ -1,0 +1,17 @@
+let s = " Hello ";
+s.trim();
+print(s);
+print(s.len());
+print(s.to_upper() + s.to_lower());
+print(s.contains("ell"));
+print(s.index_of("l"));
+print(s.sub_string(1, 3));
+s.replace("l", "L");
+print(s);
+s.truncate(2);
+print(s);
+print("12".parse_int() + 1);
+print("abc".chars());
+print((255).to_string() + "!");
+print("-5".parse_int().abs());
+print(max(3, 5) - min(3, 5));

@@ -1,0 +1,84 @@
+//! The arguments of a function behind its receiver.
+
+use crate::faults::{FaultKind, mismatch};
+use rhai_value::{Array, Blob, Dynamic, INT, Map, Part, Store};
+
+/// Up to three arguments; those that aren't there are unit.
+#[derive(Drop)]
+pub struct Arguments {
+    /// The first one.
+    pub first: Dynamic,
+    /// The second one.
+    pub second: Dynamic,
+    /// The third one.
+    pub third: Dynamic,
+}
+
+impl Arguments {
+    /// No arguments.
+    pub fn none() -> Arguments {
+        Arguments {
+            first: Dynamic::UNIT,
+            second: Dynamic::UNIT,
+            third: Dynamic::UNIT,
+        }
+    }
+}
+
+/// The int that an argument is.
+pub(crate) fn int(argument: &Dynamic, s: &Store) -> Result<INT, FaultKind> {
+    match argument.as_int(s) {
+        Ok(number) => Ok(number),
+        Err(found) => Err(mismatch("i64", found)),
+    }
+}
+
+/// The text that an argument is.
+pub(crate) fn text<'s>(argument: &'s Dynamic, s: &'s Store) -> Result<&'s str, FaultKind> {
+    match argument.as_immutable_string_ref(s) {
+        Ok(text) => Ok(text.as_str()),
+        Err(found) => Err(mismatch("string", found)),
+    }
+}
+
+/// The items of an argument, which is spent.
+pub(crate) fn array(argument: &mut Dynamic, s: &Store) -> Result<Array, FaultKind> {
+    match Array::take_out(argument.take()) {
+        Ok(items) => Ok(items),
+        Err(other) => Err(mismatch("array", other.type_name(s))),
+    }
+}
+
+/// The map that an argument is, which is spent.
+pub(crate) fn map(argument: &mut Dynamic, s: &Store) -> Result<Map, FaultKind> {
+    match Map::take_out(argument.take()) {
+        Ok(map) => Ok(map),
+        Err(other) => Err(mismatch("map", other.type_name(s))),
+    }
+}
+
+/// The bytes of an argument, which is spent.
+pub(crate) fn blob(argument: &mut Dynamic, s: &Store) -> Result<Blob, FaultKind> {
+    match Blob::take_out(argument.take()) {
+        Ok(bytes) => Ok(bytes),
+        Err(other) => Err(mismatch("blob", other.type_name(s))),
+    }
+}
+
+/// A number of parts as a value.
+pub(crate) fn count(number: usize) -> Dynamic {
+    Dynamic::from_int(INT::try_from(number).unwrap_or(INT::MAX))
+}
+
+/// The place of a part as a value; -1 where there is none.
+pub(crate) fn place_or_none(place: Option<usize>) -> Dynamic {
+    match place {
+        Some(place) => count(place),
+        None => Dynamic::from_int(-1),
+    }
+}
+
+/// A value, or unit where there is none.
+pub(crate) fn or_unit(value: Option<Dynamic>) -> Dynamic {
+    value.unwrap_or(Dynamic::UNIT)
+}

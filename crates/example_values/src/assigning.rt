@@ -1,0 +1,82 @@
+//! Assignments by an operator.
+ghost use Rattle.std.specs.Prelude.{◌≡◌, OnOk, IfSome};
+ghost use Rattle.rhai_ops.specs.AssignTable.{assign_row};
+ghost use Rattle.rhai_ops.specs.Effects.{first_left, effect};
+ghost use Rattle.rhai_ops.specs.Results.{outcome};
+
+use crate::binary_operators::binary;
+use crate::faults::{FaultKind, in_use};
+use crate::resources::Means;
+use rhai_ops::get_builtin_op_assignment_fn;
+use rhai_ops::laws::rows_suit;
+use rhai_text::Token;
+use rhai_value::{Dynamic, Store};
+
+/// An operator that assigns, and the one that it stands for: `+=` and `+`.
+#[derive(Clone, Copy)]
+pub struct Assignment {
+    /// The operator that assigns.
+    pub whole: Token,
+    /// The operator whose answer it assigns.
+    pub plain: Token,
+}
+
+/// Assigns what an operator makes of what is held at a place and a value. The built-in assignments come first; where they have no row,
+/// the place gets what the operator answers.
+///
+/// Errors: those of the operator; place and store are then as they were, where the place is no holder.
+#[inline(always)]
+pub fn assign(
+    op: Assignment,
+    means: &Means,
+    m: &mut Store,
+    place: &mut Dynamic,
+    value: &mut Dynamic,
+) -> Result<(), FaultKind>
+    ensures built_in { OnOk result (IfSome (assign_row op.whole place.old value.old) (λ row. place.new ≡ first_left (effect row) (outcome row means.now.limits m.old place.old value.old) m.old place.old)) }
+{
+    match get_builtin_op_assignment_fn(&op.whole, place, value) {
+        Some(row) => {
+            rows_suit();
+            match row.call(means.alloc, m, &means.limits, place, value) {
+                Ok(_) => Ok(()),
+                Err(error) => Err(FaultKind::Layer(error)),
+            }
+        }
+        None => assign_answer(op, means, m, place, value),
+    }
+}
+
+/// The same where the built-in assignments have no row for the place itself.
+#[inline(never)]
+fn assign_answer(
+    op: Assignment,
+    means: &Means,
+    m: &mut Store,
+    place: &mut Dynamic,
+    value: &mut Dynamic,
+) -> Result<(), FaultKind> {
+    let done = place.with_held(m, |held, m| assign_held(op, means, m, held, value));
+    match done {
+        Ok(done) => done,
+        Err(_) => Err(in_use()),
+    }
+}
+
+/// The same at a value that is no holder.
+fn assign_held(
+    op: Assignment,
+    means: &Means,
+    m: &mut Store,
+    held: &mut Dynamic,
+    value: &mut Dynamic,
+) -> Result<(), FaultKind> {
+    if let Some(row) = get_builtin_op_assignment_fn(&op.whole, held, value) {
+        rows_suit();
+        row.call(means.alloc, m, &means.limits, held, value)?;
+        return Ok(());
+    }
+    let answer = binary(op.plain, means, m, held, value)?;
+    *held = answer;
+    Ok(())
+}

@@ -1,0 +1,144 @@
+//! Operators between two values.
+ghost use Rattle.std.specs.Prelude.{◌≡◌, IfOk, IfSome};
+ghost use Rattle.rhai_ops.specs.Outcome.{answers};
+ghost use Rattle.rhai_ops.specs.Results.{outcome};
+ghost use Rattle.rhai_ops.specs.Table.{row_of};
+
+use crate::faults::{FaultKind, in_use};
+use crate::resources::Means;
+use rhai_ops::get_builtin_binary_op_fn;
+use rhai_ops::laws::{operators_write_nothing, rows_suit};
+use rhai_packs::maps;
+use rhai_show::{display_text, same_value};
+use rhai_text::{EvalAltResult, ImmutableString, Position, SizeKind, Token};
+use rhai_value::{Array, Dynamic, Map, Store};
+
+/// Gives what an operator makes of two values, which are only read. The built-in operators come first. Where they have no row, a text
+/// takes the printed form of any value behind or before it, arrays and maps are joined, and values are compared without tags, modes and
+/// holders.
+///
+/// Errors: those of the built-in operators, `NoOperator` where nothing is meant, and a size past its limit.
+#[inline(always)]
+pub fn binary(
+    op: Token,
+    means: &Means,
+    s: &Store,
+    x: &Dynamic,
+    y: &Dynamic,
+) -> Result<Dynamic, FaultKind>
+    ensures built_in { IfOk result (λ d. IfSome (row_of op s.now x.now y.now) (λ row. outcome row means.now.limits s.now x.now y.now ≡ answers d)) }
+{
+    match get_builtin_binary_op_fn(&op, x, y, s) {
+        Some(row) => {
+            rows_suit();
+            operators_write_nothing();
+            match row.call_ref(means.alloc, s, &means.limits, x, y) {
+                Ok(value) => Ok(value),
+                Err(error) => Err(FaultKind::Layer(error)),
+            }
+        }
+        None => held_binary(op, means, s, x, y),
+    }
+}
+
+/// The same of what two values hold, where the built-in operators have no row for the values themselves.
+#[inline(never)]
+fn held_binary(
+    op: Token,
+    means: &Means,
+    s: &Store,
+    x: &Dynamic,
+    y: &Dynamic,
+) -> Result<Dynamic, FaultKind> {
+    let (Some(x), Some(y)) = (x.held(s), y.held(s)) else {
+        return Err(in_use());
+    };
+    if let Some(row) = get_builtin_binary_op_fn(&op, x, y, s) {
+        rows_suit();
+        operators_write_nothing();
+        return Ok(row.call_ref(means.alloc, s, &means.limits, x, y)?);
+    }
+    if op == Token::EqualsTo {
+        return Ok(Dynamic::from_bool(is_same(means, s, x, y)?));
+    }
+    if op == Token::NotEqualsTo {
+        return Ok(Dynamic::from_bool(!is_same(means, s, x, y)?));
+    }
+    if op == Token::Plus {
+        if let Some(answer) = joined(means, s, x, y)? {
+            return Ok(answer);
+        }
+    }
+    Err(FaultKind::NoOperator(op, x.type_name(s), y.type_name(s)))
+}
+
+/// Whether two values are equal without tags, modes and holders; what isn't anything without them equals nothing.
+fn is_same(means: &Means, s: &Store, x: &Dynamic, y: &Dynamic) -> Result<bool, FaultKind> {
+    Ok(same_value(means.alloc, x, y, s)?.unwrap_or(false))
+}
+
+/// A value behind another, where one of them is a text or both are arrays or both are maps.
+fn joined(
+    means: &Means,
+    s: &Store,
+    x: &Dynamic,
+    y: &Dynamic,
+) -> Result<Option<Dynamic>, FaultKind> {
+    if let Ok(first) = x.as_immutable_string_ref(s) {
+        let second = display_text(means.alloc, y, s)?;
+        return Ok(Some(join_texts(means, first.as_str(), second.as_str())?));
+    }
+    if let Ok(second) = y.as_immutable_string_ref(s) {
+        let first = display_text(means.alloc, x, s)?;
+        return Ok(Some(join_texts(means, first.as_str(), second.as_str())?));
+    }
+    if let (Ok(first), Ok(second)) = (x.as_array_ref(s), y.as_array_ref(s)) {
+        return Ok(Some(join_arrays(means, first, second)?));
+    }
+    if let (Ok(first), Ok(second)) = (x.as_map_ref(s), y.as_map_ref(s)) {
+        return Ok(Some(join_maps(means, first, second)?));
+    }
+    Ok(None)
+}
+
+fn join_texts(means: &Means, first: &str, second: &str) -> Result<Dynamic, FaultKind> {
+    let limit = means.limits.text;
+    if limit != 0 && first.len().saturating_add(second.len()) > limit {
+        return Err(too_large(SizeKind::Text));
+    }
+    let first = ImmutableString::from_str(means.alloc, first)?;
+    Ok(Dynamic::from(first.concat(means.alloc, second)?))
+}
+
+fn join_arrays(means: &Means, first: &Array, second: &Array) -> Result<Dynamic, FaultKind> {
+    let limit = means.limits.items;
+    let count = first.len().saturating_add(second.len());
+    if limit != 0 && count > limit {
+        return Err(too_large(SizeKind::Items));
+    }
+    let mut items = Vec::new(means.alloc);
+    items.reserve(count)?;
+    for item in first {
+        items.push(item.copy(means.alloc)?)?;
+    }
+    for item in second {
+        items.push(item.copy(means.alloc)?)?;
+    }
+    Ok(Dynamic::from_array(items))
+}
+
+fn join_maps(means: &Means, first: &Map, second: &Map) -> Result<Dynamic, FaultKind> {
+    let mut map = Map::new(means.alloc);
+    for (key, value) in first {
+        maps::set(&mut map, key, value.copy(means.alloc)?)?;
+    }
+    for (key, value) in second {
+        maps::set(&mut map, key, value.copy(means.alloc)?)?;
+    }
+    Ok(Dynamic::from_map(map))
+}
+
+/// The fault of a size that would grow past its limit.
+fn too_large(size: SizeKind) -> FaultKind {
+    FaultKind::Layer(EvalAltResult::ErrorDataTooLarge(size, Position::NONE))
+}

@@ -1,0 +1,119 @@
+//! Ranges as parts of texts and ints.
+ghost use Rattle.std.specs.Prelude.{◌<◌, ◌≤◌};
+
+use crate::faults::FaultKind;
+use rhai_target::Slice;
+use rhai_value::{Dynamic, ExclusiveRange, INT, InclusiveRange, Store};
+
+/// Both ends of a range.
+#[derive(Clone, Copy)]
+pub(crate) struct Bounds {
+    start: INT,
+    end: INT,
+    is_inclusive: bool,
+}
+
+/// The ends of a range, if the value is one.
+pub(crate) fn bounds_of(value: &Dynamic, s: &Store) -> Option<Bounds> {
+    if let Ok(range) = value.as_part::<ExclusiveRange>(s) {
+        return Some(Bounds {
+            start: range.start,
+            end: range.end,
+            is_inclusive: false,
+        });
+    }
+    if let Ok(range) = value.as_part::<InclusiveRange>(s) {
+        return Some(Bounds {
+            start: range.start,
+            end: range.end,
+            is_inclusive: true,
+        });
+    }
+    None
+}
+
+/// The place of a range in a list of so many items. Negative ends count from the end of the list; the end is cut to the list.
+///
+/// Errors: a start before the front or past the end.
+pub(crate) fn slice_of(bounds: Bounds, count: usize) -> Result<Slice, FaultKind> {
+    let distance = bounds.start.unsigned_abs() as usize;
+    if distance > count {
+        return Err(FaultKind::OutOfRange(bounds.start, count));
+    }
+    let start = if bounds.start < 0 {
+        count - distance
+    } else {
+        distance
+    };
+    Ok(Slice {
+        start,
+        end: end_of(bounds, count),
+        exclusive: true,
+    })
+}
+
+/// The place behind the last item of a range.
+fn end_of(bounds: Bounds, count: usize) -> usize {
+    let distance = bounds.end.unsigned_abs() as usize;
+    let more = if bounds.is_inclusive { 1 } else { 0 };
+    let end = if bounds.end < 0 {
+        count.saturating_add(more).saturating_sub(distance)
+    } else {
+        distance.saturating_add(more)
+    };
+    end.min(count)
+}
+
+/// How many items a range has from its start on, and where it starts, in a list of so many.
+pub(crate) fn span_of(bounds: Bounds, count: usize) -> Result<(INT, INT), FaultKind> {
+    let slice = slice_of(bounds, count)?;
+    let length = slice.end.saturating_sub(slice.start);
+    Ok((
+        INT::try_from(slice.start).unwrap_or(INT::MAX),
+        INT::try_from(length).unwrap_or(INT::MAX),
+    ))
+}
+
+/// The bits of an int: a mask, and the number of its lowest bit.
+#[derive(Clone, Copy)]
+pub(crate) struct Bits {
+    pub(crate) mask: INT,
+    pub(crate) shift: u8,
+}
+
+/// The bits of a range.
+///
+/// Errors: an end that is no bit of 0 to 63; the end that is left out may be 64.
+pub(crate) fn bits_of(bounds: Bounds) -> Result<Bits, FaultKind> {
+    let most = if bounds.is_inclusive { 63 } else { 64 };
+    if bounds.start < 0 || bounds.start > 63 {
+        return Err(FaultKind::OutOfRange(bounds.start, 64));
+    }
+    if bounds.end < 0 || bounds.end > most {
+        return Err(FaultKind::OutOfRange(bounds.end, 64));
+    }
+    let shift = bounds.start.unsigned_abs();
+    let end = if bounds.is_inclusive {
+        bounds.end.unsigned_abs() + 1
+    } else {
+        bounds.end.unsigned_abs()
+    };
+    Ok(mask_of(shift, end))
+}
+
+/// The bits from one to before another.
+fn mask_of(start: u64, end: u64) -> Bits
+    requires start { start < 64 }
+    requires end { end ≤ 64 }
+{
+    let shift = start as u8;
+    if end <= start {
+        return Bits { mask: 0, shift };
+    }
+    let left_out = 64 - (end - start);
+    let ones = u64::MAX >> left_out;
+    Bits {
+        mask: (ones << start).cast_signed(),
+        shift,
+    }
+}

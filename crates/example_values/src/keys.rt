@@ -1,0 +1,36 @@
+//! What leads from a value to a part of it.
+
+use crate::any_functions::type_name_of;
+use crate::faults::{FaultKind, mismatch};
+use rhai_value::{Dynamic, INT, Store};
+
+/// What leads from a value to a part of it.
+#[derive(Clone, Copy)]
+pub enum Key<'k> {
+    /// What stands in brackets: an index, a key or a range.
+    Index(&'k Dynamic),
+    /// The name of a property.
+    Name(&'k str),
+}
+
+/// The int in brackets. Errors: another type stands there, or a name of a property leads on from a value of this type, which has none.
+pub(crate) fn index_in(key: &Key<'_>, s: &Store, found: &'static str) -> Result<INT, FaultKind> {
+    match key {
+        Key::Index(index) => match index.as_int(s) {
+            Ok(index) => Ok(index),
+            Err(_) => Err(mismatch("i64", type_name_of(index, s))),
+        },
+        Key::Name(_) => Err(FaultKind::NoParts(found)),
+    }
+}
+
+/// The text in brackets, or the name. Errors: another type stands there.
+pub(crate) fn name_in<'k>(key: &Key<'k>, s: &'k Store) -> Result<&'k str, FaultKind> {
+    match *key {
+        Key::Index(index) => match index.as_immutable_string_ref(s) {
+            Ok(text) => Ok(text.as_str()),
+            Err(_) => Err(mismatch("string", type_name_of(index, s))),
+        },
+        Key::Name(name) => Ok(name),
+    }
+}

@@ -1,0 +1,98 @@
+//! Functions on maps.
+
+use crate::argument_values::{Arguments, count, map, or_unit, text};
+use crate::faults::FaultKind;
+use crate::resources::Means;
+use rhai_packs::maps;
+use rhai_value::{Dynamic, Map, Store};
+
+/// A function on a map.
+#[derive(Clone, Copy)]
+pub enum MapFunction {
+    /// It leaves the map as it is.
+    Ask(MapQuestion),
+    /// It may change the map.
+    Change(MapChange),
+}
+
+/// A function that leaves a map as it is.
+#[derive(Clone, Copy)]
+pub enum MapQuestion {
+    Len,
+    IsEmpty,
+    Contains,
+    Get,
+    Keys,
+    Values,
+}
+
+/// A function that may change a map.
+#[derive(Clone, Copy)]
+pub enum MapChange {
+    Set,
+    Remove,
+    Clear,
+    MixIn,
+    FillWith,
+}
+
+/// The function of this name for so many arguments behind the map.
+pub(crate) fn map_function(name: &str, count: usize) -> Option<MapFunction> {
+    match (count, name) {
+        (0, "len") => Some(MapFunction::Ask(MapQuestion::Len)),
+        (0, "is_empty") => Some(MapFunction::Ask(MapQuestion::IsEmpty)),
+        (1, "contains") => Some(MapFunction::Ask(MapQuestion::Contains)),
+        (1, "get") => Some(MapFunction::Ask(MapQuestion::Get)),
+        (0, "keys") => Some(MapFunction::Ask(MapQuestion::Keys)),
+        (0, "values") => Some(MapFunction::Ask(MapQuestion::Values)),
+        (2, "set") => Some(MapFunction::Change(MapChange::Set)),
+        (1, "remove") => Some(MapFunction::Change(MapChange::Remove)),
+        (0, "clear") => Some(MapFunction::Change(MapChange::Clear)),
+        (1, "mixin") => Some(MapFunction::Change(MapChange::MixIn)),
+        (1, "fill_with") => Some(MapFunction::Change(MapChange::FillWith)),
+        _ => None,
+    }
+}
+
+/// Answers a question about a map.
+pub(crate) fn ask_map(
+    question: MapQuestion,
+    means: &Means,
+    s: &Store,
+    entries: &Map,
+    arguments: &Arguments,
+) -> Result<Dynamic, FaultKind> {
+    let first = &arguments.first;
+    match question {
+        MapQuestion::Len => Ok(count(maps::len(entries))),
+        MapQuestion::IsEmpty => Ok(Dynamic::from_bool(maps::is_empty(entries))),
+        MapQuestion::Contains => {
+            Ok(Dynamic::from_bool(maps::contains(entries, text(first, s)?)))
+        }
+        MapQuestion::Get => match maps::get(entries, text(first, s)?) {
+            Some(value) => Ok(value.flatten_clone(means.alloc, s)?),
+            None => Ok(Dynamic::UNIT),
+        },
+        MapQuestion::Keys => Ok(Dynamic::from_array(maps::keys(means.alloc, entries)?)),
+        MapQuestion::Values => Ok(Dynamic::from_array(maps::values(means.alloc, entries)?)),
+    }
+}
+
+/// Changes a map, and answers what the change gives.
+pub(crate) fn change_map(
+    change: MapChange,
+    s: &Store,
+    entries: &mut Map,
+    arguments: &mut Arguments,
+) -> Result<Dynamic, FaultKind> {
+    match change {
+        MapChange::Set => maps::set(entries, text(&arguments.first, s)?, arguments.second.take())?,
+        MapChange::Remove => {
+            return Ok(or_unit(maps::remove(entries, text(&arguments.first, s)?)));
+        }
+        MapChange::Clear => maps::clear(entries),
+        MapChange::MixIn => maps::mixin(entries, map(&mut arguments.first, s)?)?,
+        MapChange::FillWith => maps::fill_with(entries, map(&mut arguments.first, s)?)?,
+    }
+    Ok(Dynamic::UNIT)
+}

@@ -1,0 +1,171 @@
+//! Functions of the packages by name and number of arguments.
+
+use crate::any_functions::{AnyFunction, any_function, ask_any};
+use crate::argument_values::Arguments;
+use crate::array_functions::{ArrayFunction, array_function, ask_array, change_array};
+use crate::blob_functions::{BlobFunction, ask_blob, blob_function, change_blob};
+use crate::faults::FaultKind;
+use crate::int_functions::{IntFunction, ask_int, int_function};
+use crate::map_functions::{MapFunction, ask_map, change_map, map_function};
+use crate::resources::Means;
+use crate::text_functions::{TextFunction, ask_text, change_text, text_function};
+use rhai_value::{Dynamic, Part, Store, Union};
+
+/// The functions of one name and number of arguments, one for each type of the receiver that has it.
+#[derive(Clone, Copy)]
+pub struct Native {
+    pub array: Option<ArrayFunction>,
+    pub map: Option<MapFunction>,
+    pub text: Option<TextFunction>,
+    pub blob: Option<BlobFunction>,
+    pub int: Option<IntFunction>,
+    pub any: Option<AnyFunction>,
+}
+
+/// The functions of this name for so many arguments behind the receiver.
+pub fn native_of(name: &str, arguments: usize) -> Native {
+    Native {
+        array: array_function(name, arguments),
+        map: map_function(name, arguments),
+        text: text_function(name, arguments),
+        blob: blob_function(name, arguments),
+        int: int_function(name, arguments),
+        any: any_function(name, arguments),
+    }
+}
+
+impl Native {
+    /// Whether it may change a receiver that holds what this value does.
+    pub fn changes(&self, receiver: &Dynamic, s: &Store) -> bool {
+        let Some(held) = receiver.held(s) else {
+            return false;
+        };
+        match held.parts() {
+            Union::Array(_, _, _) => matches!(self.array, Some(ArrayFunction::Change(_))),
+            Union::Map(_, _, _) => matches!(self.map, Some(MapFunction::Change(_))),
+            Union::Str(_, _, _) => matches!(self.text, Some(TextFunction::Change(_))),
+            Union::Blob(_, _, _) => matches!(self.blob, Some(BlobFunction::Change(_))),
+            Union::Int(_, _, _)
+            | Union::Unit(_, _, _)
+            | Union::Bool(_, _, _)
+            | Union::Char(_, _, _)
+            | Union::FnPtr(_, _, _)
+            | Union::Variant(_, _, _)
+            | Union::Shared(_, _, _) => false,
+        }
+    }
+
+    /// Calls the function that leaves its receiver as it is, if the type of the receiver has one.
+    ///
+    /// Errors: an argument of another type, and what the function refuses.
+    pub fn ask(
+        &self,
+        means: &Means,
+        s: &Store,
+        receiver: &Dynamic,
+        arguments: &Arguments,
+    ) -> Result<Option<Dynamic>, FaultKind> {
+        if let Some(answer) = self.ask_held(means, s, receiver, arguments)? {
+            return Ok(Some(answer));
+        }
+        match self.any {
+            Some(function) => Ok(Some(ask_any(function, means, s, receiver)?)),
+            None => Ok(None),
+        }
+    }
+
+    fn ask_held(
+        &self,
+        means: &Means,
+        s: &Store,
+        receiver: &Dynamic,
+        arguments: &Arguments,
+    ) -> Result<Option<Dynamic>, FaultKind> {
+        let Some(held) = receiver.held(s) else {
+            return Ok(None);
+        };
+        match held.parts() {
+            Union::Array(_, _, items) => {
+                let Some(ArrayFunction::Ask(question)) = self.array else {
+                    return Ok(None);
+                };
+                Ok(Some(ask_array(question, means, s, items, arguments)?))
+            }
+            Union::Map(_, _, map) => {
+                let Some(MapFunction::Ask(question)) = self.map else {
+                    return Ok(None);
+                };
+                Ok(Some(ask_map(question, means, s, map, arguments)?))
+            }
+            Union::Str(_, _, text) => {
+                let Some(TextFunction::Ask(question)) = self.text else {
+                    return Ok(None);
+                };
+                Ok(Some(ask_text(question, means, s, text, arguments)?))
+            }
+            Union::Blob(_, _, bytes) => {
+                let Some(BlobFunction::Ask(question)) = self.blob else {
+                    return Ok(None);
+                };
+                Ok(Some(ask_blob(question, means, s, bytes, arguments)?))
+            }
+            Union::Int(_, _, number) => {
+                let Some(function) = self.int else {
+                    return Ok(None);
+                };
+                Ok(Some(ask_int(function, means, s, *number, arguments)?))
+            }
+            Union::Unit(_, _, _)
+            | Union::Bool(_, _, _)
+            | Union::Char(_, _, _)
+            | Union::FnPtr(_, _, _)
+            | Union::Variant(_, _, _)
+            | Union::Shared(_, _, _) => Ok(None),
+        }
+    }
+
+    /// Calls the function that may change its receiver, which is no holder, if the type of the receiver has one.
+    ///
+    /// Errors: an argument of another type, and what the function refuses.
+    pub fn change(
+        &self,
+        means: &Means,
+        s: &Store,
+        receiver: &mut Dynamic,
+        arguments: &mut Arguments,
+    ) -> Result<Option<Dynamic>, FaultKind> {
+        match receiver.parts_mut() {
+            Union::Array(_, _, items) => {
+                let Some(ArrayFunction::Change(change)) = self.array else {
+                    return Ok(None);
+                };
+                Ok(Some(change_array(change, means, s, items, arguments)?))
+            }
+            Union::Map(_, _, map) => {
+                let Some(MapFunction::Change(change)) = self.map else {
+                    return Ok(None);
+                };
+                Ok(Some(change_map(change, s, map, arguments)?))
+            }
+            Union::Str(_, _, text) => {
+                let Some(TextFunction::Change(change)) = self.text else {
+                    return Ok(None);
+                };
+                Ok(Some(change_text(change, means, s, text, arguments)?))
+            }
+            Union::Blob(_, _, bytes) => {
+                let Some(BlobFunction::Change(change)) = self.blob else {
+                    return Ok(None);
+                };
+                Ok(Some(change_blob(change, means, s, bytes, arguments)?))
+            }
+            Union::Int(_, _, _)
+            | Union::Unit(_, _, _)
+            | Union::Bool(_, _, _)
+            | Union::Char(_, _, _)
+            | Union::FnPtr(_, _, _)
+            | Union::Variant(_, _, _)
+            | Union::Shared(_, _, _) => Ok(None),
+        }
+    }
+}

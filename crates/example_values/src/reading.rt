@@ -1,0 +1,96 @@
+//! Reading at a place inside a value.
+
+use crate::faults::FaultKind;
+use crate::find::{Found, find};
+use crate::keys::Key;
+use crate::resources::Means;
+use rhai_value::{Dynamic, Store};
+
+/// What went wrong on the way to a place, and at which key: how many led on before.
+#[derive(Drop)]
+pub struct PlaceFault {
+    /// The number of the key in the list.
+    pub step: usize,
+    /// What went wrong.
+    pub kind: FaultKind,
+}
+
+/// Finds what the keys lead to from a value: what stands there, or a value that is made. A key that a map lacks leads to unit.
+///
+/// Errors: the first key that leads nowhere, and why.
+pub fn look<'s>(
+    means: &Means,
+    s: &'s Store,
+    source: &'s Dynamic,
+    keys: &[Key<'_>],
+) -> Result<Found<'s>, PlaceFault> {
+    let mut place = source;
+    for (step, key) in keys.iter().enumerate() {
+        match find(means, s, place, key) {
+            Ok(Found::Item(item)) => place = item,
+            Ok(Found::Made(value)) => {
+                return match read_on(means, s, value, keys, step) {
+                    Ok(value) => Ok(Found::Made(value)),
+                    Err(fault) => Err(fault),
+                };
+            }
+            Err(kind) => return Err(PlaceFault { step, kind }),
+        }
+    }
+    Ok(Found::Item(place))
+}
+
+/// Reads what the keys lead to from a value, as `look` finds it: a copy that is no holder.
+///
+/// Errors: the first key that leads nowhere, and why.
+pub fn read(
+    means: &Means,
+    s: &Store,
+    source: &Dynamic,
+    keys: &[Key<'_>],
+) -> Result<Dynamic, PlaceFault> {
+    match look(means, s, source, keys) {
+        Ok(Found::Item(item)) => match item.flatten_clone(means.alloc, s) {
+            Ok(value) => Ok(value),
+            Err(error) => Err(PlaceFault {
+                step: 0,
+                kind: FaultKind::from(error),
+            }),
+        },
+        Ok(Found::Made(value)) => Ok(value),
+        Err(fault) => Err(fault),
+    }
+}
+
+/// Reads on from a value that was made for the key of this number.
+fn read_on(
+    means: &Means,
+    s: &Store,
+    made: Dynamic,
+    keys: &[Key<'_>],
+    gone: usize,
+) -> Result<Dynamic, PlaceFault> {
+    let mut value = made;
+    for (step, key) in keys.iter().enumerate() {
+        if step > gone {
+            value = match read_part(means, s, &value, key) {
+                Ok(part) => part,
+                Err(kind) => return Err(PlaceFault { step, kind }),
+            };
+        }
+    }
+    Ok(value)
+}
+
+/// Reads one part of a value.
+fn read_part(
+    means: &Means,
+    s: &Store,
+    source: &Dynamic,
+    key: &Key<'_>,
+) -> Result<Dynamic, FaultKind> {
+    match find(means, s, source, key)? {
+        Found::Item(item) => Ok(item.flatten_clone(means.alloc, s)?),
+        Found::Made(value) => Ok(value),
+    }
+}

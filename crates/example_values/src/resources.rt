@@ -1,0 +1,13 @@
+//! What operations need besides values.
+
+use rhai_text::Limits;
+use std::alloc::Global;
+
+/// Where memory comes from, and how large values may grow.
+#[derive(Clone, Copy)]
+pub struct Means {
+    /// The allocator.
+    pub alloc: Global,
+    /// The largest sizes.
+    pub limits: Limits,
+}

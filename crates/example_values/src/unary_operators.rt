@@ -1,0 +1,42 @@
+//! Operators before one value.
+
+use crate::faults::{FaultKind, mismatch};
+use rhai_text::{ArithmeticFault, EvalAltResult, Position};
+use rhai_value::{Dynamic, Store};
+
+/// An operator before one value.
+#[derive(Clone, Copy, Debug, PartialEq, Eq)]
+pub enum UnaryOperator {
+    /// `!`, of a boolean.
+    Not,
+    /// `-`, of an int.
+    Negate,
+    /// `+`, of an int.
+    Keep,
+}
+
+/// Gives what an operator makes of a value, which is only read.
+///
+/// Errors: another type, and `Overflow` of the least int's negative. No other comes.
+pub fn unary(op: UnaryOperator, s: &Store, value: &Dynamic) -> Result<Dynamic, FaultKind> {
+    match op {
+        UnaryOperator::Not => match value.as_bool(s) {
+            Ok(answer) => Ok(Dynamic::from_bool(!answer)),
+            Err(found) => Err(mismatch("bool", found)),
+        },
+        UnaryOperator::Negate => match value.as_int(s) {
+            Ok(number) => match number.checked_neg() {
+                Some(negative) => Ok(Dynamic::from_int(negative)),
+                None => Err(FaultKind::Layer(EvalAltResult::ErrorArithmetic(
+                    ArithmeticFault::Overflow,
+                    Position::NONE,
+                ))),
+            },
+            Err(found) => Err(mismatch("i64", found)),
+        },
+        UnaryOperator::Keep => match value.as_int(s) {
+            Ok(number) => Ok(Dynamic::from_int(number)),
+            Err(found) => Err(mismatch("i64", found)),
+        },
+    }
+}

@@ -1,0 +1,265 @@
+//! Writing at a place inside a value.
+
+use crate::argument_values::Arguments;
+use crate::assigning::{Assignment, assign};
+use crate::binary_operators::binary;
+use crate::faults::{FaultKind, in_use, mismatch};
+use crate::find::part_at;
+use crate::keys::{Key, index_in, name_in};
+use crate::natives::Native;
+use crate::reading::PlaceFault;
+use crate::resources::Means;
+use rhai_packs::maps;
+use rhai_target::{ReadPart, calc_index};
+use rhai_text::{ImmutableString, Position};
+use rhai_value::{Array, Dynamic, INT, Map, Part, PlaceError, PlaceErrorKind, Step, Store};
+
+/// What is written at a place.
+#[derive(Drop)]
+pub enum Change {
+    /// This value.
+    Set(Dynamic),
+    /// What an operator makes of what stands there and this value.
+    Assign(Assignment, Dynamic),
+}
+
+/// Writes at the place to which the keys lead from a value. The last key may lead to a part of a text, a blob or an int, or to a key that
+/// a map lacks, which is then made; those before it lead from arrays and maps to what stands in them.
+///
+/// Errors: the key that leads nowhere, and why, or what the last part refuses; what was there stays then.
+pub fn write(
+    means: &Means,
+    m: &mut Store,
+    root: &mut Dynamic,
+    keys: &[Key<'_>],
+    change: Change,
+) -> Result<(), PlaceFault> {
+    let Some((last, front)) = keys.split_last() else {
+        return write_whole(means, m, root, change);
+    };
+    let at = front.len();
+    if front.is_empty() {
+        let done = root.with_held(m, |held, m| write_part(means, m, held, last, change));
+        return match done {
+            Ok(done) => done_at(done, at),
+            Err(_) => Err(PlaceFault {
+                step: 0,
+                kind: in_use(),
+            }),
+        };
+    }
+    let steps = steps_of(means, m, front)?;
+    let done = root.with_place(m, steps.as_slice(), |held, m| {
+        write_part(means, m, held, last, change)
+    });
+    match done {
+        Ok(done) => done_at(done, at),
+        Err(error) => Err(fault_on_way(error, front, m)),
+    }
+}
+
+/// Calls a function that may change its receiver at the place to which the keys lead, through arrays and maps; `None` where the type of
+/// what stands there has no such function.
+///
+/// Errors: the key that leads nowhere, and why, or what the function refuses.
+pub fn change_at(
+    means: &Means,
+    m: &mut Store,
+    root: &mut Dynamic,
+    keys: &[Key<'_>],
+    native: Native,
+    arguments: &mut Arguments,
+) -> Result<Option<Dynamic>, PlaceFault> {
+    let steps = steps_of(means, m, keys)?;
+    let done = root.with_place(m, steps.as_slice(), |held, m| {
+        native.change(means, m, held, arguments)
+    });
+    match done {
+        Ok(Ok(answer)) => Ok(answer),
+        Ok(Err(kind)) => Err(PlaceFault {
+            step: keys.len(),
+            kind,
+        }),
+        Err(error) => Err(fault_on_way(error, keys, m)),
+    }
+}
+
+/// The answer of the last step.
+fn done_at(done: Result<(), FaultKind>, step: usize) -> Result<(), PlaceFault> {
+    match done {
+        Ok(()) => Ok(()),
+        Err(kind) => Err(PlaceFault { step, kind }),
+    }
+}
+
+/// Writes at a value itself.
+fn write_whole(
+    means: &Means,
+    m: &mut Store,
+    root: &mut Dynamic,
+    change: Change,
+) -> Result<(), PlaceFault> {
+    done_at(write_item(means, m, root, change), 0)
+}
+
+/// Writes at an item, or what it holds.
+fn write_item(
+    means: &Means,
+    m: &mut Store,
+    item: &mut Dynamic,
+    change: Change,
+) -> Result<(), FaultKind> {
+    match change {
+        Change::Set(value) => set_item(m, item, value),
+        Change::Assign(op, mut value) => assign(op, means, m, item, &mut value),
+    }
+}
+
+fn set_item(m: &mut Store, item: &mut Dynamic, value: Dynamic) -> Result<(), FaultKind> {
+    match item.held_mut(m) {
+        Some(held) => {
+            *held = value;
+            Ok(())
+        }
+        None => Err(in_use()),
+    }
+}
+
+/// The keys as steps. Errors: one that leads to no item and no key.
+fn steps_of<'k>(means: &Means, s: &Store, keys: &[Key<'k>]) -> Result<Vec<Step<'k>>, PlaceFault> {
+    let mut steps = Vec::new(means.alloc);
+    for (step, key) in keys.iter().enumerate() {
+        let kind = match step_of(key, s) {
+            Ok(down) => match steps.push(down) {
+                Ok(()) => continue,
+                Err(refused) => FaultKind::from(refused),
+            },
+            Err(kind) => kind,
+        };
+        return Err(PlaceFault { step, kind });
+    }
+    Ok(steps)
+}
+
+/// A key as a step, by the value that the key itself is.
+fn step_of<'k>(key: &Key<'k>, s: &Store) -> Result<Step<'k>, FaultKind> {
+    match *key {
+        Key::Name(name) => Ok(Step::Key(name)),
+        Key::Index(index) => {
+            if let Some(number) = INT::own(index) {
+                return Ok(Step::Index(*number));
+            }
+            match ImmutableString::own(index) {
+                Some(text) => Ok(Step::Key(text.as_str())),
+                None => Err(mismatch("i64", index.type_name(s))),
+            }
+        }
+    }
+}
+
+/// The fault of a step that isn't gone.
+fn fault_on_way(error: PlaceError, keys: &[Key<'_>], s: &Store) -> PlaceFault {
+    let kind = match error.kind {
+        PlaceErrorKind::Barred | PlaceErrorKind::Lost => in_use(),
+        PlaceErrorKind::OtherType(found) => FaultKind::NoParts(found.name()),
+        PlaceErrorKind::NoItem(count) => FaultKind::OutOfRange(
+            number_at(keys, error.step, s),
+            count,
+        ),
+        PlaceErrorKind::NoKey => FaultKind::NoKey,
+        PlaceErrorKind::TooFar => FaultKind::TooFar,
+    };
+    PlaceFault {
+        step: error.step,
+        kind,
+    }
+}
+
+/// The int that the key of this number is.
+fn number_at(keys: &[Key<'_>], step: usize, s: &Store) -> INT {
+    match keys.get(step) {
+        Some(Key::Index(index)) => index.as_int(s).unwrap_or(0),
+        Some(Key::Name(_)) | None => 0,
+    }
+}
+
+/// Writes at what one key leads to from a value that is no holder.
+fn write_part(
+    means: &Means,
+    m: &mut Store,
+    source: &mut Dynamic,
+    key: &Key<'_>,
+    change: Change,
+) -> Result<(), FaultKind> {
+    if let Some(items) = Array::own_mut(source) {
+        return write_in_array(means, m, items, key, change);
+    }
+    if let Some(map) = Map::own_mut(source) {
+        return write_in_map(means, m, map, key, change);
+    }
+    let part = part_at(means, m, source, key)?;
+    let value = match change {
+        Change::Set(value) => value,
+        Change::Assign(op, value) => binary(op.plain, means, m, &part.value, &value)?,
+    };
+    let part = ReadPart {
+        place: part.place,
+        value,
+    };
+    Ok(part.write_back(source, means.alloc, m, Position::NONE)?)
+}
+
+fn write_in_array(
+    means: &Means,
+    m: &mut Store,
+    items: &mut Array,
+    key: &Key<'_>,
+    change: Change,
+) -> Result<(), FaultKind> {
+    let index = index_in(key, m, "array")?;
+    let count = items.len();
+    match item_mut(items, index) {
+        Some(item) => write_item(means, m, item, change),
+        None => Err(FaultKind::OutOfRange(index, count)),
+    }
+}
+
+/// The item at an index, to write; a negative one counts from the end.
+fn item_mut(items: &mut Array, index: INT) -> Option<&mut Dynamic> {
+    let place = calc_index(items.len(), index, true)?;
+    items.get_mut(place)
+}
+
+fn write_in_map(
+    means: &Means,
+    m: &mut Store,
+    map: &mut Map,
+    key: &Key<'_>,
+    change: Change,
+) -> Result<(), FaultKind> {
+    match *key {
+        Key::Name(name) => write_at_name(means, m, map, name, change),
+        Key::Index(index) => {
+            let name = match index.as_immutable_string_ref(m) {
+                Ok(text) => text.copy(means.alloc)?,
+                Err(found) => return Err(mismatch("string", found)),
+            };
+            write_at_name(means, m, map, name.as_str(), change)
+        }
+    }
+}
+
+fn write_at_name(
+    means: &Means,
+    m: &mut Store,
+    map: &mut Map,
+    name: &str,
+    change: Change,
+) -> Result<(), FaultKind> {
+    if let Some(value) = map.get_mut(name) {
+        return write_item(means, m, value, change);
+    }
+    let mut made = Dynamic::UNIT;
+    write_item(means, m, &mut made, change)?;
+    Ok(maps::set(map, name, made)?)
+}

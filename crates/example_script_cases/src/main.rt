@@ -14,7 +14,7 @@ const LIMITS: ScriptLimits = ScriptLimits {
         text: 1_000_000,
         items: 1_000_000,
     },
-    operations: 2_000_000,
+    operations: 4_000_000,
     calls: 100,
 };
 

@@ -37,6 +37,7 @@ pub trait Job {
     ghost left: { Seen → ℕ };
 
     /// Goes on with a frame: down to a child, for which the frame then waits, or to its end.
+    /// Errors: the job's own, as refused memory; the walk ends then.
     fn step(&mut self, frame: &mut Self::Frame) -> Result<Option<Self::Frame>, AllocError>
         requires { is_ready frame.old }
         ensures { IfOk result (λ next. MatchOption next
@@ -44,17 +45,19 @@ pub trait Job {
             (λ child. (run (seen self.old) frame.old ≡ after (run (seen self.new) child).0 frame.new (run (seen self.new) child).1) × (left (seen self.new) + size frame.new + size child < left (seen self.old) + size frame.old) × is_waiting frame.new × is_ready child)) };
 
     /// Takes what came of the child for which a frame waits.
+    /// Errors: the job's own; the walk ends then.
     fn add(&mut self, frame: &mut Self::Frame, done: Self::Done) -> Result<(), AllocError>
         requires { is_waiting frame.old }
         ensures { OnOk result ((run (seen self.new) frame.new ≡ after (seen self.old) frame.old done) × (left (seen self.new) + size frame.new ≤ left (seen self.old) + size frame.old) × is_ready frame.new) };
 
     /// Ends a frame of which nothing is left.
+    /// Errors: the job's own; the walk ends then.
     fn finish(&mut self, frame: Self::Frame) -> Result<Self::Done, AllocError>
         requires { is_ended frame }
         ensures { IfOk result (λ done. (run (seen self.old) frame ≡ (seen self.new, done)) × (left (seen self.new) ≤ left (seen self.old))) };
 }
 
-/// The same of a job that doesn't fail.
+/// A job that doesn't fail.
 pub trait Search {
     /// A node that is under way.
     type Frame: Drop;

@@ -5,7 +5,9 @@ use crate::job::{Job, Search};
 use std::alloc::{AllocError, Global};
 use std::mem;
 
-/// What comes of a frame. An `Err` comes where the job fails or memory for the frames is refused.
+/// Runs a job over all that a frame leads to.
+/// Errors: the job fails, or memory for the list of frames is refused.
+/// Cost: a step for each node; memory for a frame a level.
 pub fn walked<J: Job>(job: &mut J, first: J::Frame, alloc: Global) -> Result<J::Done, AllocError>
     requires { J.is_ready first }
     ensures { IfOk result (λ done. J.run (J.seen job.old) first ≡ (J.seen job.new, done)) }
@@ -29,7 +31,8 @@ pub fn walked<J: Job>(job: &mut J, first: J::Frame, alloc: Global) -> Result<J::
     }
 }
 
-/// The same of a job that doesn't fail. Where memory for the frames is refused, it goes on by a call.
+/// Runs a search over all that a frame leads to. Where memory for a frame is refused, it goes on by a call for that child.
+/// Cost: a step for each node; memory for a frame a level, where there is any.
 pub fn searched<J: Search>(job: &mut J, first: J::Frame, alloc: Global) -> J::Done
     requires { J.is_ready first }
     ensures done { J.run (J.seen job.old) first ≡ (J.seen job.new, result) }

@@ -8,17 +8,21 @@ use crate::text_bytes::{TextBytes, three_in_a_row};
 use std::alloc::{AllocError, Global};
 
 impl ImmutableString {
-    /// This text and then `text`: rhai's `+`. It goes over both once, and fails only where memory for the new text is
-    /// refused, as all edits do.
+    /// Joins this text and `text`.
+    /// Errors: memory for the new text is refused.
+    /// Cost: the length of both; memory for the new text, asked once.
+    /// rhai: `+` of two texts.
     pub fn concat(&self, alloc: Global, text: &str) -> Result<ImmutableString, AllocError>
         ensures { IfOk result (λ t. t ≡ self.now ++ chars text.now) }
     {
         joined(alloc, self.as_str(), text, "")
     }
 
-    /// This text without the occurrences of `pattern`, which are found from left to right and don't overlap: rhai's `-`
-    /// of two texts. An empty pattern takes nothing away, and gives a copy that takes no memory. For a given pattern the
-    /// time is in the length of this text.
+    /// Takes the occurrences of `pattern` out of this text, from left to right; they don't overlap.
+    /// An empty pattern takes nothing away.
+    /// Errors: memory for the new text is refused.
+    /// Cost: for a given pattern the length of this text; memory for the new one, none for an empty pattern.
+    /// rhai: `-` of two texts.
     pub fn minus(&self, alloc: Global, pattern: &str) -> Result<ImmutableString, AllocError>
         ensures { IfOk result (λ t. t ≡ minus self.now (chars pattern.now)) }
     {
@@ -29,8 +33,10 @@ impl ImmutableString {
         ImmutableString::from_bytes(alloc, TextBytes::Long(text))
     }
 
-    /// This text without any `character`: rhai's `-` of a text and a character. It goes over the text once, with room
-    /// for all of it from the start.
+    /// Takes each `character` out of this text.
+    /// Errors: memory is refused.
+    /// Cost: the length of this text; room for all of it from the start.
+    /// rhai: `-` of a text and a character.
     pub fn minus_char(&self, alloc: Global, character: char) -> Result<ImmutableString, AllocError>
         ensures { IfOk result (λ t. t ≡ minus_char self.now character) }
     {
@@ -41,8 +47,10 @@ impl ImmutableString {
         ImmutableString::from_bytes(alloc, TextBytes::Long(text))
     }
 
-    /// This text with `character` in place of the one at `index`, counted in characters from 0, as rhai writes through
-    /// an index. Past the end it is a copy of this text. It goes over the text once.
+    /// Puts `character` in place of the one at `index`, counted in characters from 0; past the end it copies this text.
+    /// Errors: memory for the new text is refused.
+    /// Cost: the length of this text; memory for the new one.
+    /// rhai: an assignment to an index of a text.
     pub fn with_char(
         &self,
         alloc: Global,
@@ -63,11 +71,12 @@ impl ImmutableString {
         joined(alloc, front, encoded, after.as_str())
     }
 
-    /// This text with `slice` in place of its characters from `start` to `end`, which is included unless `exclusive`, as
-    /// rhai writes through a range.
-    /// Places count characters from 0, and past the text they mean its end. Where `end` lies before `start`, the
-    /// characters between them stand twice, on both sides of `slice`. It goes over the text once, and over its front
-    /// again where `end` lies before `start`.
+    /// Puts `slice` in place of the characters from `start` to `end`, which is included unless `exclusive`.
+    /// Places count characters from 0, and past the text they mean its end. Where `end` lies before `start`, the characters
+    /// between them stand twice, on both sides of `slice`.
+    /// Errors: memory for the new text is refused.
+    /// Cost: the length of this text, twice where `end` lies before `start`; memory for the new one.
+    /// rhai: an assignment to a range of a text.
     pub fn with_slice(
         &self,
         alloc: Global,
@@ -82,8 +91,11 @@ impl ImmutableString {
         joined(alloc, front, slice, back)
     }
 
-    /// The characters from `start` to `end`, which is included unless `exclusive`, as rhai reads through a range: what
-    /// `with_slice` would replace. Where `end` lies before `start` there are none. It goes over the text to its end once.
+    /// Copies the characters from `start` to `end`, which is included unless `exclusive`: those that `with_slice` would
+    /// replace. There are none where `end` lies before `start`.
+    /// Errors: memory for the new text is refused.
+    /// Cost: the length of this text up to `end`; memory for the new one.
+    /// rhai: a text indexed by a range.
     pub fn slice(
         &self,
         alloc: Global,

@@ -8,6 +8,7 @@ use std::alloc::AllocError;
 use thiserror::Error;
 
 /// Why an evaluation stopped, and at which place of the script.
+/// rhai: `EvalAltResult`, of which these are the variants that this layer meets.
 #[derive(Debug, Drop, Error)]
 pub enum EvalAltResult {
     /// A value has the wrong type: the name of the type that is wanted, and of the one that is there.
@@ -50,7 +51,7 @@ pub enum SizeKind {
 }
 
 impl EvalAltResult {
-    /// The same error at this place of the script; want of memory has no place, and stays as it is.
+    /// Puts this place of the script into the error; want of memory has no place, and stays as it is.
     pub fn with_position(self, pos: Position) -> EvalAltResult
         ensures { result ≡ at_place pos self }
     {
@@ -66,7 +67,8 @@ impl EvalAltResult {
         }
     }
 
-    /// The place of the script; of want of memory it is `Position::NONE`.
+    /// Tells the place of the script; of want of memory it is `Position::NONE`.
+    /// rhai: `EvalAltResult::position`.
     pub fn position(&self) -> Position
         ensures { result ≡ place_of self.now }
     {

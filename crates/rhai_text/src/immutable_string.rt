@@ -15,9 +15,9 @@ use std::hash::{Hash, Hasher};
 use std::marker::Model;
 use std::rc::Rc;
 
-/// A text that is never changed in place: rhai's `ImmutableString`. Contracts see it as the list of its characters.
-///
+/// A text that is never changed in place. Contracts see it as the list of its characters.
 /// It is one pointer wide, and its copies share their bytes.
+/// rhai: `ImmutableString`.
 #[derive(Drop)]
 pub struct ImmutableString {
     bytes: Rc<TextBytes>,
@@ -34,8 +34,11 @@ impl Model for ImmutableString {
 }
 
 impl ImmutableString {
-    /// The text of a `&str`, as rhai's `From<&str>`. It takes memory for the bytes and for a count of the copies, one
-    /// block where there are at most 24 bytes, and fails only where that is refused. The time is in the length of the text.
+    /// Makes the text of a `&str`.
+    /// Errors: memory is refused.
+    /// Cost: the length of the text; memory for the bytes and for a count of the copies, in one block where there are at
+    /// most 24 bytes.
+    /// rhai: `From<&str>` of `ImmutableString`.
     pub fn from_str(alloc: Global, text: &str) -> Result<ImmutableString, AllocError>
         ensures characters { IfOk result (λ t. t ≡ chars text.now) }
         ensures bytes { IfOk result (λ t. encode_utf8_all t ≡ text.now) }
@@ -54,7 +57,8 @@ impl ImmutableString {
         }
     }
 
-    /// The text as a `&str`, at no cost.
+    /// Lends the text as a `&str`.
+    /// rhai: `ImmutableString::as_str`.
     pub fn as_str(&self) -> &str
         ensures characters { chars result.now ≡ self.now }
         ensures bytes { result.now ≡ encode_utf8_all self.now }
@@ -62,22 +66,24 @@ impl ImmutableString {
         self.bytes.as_str()
     }
 
-    /// The length in UTF-8 bytes, at no cost.
+    /// Tells the length in UTF-8 bytes.
     pub fn len(&self) -> usize
         ensures { result ≡ length (encode_utf8_all self.now) }
     {
         self.as_str().len()
     }
 
-    /// Whether the text has no character.
+    /// Tells whether the text has no character.
     pub fn is_empty(&self) -> bool
         ensures { IsTrue result ↔ (self.now ≡ []) }
     {
         self.len() == 0
     }
 
-    /// The same text again, as rhai's `clone`. It shares the bytes: it takes no memory, and a time that does not depend
-    /// on the length. Only where the count of the copies is at its limit is the text copied, and may memory be refused.
+    /// Copies the text, sharing its bytes.
+    /// Errors: the count of the copies is at its limit, and memory for a text of its own is refused.
+    /// Cost: a few steps, whatever the length, and no memory; at that limit as `from_str`.
+    /// rhai: `Clone` of `ImmutableString`.
     pub fn copy(&self, alloc: Global) -> Result<ImmutableString, AllocError>
         ensures { IfOk result (λ t. t ≡ self.now) }
     {

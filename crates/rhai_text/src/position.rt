@@ -2,6 +2,7 @@
 ghost use Rattle.std.specs.Prelude.{◌≡◌};
 
 /// A place in a script: a line, and a position on it. It is handed through, and nothing here depends on it.
+/// rhai: `Position`.
 #[derive(Clone, Copy, Debug, PartialEq, Eq)]
 pub struct Position {
     pub line: u32,
@@ -15,6 +16,8 @@ impl Position {
         position: 0,
     };
 
+    /// Makes a place of a line and a position on it, counted from 1.
+    /// rhai: `Position::new`.
     pub fn new(line: u16, position: u16) -> Position
         ensures { result ≡ record { line = line; position = position } }
     {
@@ -24,12 +27,16 @@ impl Position {
         }
     }
 
+    /// Tells the line, 0 where there is no place.
+    /// rhai: `Position::line`.
     pub fn line(self) -> u32
         ensures { result ≡ self.line }
     {
         self.line
     }
 
+    /// Tells the position on the line, 0 where there is none.
+    /// rhai: `Position::position`.
     pub fn position(self) -> u32
         ensures { result ≡ self.position }
     {

@@ -9,9 +9,11 @@ use crate::immutable_string::ImmutableString;
 use std::alloc::AllocError;
 
 impl ImmutableString {
-    /// Appends this text in double quotation marks, with `"`, the backslash and what does not print escaped, as `Debug`
-    /// of a text, but that all characters past U+007F stand as themselves. The time is in the length of the text. Where
-    /// memory is refused, `out` is as before.
+    /// Appends this text in double quotation marks, with `"`, the backslash and what does not print escaped. All characters
+    /// past U+007F stand as themselves.
+    /// Errors: memory is refused; `out` is as before.
+    /// Cost: the length of the text; memory where `out` grows.
+    /// rhai: `Debug` of a text.
     pub fn quoted_into(&self, out: &mut String) -> Result<(), AllocError>
         ensures characters { OnOk result (chars (string_bytes out.new) ≡ chars (string_bytes out.old) ++ quoted_text self.now) }
         ensures bytes { OnOk result (string_bytes out.new ≡ string_bytes out.old ++ encode_utf8_all (quoted_text self.now)) }
@@ -21,8 +23,9 @@ impl ImmutableString {
     }
 }
 
-/// Appends a text in double quotation marks, as `ImmutableString::quoted_into` does. The time is in the length of the text. Where
-/// memory is refused, `out` is as before.
+/// Appends a text in double quotation marks, as `ImmutableString::quoted_into` does.
+/// Errors: memory is refused; `out` is as before.
+/// Cost: the length of the text; memory where `out` grows.
 pub fn quoted_text_into(text: &str, out: &mut String) -> Result<(), AllocError>
     ensures characters { OnOk result (chars (string_bytes out.new) ≡ chars (string_bytes out.old) ++ quoted_text (chars text.now)) }
     ensures bytes { OnOk result (string_bytes out.new ≡ string_bytes out.old ++ encode_utf8_all (quoted_text (chars text.now))) }
@@ -31,8 +34,10 @@ pub fn quoted_text_into(text: &str, out: &mut String) -> Result<(), AllocError>
     append_quoted(text, '"', out)
 }
 
-/// Appends a character in single quotation marks, with `'`, the backslash and what does not print escaped, as `Debug` of
-/// a character, but that all characters past U+007F stand as themselves. Where memory is refused, `out` is as before.
+/// Appends a character in single quotation marks, with `'`, the backslash and what does not print escaped. All characters
+/// past U+007F stand as themselves.
+/// Errors: memory is refused; `out` is as before.
+/// rhai: `Debug` of a character.
 pub fn quoted_char_into(character: char, out: &mut String) -> Result<(), AllocError>
     ensures characters { OnOk result (chars (string_bytes out.new) ≡ chars (string_bytes out.old) ++ quoted_char character) }
     ensures bytes { OnOk result (string_bytes out.new ≡ string_bytes out.old ++ encode_utf8_all (quoted_char character)) }

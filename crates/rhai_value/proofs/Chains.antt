@@ -5,7 +5,7 @@ use Rattle.std.proofs.lemmas.Bool.Decides.{eqb_tells}
 use Rattle.std.proofs.lemmas.Option.{none-some, same_Some}
 use Rattle.rhai_value.specs.declared.access_mode.AccessMode.{AccessMode}
 use Rattle.rhai_value.specs.declared.chain.Site.{Site}
-use Rattle.rhai_value.specs.declared.chain.Site.TheVariants.{Own, InCell}
+use Rattle.rhai_value.specs.declared.chain.Site.TheVariants.{Here, InCell}
 use Rattle.rhai_value.specs.declared.store.Cell.{Cell}
 use Rattle.rhai_value.specs.Tree.{Tree, node, leaf, branch, fields, holder, cell_of}
 use Rattle.rhai_value.specs.Store.{at}
@@ -71,7 +71,7 @@ chain_walk (suc n) s path (node (holder c) g a) h = at_cell (chain_walk n s (c �
     at_cell again (Some u) false some passed = again u (behind_next s path c u g a some h)
 
 -- as many steps as there are cells find the end
-pub chain-end : (s : List Cell) (t : Tree) → chain (length s) s Own t ≡ end s [] t
+pub chain-end : (s : List Cell) (t : Tree) → chain (length s) s Here t ≡ end s [] t
 unfolding end
 chain-end s t = chain_walk (length s) s [] t (λ c u n passed. cc)
 
@@ -133,8 +133,8 @@ chain_alone zero s site (node (holder c) g a) e = cc
 chain_alone (suc n) s site (node (holder c) g a) e = cc
 
 -- a value that is no holder is held
-pub end_alone : (s : List Cell) (t : Tree) → None ≡ cell_of t → held Own t ≡ end s [] t
-end_alone s t e = chain_alone (length s) s Own t e ∙ chain-end s t
+pub end_alone : (s : List Cell) (t : Tree) → None ≡ cell_of t → held Here t ≡ end s [] t
+end_alone s t e = chain_alone (length s) s Here t e ∙ chain-end s t
 
 -- nothing is held by a holder whose cell is marked or no cell of the store
 chain_stuck : (n : ℕ) (s : List Cell) (site : Site) (t : Tree) (c : ℕ) → Some c ≡ cell_of t → None ≡ at s c → stuck t ≡ chain n s site t
@@ -147,7 +147,7 @@ chain_stuck (suc n) s site (node (holder d) g a) c e is = rw (same_Some d c (sym
 -- so is the content of a holder's cell, if it is no holder
 pub end_near : (s : List Cell) (t w : Tree) (c : ℕ) → Some c ≡ cell_of t → Some w ≡ at s c → None ≡ cell_of w → held (InCell c) w ≡ end s [] t
 end_near [] t w c e is alone = cc
-end_near (x ∷ xs) t w c e is alone = chain_alone (length xs) (x ∷ xs) (InCell c) w alone ∙ sym (chain_next (x ∷ xs) t w c (length (x ∷ xs)) (length xs) Own e is refl) ∙ chain-end (x ∷ xs) t
+end_near (x ∷ xs) t w c e is alone = chain_alone (length xs) (x ∷ xs) (InCell c) w alone ∙ sym (chain_next (x ∷ xs) t w c (length (x ∷ xs)) (length xs) Here e is refl) ∙ chain-end (x ∷ xs) t
 
 -- A first content that is no holder is held where it stands; where there is none, the chain is stuck at once.
 first_at : (s : List Cell) (t w : Tree) (site : Site) (c : ℕ) (o : Option Tree) → Some c ≡ cell_of t → o ≡ at s c
@@ -155,24 +155,24 @@ first_at : (s : List Cell) (t w : Tree) (site : Site) (c : ℕ) (o : Option Tree
 first_at s t w site c None e is p q alone = cc
 first_at s t w site c (Some u) e is p q alone = let same : site ≡ InCell c = cc in ap (λ i. held i w) same ∙ end_near s t w c e (q ∙ is) alone
 
-own_alone : (s : List Cell) (t : Tree) → Some Own ≡ first_site s t → None ≡ cell_of t
+own_alone : (s : List Cell) (t : Tree) → Some Here ≡ first_site s t → None ≡ cell_of t
 own_alone s (node (leaf l) g a) p = refl
 own_alone s (node (branch k ts) g a) p = refl
 own_alone s (node (fields fs) g a) p = refl
 own_alone s (node (holder c) g a) p = at_cell (at s c) p
   where
-    at_cell : (o : Option Tree) → Some Own ≡ option_map (λ x. InCell c) o → None ≡ Some c
+    at_cell : (o : Option Tree) → Some Here ≡ option_map (λ x. InCell c) o → None ≡ Some c
     at_cell None p = cc
     at_cell (Some x) p = cc
 
-pub end_at_first : (s : List Cell) (t : Tree) → Some Own ≡ first_site s t → held Own t ≡ end s [] t
+pub end_at_first : (s : List Cell) (t : Tree) → Some Here ≡ first_site s t → held Here t ≡ end s [] t
 end_at_first s t p = end_alone s t (own_alone s t p)
 
-pub held_at_first : (s : List Cell) (t : Tree) → Some Own ≡ first_site s t → Some t ≡ held_in (end s [] t)
+pub held_at_first : (s : List Cell) (t : Tree) → Some Here ≡ first_site s t → Some t ≡ held_in (end s [] t)
 held_at_first s t p = ap held_in (end_at_first s t p)
 
-own_first : (s : List Cell) (t w : Tree) (site : Site) → Some site ≡ Some Own → Some w ≡ Some t → None ≡ cell_of t → held site w ≡ end s [] t
-own_first s t w site p q alone = let there : site ≡ Own = cc in let same : w ≡ t = cc in ap₂ held there same ∙ end_alone s t alone
+own_first : (s : List Cell) (t w : Tree) (site : Site) → Some site ≡ Some Here → Some w ≡ Some t → None ≡ cell_of t → held site w ≡ end s [] t
+own_first s t w site p q alone = let there : site ≡ Here = cc in let same : w ≡ t = cc in ap₂ held there same ∙ end_alone s t alone
 
 pub end_first : (s : List Cell) (t w : Tree) (site : Site) → Some site ≡ first_site s t → Some w ≡ first s t → None ≡ cell_of w → held site w ≡ end s [] t
 end_first s (node (leaf l) g a) w site p q alone = own_first s (node (leaf l) g a) w site p q refl
@@ -190,7 +190,7 @@ pub end_barred : (s : List Cell) (t : Tree) → None ≡ first s t → stuck t �
 end_barred s (node (leaf l) g a) e = cc
 end_barred s (node (branch k ts) g a) e = cc
 end_barred s (node (fields fs) g a) e = cc
-end_barred s (node (holder c) g a) e = chain_stuck (length s) s Own (node (holder c) g a) c refl e ∙ chain-end s (node (holder c) g a)
+end_barred s (node (holder c) g a) e = chain_stuck (length s) s Here (node (holder c) g a) c refl e ∙ chain-end s (node (holder c) g a)
 
 pub held_barred : (s : List Cell) (t : Tree) → None ≡ first s t → None ≡ held_in (end s [] t)
 held_barred s t e = ap held_in (end_barred s t e)

@@ -2,7 +2,7 @@
 use Rattle.std.proofs.Common.{◌≡◌, ℕ, ℤ, zero, suc, Bool, true, false, List, [], ◌∷◌, length, slice_get, Option, Some, None, refl, sym, ap, ap₂, ◌∙◌, subst}
 use Rattle.rhai_value.specs.declared.access_mode.AccessMode.{AccessMode}
 use Rattle.rhai_value.specs.declared.chain.Site.{Site}
-use Rattle.rhai_value.specs.declared.chain.Site.TheVariants.{Own, InCell}
+use Rattle.rhai_value.specs.declared.chain.Site.TheVariants.{Here, InCell}
 use Rattle.rhai_value.specs.declared.store.Cell.{Cell}
 use Rattle.rhai_value.specs.Tree.{Tree, node, leaf, branch, fields, holder, cell_of}
 use Rattle.rhai_value.specs.Store.{at}
@@ -12,7 +12,7 @@ use Rattle.rhai_value.proofs.Walks.{opens, walk_opens}
 
 -- the value v stands in this cell, or is the root t itself
 abbrev pub Stands : List Cell → Tree → Site → Tree → Type 0
-Stands s t Own v = t ≡ v
+Stands s t Here v = t ≡ v
 Stands s t (InCell c) v = at s c ≡ Some v
 
 abbrev StandsIn : List Cell → Tree → End → Type 0

@@ -2,7 +2,7 @@
 use Rattle.std.proofs.Common.{◌≡◌, ◌<◌, ℕ, ℤ, Bool, true, false, if◌then◌else◌, option_map, List, [], length, Option, Some, None, IfSome, is_some, cond, slice_get, option_and_then, refl, sym, ap, ◌∙◌}
 use Rattle.rhai_value.specs.declared.access_mode.AccessMode.{AccessMode}
 use Rattle.rhai_value.specs.declared.in_store.InStore.{InStore}
-use Rattle.rhai_value.specs.declared.chain.Site.TheVariants.{Own, InCell}
+use Rattle.rhai_value.specs.declared.chain.Site.TheVariants.{Here, InCell}
 use Rattle.rhai_value.specs.declared.store.Cell.{Cell}
 use Rattle.rhai_value.specs.Tree.{Tree, node, Content, leaf, branch, fields, holder, cell_of}
 use Rattle.rhai_value.specs.Parts.{text_of, blob_of, with_content, with_part}
@@ -18,17 +18,17 @@ use Rattle.rhai_value.proofs.Ends.{stands, end_opens, end_own}
 use Rattle.rhai_value.proofs.Stores.{content_is, put-same}
 use Rattle.rhai_value.proofs.Walks.{at_within}
 
-own_at : (e : End) (h : InStore) (w : Tree) → Some Own ≡ site_of e → record { value = record (h.value) { now = w }; store = h.store } ≡ written_at e h (λ _. w)
-own_at (held Own v) h w p = refl
+own_at : (e : End) (h : InStore) (w : Tree) → Some Here ≡ site_of e → record { value = record (h.value) { now = w }; store = h.store } ≡ written_at e h (λ _. w)
+own_at (held Here v) h w p = refl
 own_at (held (InCell c) v) h w p = cc
 own_at (stuck v) h w p = cc
 own_at closed h w p = cc
 
-pub own_written : (h : InStore) → Some Own ≡ site_of (end h.store.now [] h.value.now) → (w : Tree) → record { value = record (h.value) { now = w }; store = h.store } ≡ written h (λ _. w)
+pub own_written : (h : InStore) → Some Here ≡ site_of (end h.store.now [] h.value.now) → (w : Tree) → record { value = record (h.value) { now = w }; store = h.store } ≡ written h (λ _. w)
 own_written h p w = own_at (end h.store.now [] h.value.now) h w p
 
 cell_at : (e : End) (h : InStore) (c : ℕ) (w : Tree) → Some (InCell c) ≡ site_of e → record { value = h.value; store = record (h.store) { now = put h.store.now c w } } ≡ written_at e h (λ _. w)
-cell_at (held Own v) h c w p = cc
+cell_at (held Here v) h c w p = cc
 cell_at (held (InCell d) v) h c w p = let same : c ≡ d = cc in ap (λ i. record { value = h.value; store = record (h.store) { now = put h.store.now i w } }) same
 cell_at (stuck v) h c w p = cc
 cell_at closed h c w p = cc
@@ -37,18 +37,18 @@ pub cell_written : (h : InStore) (c : ℕ) → Some (InCell c) ≡ site_of (end 
 cell_written h c p w = cell_at (end h.store.now [] h.value.now) h c w p
 
 -- what is held, where the place is the value itself, and where it is a cell
-own_value_at : (e : End) (s : List Cell) (t : Tree) → e ≡ end s [] t → Some Own ≡ site_of e → Some t ≡ held_in e
-own_value_at (held Own v) s t e p = ap Some (stands s t Own v e)
+own_value_at : (e : End) (s : List Cell) (t : Tree) → e ≡ end s [] t → Some Here ≡ site_of e → Some t ≡ held_in e
+own_value_at (held Here v) s t e p = ap Some (stands s t Here v e)
 own_value_at (held (InCell c) v) s t e p = cc
 own_value_at (stuck v) s t e p = cc
 own_value_at closed s t e p = cc
 
-pub own_value : (s : List Cell) (t : Tree) → Some Own ≡ site_of (end s [] t) → Some t ≡ held_in (end s [] t)
+pub own_value : (s : List Cell) (t : Tree) → Some Here ≡ site_of (end s [] t) → Some t ≡ held_in (end s [] t)
 own_value s t p = own_value_at (end s [] t) s t refl p
 
 -- the cell of a place is one of the store's, and is read
 cell_read_at : (e : End) (s : List Cell) (t : Tree) (c : ℕ) → e ≡ end s [] t → Some (InCell c) ≡ site_of e → (v : Tree) × (at s c ≡ Some v) × (Some v ≡ held_in e)
-cell_read_at (held Own v) s t c e p = cc
+cell_read_at (held Here v) s t c e p = cc
 cell_read_at (held (InCell d) v) s t c e p = let same : c ≡ d = cc in (v, ap (at s) same ∙ stands s t (InCell d) v e, refl)
 cell_read_at (stuck v) s t c e p = cc
 cell_read_at closed s t c e p = cc
@@ -61,16 +61,16 @@ cell_value s t c u p e = let r = cell_read_at (end s [] t) s t c refl p in ap So
 
 -- a value that is no holder stands in no cell
 pub unshared_site : (s : List Cell) (t : Tree) (c : ℕ) → cell_of t ≡ None → Some (InCell c) ≡ site_of (end s [] t) → ⊥
-unshared_site s (node (leaf l) g m) c e p = let q : Some (InCell c) ≡ Some Own = p ∙ ap site_of (end_opens s [] (node (leaf l) g m)) in cc
-unshared_site s (node (branch k ts) g m) c e p = let q : Some (InCell c) ≡ Some Own = p ∙ ap site_of (end_opens s [] (node (branch k ts) g m)) in cc
-unshared_site s (node (fields fs) g m) c e p = let q : Some (InCell c) ≡ Some Own = p ∙ ap site_of (end_opens s [] (node (fields fs) g m)) in cc
+unshared_site s (node (leaf l) g m) c e p = let q : Some (InCell c) ≡ Some Here = p ∙ ap site_of (end_opens s [] (node (leaf l) g m)) in cc
+unshared_site s (node (branch k ts) g m) c e p = let q : Some (InCell c) ≡ Some Here = p ∙ ap site_of (end_opens s [] (node (branch k ts) g m)) in cc
+unshared_site s (node (fields fs) g m) c e p = let q : Some (InCell c) ≡ Some Here = p ∙ ap site_of (end_opens s [] (node (fields fs) g m)) in cc
 unshared_site s (node (holder d) g m) c e p = cc
 
 -- nothing changes where the held value is written over itself
 kept_at : (e : End) (h : InStore) (v : Tree) → e ≡ end h.store.now [] h.value.now → Some v ≡ held_in e → written_at e h (λ _. v) ≡ h
-kept_at (held Own u) h v is p =
+kept_at (held Here u) h v is p =
     let same : v ≡ u = cc in
-    ap (λ x. record { value = record (h.value) { now = x }; store = h.store }) (same ∙ sym (stands h.store.now h.value.now Own u is))
+    ap (λ x. record { value = record (h.value) { now = x }; store = h.store }) (same ∙ sym (stands h.store.now h.value.now Here u is))
 kept_at (held (InCell c) u) h v is p =
     let same : v ≡ u = cc in
     ap (λ x. record { value = h.value; store = record (h.store) { now = x } }) (ap (put h.store.now c) same ∙ put-same h.store.now c u (stands h.store.now h.value.now (InCell c) u is))
@@ -86,7 +86,7 @@ with_none part c t none = ap (λ o. cond (is_some o) (with_content c t) t) none
 
 unheld_at : {A : Type 0} (part : Tree → Option A) (c : Content) (s : List Cell) (t : Tree) (e : End) → e ≡ end s [] t → held_part part e ≡ None
     → (t ≡ value_after (with_part part c) e t) × (s ≡ store_after (with_part part c) e s)
-unheld_at part c s t (held Own u) is none = (stands s t Own u is ∙ sym (with_none part c u none), refl)
+unheld_at part c s t (held Here u) is none = (stands s t Here u is ∙ sym (with_none part c u none), refl)
 unheld_at part c s t (held (InCell d) u) is none = (refl, sym (put-same s d u (stands s t (InCell d) u is)) ∙ ap (put s d) (sym (with_none part c u none)))
 unheld_at part c s t (stuck u) is none = (refl, refl)
 unheld_at part c s t closed is none = (refl, refl)
@@ -120,7 +120,7 @@ own_part content part k constructs reads s t a h = own_held part s t a (none_of_
 pub part_first_held : {A : Type 0} (part : Tree → Option A) (s : List Cell) (t w : Tree) → Some w ≡ first s t → None ≡ cell_of w → part w ≡ held_part part (end s [] t)
 part_first_held part s t w is alone = ap (option_and_then part) (held_first s t w is alone)
 
-pub part_own_held : {A : Type 0} (part : Tree → Option A) (s : List Cell) (t : Tree) → Some Own ≡ first_site s t → part t ≡ held_part part (end s [] t)
+pub part_own_held : {A : Type 0} (part : Tree → Option A) (s : List Cell) (t : Tree) → Some Here ≡ first_site s t → part t ≡ held_part part (end s [] t)
 part_own_held part s t p = ap (option_and_then part) (held_at_first s t p)
 
 pub part_unheld : {A : Type 0} (part : Tree → Option A) (s : List Cell) (t : Tree) → None ≡ first s t → None ≡ held_part part (end s [] t)

@@ -16,7 +16,7 @@ use Rattle.std.proofs.lemmas.Slice.Eq.{bytes_eq-Decides}
 use Rattle.std.proofs.lemmas.Str.{encodes-chars}
 use Rattle.rhai_value.specs.declared.chain.Site.{Site}
 use Rattle.rhai_value.specs.declared.store.Cell.{Cell}
-use Rattle.rhai_value.specs.Tree.{Tree, node, Content, branch, array, fields, Trees, no_trees, tree_then, cell_in, cell_of}
+use Rattle.rhai_value.specs.Tree.{Tree, node, Content, leaf, branch, array, fields, holder, Trees, no_trees, tree_then, cell_of, made}
 use Rattle.rhai_value.specs.Parts.{array_of, map_of, with_content}
 use Rattle.rhai_value.specs.Rows.{Rows, bytes_cmp, AreRising, AreTexts, trees_of, fields_of}
 use Rattle.rhai_value.specs.End.{End, end, held, stuck, closed, held_part}
@@ -56,12 +56,15 @@ is_held part (held site v) a h = (site, v, refl)
 is_held part (stuck v) a h = cc
 is_held part closed a h = cc
 
-no_holder : (c : Content) (v : Tree) → cell_in c ≡ None → cell_of (with_content c v) ≡ None
-no_holder c (node d g m) e = e
+no_holder : (c : Content) (v : Tree) → cell_of (made c) ≡ None → cell_of (with_content c v) ≡ None
+no_holder (leaf l) (node d g m) e = refl
+no_holder (branch k ts) (node d g m) e = refl
+no_holder (fields fs) (node d g m) e = refl
+no_holder (holder c) (node d g m) e = cc
 
 -- where something is held, a content that is no holder is held once it was written there
 content_written : {A B : Type 0} (part : Tree → Option A) (now : Tree → Option B) (s : List Cell) (t : Tree) (a : A) (c : Content) (b : B)
-    → cell_in c ≡ None → ((v : Tree) → now (with_content c v) ≡ Some b) → held_part part (end s [] t) ≡ Some a → held_part now (end_after (with_content c) s t) ≡ Some b
+    → cell_of (made c) ≡ None → ((v : Tree) → now (with_content c v) ≡ Some b) → held_part part (end s [] t) ≡ Some a → held_part now (end_after (with_content c) s t) ≡ Some b
 content_written part now s t a c b none has h =
     let here = is_held part (end s [] t) a h in
     ap (held_part now) (end_written s t here.1 (with_content c) here.0 here.2 (no_holder c here.1 none)) ∙ has here.1

@@ -6,7 +6,7 @@ use mathlib.Core.Option as maybe
 use denote.Follow.{follows_by}
 use Rattle.rhai_value.specs.declared.store.Cell.{Cell}
 use Rattle.rhai_value.specs.declared.access_mode.AccessMode.{AccessMode}
-use Rattle.rhai_value.specs.declared.chain.Site.TheVariants.{Own, InCell}
+use Rattle.rhai_value.specs.declared.chain.Site.TheVariants.{Here, InCell}
 use Rattle.rhai_value.specs.contracts.dynamic.Dynamic as dynamic
 use Rattle.rhai_value.specs.contracts.store.Store as store
 use Rattle.rhai_value.specs.Tree.{Tree, node, leaf, branch, fields, holder, cell_of}
@@ -20,7 +20,7 @@ use Rattle.rhai_value.proofs.Lent.{OwnSide, FarSide, no_cell, same_content}
 
 -- a chain from a holder does not end at the holder itself
 abbrev pub FarEnd : End → Type 0
-FarEnd (held Own v) = ⊥
+FarEnd (held Here v) = ⊥
 FarEnd (held (InCell c) v) = Unit {0}
 FarEnd (stuck v) = Unit {0}
 FarEnd closed = Unit {0}
@@ -74,7 +74,7 @@ FarHeld m t p = follows_if store.the_row dynamic.the_row m.ghost_name (far_lent 
 
 far_put : (m : MutBor (List Cell)) (e : End) (x : Option ℕ) (y : MutBor Tree) → x ≡ held_cell e → Some y.now ≡ content_in x m.now
     → FarSide m x (Some y) ≡ follows_if store.the_row dynamic.the_row m.ghost_name (maybe.some y.ghost_name) (λ w. store_after (λ _. w) e m.now) m.now
-far_put m (held Own v) x y e f = absurd (no_cell m.now x y.now e f)
+far_put m (held Here v) x y e f = absurd (no_cell m.now x y.now e f)
 far_put m (held (InCell k) v) x y e f = ap (λ z. FarSide m z (Some y)) e
 far_put m (stuck v) x y e f = absurd (no_cell m.now x y.now e f)
 far_put m closed x y e f = absurd (no_cell m.now x y.now e f)
@@ -99,7 +99,7 @@ pub far_held : (m : MutBor (List Cell)) (v : MutBor Tree) (x : Option ℕ) (y r 
 far_held m v x y r p e f g h = far_at_held m v v.now x r e f ∙ ap (λ z. FarHeld m v.now (either_of z r)) (sym g) ∙ ap (FarHeld m v.now) (sym h)
 
 within_at : (s : List Cell) (t : Tree) (e : End) → e ≡ end s [] t → IfSome (held_cell e) (λ k. k < length s)
-within_at s t (held Own v) q = tt
+within_at s t (held Here v) q = tt
 within_at s t (held (InCell c) v) q = cell_within s t c (ap site_of q)
 within_at s t (stuck v) q = tt
 within_at s t closed q = tt
@@ -108,7 +108,7 @@ pub held_within : (s : List Cell) (t : Tree) (x : Option ℕ) → x ≡ held_cel
 held_within s t x e = subst (λ z. IfSome z (λ k. k < length s)) (sym e) (within_at s t (end s [] t) refl)
 
 far_found : (s : List Cell) (t : Tree) (e : End) (r : Option (MutBor Tree)) → e ≡ end s [] t → FarEnd e → option_map (λ d. d.now) r ≡ content_in (held_cell e) s → option_map (λ d. d.now) r ≡ held_in e
-far_found s t (held Own v) r q h f = absurd h
+far_found s t (held Here v) r q h f = absurd h
 far_found s t (held (InCell c) v) r q h f = same_content s c (Some v) r (stands s t (InCell c) v q) f
 far_found s t (stuck v) r q h f = f
 far_found s t closed r q h f = f

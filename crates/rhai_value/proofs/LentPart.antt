@@ -6,7 +6,7 @@ use mathlib.Core.Option as maybe
 use denote.Follow.{follows_by}
 use Rattle.rhai_value.specs.declared.store.Cell.{Cell}
 use Rattle.rhai_value.specs.declared.access_mode.AccessMode.{AccessMode}
-use Rattle.rhai_value.specs.declared.chain.Site.TheVariants.{Own, InCell}
+use Rattle.rhai_value.specs.declared.chain.Site.TheVariants.{Here, InCell}
 use Rattle.rhai_value.specs.declared.type_id.TypeId.{TypeId}
 use Rattle.rhai_value.specs.contracts.dynamic.Dynamic as dynamic
 use Rattle.rhai_value.specs.contracts.store.Store as store
@@ -44,7 +44,7 @@ pub read_at : (s : List Cell) (c : ℕ) (v : Tree) → at s c ≡ Some v → con
 read_at s c v e = read_of (slice_get s c) v e
 
 far_content : (s : List Cell) (t : Tree) (e : End) → e ≡ end s [] t → FarEnd e → content_in (held_cell e) s ≡ held_in e
-far_content s t (held Own v) q h = absurd h
+far_content s t (held Here v) q h = absurd h
 far_content s t (held (InCell c) v) q h = read_at s c v (stands s t (InCell c) v q)
 far_content s t (stuck v) q h = refl
 far_content s t closed q h = refl
@@ -117,7 +117,7 @@ module _ (T : RattleType) {M : Type 0} (meaning : T.Denot → M) (edit : T.Denot
 
   far_put : (m : MutBor (List Cell)) (t : Tree) (e : End) (x : Option ℕ) (d : MutBor T.Denot) → e ≡ end m.now [] t → FarEnd e → x ≡ held_cell e → Has (Some d) ≡ option_and_then part (content_in x m.now)
       → FarPart m x (Some d) ≡ follows_if store.the_row T m.ghost_name (maybe.some d.ghost_name) (λ w. store_after (edit w) e m.now) m.now
-  far_put m t (held Own v) x d q h e f = absurd h
+  far_put m t (held Here v) x d q h e f = absurd h
   far_put m t (held (InCell c) v) x d q h e f =
       ap (λ z. FarPart m z (Some d)) e
       ∙ ap (λ z. follows_if store.the_row T m.ghost_name (maybe.some d.ghost_name) (λ w. edited c (edit w) z m.now) m.now) (read_at m.now c v (stands m.now t (InCell c) v q))

@@ -1,10 +1,11 @@
 -- Marks that are set and cleared.
 use Rattle.std.proofs.Common.{◌≡◌, ℕ, zero, suc, ◌<◌, Bool, true, false, List, [], ◌∷◌, length, get_or, slice_set, Option, Some, None, is_some, option_map, refl, sym, ap, ◌∙◌, arith}
+use Rattle.std.specs.Option.{option_map_or}
 use Rattle.rhai_value.specs.declared.chain.Site.{Site}
-use Rattle.rhai_value.specs.declared.chain.Site.TheVariants.{Own, InCell}
+use Rattle.rhai_value.specs.declared.chain.Site.TheVariants.{Here, InCell}
 use Rattle.rhai_value.specs.declared.store.Cell.{Cell}
 use Rattle.rhai_value.specs.Tree.{Tree, node, leaf, branch, fields, holder, cell_of}
-use Rattle.rhai_value.specs.Store.{at, unmarked, put, mark_of, is_marked_at, set_mark, shared_store}
+use Rattle.rhai_value.specs.Store.{at, unmarked, put, is_marked_at, set_mark, shared_store}
 use Rattle.rhai_value.specs.End.{End, held, stuck, closed, end, site_of, site_cell, first_cell, held_cell, IsWithin, first, first_site, store_with_first}
 use Rattle.rhai_value.proofs.Ends.{stands}
 use Rattle.rhai_value.proofs.InStores.{cell_within}
@@ -29,7 +30,7 @@ first_within s (node (holder c) g m) = first_within_at s c (at s c) refl
 
 held_within_at : (s : List Cell) (t : Tree) (p : Option Site) → p ≡ site_of (end s [] t) → IsWithin s p
 held_within_at s t None e = tt
-held_within_at s t (Some Own) e = tt
+held_within_at s t (Some Here) e = tt
 held_within_at s t (Some (InCell c)) e = cell_within s t c e
 
 pub held_within : (s : List Cell) (t : Tree) → IsWithin s (site_of (end s [] t))
@@ -59,7 +60,7 @@ written_and_cleared (x ∷ s) (suc c) w e = ap (λ z. x ∷ z) (written_and_clea
 
 -- a mark that is set or cleared on another cell keeps each mark
 pub others_marked : (s : List Cell) (c d : ℕ) (b : Bool) → (d ≡ c → ⊥) → is_marked_at (set_mark s c b) d ≡ is_marked_at s d
-others_marked s c d b h = ap mark_of (get_unchanged _ s c d h)
+others_marked s c d b h = ap (λ o. option_map_or (λ x. x.is_marked) o false) (get_unchanged _ s c d h)
 
 at_marked : (s : List Cell) (c : ℕ) → at (set_mark s c true) c ≡ None
 at_marked [] c = refl
@@ -97,7 +98,7 @@ first_read s (node (fields fs) g m) c h = cc
 first_read s (node (holder d) g m) c h = first_read_at s d c (at s d) refl h
 
 held_read_at : (s : List Cell) (t : Tree) (c : ℕ) (e : End) → e ≡ end s [] t → held_cell e ≡ Some c → is_some (at s c) ≡ true
-held_read_at s t c (held Own v) is h = cc
+held_read_at s t c (held Here v) is h = cc
 held_read_at s t c (held (InCell d) v) is h = let same : d ≡ c = cc in ap (λ i. is_some (at s i)) (sym same) ∙ ap is_some (stands s t (InCell d) v is)
 held_read_at s t c (stuck v) is h = cc
 held_read_at s t c closed is h = cc

@@ -8,7 +8,7 @@ use Rattle.std.specs.Str.{bytes_eq, chars, IsUtf8}
 use Rattle.std.proofs.lemmas.List.{set-get_or}
 use Rattle.std.proofs.lemmas.List.Elements.{All-head, All-tail}
 use Rattle.rhai_value.specs.declared.access_mode.AccessMode.{AccessMode}
-use Rattle.rhai_value.specs.declared.chain.Site.TheVariants.{Own, InCell}
+use Rattle.rhai_value.specs.declared.chain.Site.TheVariants.{Here, InCell}
 use Rattle.rhai_value.specs.declared.step.Step.{Step}
 use Rattle.rhai_value.specs.declared.step.Step.TheVariants.{Index, Key}
 use Rattle.rhai_value.specs.declared.step.PlaceError.{PlaceError}
@@ -42,7 +42,7 @@ far s (node (fields fs) g m) e = cc
 far s (node (holder c) g m) e = far_end s c g m
 
 none_held_at : (e : End) → FarEnd e → held_cell e ≡ None → held_in e ≡ None
-none_held_at (held Own v) f h = absurd f
+none_held_at (held Here v) f h = absurd f
 none_held_at (held (InCell c) v) f h = cc
 none_held_at (stuck v) f h = refl
 none_held_at closed f h = refl
@@ -62,7 +62,7 @@ marked_content (x ∷ s) zero v e = ap Some (read_under x.is_marked x.content v 
 marked_content (x ∷ s) (suc c) v e = marked_content s c v e
 
 lent_at : (s : List Cell) (t : Tree) (c : ℕ) (w : Tree) (e : End) → e ≡ end s [] t → Some c ≡ held_cell e → content_at (set_mark s c true) c ≡ Some w → e ≡ held (InCell c) w
-lent_at s t c w (held Own v) is h f = cc
+lent_at s t c w (held Here v) is h f = cc
 lent_at s t c w (held (InCell d) v) is h f =
     let same : c ≡ d = cc in
     let read : content_at (set_mark s c true) c ≡ Some v = marked_content s c v (ap (at s) same ∙ stands s t (InCell d) v is) in
@@ -252,7 +252,7 @@ lent_and_back (x ∷ s) zero v w e = ap (λ b. record { content = w; is_marked =
 lent_and_back (x ∷ s) (suc c) v w e = ap (λ z. x ∷ z) (lent_and_back s c v w e)
 
 kept_at : (s : List Cell) (t : Tree) (e : End) → e ≡ end s [] t → is_kept (held_cell e) (lent_out (held_cell e) s) ≡ true
-kept_at s t (held Own v) is = refl
+kept_at s t (held Here v) is = refl
 kept_at s t (held (InCell c) v) is = lent_is_marked s c (at_within s c v (stands s t (InCell c) v is))
 kept_at s t (stuck v) is = refl
 kept_at s t closed is = refl
@@ -261,7 +261,7 @@ pub lent_is_kept : (s : List Cell) (t : Tree) → is_kept (held_cell (end s [] t
 lent_is_kept s t = kept_at s t (end s [] t) refl
 
 back_at : (s : List Cell) (t w : Tree) (e : End) → e ≡ end s [] t → put_back (held_cell e) w (lent_out (held_cell e) s) ≡ store_after (λ _. w) e s
-back_at s t w (held Own v) is = refl
+back_at s t w (held Here v) is = refl
 back_at s t w (held (InCell c) v) is =
     let there = stands s t (InCell c) v is in
     ap (λ b. cond b (set_mark (put (lent_out (Some c) s) c w) c false) (lent_out (Some c) s)) (lent_is_marked s c (at_within s c v there)) ∙ lent_and_back s c v w there

@@ -2,7 +2,7 @@
 use Rattle.std.proofs.Common.{◌≡◌, ℕ, zero, suc, Bool, true, List, [], ◌∷◌, length, slice_get, Option, Some, refl, sym, ap, ◌∙◌, eqb-true, eq-eqb, inl, inr}
 use Rattle.std.proofs.lemmas.Bool.{cases_eq}
 use Rattle.std.proofs.lemmas.Option.{none-some, same_Some}
-use Rattle.rhai_value.specs.declared.chain.Site.TheVariants.{Own, InCell}
+use Rattle.rhai_value.specs.declared.chain.Site.TheVariants.{Here, InCell}
 use Rattle.rhai_value.specs.declared.store.Cell.{Cell}
 use Rattle.rhai_value.specs.Tree.{Tree, Leaf}
 use Rattle.rhai_value.specs.Parts.{leaf_part}
@@ -56,9 +56,9 @@ pub same_set_mark : (r : Renaming) (s z : List Cell) (a b : ℕ) (m : Bool) → 
 same_set_mark r s z a b m one cells p = same_changed _ _ r s z a b one cells p (λ x y h. (refl, h.1))
 
 -- the same ends are of one kind
-pub by_ends : (r : Renaming) (P : End → End → Type 0) → ((t u : Tree) → Related r t u → P (held Own t) (held Own u)) → ((c d : ℕ) (t u : Tree) → paired r c d ≡ true → Related r t u → P (held (InCell c) t) (held (InCell d) u))
+pub by_ends : (r : Renaming) (P : End → End → Type 0) → ((t u : Tree) → Related r t u → P (held Here t) (held Here u)) → ((c d : ℕ) (t u : Tree) → paired r c d ≡ true → Related r t u → P (held (InCell c) t) (held (InCell d) u))
     → ((t u : Tree) → Related r t u → P (stuck t) (stuck u)) → P closed closed → (e f : End) → RelatedEnds r e f → P e f
-by_ends r P own cell bars loops (held Own t) (held Own u) h = own t u h.1
+by_ends r P own cell bars loops (held Here t) (held Here u) h = own t u h.1
 by_ends r P own cell bars loops (held (InCell c) t) (held (InCell d) u) h = cell c d t u h.0 h.1
 by_ends r P own cell bars loops (stuck t) (stuck u) h = bars t u h
 by_ends r P own cell bars loops closed closed h = loops
@@ -85,7 +85,7 @@ same_store_after r f g s z k one cells = by_ends r (λ e o. RelatedCells r (stor
 
 -- a write where a chain ends makes no cell and sets no mark
 pub length_store_after : (f : Tree → Tree) (e : End) (s : List Cell) → length (store_after f e s) ≡ length s
-length_store_after f (held Own v) s = refl
+length_store_after f (held Here v) s = refl
 length_store_after f (held (InCell c) v) s = length_changed _ s c
 length_store_after f (stuck v) s = refl
 length_store_after f closed s = refl
@@ -98,7 +98,7 @@ marked_put (x ∷ s) (suc c) zero t = refl
 marked_put (x ∷ s) (suc c) (suc d) t = marked_put s c d t
 
 pub marked_store_after : (f : Tree → Tree) (e : End) (s : List Cell) (d : ℕ) → is_marked_at (store_after f e s) d ≡ is_marked_at s d
-marked_store_after f (held Own v) s d = refl
+marked_store_after f (held Here v) s d = refl
 marked_store_after f (held (InCell c) v) s d = marked_put s c d (f v)
 marked_store_after f (stuck v) s d = refl
 marked_store_after f closed s d = refl

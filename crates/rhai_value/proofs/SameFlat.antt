@@ -5,7 +5,7 @@ use Rattle.rhai_value.specs.Tree.{Tree, node, leaf, branch, fields, holder, cell
 use Rattle.rhai_value.specs.Store.{at, put, unmarked}
 use Rattle.rhai_value.specs.End.{End, held, stuck, closed, end, first, first_site, value_with_first, store_with_first, flat, flattened, flattened_holder, value_ahead, first_cell, held_cell, site_cell}
 use Rattle.rhai_value.specs.Seen.{flat_source}
-use Rattle.rhai_value.specs.declared.chain.Site.TheVariants.{Own, InCell}
+use Rattle.rhai_value.specs.declared.chain.Site.TheVariants.{Here, InCell}
 use Rattle.rhai_value.specs.Locked.{is_locked, is_one_locked, is_field_locked}
 use Rattle.rhai_value.specs.Relation.{Renaming, paired, Related, Alike, IsOneToOne, RelatedCells, RelatedEnds}
 use Rattle.rhai_value.proofs.Chains.{end_near}
@@ -58,13 +58,13 @@ far_source s (node (branch k ts) g m) w c p q = cc
 far_source s (node (fields fs) g m) w c p q = cc
 far_source s (node (holder d) g m) w c p q = rw (sym q) refl
 
-pub own_source : (s : List Cell) (t : Tree) → Some Own ≡ first_site s t → None ≡ flat_source s t
+pub own_source : (s : List Cell) (t : Tree) → Some Here ≡ first_site s t → None ≡ flat_source s t
 own_source s (node (leaf l) g m) p = refl
 own_source s (node (branch k ts) g m) p = refl
 own_source s (node (fields fs) g m) p = refl
 own_source s (node (holder d) g m) p = at_none (at s d) p
   where
-    at_none : (o : Option Tree) → Some Own ≡ option_map (λ x. InCell d) o → None ≡ option_and_then (λ x. value_ahead (end s [] (node (holder d) g m))) o
+    at_none : (o : Option Tree) → Some Here ≡ option_map (λ x. InCell d) o → None ≡ option_and_then (λ x. value_ahead (end s [] (node (holder d) g m))) o
     at_none None e = cc
     at_none (Some x) e = cc
 

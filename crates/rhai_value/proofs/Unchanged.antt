@@ -1,6 +1,6 @@
 -- A part that is written over itself changes nothing.
 use Rattle.std.proofs.Common.{◌≡◌, Bool, true, false, if◌then◌else◌, List, [], Option, Some, None, option_map, refl, sym, ap, ap₂, ◌∙◌}
-use Rattle.rhai_value.specs.declared.chain.Site.TheVariants.{Own, InCell}
+use Rattle.rhai_value.specs.declared.chain.Site.TheVariants.{Here, InCell}
 use Rattle.rhai_value.specs.declared.in_store.InStore.{InStore}
 use Rattle.rhai_value.specs.declared.store.Cell.{Cell}
 use Rattle.rhai_value.specs.declared.type_id.TypeId.{TypeId}
@@ -28,7 +28,7 @@ module _ {A : Type 0} (content : A → Content) (part : Tree → Option A) (k : 
 
   over_at : (s : List Cell) (t : Tree) (a : A) (e : End) → e ≡ end s [] t → held_part part e ≡ Some a
       → (value_after (with_content (content a)) e t ≡ t) × (store_after (with_content (content a)) e s ≡ s)
-  over_at s t a (held Own u) is h = (part_over u a h ∙ sym (stands s t Own u is), refl)
+  over_at s t a (held Here u) is h = (part_over u a h ∙ sym (stands s t Here u is), refl)
   over_at s t a (held (InCell d) u) is h = (refl, ap (put s d) (part_over u a h) ∙ put-same s d u (stands s t (InCell d) u is))
   over_at s t a (stuck u) is h = cc
   over_at s t a closed is h = cc

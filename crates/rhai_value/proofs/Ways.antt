@@ -1,6 +1,6 @@
 -- Ways of steps: what they lend of values that are no holders, and which cells they leave alone.
 use Rattle.std.proofs.Common.{◌≡◌, ◌+◌, ℕ, nat_lt, Bool, true, false, cond, List, [], ◌∷◌, length, slice_get, Some, None, Result, Ok, Err, refl, sym, ap, ◌∙◌}
-use Rattle.rhai_value.specs.declared.chain.Site.TheVariants.{Own, InCell}
+use Rattle.rhai_value.specs.declared.chain.Site.TheVariants.{Here, InCell}
 use Rattle.rhai_value.specs.declared.step.Step.{Step}
 use Rattle.rhai_value.specs.declared.step.PlaceErrorKind.{PlaceErrorKind}
 use Rattle.rhai_value.specs.declared.step.PlaceErrorKind.TheVariants.{TooFar}
@@ -67,7 +67,7 @@ alone_out c n t s (Err why) own h = tt
 
 module _ (go : List Cell → Tree → Way) (each : (s : List Cell) (t : Tree) → Alone s (go s t)) (n : ℕ) (s : List Cell) (t : Tree) where
   alone_end : (e : End) → e ≡ end s [] t → Alone s (from_end go n s t e)
-  alone_end (held Own v) is = each s t
+  alone_end (held Here v) is = each s t
   alone_end (held (InCell c) v) is = alone_out c n t s (go (lent_out (Some c) s) v) (lent_is_marked s c (at_within s c v (stands s t (InCell c) v is))) (each (lent_out (Some c) s) v)
   alone_end (stuck v) is = tt
   alone_end closed is = tt

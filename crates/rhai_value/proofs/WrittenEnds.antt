@@ -2,7 +2,7 @@
 use Rattle.std.proofs.Common.{◌≡◌, ℕ, ℤ, zero, suc, Bool, true, false, List, [], ◌∷◌, length, slice_get, Option, Some, None, option_and_then, refl, sym, ap, ◌∙◌}
 use Rattle.rhai_value.specs.declared.access_mode.AccessMode.{AccessMode}
 use Rattle.rhai_value.specs.declared.chain.Site.{Site}
-use Rattle.rhai_value.specs.declared.chain.Site.TheVariants.{Own, InCell}
+use Rattle.rhai_value.specs.declared.chain.Site.TheVariants.{Here, InCell}
 use Rattle.rhai_value.specs.declared.store.Cell.{Cell}
 use Rattle.rhai_value.specs.Tree.{Tree, node, leaf, branch, fields, holder, cell_of}
 use Rattle.rhai_value.specs.Store.{at, put, unmarked}
@@ -90,7 +90,7 @@ module _ (s : List Cell) (c : ℕ) (v w : Tree) (there : at s c ≡ Some v) (alo
       goes_in path (node (holder d) g m) (walk_in end_of n (put s c w) (d ∷ path)) (at (put s c w) d) (is_open d path) to.0 to.1 on.2 to.2
 
   ends_own : (t : Tree) → cell_of t ≡ None → end s [] t ≡ held (InCell c) v → ⊥
-  ends_own t none e = let is : held Own t ≡ held (InCell c) v = sym (end_own s [] t none) ∙ e in cc
+  ends_own t none e = let is : held Here t ≡ held (InCell c) v = sym (end_own s [] t none) ∙ e in cc
 
   ends : (t : Tree) → end s [] t ≡ held (InCell c) v → end (put s c w) [] t ≡ held (InCell c) w
   unfolding end
@@ -101,5 +101,5 @@ module _ (s : List Cell) (c : ℕ) (v w : Tree) (there : at s c ≡ Some v) (alo
 
 -- what was written over a held value, and is no holder, is held in its place
 pub end_written : (s : List Cell) (t v : Tree) (f : Tree → Tree) (site : Site) → end s [] t ≡ held site v → cell_of (f v) ≡ None → end_after f s t ≡ held site (f v)
-end_written s t v f Own e none = rw e (end_own s [] (f v) none)
+end_written s t v f Here e none = rw e (end_own s [] (f v) none)
 end_written s t v f (InCell c) e none = rw e (ends s c v (f v) (stands s t (InCell c) v (sym e)) (held_alone s t (InCell c) v e) none t e)

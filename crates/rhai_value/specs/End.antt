@@ -2,13 +2,13 @@
 -- without its holders, and what is moved out of it.
 use Rattle.std.specs.Prelude.{ℕ, List, Option, Some, None, option_and_then, slice_get, Bool, false, option_map, ◌<◌, true, length, [], unwrap_or, ◌≡◌, is_some}
 use Rattle.rhai_value.specs.declared.chain.Site.{Site}
-use Rattle.rhai_value.specs.declared.chain.Site.TheVariants.{Own, InCell}
+use Rattle.rhai_value.specs.declared.chain.Site.TheVariants.{Here, InCell}
 use Rattle.rhai_value.specs.declared.store.Cell.{Cell}
 use Rattle.rhai_value.specs.Tree.{Tree, node, holder, mode_of, is_constant, copy, Trees, copy_trees}
 use Rattle.rhai_value.specs.Store.{put, at}
 use Rattle.rhai_value.specs.Types.{tree_type, type_name}
 use Rattle.rhai_value.specs.Walk.{Visit, entered, barred, revisited, walk}
-use Rattle.std.specs.Option.{option_or}
+use Rattle.std.specs.Option.{option_or, option_map_or}
 use Rattle.rhai_value.specs.declared.into.IntoError.{IntoError}
 use Rattle.rhai_value.specs.declared.into.IntoError.TheVariants.{Mismatch, Memory}
 use Rattle.rhai_value.specs.Parts.{array_of}
@@ -35,7 +35,7 @@ end_from site go t = held site t
 
 -- where a chain stands that has passed this cell last, if any
 abbrev pub site_after : Option ℕ → Site
-site_after None = Own
+site_after None = Here
 site_after (Some c) = InCell c
 
 -- the same on a walk: the cell that was passed last comes first
@@ -64,21 +64,20 @@ held_part part e = option_and_then part (held_in e)
 
 -- a value, and a store, after f was applied to what is held where the chain from the value ends
 abbrev pub value_after : (Tree → Tree) → End → Tree → Tree
-value_after f (held Own v) t = f v
+value_after f (held Here v) t = f v
 value_after f (held (InCell c) v) t = t
 value_after f (stuck v) t = t
 value_after f closed t = t
 
 abbrev pub store_after : (Tree → Tree) → End → List Cell → List Cell
-store_after f (held Own v) s = s
+store_after f (held Here v) s = s
 store_after f (held (InCell c) v) s = put s c (f v)
 store_after f (stuck v) s = s
 store_after f closed s = s
 
 -- the type of what may be there: of nothing it is that of what can't be looked into
 abbrev pub type_of : Option Tree → TypeId
-type_of None = id.Shared
-type_of (Some t) = tree_type t
+type_of o = option_map_or tree_type o id.Shared
 
 -- the type that is held
 abbrev pub end_type : End → TypeId
@@ -96,7 +95,7 @@ first s t = Some t
 -- where it stands, if there is one
 abbrev pub first_site : List Cell → Tree → Option Site
 first_site s (node (holder c) g m) = option_map (λ x. InCell c) (at s c)
-first_site s t = Some Own
+first_site s t = Some Here
 
 -- a value, and a store, once w was written over the first content
 abbrev pub value_with_first : Tree → Tree → Tree
@@ -109,13 +108,12 @@ store_with_first w s t = s
 
 -- whether the first content is a constant
 abbrev pub constant_in : Option Tree → Bool
-constant_in None = false
-constant_in (Some t) = is_constant (mode_of t)
+constant_in o = option_map_or (λ t. is_constant (mode_of t)) o false
 
 -- the cell in which something stands, if it stands in one
 abbrev pub site_cell : Option Site → Option ℕ
 site_cell None = None
-site_cell (Some Own) = None
+site_cell (Some Here) = None
 site_cell (Some (InCell c)) = Some c
 
 -- the cell in which the first content of a value stands: that of a holder, where it is an unmarked cell of the store
@@ -129,7 +127,7 @@ held_cell e = site_cell (site_of e)
 -- where something stands in a cell, it is one of the store's
 abbrev pub IsWithin : List Cell → Option Site → Type 0
 IsWithin s None = Unit {0}
-IsWithin s (Some Own) = Unit {0}
+IsWithin s (Some Here) = Unit {0}
 IsWithin s (Some (InCell c)) = c < length s
 
 -- the value at an end that isn't closed

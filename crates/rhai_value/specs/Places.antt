@@ -3,7 +3,7 @@ use Rattle.std.specs.Prelude.{◌≡◌, ℕ, ◌+◌, nat_lt, Bool, true, false
 use Rattle.std.specs.Fn.{Once}
 use denote.Ref.{MutBor}
 use Rattle.rhai_value.specs.declared.store.Cell.{Cell}
-use Rattle.rhai_value.specs.declared.chain.Site.TheVariants.{Own, InCell}
+use Rattle.rhai_value.specs.declared.chain.Site.TheVariants.{Here, InCell}
 use Rattle.rhai_value.specs.declared.step.Step.{Step}
 use Rattle.rhai_value.specs.declared.step.PlaceError.{PlaceError}
 use Rattle.rhai_value.specs.declared.step.PlaceErrorKind.{PlaceErrorKind}
@@ -103,7 +103,7 @@ out_of c n t q = record { value = q.value; store = q.store; back = λ w u. recor
 
 -- the way on from where a chain of holders ends, which starts at t
 abbrev pub from_end : (List Cell → Tree → Way) → ℕ → List Cell → Tree → End → Way
-from_end go n s t (held Own v) = go s t
+from_end go n s t (held Here v) = go s t
 from_end go n s t (held (InCell c) v) = along (out_of c n t) (go (lent_out (Some c) s) v)
 from_end go n s t (stuck v) = no_place n kind.Barred
 from_end go n s t closed = no_place n kind.Barred

@@ -2,7 +2,7 @@
 use Rattle.std.specs.Prelude.{◌≡◌, ℕ, zero, suc, ◌+◌, Bool, true, false, nat_eq, ◌||◌, ◌&&◌, List, [], ◌∷◌, length, slice_get, Option, Some, None}
 use Rattle.std.specs.List.{AllZip}
 use Rattle.rhai_value.specs.declared.chain.Site.{Site}
-use Rattle.rhai_value.specs.declared.chain.Site.TheVariants.{Own, InCell}
+use Rattle.rhai_value.specs.declared.chain.Site.TheVariants.{Here, InCell}
 use Rattle.rhai_value.specs.declared.store.Cell.{Cell}
 use Rattle.rhai_value.specs.Tree.{Tree, node, Content, leaf, branch, fields, holder, Trees, no_trees, tree_then, Fields, no_fields, field_then}
 use Rattle.rhai_value.specs.End.{End, held, stuck, closed}
@@ -80,7 +80,7 @@ shared_pairs s z t = new_pairs (length s) (length z) 1
 
 -- both are the value itself, or paired cells
 abbrev pub RelatedSite : Renaming → Site → Site → Type 0
-RelatedSite r Own Own = Unit {0}
+RelatedSite r Here Here = Unit {0}
 RelatedSite r (InCell c) (InCell d) = paired r c d ≡ true
 RelatedSite r _ _ = ⊥
 

@@ -18,12 +18,12 @@ end_seen Closed = closed
 
 -- where the first content of a value stands, and which it is
 abbrev pub near_site : Near → Option Site
-near_site near.Own = Some site.Own
+near_site near.Here = Some site.Here
 near_site (near.InCell c d) = Some (site.InCell c)
 near_site near.Barred = None
 
 abbrev pub near_content : Tree → Near → Option Tree
-near_content t near.Own = Some t
+near_content t near.Here = Some t
 near_content t (near.InCell c d) = Some d.now
 near_content t near.Barred = None
 

@@ -58,12 +58,9 @@ abbrev pub mode_of : Tree → AccessMode
 mode_of (node c g m) = m
 
 -- the cell that a value names, if it is a holder
-abbrev pub cell_in : Content → Option ℕ
-cell_in (holder c) = Some c
-cell_in _ = None
-
 abbrev pub cell_of : Tree → Option ℕ
-cell_of (node c g m) = cell_in c
+cell_of (node (holder c) g m) = Some c
+cell_of _ = None
 
 -- the same content and tags, every mode ReadWrite; a holder names the same cell
 abbrev mutual

@@ -1,6 +1,7 @@
 //! Whether a value may be written.
 
-/// The mode of a value (`AccessMode` of rhai).
+/// The mode of a value: whether it may be written.
+/// rhai: `AccessMode`.
 #[derive(Debug, PartialEq, Eq, Hash, Copy, Clone)]
 pub enum AccessMode {
     /// The value may be written.

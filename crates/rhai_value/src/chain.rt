@@ -12,7 +12,7 @@ use crate::type_id::TypeId;
 #[derive(Copy, Clone)]
 pub enum Site {
     /// The first value itself.
-    Own,
+    Here,
     /// The cell of this number.
     InCell(usize),
 }
@@ -20,7 +20,7 @@ pub enum Site {
 /// What a value and its own cell tell, without a walk, of its first content.
 pub(crate) enum Near<'s> {
     /// It is the value itself, which is no holder.
-    Own,
+    Here,
     /// The cell of this number has it.
     InCell(usize, &'s Dynamic),
     /// There is none: the holder's cell is marked or no cell of the store.
@@ -36,21 +36,21 @@ pub(crate) enum ChainEnd<'s> {
 
 impl Dynamic {
     /// Where the held value stands.
-    pub(crate) fn held_site(&self, s: &Store) -> Option<Site>
-        ensures { result ≡ site_of (end s.now [] self.now) }
+    pub(crate) fn held_site(&self, store: &Store) -> Option<Site>
+        ensures { result ≡ site_of (end store.now [] self.now) }
     {
-        match self.chain_end(s) {
+        match self.chain_end(store) {
             ChainEnd::Held(site, _) => Some(site),
             ChainEnd::Stuck(_) | ChainEnd::Closed => None,
         }
     }
 
     /// Where the held value stands, and the held type.
-    pub(crate) fn held_site_and_type(&self, s: &Store) -> (Option<Site>, TypeId)
-        ensures site { result.0 ≡ site_of (end s.now [] self.now) }
-        ensures kind { result.1 ≡ end_type (end s.now [] self.now) }
+    pub(crate) fn held_site_and_type(&self, store: &Store) -> (Option<Site>, TypeId)
+        ensures site { result.0 ≡ site_of (end store.now [] self.now) }
+        ensures kind { result.1 ≡ end_type (end store.now [] self.now) }
     {
-        match self.chain_end(s) {
+        match self.chain_end(store) {
             ChainEnd::Held(site, value) => (Some(site), value.own_type()),
             ChainEnd::Stuck(_) | ChainEnd::Closed => (None, TypeId::Shared),
         }
@@ -59,14 +59,14 @@ impl Dynamic {
     /// Where the chain ends. Most chains have one holder or none, and their end is found without an account of what was passed.
     #[inline(always)]
     #[tactic(auto, using(crate::proofs::Chains::end_at_first, crate::proofs::Chains::end_first, crate::proofs::Chains::end_barred))]
-    pub(crate) fn chain_end<'s>(&'s self, s: &'s Store) -> ChainEnd<'s>
-        ensures { end_seen result ≡ end s.now [] self.now }
+    pub(crate) fn chain_end<'s>(&'s self, store: &'s Store) -> ChainEnd<'s>
+        ensures { end_seen result ≡ end store.now [] self.now }
     {
-        match self.near(s) {
-            Near::Own => ChainEnd::Held(Site::Own, self),
+        match self.near(store) {
+            Near::Here => ChainEnd::Held(Site::Here, self),
             Near::InCell(index, content) => match content.cell() {
                 None => ChainEnd::Held(Site::InCell(index), content),
-                Some(_) => self.long_chain_end(s),
+                Some(_) => self.long_chain_end(store),
             },
             Near::Barred => ChainEnd::Stuck(self),
         }
@@ -76,12 +76,12 @@ impl Dynamic {
     /// so that a chain which comes back to a cell soon comes back to the one that is kept (Brent's way). A chain of more holders
     /// than there are cells is closed in any case.
     #[inline(never)]
-    fn long_chain_end<'s>(&'s self, s: &'s Store) -> ChainEnd<'s>
-        ensures { end_seen result ≡ end s.now [] self.now }
+    fn long_chain_end<'s>(&'s self, store: &'s Store) -> ChainEnd<'s>
+        ensures { end_seen result ≡ end store.now [] self.now }
     {
         let mut at = self;
-        let mut site = Site::Own;
-        let mut left = s.cells.len();
+        let mut site = Site::Here;
+        let mut left = store.cells.len();
         let mut kept = None;
         let mut steps = 0usize;
         let mut turn = 1usize;
@@ -89,7 +89,7 @@ impl Dynamic {
             let Some(cell) = at.cell() else {
                 return ChainEnd::Held(site, at);
             };
-            let Some(next) = s.read(cell) else {
+            let Some(next) = store.read(cell) else {
                 return ChainEnd::Stuck(at);
             };
             if left == 0 {
@@ -111,17 +111,19 @@ impl Dynamic {
         }
     }
 
-    /// The value where the chain of holders ends; `None` where the chain is stuck or closed. Takes no memory.
+    /// Lends the value where the chain of holders ends; `None` where the chain is stuck or closed.
+    /// Cost: the length of the chain, and where it closes the number of cells; no memory.
+    /// rhai: `Dynamic::read_lock`, which looks at one cell.
     #[inline(always)]
     #[tactic(auto, using(crate::proofs::Chains::held_at_first, crate::proofs::Chains::held_first, crate::proofs::Chains::held_barred))]
-    pub fn held<'s>(&'s self, s: &'s Store) -> Option<&'s Dynamic>
-        ensures { option_copied result ≡ held_in (end s.now [] self.now) }
+    pub fn held<'s>(&'s self, store: &'s Store) -> Option<&'s Dynamic>
+        ensures { option_copied result ≡ held_in (end store.now [] self.now) }
     {
-        match self.near(s) {
-            Near::Own => Some(self),
+        match self.near(store) {
+            Near::Here => Some(self),
             Near::InCell(_, content) => match content.cell() {
                 None => Some(content),
-                Some(_) => self.held_far(s),
+                Some(_) => self.held_far(store),
             },
             Near::Barred => None,
         }
@@ -129,10 +131,10 @@ impl Dynamic {
 
     /// What is held, in a function of its own, so that the calls that ask for what is near stay short.
     #[inline(never)]
-    pub(crate) fn held_far<'s>(&'s self, s: &'s Store) -> Option<&'s Dynamic>
-        ensures { option_copied result ≡ held_in (end s.now [] self.now) }
+    pub(crate) fn held_far<'s>(&'s self, store: &'s Store) -> Option<&'s Dynamic>
+        ensures { option_copied result ≡ held_in (end store.now [] self.now) }
     {
-        match self.long_chain_end(s) {
+        match self.long_chain_end(store) {
             ChainEnd::Held(_, value) => Some(value),
             ChainEnd::Stuck(_) | ChainEnd::Closed => None,
         }

@@ -74,7 +74,8 @@ impl Dynamic {
         union: Union::Int(0, AccessMode::ReadWrite, -2),
     };
 
-    /// All the constants, in this order: a law that says what they are.
+    /// Answers all the constants, in this order: a law that says what they are.
+    /// rhai: `Dynamic::UNIT` and its kin.
     pub fn constants() -> [Dynamic; 13]
         ensures { result ≡ map fresh (unit ∷ bool true ∷ bool false ∷ int (pos 0) ∷ int (pos 1)
             ∷ int (pos 2) ∷ int (pos 3) ∷ int (pos 10) ∷ int (pos 100) ∷ int (pos 1000)

@@ -17,12 +17,12 @@ use std::alloc::{AllocError, Global};
 use std::collections::BTreeMap;
 
 impl Dynamic {
-    /// The same value once more, with all that it holds, every mode being ReadWrite; the copy of a holder names the same cell.
-    /// The time grows with what is copied: a text shares its bytes, an array, a blob or the slots of a map take their room
-    /// once; the keys of a map of which more than half of the slots are vacant, or which stands below the 64th level, are inserted
-    /// one by one. A text wants memory only where the count of its copies is at its limit; below the 64th level what is left of each
-    /// level stands in a list. An `Err` comes where memory is refused, and what was copied so far is gone then. (`Clone` of rhai's
-    /// `Dynamic`)
+    /// Copies the value with all that it holds, every mode being ReadWrite; the copy of a holder names the same cell.
+    /// Errors: memory is refused; what was copied so far is gone.
+    /// Cost: the number of values inside, of bytes in blobs, and of slots in maps; texts share their bytes. Memory is asked
+    /// once for each array, blob and map, and for a list below the 64th level. The keys of a map there, or of which more
+    /// than half of the slots are vacant, are inserted one by one.
+    /// rhai: `Clone` of `Dynamic`.
     // Inlined, the kinds that are copied most often are made where the caller wants them.
     #[inline(always)]
     pub fn copy(&self, alloc: Global) -> Result<Dynamic, AllocError>

@@ -12,7 +12,8 @@ use std::alloc::{AllocError, Global};
 use std::default::Default;
 use std::marker::Model;
 
-/// A value of a script (`Dynamic` of rhai), which contracts see as a tree.
+/// A value of a script, which contracts see as a tree.
+/// rhai: `Dynamic`.
 #[cycle(dynamic)]
 pub struct Dynamic {
     pub(crate) union: Union,
@@ -58,7 +59,8 @@ impl Dynamic {
     ghost use Rattle.rhai_value.specs.Rows.{trees_of, fields_of};
     ghost use Rattle.rhai_value.specs.Tree.{made, fresh, bool, int, char, text, blob, branch, array, fields};
 
-    /// A boolean, with tag 0 and mode ReadWrite. (`Dynamic::from_bool`)
+    /// Makes a boolean, with tag 0 and mode ReadWrite.
+    /// rhai: `Dynamic::from_bool`.
     pub const fn from_bool(value: bool) -> Dynamic
         ensures { result ≡ fresh (bool value) }
     {
@@ -67,7 +69,8 @@ impl Dynamic {
         }
     }
 
-    /// An integer, with tag 0 and mode ReadWrite. (`Dynamic::from_int`)
+    /// Makes an integer, with tag 0 and mode ReadWrite.
+    /// rhai: `Dynamic::from_int`.
     pub const fn from_int(value: INT) -> Dynamic
         ensures { result ≡ fresh (int value) }
     {
@@ -76,7 +79,8 @@ impl Dynamic {
         }
     }
 
-    /// A character, with tag 0 and mode ReadWrite. (`Dynamic::from_char`)
+    /// Makes a character, with tag 0 and mode ReadWrite.
+    /// rhai: `Dynamic::from_char`.
     pub const fn from_char(value: char) -> Dynamic
         ensures { result ≡ fresh (char value) }
     {
@@ -85,15 +89,19 @@ impl Dynamic {
         }
     }
 
-    /// A text, with tag 0 and mode ReadWrite. Costs the length of the text. (`FromStr` and `From<&str>` of rhai's `Dynamic`)
+    /// Makes a text, with tag 0 and mode ReadWrite.
+    /// Errors: memory is refused.
+    /// Cost: the length of the text; memory for it.
+    /// rhai: `FromStr` and `From<&str>` of `Dynamic`.
     pub fn from_text(alloc: Global, value: &str) -> Result<Dynamic, AllocError>
         ensures { IfOk result (λ d. d ≡ fresh (text (chars value.now))) }
     {
         Ok(Dynamic::from(ImmutableString::from_str(alloc, value)?))
     }
 
-    /// An array of these items, which keep their tags and modes; with tag 0 and mode ReadWrite. Takes no memory.
-    /// (`Dynamic::from_array`)
+    /// Makes an array of these items, which keep their tags and modes; with tag 0 and mode ReadWrite.
+    /// Cost: constant; no memory.
+    /// rhai: `Dynamic::from_array`.
     pub fn from_array(items: Array) -> Dynamic
         ensures { result ≡ made (branch array (trees_of items.items)) }
     {
@@ -102,7 +110,9 @@ impl Dynamic {
         }
     }
 
-    /// A blob, with tag 0 and mode ReadWrite. Takes no memory. (`Dynamic::from_blob`)
+    /// Makes a blob, with tag 0 and mode ReadWrite.
+    /// Cost: constant; no memory.
+    /// rhai: `Dynamic::from_blob`.
     pub fn from_blob(bytes: Blob) -> Dynamic
         ensures { result ≡ fresh (blob bytes.items) }
     {
@@ -111,8 +121,9 @@ impl Dynamic {
         }
     }
 
-    /// A map of these values, which keep their tags and modes; with tag 0 and mode ReadWrite. Takes no memory.
-    /// (`Dynamic::from_map`)
+    /// Makes a map of these values, which keep their tags and modes; with tag 0 and mode ReadWrite.
+    /// Cost: constant; no memory.
+    /// rhai: `Dynamic::from_map`.
     pub fn from_map(map: Map) -> Dynamic
         ensures { result ≡ made (fields (fields_of map)) }
     {
@@ -131,14 +142,14 @@ impl Dynamic {
     ghost use Rattle.rhai_value.specs.Tree.{node, content_of};
     ghost use Rattle.rhai_value.specs.View.{tree_of};
 
-    /// The constructor with its content, for a crate that reads values by cases.
+    /// Lends the constructor with its content, for a crate that reads values by cases.
     pub const fn parts(&self) -> &Union
         ensures { tree_of result.now ≡ self.now }
     {
         &self.union
     }
 
-    /// The same, to write.
+    /// Lends the constructor with its content, to write.
     pub fn parts_mut(&mut self) -> &mut Union
         ensures* writes_back { sem 𝓛 (Lends dynamic_type.the_row union_type.the_row self.entry result tree_of) }
         ensures value { tree_of result.now ≡ self.old }
@@ -146,7 +157,7 @@ impl Dynamic {
         &mut self.union
     }
 
-    /// The constructor with its content, moved out.
+    /// Moves the constructor with its content out.
     pub fn into_parts(self) -> Union
         ensures { tree_of result ≡ self }
     {
@@ -154,14 +165,15 @@ impl Dynamic {
         union
     }
 
-    /// The value with this constructor.
+    /// Makes the value with this constructor.
     pub fn from_parts(union: Union) -> Dynamic
         ensures { result ≡ tree_of union }
     {
         Dynamic { union }
     }
 
-    /// The value's content under this tag and mode; what stands in it keeps its own. Takes no memory.
+    /// Puts the value's content under this tag and mode; what stands in it keeps its own.
+    /// Cost: constant; no memory.
     #[tactic(auto, using(crate::proofs::Labels::under_label))]
     pub fn labelled(mut self, tag: Tag, mode: AccessMode) -> Dynamic
         ensures { result ≡ node (content_of self) tag mode }
@@ -177,7 +189,8 @@ impl Dynamic {
     ghost use Rattle.std.specs.Prelude.{◌≡◌, option_map, is_some};
     ghost use Rattle.rhai_value.specs.Tree.{fresh, unit, tag_of, mode_of, cell_of, with_tag, is_host};
 
-    /// The tag, which the host is free to use. (`Dynamic::tag`)
+    /// Tells the tag, which the host is free to use.
+    /// rhai: `Dynamic::tag`.
     pub const fn tag(&self) -> Tag
         ensures { result ≡ tag_of self.now }
     {
@@ -196,7 +209,8 @@ impl Dynamic {
         }
     }
 
-    /// Sets the tag; of a holder not that of the content. (`Dynamic::set_tag`)
+    /// Sets the tag; of a holder not that of the content.
+    /// rhai: `Dynamic::set_tag`.
     pub fn set_tag(&mut self, tag: Tag)
         ensures { self.new ≡ with_tag tag self.old }
     {
@@ -215,7 +229,8 @@ impl Dynamic {
         }
     }
 
-    /// The value's own mode; of a holder not that of the content. (`Dynamic::access_mode`)
+    /// Tells the value's own mode; of a holder not that of the content.
+    /// rhai: `Dynamic::access_mode`.
     pub const fn access_mode(&self) -> AccessMode
         ensures { result ≡ mode_of self.now }
     {
@@ -234,7 +249,9 @@ impl Dynamic {
         }
     }
 
-    /// Moves the value out, and leaves unit with tag 0 and mode ReadWrite. (`Dynamic::take`)
+    /// Moves the value out, and leaves unit with tag 0 and mode ReadWrite.
+    /// Cost: constant; no memory.
+    /// rhai: `Dynamic::take`.
     pub fn take(&mut self) -> Dynamic
         ensures value { result ≡ self.old }
         ensures left { self.new ≡ fresh unit }
@@ -242,14 +259,16 @@ impl Dynamic {
         std::mem::replace(self, Dynamic::default())
     }
 
-    /// Whether the value is of one of the host's types. (`Dynamic::is_variant`)
+    /// Tells whether the value is of one of the host's types.
+    /// rhai: `Dynamic::is_variant`.
     pub const fn is_variant(&self) -> bool
         ensures { result ≡ is_host self.now }
     {
         matches!(&self.union, Union::Variant(_, _, _))
     }
 
-    /// Whether the value is a holder of a shared cell. (`Dynamic::is_shared`)
+    /// Tells whether the value is a holder of a shared cell.
+    /// rhai: `Dynamic::is_shared`.
     pub fn is_shared(&self) -> bool
         ensures { result ≡ is_some (cell_of self.now) }
     {

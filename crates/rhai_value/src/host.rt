@@ -6,6 +6,7 @@ use crate::type_id::TypeId;
 use crate::union::INT;
 
 /// The integers from a start to an end, the end left out. A start past the end is no error.
+/// rhai: `ExclusiveRange`.
 #[derive(Debug, PartialEq, Eq, Copy, Clone)]
 pub struct ExclusiveRange {
     /// The first integer.
@@ -15,6 +16,7 @@ pub struct ExclusiveRange {
 }
 
 /// The integers from a start to an end, the end with them. A start past the end is no error.
+/// rhai: `InclusiveRange`.
 #[derive(Debug, PartialEq, Eq, Copy, Clone)]
 pub struct InclusiveRange {
     /// The first integer.
@@ -51,7 +53,7 @@ pub enum Host {
 }
 
 impl Host {
-    /// The type of the number or of the range.
+    /// Tells the type of the number or of the range.
     pub fn type_id(&self) -> TypeId
         ensures { result ≡ host_type self.now }
     {

@@ -28,19 +28,22 @@ pub struct InStore<'a> {
 }
 
 impl<'a> InStore<'a> {
-    /// The value itself, or what the cell of a holder has, to write; `None` where that cell is marked or no cell of the store.
-    /// Takes no memory.
+    /// Lends the value itself, or what the cell of a holder has, to write; `None` where that cell is marked or no cell of
+    /// the store.
+    /// Cost: constant; no memory.
+    /// rhai: `Dynamic::write_lock::<Dynamic>`.
     pub fn whole_mut(&mut self) -> Option<&mut Dynamic>
         ensures* writes_back { sem 𝓛 (LendsIf in_store_row dynamic_type.the_row self.entry result (first_written self.old) self.old) }
         ensures value { option_map (λ d. d.now) result ≡ first self.old.store.now self.old.value.now }
     {
         match self.value.first_site(self.store)? {
-            Site::Own => Some(&mut *self.value),
+            Site::Here => Some(&mut *self.value),
             Site::InCell(index) => Some(self.store.content_mut(index)),
         }
     }
 
-    /// The held value, to write; `None` where the chain is stuck or closed. Takes no memory.
+    /// Lends the held value, to write; `None` where the chain is stuck or closed.
+    /// Cost: that of `Dynamic::held`; no memory.
     pub fn held_mut(&mut self) -> Option<&mut Dynamic>
         ensures* writes_back { sem 𝓛 (LendsIf in_store_row dynamic_type.the_row self.entry result (λ w. written self.old (λ _. w)) self.old) }
         ensures value { option_map (λ d. d.now) result ≡ held_in (end self.old.store.now [] self.old.value.now) }
@@ -56,7 +59,7 @@ impl<'a> InStore<'a> {
         ensures value { option_map (λ d. d.now) result ≡ held_in (end self.old.store.now [] self.old.value.now) }
     {
         match site? {
-            Site::Own => Some(&mut *self.value),
+            Site::Here => Some(&mut *self.value),
             Site::InCell(index) => Some(self.store.content_mut(index)),
         }
     }
@@ -64,7 +67,10 @@ impl<'a> InStore<'a> {
 
 /// The held content of one kind, to write, or the name of the held type. Each takes no memory.
 impl<'a> InStore<'a> {
-    /// The held text.
+    /// Lends the held text, to write.
+    /// Errors: the name of the held type.
+    /// Cost: that of `Dynamic::held`; no memory.
+    /// rhai: `Dynamic::as_immutable_string_mut`.
     pub fn immutable_string_mut(&mut self) -> Result<&mut ImmutableString, &'static str>
         ensures* writes_back { sem 𝓛 (LendsIfOk in_store_row text_type.the_row self.entry result (λ w. written self.old (with_content (leaf (text w)))) self.old) }
         ensures ok { IfOk result (λ v. held_part text_of (end self.old.store.now [] self.old.value.now) ≡ Some v.now) }
@@ -74,7 +80,10 @@ impl<'a> InStore<'a> {
         Ok(self.part_mut::<ImmutableString>()?)
     }
 
-    /// The held array.
+    /// Lends the held array, to write.
+    /// Errors: the name of the held type.
+    /// Cost: that of `Dynamic::held`; no memory.
+    /// rhai: `Dynamic::as_array_mut`.
     pub fn array_mut(&mut self) -> Result<&mut Array, &'static str>
         ensures* writes_back { sem 𝓛 (LendsIfOk in_store_row array_row self.entry result (λ w. written self.old (with_content (branch array (trees_of w.items)))) self.old) }
         ensures ok { IfOk result (λ v. held_part array_of (end self.old.store.now [] self.old.value.now) ≡ Some (trees_of v.now.items)) }
@@ -84,7 +93,10 @@ impl<'a> InStore<'a> {
         Ok(self.part_mut::<Array>()?)
     }
 
-    /// The held blob.
+    /// Lends the held blob, to write.
+    /// Errors: the name of the held type.
+    /// Cost: that of `Dynamic::held`; no memory.
+    /// rhai: `Dynamic::as_blob_mut`.
     pub fn blob_mut(&mut self) -> Result<&mut Blob, &'static str>
         ensures* writes_back { sem 𝓛 (LendsIfOk in_store_row blob_row self.entry result (λ w. written self.old (with_content (leaf (blob w.items)))) self.old) }
         ensures ok { IfOk result (λ v. held_part blob_of (end self.old.store.now [] self.old.value.now) ≡ Some v.now.items) }
@@ -94,7 +106,10 @@ impl<'a> InStore<'a> {
         Ok(self.part_mut::<Blob>()?)
     }
 
-    /// The held map.
+    /// Lends the held map, to write.
+    /// Errors: the name of the held type.
+    /// Cost: that of `Dynamic::held`; no memory.
+    /// rhai: `Dynamic::as_map_mut`.
     pub fn map_mut(&mut self) -> Result<&mut Map, &'static str>
         ensures* writes_back { sem 𝓛 (LendsIfOk in_store_row map_type.the_row self.entry result (λ w. written self.old (with_content (fields (fields_of w)))) self.old) }
         ensures ok { IfOk result (λ v. held_part map_of (end self.old.store.now [] self.old.value.now) ≡ Some (fields_of v.now)) }

@@ -36,68 +36,79 @@ impl From<AllocError> for IntoError {
 
 /// The value is gone after an `Err`. A value's own content is moved and takes no memory, but for `into_string`.
 impl Dynamic {
-    /// The held text as a `String`, at the cost of its length. (`Dynamic::into_string`)
-    pub fn into_string(self, alloc: Global, s: &Store) -> Result<String, IntoError>
-        ensures ok { IfOk result (λ t. held_part text_of (end s.now [] self) ≡ Some (chars (string_bytes t))) }
-        ensures err { IfErr result (λ e. IsWhyNot e text_of (end s.now [] self)) }
+    /// Moves the held text out, as a `String`.
+    /// Errors: `Mismatch` with the name of the held type; `Memory`, where memory for the text is refused.
+    /// Cost: the length of the text; memory for it.
+    /// rhai: `Dynamic::into_string`.
+    pub fn into_string(self, alloc: Global, store: &Store) -> Result<String, IntoError>
+        ensures ok { IfOk result (λ t. held_part text_of (end store.now [] self) ≡ Some (chars (string_bytes t))) }
+        ensures err { IfErr result (λ e. IsWhyNot e text_of (end store.now [] self)) }
     {
-        match self.as_immutable_string_ref(s) {
+        match self.as_immutable_string_ref(store) {
             Err(name) => Err(IntoError::Mismatch(name)),
             Ok(text) => Ok(String::from_str(alloc, text.as_str())?),
         }
     }
 
-    /// The held text, which shares its bytes. (`Dynamic::into_immutable_string`)
+    /// Moves the held text out; it shares its bytes.
+    /// Errors: `Mismatch` with the name of the held type; `Memory`, where a copy of the text is refused.
+    /// Cost: that of `Dynamic::held`, and of `ImmutableString::copy` for a holder.
+    /// rhai: `Dynamic::into_immutable_string`.
     #[tactic(auto, using(crate::proofs::InStores::own_text))]
     pub fn into_immutable_string(
         self,
         alloc: Global,
-        s: &Store,
+        store: &Store,
     ) -> Result<ImmutableString, IntoError>
-        ensures ok { IfOk result (λ t. held_part text_of (end s.now [] self) ≡ Some t) }
-        ensures err { IfErr result (λ e. IsWhyNot e text_of (end s.now [] self)) }
+        ensures ok { IfOk result (λ t. held_part text_of (end store.now [] self) ≡ Some t) }
+        ensures err { IfErr result (λ e. IsWhyNot e text_of (end store.now [] self)) }
         ensures own { is_some (text_of self) ≡ true → IsOk result }
     {
         let value = match ImmutableString::take_out(self) {
             Ok(text) => return Ok(text),
             Err(value) => value,
         };
-        match value.as_immutable_string_ref(s) {
+        match value.as_immutable_string_ref(store) {
             Err(name) => Err(IntoError::Mismatch(name)),
             Ok(text) => Ok(text.copy(alloc)?),
         }
     }
 
-    /// The items of an array as they are; of a holder copies of the held items, at the cost of copying them.
-    /// (`Dynamic::into_array`)
+    /// Moves the items of an array out; of a holder it copies the held items.
+    /// Errors: `Mismatch` with the name of the held type; `Memory`, where the copies are refused.
+    /// Cost: constant; of a holder that of the copies.
+    /// rhai: `Dynamic::into_array`.
     #[tactic(auto, using(crate::proofs::Copies::copied_trees))]
-    pub fn into_array(self, alloc: Global, s: &Store) -> Result<Array, IntoError>
-        ensures ok { IfOk result (λ v. array_moved s.now self ≡ Some (trees_of v.items)) }
-        ensures err { IfErr result (λ e. IsWhyNot e array_of (end s.now [] self)) }
+    pub fn into_array(self, alloc: Global, store: &Store) -> Result<Array, IntoError>
+        ensures ok { IfOk result (λ v. array_moved store.now self ≡ Some (trees_of v.items)) }
+        ensures err { IfErr result (λ e. IsWhyNot e array_of (end store.now [] self)) }
         ensures own { is_some (array_of self) ≡ true → IsOk result }
     {
         let value = match Array::take_out(self) {
             Ok(items) => return Ok(items),
             Err(value) => value,
         };
-        match value.as_array_ref(s) {
+        match value.as_array_ref(store) {
             Err(name) => Err(IntoError::Mismatch(name)),
             Ok(items) => Ok(copied_items(items, alloc, NEAR)?),
         }
     }
 
-    /// The bytes of a blob; of a holder a copy of the held bytes, at the cost of their number. (`Dynamic::into_blob`)
+    /// Moves the bytes of a blob out; of a holder it copies the held bytes.
+    /// Errors: `Mismatch` with the name of the held type; `Memory`, where the copy is refused.
+    /// Cost: constant; of a holder the number of bytes.
+    /// rhai: `Dynamic::into_blob`.
     #[tactic(auto, using(crate::proofs::InStores::own_blob))]
-    pub fn into_blob(self, alloc: Global, s: &Store) -> Result<Blob, IntoError>
-        ensures ok { IfOk result (λ v. held_part blob_of (end s.now [] self) ≡ Some v.items) }
-        ensures err { IfErr result (λ e. IsWhyNot e blob_of (end s.now [] self)) }
+    pub fn into_blob(self, alloc: Global, store: &Store) -> Result<Blob, IntoError>
+        ensures ok { IfOk result (λ v. held_part blob_of (end store.now [] self) ≡ Some v.items) }
+        ensures err { IfErr result (λ e. IsWhyNot e blob_of (end store.now [] self)) }
         ensures own { is_some (blob_of self) ≡ true → IsOk result }
     {
         let value = match Blob::take_out(self) {
             Ok(bytes) => return Ok(bytes),
             Err(value) => value,
         };
-        match value.as_blob_ref(s) {
+        match value.as_blob_ref(store) {
             Err(name) => Err(IntoError::Mismatch(name)),
             Ok(bytes) => Ok(Vec::from_slice(alloc, bytes)?),
         }

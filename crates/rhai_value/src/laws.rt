@@ -135,7 +135,8 @@ pub fn writes_are_renamed()
         → RelatedCells r (store_after f e s) (store_after g o z) }
 {}
 
-/// The same of writes over first contents.
+/// What writes over first contents that are alike leave stays the same up to the renaming, the values and the stores,
+/// whatever takes related values to related ones.
 #[tactic(auto, using(crate::proofs::SameFlat::same_value_with_first, crate::proofs::SameFlat::same_store_with_first))]
 pub fn first_writes_are_renamed()
     ensures value { (r : Renaming) (v w t u : Tree) → Related r v w → Related r t u → Related r (value_with_first v t) (value_with_first w u) }

@@ -15,27 +15,28 @@ use crate::store::Store;
 use crate::type_id::TypeId;
 
 impl Dynamic {
-    /// Lends what is held, if it is of this kind, to write, or names the held type, being told whether the value itself has such a
-    /// part. Takes no memory.
+    /// Lends what is held, if it is of this kind, to write, being told whether the value itself has such a part.
+    /// Once it was written, value and store are what they become where what is held has this content.
     ///
-    /// Once it was written, value and store are what they become where what is held has this content; both are as before at an
-    /// `Err`. That comes first which is no reference: of a method of the value, a proof that the check writes by itself would take
+    /// That comes first which is no reference: of a method of the value, a proof that the check writes by itself would take
     /// the value alone for what lends, and couldn't make the call.
+    /// Errors: the name of the held type; value and store are as before.
+    /// Cost: that of `Dynamic::held`; no memory.
     #[inline(always)]
     pub fn lent_part_mut<'s, T: Part>(
         is_own: bool,
         value: &'s mut Dynamic,
-        m: &'s mut Store,
+        store: &'s mut Store,
     ) -> Result<&'s mut T, &'static str>
         requires { is_own ≡ is_some (T.part_of value.old) }
-        ensures* writes_back { sem 𝓛 (LendsHeld T.row value.entry m.entry (name_if_ok (λ x. x.ghost_name) result) (λ w. with_content (T.content (T.meaning w)))) }
-        ensures ok { IfOk result (λ v. held_part T.part_of (end m.old [] value.old) ≡ Some (T.meaning v.now)) }
-        ensures err { IfErr result (λ name. (held_part T.part_of (end m.old [] value.old) ≡ None)
-            × (name.now ≡ end_name (end m.old [] value.old))) }
+        ensures* writes_back { sem 𝓛 (LendsHeld T.row value.entry store.entry (name_if_ok (λ x. x.ghost_name) result) (λ w. with_content (T.content (T.meaning w)))) }
+        ensures ok { IfOk result (λ v. held_part T.part_of (end store.old [] value.old) ≡ Some (T.meaning v.now)) }
+        ensures err { IfErr result (λ name. (held_part T.part_of (end store.old [] value.old) ≡ None)
+            × (name.now ≡ end_name (end store.old [] value.old))) }
     {
-        let found = place_of::<T>(is_own, value, m);
+        let found = place_of::<T>(is_own, value, store);
         let own = own_part_of::<T>(value);
-        let far = content_part_of::<T>(m, found);
+        let far = content_part_of::<T>(store, found);
         either_part::<T>(own, far, found)
     }
 }
@@ -49,12 +50,12 @@ pub(crate) struct HeldPlace {
 
 /// Where what is held stands. No chain is followed where the value itself has such a part, so that writes to it stay short.
 #[inline(always)]
-fn place_of<T: Part>(is_own: bool, value: &mut Dynamic, m: &mut Store) -> HeldPlace
+fn place_of<T: Part>(is_own: bool, value: &mut Dynamic, store: &mut Store) -> HeldPlace
     requires { is_own ≡ is_some (T.part_of value.old) }
-    ensures place { result.place ≡ held_cell (end m.old [] value.old) }
-    ensures kind { result.kind ≡ end_type (end m.old [] value.old) }
+    ensures place { result.place ≡ held_cell (end store.old [] value.old) }
+    ensures kind { result.kind ≡ end_type (end store.old [] value.old) }
     ensures value { value.new ≡ value.old }
-    ensures store { m.new ≡ m.old }
+    ensures store { store.new ≡ store.old }
 {
     if is_own {
         HeldPlace {
@@ -62,17 +63,17 @@ fn place_of<T: Part>(is_own: bool, value: &mut Dynamic, m: &mut Store) -> HeldPl
             kind: T::KIND,
         }
     } else {
-        far_place_of(value, m)
+        far_place_of(value, store)
     }
 }
 
 /// The same where the chain is followed.
 #[inline(never)]
-fn far_place_of(value: &Dynamic, m: &Store) -> HeldPlace
-    ensures place { result.place ≡ held_cell (end m.now [] value.now) }
-    ensures kind { result.kind ≡ end_type (end m.now [] value.now) }
+fn far_place_of(value: &Dynamic, store: &Store) -> HeldPlace
+    ensures place { result.place ≡ held_cell (end store.now [] value.now) }
+    ensures kind { result.kind ≡ end_type (end store.now [] value.now) }
 {
-    let (site, kind) = value.held_site_and_type(m);
+    let (site, kind) = value.held_site_and_type(store);
     HeldPlace {
         place: Place::of(site),
         kind,
@@ -90,12 +91,12 @@ fn own_part_of<T: Part>(value: &mut Dynamic) -> Option<&mut T>
 
 /// What the content of a cell has, to write, if there is one.
 #[inline(always)]
-fn content_part_of<T: Part>(m: &mut Store, found: HeldPlace) -> Option<&mut T>
-    requires { IfSome found.place (λ c. c < length m.old) }
-    ensures* writes_back { sem 𝓛 (LendsIf store_type.the_row T.row m.entry result (λ w. edit_in found.place (with_content (T.content (T.meaning w))) m.old) m.old) }
-    ensures value { option_map (λ r. T.meaning r.now) result ≡ option_and_then T.part_of (content_in found.place m.old) }
+fn content_part_of<T: Part>(store: &mut Store, found: HeldPlace) -> Option<&mut T>
+    requires { IfSome found.place (λ c. c < length store.old) }
+    ensures* writes_back { sem 𝓛 (LendsIf store_type.the_row T.row store.entry result (λ w. edit_in found.place (with_content (T.content (T.meaning w))) store.old) store.old) }
+    ensures value { option_map (λ r. T.meaning r.now) result ≡ option_and_then T.part_of (content_in found.place store.old) }
 {
-    match T::own_mut(m.content_at_mut(found.place)?) {
+    match T::own_mut(store.content_at_mut(found.place)?) {
         Some(part) => Some(part),
         None => None,
     }

@@ -16,41 +16,43 @@ use std::alloc::Global;
 use std::collections::BTreeMap;
 
 impl Dynamic {
-    /// Whether the value is, or has inside it at any depth, a holder of a cell that is marked or no cell of the store. What is in
-    /// a cell isn't looked at. Takes no memory for values of up to 64 levels; below, it may ask for a list, and goes on by calls where that
-    /// is refused. The time grows with the number of values inside. (`Dynamic::is_locked`)
-    pub fn is_locked(&self, s: &Store) -> bool
-        ensures { result ≡ is_locked s.now self.now }
+    /// Tells whether the value is, or has inside it at any depth, a holder of a cell that is marked or no cell of the
+    /// store. What is in a cell isn't looked at.
+    /// Cost: the number of values inside; no memory for values of up to 64 levels, and below that without it where it is
+    /// refused.
+    /// rhai: `Dynamic::is_locked`.
+    pub fn is_locked(&self, store: &Store) -> bool
+        ensures { result ≡ is_locked store.now self.now }
     {
-        locks(self, s, NEAR)
+        locks(self, store, NEAR)
     }
 }
 
 #[inline(always)]
 #[cycle(locks)]
-fn locks(value: &Dynamic, s: &Store, levels: u32) -> bool
-    ensures { result ≡ is_locked s.now value.now }
+fn locks(value: &Dynamic, store: &Store, levels: u32) -> bool
+    ensures { result ≡ is_locked store.now value.now }
 {
     match &value.union {
         Union::Array(_, _, items) => {
             if levels == 0 {
-                return locks_far(value, s, *items.allocator());
+                return locks_far(value, store, *items.allocator());
             }
-            locks_items(items, s, levels - 1)
+            locks_items(items, store, levels - 1)
         }
         Union::Map(_, _, map) => {
             if levels == 0 {
-                return locks_far(value, s, map.alloc);
+                return locks_far(value, store, map.alloc);
             }
-            locks_map(map, s, levels - 1)
+            locks_map(map, store, levels - 1)
         }
         Union::FnPtr(_, _, f) => {
             if levels == 0 {
-                return locks_far(value, s, *f.curry.allocator());
+                return locks_far(value, store, *f.curry.allocator());
             }
-            locks_items(&f.curry, s, levels - 1)
+            locks_items(&f.curry, store, levels - 1)
         }
-        Union::Shared(_, _, cell) => s.read(*cell).is_none(),
+        Union::Shared(_, _, cell) => store.read(*cell).is_none(),
         Union::Unit(_, _, _)
         | Union::Bool(_, _, _)
         | Union::Str(_, _, _)
@@ -65,30 +67,30 @@ fn locks(value: &Dynamic, s: &Store, levels: u32) -> bool
 // it goes on by calls.
 #[inline(never)]
 #[cycle(locks)]
-fn locks_far(value: &Dynamic, s: &Store, alloc: Global) -> bool
+fn locks_far(value: &Dynamic, store: &Store, alloc: Global) -> bool
     requires { cell_of value.now ≡ None }
-    ensures { result ≡ is_locked s.now value.now }
+    ensures { result ≡ is_locked store.now value.now }
 {
     let mut visits = Visits::inside(value, alloc);
     while let Some(found) = visits.next() {
         match &found.union {
             Union::Shared(_, _, cell) => {
-                if s.read(*cell).is_none() {
+                if store.read(*cell).is_none() {
                     return true;
                 }
             }
             Union::Array(_, _, _) => {
-                if is_locked_or_entered(&mut visits, found, s) {
+                if is_locked_or_entered(&mut visits, found, store) {
                     return true;
                 }
             }
             Union::Map(_, _, _) => {
-                if is_locked_or_entered(&mut visits, found, s) {
+                if is_locked_or_entered(&mut visits, found, store) {
                     return true;
                 }
             }
             Union::FnPtr(_, _, _) => {
-                if is_locked_or_entered(&mut visits, found, s) {
+                if is_locked_or_entered(&mut visits, found, store) {
                     return true;
                 }
             }
@@ -106,24 +108,24 @@ fn locks_far(value: &Dynamic, s: &Store, alloc: Global) -> bool
 
 // Enters a value; where memory for that is refused, says whether it is locked.
 #[cycle(locks)]
-fn is_locked_or_entered<'a>(visits: &mut Visits<'a>, found: &'a Dynamic, s: &Store) -> bool
+fn is_locked_or_entered<'a>(visits: &mut Visits<'a>, found: &'a Dynamic, store: &Store) -> bool
     requires { cell_of found.now ≡ None }
-    ensures locked { result ≡ true → is_locked s.now found.now ≡ true }
-    ensures entered { result ≡ false → any_locked s.now visits.new ≡ any_locked s.now (found.now ∷ visits.old) }
+    ensures locked { result ≡ true → is_locked store.now found.now ≡ true }
+    ensures entered { result ≡ false → any_locked store.now visits.new ≡ any_locked store.now (found.now ∷ visits.old) }
     ensures fewer { nodes_trees (trees_of visits.new) < nodes found.now + nodes_trees (trees_of visits.old) }
 {
     if visits.enter(found) {
         return false;
     }
-    locks(found, s, NEAR)
+    locks(found, store, NEAR)
 }
 
 #[cycle(locks)]
-fn locks_items(items: &Vec<Dynamic>, s: &Store, levels: u32) -> bool
-    ensures { result ≡ is_one_locked s.now (trees_of items.now.items) }
+fn locks_items(items: &Vec<Dynamic>, store: &Store, levels: u32) -> bool
+    ensures { result ≡ is_one_locked store.now (trees_of items.now.items) }
 {
     for item in items {
-        if locks(item, s, levels) {
+        if locks(item, store, levels) {
             return true;
         }
     }
@@ -131,25 +133,30 @@ fn locks_items(items: &Vec<Dynamic>, s: &Store, levels: u32) -> bool
 }
 
 #[cycle(locks)]
-fn locks_map(map: &Map, s: &Store, levels: u32) -> bool
-    ensures { result ≡ is_field_locked s.now (fields_of map.now) }
+fn locks_map(map: &Map, store: &Store, levels: u32) -> bool
+    ensures { result ≡ is_field_locked store.now (fields_of map.now) }
 {
     match &map.parts {
         None => false,
         Some(parts) => {
             let parts: &MapParts = parts;
-            locks_entries(&parts.index, &parts.slots, s, levels)
+            locks_entries(&parts.index, &parts.slots, store, levels)
         }
     }
 }
 
 #[cycle(locks)]
-fn locks_entries(index: &BTreeMap<String, usize>, slots: &Vec<Slot>, s: &Store, levels: u32) -> bool
+fn locks_entries(
+    index: &BTreeMap<String, usize>,
+    slots: &Vec<Slot>,
+    store: &Store,
+    levels: u32,
+) -> bool
     requires { AreTaken index.now.entries slots.now.items }
-    ensures { result ≡ is_field_locked s.now (fields_of (rows index.now.entries slots.now.items)) }
+    ensures { result ≡ is_field_locked store.now (fields_of (rows index.now.entries slots.now.items)) }
 {
     for (_, number) in index.iter() {
-        if locks(value_at(slots, *number), s, levels) {
+        if locks(value_at(slots, *number), store, levels) {
             return true;
         }
     }

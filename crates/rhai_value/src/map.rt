@@ -6,9 +6,9 @@ use std::alloc::Global;
 use std::collections::BTreeMap;
 use std::marker::Model;
 
-/// A map (`Map` of rhai). Contracts see its rows: each key, as its bytes, with its value, by rising keys.
-///
+/// A map from texts to values. Contracts see its rows: each key, as its bytes, with its value, by rising keys.
 /// A map of no entries takes no memory before its first entry.
+/// rhai: `Map`, which is a `BTreeMap<Identifier, Dynamic>`.
 #[cycle(dynamic)]
 #[derive(Drop)]
 pub struct Map {
@@ -73,14 +73,16 @@ impl Map {
     ghost use Rattle.rhai_value.specs.contracts.dynamic.Dynamic as dynamic_type;
     ghost use Rattle.rhai_value.specs.contracts.map.Map as map_type;
 
-    /// A map of no entries. It takes no memory; the first entry takes it from `alloc`.
+    /// Makes a map of no entries; its first entry takes memory from `alloc`.
+    /// Cost: constant; no memory.
     pub fn new(alloc: Global) -> Map
         ensures { result ≡ [] }
     {
         Map { parts: None, alloc }
     }
 
-    /// The number of entries, in constant time.
+    /// Counts the entries.
+    /// Cost: constant.
     pub fn len(&self) -> usize
         ensures len { result ≡ length self.now }
         ensures ordered { AreRising self.now }
@@ -92,21 +94,23 @@ impl Map {
         }
     }
 
-    /// Whether there is no entry.
+    /// Tells whether there is no entry.
     pub fn is_empty(&self) -> bool
         ensures { IsTrue result ↔ (self.now ≡ []) }
     {
         self.len() == 0
     }
 
-    /// Whether there is an entry of this key. The time grows with the logarithm of the number of entries.
+    /// Tells whether there is an entry of this key.
+    /// Cost: the logarithm of the number of entries.
     pub fn contains_key(&self, key: &str) -> bool
         ensures { result ≡ is_some (lookup (is_at (bytes_cmp key.now)) self.now) }
     {
         self.get(key).is_some()
     }
 
-    /// The value of a key, if it has one. The time grows with the logarithm of the number of entries.
+    /// Lends the value of a key, if it has one.
+    /// Cost: the logarithm of the number of entries.
     pub fn get(&self, key: &str) -> Option<&Dynamic>
         ensures value { option_copied result ≡ lookup (is_at (bytes_cmp key.now)) self.now }
         ensures ordered { AreRising self.now }
@@ -118,7 +122,8 @@ impl Map {
         }
     }
 
-    /// The value of a key, to write to. The time grows with the logarithm of the number of entries.
+    /// Lends the value of a key, to write to.
+    /// Cost: the logarithm of the number of entries.
     pub fn get_mut(&mut self, key: &str) -> Option<&mut Dynamic>
         ensures* writes_back { sem 𝓛 (LendsIf map_type.the_row dynamic_type.the_row self.entry result (λ w. set_value (is_at (bytes_cmp key.now)) self.old w) self.old) }
         ensures value { option_copied_mut result ≡ lookup (is_at (bytes_cmp key.now)) self.old }
@@ -129,15 +134,12 @@ impl Map {
         }
     }
 
-    /// Puts a value at a key, and returns the value that was there. The time grows with the logarithm of the number of
-    /// entries; now and then the list of slots grows, which takes time in their number.
-    ///
-    /// A key that is there keeps its own text, and is never refused. A map has at most one slot more than it has had keys at
-    /// once.
-    ///
-    /// # Errors
-    ///
-    /// The key and the value come back where the key is new and the memory for its entry is refused.
+    /// Puts a value at a key, and answers the value that was there. A key that is there keeps its own text, and is never
+    /// refused.
+    /// Errors: key and value come back where the key is new and the memory for its entry is refused.
+    /// Cost: the logarithm of the number of entries; now and then the list of slots grows, which takes time in their
+    /// number. A map has at most one slot more than it has had keys at once.
+    /// rhai: `BTreeMap::insert`, which drops the key.
     pub fn insert(
         &mut self,
         key: String,
@@ -172,8 +174,8 @@ impl Map {
         }
     }
 
-    /// Takes a key out, and returns its value. It takes no memory; the time grows with the logarithm of the number of
-    /// entries.
+    /// Takes a key out, and answers its value.
+    /// Cost: the logarithm of the number of entries; no memory.
     pub fn remove(&mut self, key: &str) -> Option<Dynamic>
         ensures value { result ≡ lookup (is_at (bytes_cmp key.now)) self.old }
         ensures removed { self.new ≡ remove_entry (is_at (bytes_cmp key.now)) self.old }
@@ -184,8 +186,8 @@ impl Map {
         }
     }
 
-    /// Takes the first entry out, which is that of the least key. It takes no memory; the time grows with the logarithm of
-    /// the number of entries.
+    /// Takes the first entry out, which is that of the least key.
+    /// Cost: the logarithm of the number of entries; no memory.
     pub fn pop_first(&mut self) -> Option<(String, Dynamic)>
         ensures { MatchOption result ((self.old ≡ []) × (self.new ≡ [])) (λ x. self.old ≡ (string_bytes x.0, x.1) ∷ self.new) }
     {
@@ -207,15 +209,17 @@ impl Map {
         }
     }
 
-    /// Takes all entries out, and gives their memory back. The time grows with what they hold.
+    /// Takes all entries out, and gives their memory back.
+    /// Cost: their drop.
     pub fn clear(&mut self)
         ensures { self.new ≡ [] }
     {
         self.parts = None;
     }
 
-    /// The entries, by rising keys. It takes no memory; the whole walk takes time in the number of entries. The values lie in
-    /// the order of their insertion, so that a walk through many entries reads memory here and there.
+    /// Lends the entries one by one, by rising keys.
+    /// Cost: no memory; the whole walk takes time in the number of entries. The values lie in the order of their insertion,
+    /// so that a walk through many entries reads memory here and there.
     pub fn iter(&self) -> Entries<'_>
         ensures entries { result ≡ self.now }
         ensures ordered { AreRising self.now }
@@ -227,7 +231,8 @@ impl Map {
         }
     }
 
-    /// The keys, by rising order, at the cost of `iter`.
+    /// Lends the keys one by one, in rising order.
+    /// Cost: that of `iter`.
     pub fn keys(&self) -> Keys<'_>
         ensures keys { result ≡ keys_of self.now }
         ensures ordered { IsStrictlySortedBy bytes_cmp result }
@@ -236,7 +241,8 @@ impl Map {
         Keys { entries }
     }
 
-    /// The values, by rising keys, at the cost of `iter`.
+    /// Lends the values one by one, by rising keys.
+    /// Cost: that of `iter`.
     pub fn values(&self) -> Values<'_>
         ensures { result ≡ values_of self.now }
     {

@@ -29,8 +29,9 @@ impl Model for IntoEntries {
 impl Map {
     ghost use Rattle.std.specs.Prelude.{◌≡◌};
 
-    /// Takes the map apart: the entries, each with its key, by rising keys. Takes no memory; each entry costs the logarithm of how
-    /// many are left.
+    /// Takes the map apart: the entries one by one, each with its key, by rising keys.
+    /// Cost: no memory; the logarithm of how many are left for each entry.
+    /// rhai: `BTreeMap::into_iter` of its maps.
     pub fn into_entries(self) -> IntoEntries
         ensures { result ≡ self }
     {

@@ -29,12 +29,11 @@ impl MapParts {
 }
 
 impl Map {
-    /// Sets the value of a key, and returns the one that was there. A key that is there keeps its own text, and a new one is made of
-    /// the passed text only where it isn't.
-    ///
-    /// Errors: the value comes back where the key is new and memory is refused, for the key or for the entry; nothing changes then.
-    ///
-    /// Cost: as `get_mut` where the key is there, with no memory; else as `insert`, and the length of the key.
+    /// Sets the value of a key, and answers the one that was there. A key that is there keeps its own text, and a new one
+    /// is made of the passed text only where it isn't.
+    /// Errors: the value comes back where the key is new and memory is refused, for the key or for the entry; nothing
+    /// changes then.
+    /// Cost: that of `get_mut` where the key is there, with no memory; else that of `insert`, and the length of the key.
     pub fn set(&mut self, key: &str, value: Dynamic) -> Result<Option<Dynamic>, Dynamic>
         ensures old { IfOk result (λ old. old ≡ lookup (is_at (bytes_cmp key.now)) self.old) }
         ensures set { OnOk result (self.new ≡ insert_entry bytes_cmp self.old key.now value) }

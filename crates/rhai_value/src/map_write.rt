@@ -21,8 +21,8 @@ pub trait ValueWriter {
 }
 
 impl Map {
-    /// Writes to each value, by rising keys, the writer being handed on; the keys stay. Takes no memory but what the writer takes.
-    ///
+    /// Writes to each value, by rising keys, the writer being handed on; the keys stay.
+    /// Cost: the number of entries, and what the writer takes; no memory of its own.
     /// rhai: `BTreeMap::values_mut` of its maps.
     pub fn write_values<W: ValueWriter>(&mut self, writer: &mut W)
         ensures { (writer.new, fields_of self.new) ≡ fields_scanned W.writes writer.old (fields_of self.old) }

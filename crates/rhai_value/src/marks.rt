@@ -26,8 +26,10 @@ impl Model for WriteToken {
 }
 
 impl Store {
-    /// Marks the cell of a holder; `None`, with nothing changed, for a value that is no holder and for a cell that is marked or no
-    /// cell of the store. Takes no memory.
+    /// Marks the cell of a holder; `None`, with nothing changed, for a value that is no holder and for a cell that is
+    /// marked or no cell of the store.
+    /// Cost: constant; no memory.
+    /// rhai: `Dynamic::write_lock`, which gives a guard.
     #[tactic(auto, using(crate::proofs::MarkedCells::first_within))]
     pub fn mark(&mut self, d: &Dynamic) -> Option<WriteToken>
         ensures which { result ≡ first_cell self.old d.now }
@@ -37,8 +39,9 @@ impl Store {
         self.mark_at(d.first_site(self))
     }
 
-    /// Marks the cell in which the held value of a holder stands; `None`, with nothing changed, for a value that is no holder and
-    /// where the chain is stuck or closed. Takes no memory, and costs the length of the chain; where it closes, the number of cells.
+    /// Marks the cell in which the held value of a holder stands; `None`, with nothing changed, for a value that is no
+    /// holder and where the chain is stuck or closed.
+    /// Cost: the length of the chain, and where it closes the number of cells; no memory.
     #[tactic(auto, using(crate::proofs::MarkedCells::held_within))]
     pub fn mark_held(&mut self, d: &Dynamic) -> Option<WriteToken>
         ensures which { result ≡ held_cell (end self.old [] d.now) }
@@ -55,7 +58,7 @@ impl Store {
         ensures marked { IfSome result (λ t. is_marked_at self.new t ≡ true) }
     {
         match site? {
-            Site::Own => None,
+            Site::Here => None,
             Site::InCell(cell) => {
                 self.set_mark(cell, true);
                 Some(WriteToken { cell })
@@ -63,7 +66,8 @@ impl Store {
         }
     }
 
-    /// What is in the token's cell.
+    /// Lends what is in the token's cell.
+    /// Cost: constant; no memory.
     pub fn through(&self, t: &WriteToken) -> &Dynamic
         requires { is_marked_at self.now t.now ≡ true }
         ensures { content_at self.now t.now ≡ Some result.now }
@@ -71,7 +75,8 @@ impl Store {
         &self.cells[t.cell].content
     }
 
-    /// What is in the token's cell, to write.
+    /// Lends what is in the token's cell, to write.
+    /// Cost: constant; no memory.
     pub fn through_mut(&mut self, t: &WriteToken) -> &mut Dynamic
         requires { is_marked_at self.old t.now ≡ true }
         ensures* writes_back { sem 𝓛 (Lends store_type.the_row dynamic_type.the_row self.entry result (λ w. put self.old t.now w)) }
@@ -80,7 +85,8 @@ impl Store {
         self.content_mut(t.cell)
     }
 
-    /// Clears the mark of the token's cell.
+    /// Clears the mark of the token's cell, and spends the token.
+    /// Cost: constant; no memory.
     pub fn release(&mut self, t: WriteToken)
         requires { is_marked_at self.old t ≡ true }
         ensures { self.new ≡ set_mark self.old t false }

@@ -14,17 +14,19 @@ use crate::union::Union;
 
 impl Dynamic {
     /// Sets the mode of the value and of all that it holds through arrays and maps. Curried values keep their modes, and so
-    /// does what is in a cell. Takes no memory for values of up to 64 levels; below, it may ask for a list, and goes on by calls where that is
-    /// refused. The time grows with the number of values inside, and of the slots of maps.
-    /// (`Dynamic::set_access_mode`)
+    /// does what is in a cell.
+    /// Cost: the number of values inside, and of the slots of maps; no memory for values of up to 64 levels, and below that
+    /// without it where it is refused.
+    /// rhai: `Dynamic::set_access_mode`.
     pub fn set_access_mode(&mut self, mode: AccessMode)
         ensures { self.new ≡ paint mode self.old }
     {
         paint_value(self, mode, NEAR);
     }
 
-    /// The value as a constant, with all that it holds through arrays and maps; at the cost of `set_access_mode`.
-    /// (`Dynamic::into_read_only`)
+    /// Makes the value a constant, with all that it holds through arrays and maps.
+    /// Cost: that of `set_access_mode`.
+    /// rhai: `Dynamic::into_read_only`.
     pub fn into_read_only(mut self) -> Dynamic
         ensures { result ≡ paint ReadOnly self }
     {

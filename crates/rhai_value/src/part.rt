@@ -35,26 +35,29 @@ pub trait Part: Sized + Drop {
     // What a value has.
     ghost part_of: { Tree → Option Meaning };
 
-    /// What the value itself has.
+    /// Lends what the value itself has, if it is of this kind.
     fn own(value: &Dynamic) -> Option<&Self>
         ensures { option_map (λ r. meaning r.now) result ≡ part_of value.now };
 
-    /// The same, to write.
+    /// Lends what the value itself has, to write.
     fn own_mut(value: &mut Dynamic) -> Option<&mut Self>
         ensures* writes_back { sem 𝓛 (LendsIf dynamic_type.the_row Self.row value.entry result (λ w. with_content (content (meaning w)) value.old) value.old) }
         ensures value { option_map (λ r. meaning r.now) result ≡ part_of value.old };
 
-    /// The value with this content, tag 0 and mode ReadWrite.
+    /// Makes the value with this content, tag 0 and mode ReadWrite.
     fn make(self) -> Dynamic
         ensures { result ≡ made (content (meaning self)) };
 
-    /// What the value itself has, moved out of it; a value that has none comes back.
+    /// Moves what the value itself has out of it.
+    /// Errors: the value comes back where it is of another kind.
     fn take_out(value: Dynamic) -> Result<Self, Dynamic>
         ensures ok { IfOk result (λ x. part_of value ≡ Some (meaning x)) }
         ensures err { IfErr result (λ back. (back ≡ value) × (part_of value ≡ None)) };
 
-    /// One more, with the copy of the content, at the cost of that copy.
-    fn again(&self, alloc: Global) -> Result<Self, AllocError>
+    /// Copies the content.
+    /// Errors: memory for the copy is refused.
+    /// Cost: that of `Dynamic::copy`.
+    fn try_clone(&self, alloc: Global) -> Result<Self, AllocError>
         ensures copied { IfOk result (λ x. content (meaning x) ≡ copy_content (content (meaning self.now))) }
         ensures free { TakesNoMemory (made (content (meaning self.now))) → IsOk result };
 
@@ -70,7 +73,7 @@ pub trait Part: Sized + Drop {
 
 /// What the value itself has, which is of one kind. Each takes no memory.
 impl Dynamic {
-    /// What the value itself has, which is of this kind.
+    /// Lends what the value itself has, which is of this kind.
     #[inline(always)]
     pub fn own_part<T: Part>(&self) -> &T
         requires { is_some (T.part_of self.now) ≡ true }
@@ -79,7 +82,7 @@ impl Dynamic {
         T::own(self).unwrap()
     }
 
-    /// What the value itself has, which is of this kind, to write.
+    /// Lends what the value itself has, which is of this kind, to write.
     #[inline(always)]
     pub fn own_part_mut<T: Part>(&mut self) -> &mut T
         requires { is_some (T.part_of self.old) ≡ true }
@@ -92,72 +95,78 @@ impl Dynamic {
 
 /// What is held, if it is of one kind.
 impl Dynamic {
-    /// What is held, if it is of this kind. Takes no memory; what the value itself has is found without a look at its holders.
+    /// Lends what is held, if it is of this kind. What the value itself has is found without a look at its holders.
+    /// Cost: that of `Dynamic::held`; no memory.
     #[inline(always)]
-    pub fn held_part<'s, T: Part>(&'s self, s: &'s Store) -> Option<&'s T>
-        ensures { option_map (λ r. T.meaning r.now) result ≡ held_part T.part_of (end s.now [] self.now) }
+    pub fn held_part<'s, T: Part>(&'s self, store: &'s Store) -> Option<&'s T>
+        ensures { option_map (λ r. T.meaning r.now) result ≡ held_part T.part_of (end store.now [] self.now) }
     {
         if let Some(part) = T::own(self) {
             return Some(part);
         }
-        match self.near(s) {
-            Near::Own => None,
+        match self.near(store) {
+            Near::Here => None,
             Near::InCell(_, content) => match T::own(content) {
                 Some(part) => Some(part),
                 None => match content.cell() {
                     None => None,
-                    Some(_) => T::own(self.held_far(s)?),
+                    Some(_) => T::own(self.held_far(store)?),
                 },
             },
             Near::Barred => None,
         }
     }
 
-    /// What is held, if it is of this kind, or the name of the held type. Takes no memory.
+    /// Lends what is held, if it is of this kind.
+    /// Errors: the name of the held type.
+    /// Cost: that of `Dynamic::held`; no memory.
     #[inline(always)]
-    pub fn as_part<'s, T: Part>(&'s self, s: &'s Store) -> Result<&'s T, &'static str>
-        ensures ok { IfOk result (λ v. held_part T.part_of (end s.now [] self.now) ≡ Some (T.meaning v.now)) }
-        ensures err { IfErr result (λ name. (held_part T.part_of (end s.now [] self.now) ≡ None)
-            × (name.now ≡ end_name (end s.now [] self.now))) }
+    pub fn as_part<'s, T: Part>(&'s self, store: &'s Store) -> Result<&'s T, &'static str>
+        ensures ok { IfOk result (λ v. held_part T.part_of (end store.now [] self.now) ≡ Some (T.meaning v.now)) }
+        ensures err { IfErr result (λ name. (held_part T.part_of (end store.now [] self.now) ≡ None)
+            × (name.now ≡ end_name (end store.now [] self.now))) }
     {
-        match self.held_part::<T>(s) {
+        match self.held_part::<T>(store) {
             Some(part) => Ok(part),
-            None => Err(self.held_name(s)),
+            None => Err(self.held_name(store)),
         }
     }
 
-    /// Lends what is held, if it is of this kind, to write, or names the held type. Takes no memory.
+    /// Lends what is held, if it is of this kind, to write.
     ///
-    /// This is one call of `lent_part_mut`, which says what value and store are once it was written. There are two, since a proof
-    /// that the check writes by itself can't call a method of the value with a clause on two lenders; such a proof reads it of
-    /// `InStore::part_mut`, which lends from the pair of the two.
+    /// This is one call of `lent_part_mut`, which says what value and store are once it was written. There are two, since a
+    /// proof that the check writes by itself can't call a method of the value with a clause on two lenders; such a proof
+    /// reads it of `InStore::part_mut`, which lends from the pair of the two.
+    /// Errors: the name of the held type.
+    /// Cost: that of `Dynamic::held`; no memory.
     #[inline(always)]
     pub fn as_part_mut<'s, T: Part>(
         &'s mut self,
-        m: &'s mut Store,
+        store: &'s mut Store,
     ) -> Result<&'s mut T, &'static str>
-        ensures ok { IfOk result (λ v. held_part T.part_of (end m.old [] self.old) ≡ Some (T.meaning v.now)) }
-        ensures err { IfErr result (λ name. (held_part T.part_of (end m.old [] self.old) ≡ None)
-            × (name.now ≡ end_name (end m.old [] self.old))) }
+        ensures ok { IfOk result (λ v. held_part T.part_of (end store.old [] self.old) ≡ Some (T.meaning v.now)) }
+        ensures err { IfErr result (λ name. (held_part T.part_of (end store.old [] self.old) ≡ None)
+            × (name.now ≡ end_name (end store.old [] self.old))) }
     {
         let is_own = T::own(self).is_some();
-        Dynamic::lent_part_mut::<T>(is_own, self, m)
+        Dynamic::lent_part_mut::<T>(is_own, self, store)
     }
 
-    /// What is held becomes this, if it is of this kind, tag and mode staying, and what was there comes back; else this comes back,
-    /// and nothing changes. Takes no memory.
+    /// Writes this over what is held, if that is of this kind, tag and mode staying, and answers what was there.
+    /// Errors: the part comes back where another type is held, and nothing changes.
+    /// Cost: that of `Dynamic::held`; no memory.
     #[inline(always)]
-    pub fn put_part<T: Part>(&mut self, m: &mut Store, part: T) -> Result<T, T>
-        ensures ok { IfOk result (λ old. held_part T.part_of (end m.old [] self.old) ≡ Some (T.meaning old)) }
-        ensures own { self.new ≡ value_after (with_part T.part_of (T.content (T.meaning part))) (end m.old [] self.old) self.old }
-        ensures store { m.new ≡ store_after (with_part T.part_of (T.content (T.meaning part))) (end m.old [] self.old) m.old }
-        ensures err { IfErr result (λ back. (back ≡ part) × (self.new ≡ self.old) × (m.new ≡ m.old) × (held_part T.part_of (end m.old [] self.old) ≡ None)) }
+    pub fn put_part<T: Part>(&mut self, store: &mut Store, part: T) -> Result<T, T>
+        ensures ok { IfOk result (λ old. held_part T.part_of (end store.old [] self.old) ≡ Some (T.meaning old)) }
+        ensures own { self.new ≡ value_after (with_part T.part_of (T.content (T.meaning part))) (end store.old [] self.old) self.old }
+        ensures store { store.new ≡ store_after (with_part T.part_of (T.content (T.meaning part))) (end store.old [] self.old) store.old }
+        ensures err { IfErr result (λ back. (back ≡ part) × (self.new ≡ self.old) × (store.new ≡ store.old) × (held_part T.part_of (end store.old [] self.old) ≡ None)) }
     {
         match self.put_own_part(part) {
             Ok(old) => Ok(old),
-            Err(part) => match self.put_near_part(m, part) {
+            Err(part) => match self.put_near_part(store, part) {
                 Ok(old) => Ok(old),
-                Err(part) => self.put_held_part(m, part),
+                Err(part) => self.put_held_part(store, part),
             },
         }
     }
@@ -176,15 +185,15 @@ impl Dynamic {
 
     /// The same of a holder whose cell itself has one.
     #[inline(always)]
-    fn put_near_part<T: Part>(&self, m: &mut Store, part: T) -> Result<T, T>
-        ensures ok { IfOk result (λ old. held_part T.part_of (end m.old [] self.now) ≡ Some (T.meaning old)) }
-        ensures own { OnOk result (self.now ≡ value_after (with_part T.part_of (T.content (T.meaning part))) (end m.old [] self.now) self.now) }
-        ensures store { OnOk result (m.new ≡ store_after (with_part T.part_of (T.content (T.meaning part))) (end m.old [] self.now) m.old) }
-        ensures err { IfErr result (λ back. (back ≡ part) × (m.new ≡ m.old)) }
+    fn put_near_part<T: Part>(&self, store: &mut Store, part: T) -> Result<T, T>
+        ensures ok { IfOk result (λ old. held_part T.part_of (end store.old [] self.now) ≡ Some (T.meaning old)) }
+        ensures own { OnOk result (self.now ≡ value_after (with_part T.part_of (T.content (T.meaning part))) (end store.old [] self.now) self.now) }
+        ensures store { OnOk result (store.new ≡ store_after (with_part T.part_of (T.content (T.meaning part))) (end store.old [] self.now) store.old) }
+        ensures err { IfErr result (λ back. (back ≡ part) × (store.new ≡ store.old)) }
     {
-        match self.first_site(m) {
-            None | Some(Site::Own) => Err(part),
-            Some(Site::InCell(index)) => match m.content_mut(index).put_own_part(part) {
+        match self.first_site(store) {
+            None | Some(Site::Here) => Err(part),
+            Some(Site::InCell(index)) => match store.content_mut(index).put_own_part(part) {
                 Ok(old) => Ok(old),
                 Err(part) => Err(part),
             },
@@ -193,17 +202,14 @@ impl Dynamic {
 
     /// The same of any value, in a function of its own, so that writes over what is near stay short.
     #[inline(never)]
-    fn put_held_part<T: Part>(&mut self, m: &mut Store, part: T) -> Result<T, T>
-        ensures ok { IfOk result (λ old. held_part T.part_of (end m.old [] self.old) ≡ Some (T.meaning old)) }
-        ensures own { self.new ≡ value_after (with_part T.part_of (T.content (T.meaning part))) (end m.old [] self.old) self.old }
-        ensures store { m.new ≡ store_after (with_part T.part_of (T.content (T.meaning part))) (end m.old [] self.old) m.old }
-        ensures err { IfErr result (λ back. (back ≡ part) × (self.new ≡ self.old) × (m.new ≡ m.old) × (held_part T.part_of (end m.old [] self.old) ≡ None)) }
+    fn put_held_part<T: Part>(&mut self, store: &mut Store, part: T) -> Result<T, T>
+        ensures ok { IfOk result (λ old. held_part T.part_of (end store.old [] self.old) ≡ Some (T.meaning old)) }
+        ensures own { self.new ≡ value_after (with_part T.part_of (T.content (T.meaning part))) (end store.old [] self.old) self.old }
+        ensures store { store.new ≡ store_after (with_part T.part_of (T.content (T.meaning part))) (end store.old [] self.old) store.old }
+        ensures err { IfErr result (λ back. (back ≡ part) × (self.new ≡ self.old) × (store.new ≡ store.old) × (held_part T.part_of (end store.old [] self.old) ≡ None)) }
     {
-        let site = self.held_site(m);
-        let mut place = InStore {
-            value: self,
-            store: m,
-        };
+        let site = self.held_site(store);
+        let mut place = InStore { value: self, store };
         match place.part_at_mut::<T>(site) {
             Some(held) => Ok(mem::replace(held, part)),
             None => Err(part),
@@ -213,8 +219,10 @@ impl Dynamic {
 
 /// What is held in a store, if it is of one kind, to write.
 impl<'a> InStore<'a> {
-    /// What is held, if it is of this kind, to write, or the name of the held type. Takes no memory; what the value itself has is
-    /// found without a look at its holders.
+    /// Lends what is held, if it is of this kind, to write. What the value itself has is found without a look at its
+    /// holders.
+    /// Errors: the name of the held type.
+    /// Cost: that of `Dynamic::held`; no memory.
     #[inline(always)]
     pub fn part_mut<T: Part>(&mut self) -> Result<&mut T, &'static str>
         ensures* writes_back { sem 𝓛 (LendsIfOk in_store_row T.row self.entry result (λ w. written self.old (with_content (T.content (T.meaning w)))) self.old) }
@@ -228,7 +236,8 @@ impl<'a> InStore<'a> {
         }
     }
 
-    /// What is held, which is of this kind, to write. Takes no memory.
+    /// Lends what is held, which is of this kind, to write.
+    /// Cost: that of `Dynamic::held`; no memory.
     #[inline(always)]
     pub fn held_part_mut<T: Part>(&mut self) -> &mut T
         requires { is_some (held_part T.part_of (end self.old.store.now [] self.old.value.now)) ≡ true }

@@ -28,15 +28,15 @@ pub trait HostPart: Sized + Copy + Drop {
 
     ghost host: { Self → Host };
 
-    /// One among the host's values.
+    /// Makes it one of the host's values.
     fn into_host(self) -> Host
         ensures { result ≡ host self };
 
-    /// What one of the host's values is, if it is of this type.
+    /// Lends what one of the host's values is, if it is of this type.
     fn in_host(value: &Host) -> Option<&Self>
         ensures { option_map (λ r. host r.now) result ≡ host_at KIND value.now };
 
-    /// The same, to write.
+    /// Lends what one of the host's values is, if it is of this type, to write.
     fn in_host_mut(value: &mut Host) -> Option<&mut Self>
         ensures* writes_back { sem 𝓛 (LendsIf host_type_row.the_row Self.row value.entry result (λ w. host w) value.old) }
         ensures value { option_map (λ r. host r.now) result ≡ host_at KIND value.old };
@@ -86,7 +86,7 @@ impl<T: HostPart> Part for T {
         }
     }
 
-    fn again(&self, _alloc: Global) -> Result<T, AllocError> {
+    fn try_clone(&self, _alloc: Global) -> Result<T, AllocError> {
         Ok(*self)
     }
 

@@ -58,7 +58,7 @@ impl Part for () {
         }
     }
 
-    fn again(&self, _alloc: Global) -> Result<(), AllocError> {
+    fn try_clone(&self, _alloc: Global) -> Result<(), AllocError> {
         Ok(*self)
     }
 
@@ -109,7 +109,7 @@ impl Part for bool {
         }
     }
 
-    fn again(&self, _alloc: Global) -> Result<bool, AllocError> {
+    fn try_clone(&self, _alloc: Global) -> Result<bool, AllocError> {
         Ok(*self)
     }
 
@@ -160,7 +160,7 @@ impl Part for INT {
         }
     }
 
-    fn again(&self, _alloc: Global) -> Result<INT, AllocError> {
+    fn try_clone(&self, _alloc: Global) -> Result<INT, AllocError> {
         Ok(*self)
     }
 
@@ -211,7 +211,7 @@ impl Part for char {
         }
     }
 
-    fn again(&self, _alloc: Global) -> Result<char, AllocError> {
+    fn try_clone(&self, _alloc: Global) -> Result<char, AllocError> {
         Ok(*self)
     }
 
@@ -262,7 +262,7 @@ impl Part for ImmutableString {
         }
     }
 
-    fn again(&self, alloc: Global) -> Result<ImmutableString, AllocError> {
+    fn try_clone(&self, alloc: Global) -> Result<ImmutableString, AllocError> {
         self.copy(alloc)
     }
 
@@ -313,7 +313,7 @@ impl Part for Blob {
         }
     }
 
-    fn again(&self, alloc: Global) -> Result<Blob, AllocError> {
+    fn try_clone(&self, alloc: Global) -> Result<Blob, AllocError> {
         Vec::from_slice(alloc, self)
     }
 
@@ -365,7 +365,7 @@ impl Part for Array {
     }
 
     #[tactic(auto, using(crate::proofs::Copies::copied_trees, crate::proofs::Copies::copied_fields))]
-    fn again(&self, alloc: Global) -> Result<Array, AllocError> {
+    fn try_clone(&self, alloc: Global) -> Result<Array, AllocError> {
         copied_items(self, alloc, NEAR)
     }
 
@@ -417,7 +417,7 @@ impl Part for Map {
     }
 
     #[tactic(auto, using(crate::proofs::Copies::copied_trees, crate::proofs::Copies::copied_fields))]
-    fn again(&self, alloc: Global) -> Result<Map, AllocError> {
+    fn try_clone(&self, alloc: Global) -> Result<Map, AllocError> {
         copied_map(self, alloc, NEAR)
     }
 
@@ -469,7 +469,7 @@ impl Part for FnPtr {
     }
 
     #[tactic(auto, using(crate::proofs::Copies::copied_trees, crate::proofs::Copies::copied_fields))]
-    fn again(&self, alloc: Global) -> Result<FnPtr, AllocError> {
+    fn try_clone(&self, alloc: Global) -> Result<FnPtr, AllocError> {
         copied_function(self, alloc, NEAR)
     }
 

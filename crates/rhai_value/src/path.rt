@@ -29,7 +29,8 @@ impl Model for Path {
 }
 
 impl Path {
-    /// No cell is open. Takes no memory.
+    /// Makes a path on which no cell is open.
+    /// Cost: constant; no memory.
     pub fn new(alloc: Global) -> Self
         ensures { result ≡ [] }
     {
@@ -39,8 +40,10 @@ impl Path {
         }
     }
 
-    /// Opens the cell of a holder and gives its content; `None`, with nothing changed, for a value that is no holder and for a cell
-    /// that is open, marked or no cell of the store. Costs the logarithm of the number of open cells.
+    /// Opens the cell of a holder and lends its content; `None`, with nothing changed, for a value that is no holder and
+    /// for a cell that is open, marked or no cell of the store.
+    /// Errors: memory for one more open cell is refused, and nothing changes.
+    /// Cost: the logarithm of the number of open cells.
     pub fn enter<'s>(
         &mut self,
         store: &'s Store,
@@ -68,7 +71,8 @@ impl Path {
         Ok(Some(content))
     }
 
-    /// Closes the cell that was opened last. Takes no memory; costs the logarithm of the number of open cells.
+    /// Closes the cell that was opened last.
+    /// Cost: the logarithm of the number of open cells; no memory.
     pub fn leave(&mut self)
         requires { 0 < length self.old }
         ensures { self.new ≡ drop 1 self.old }

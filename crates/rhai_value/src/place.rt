@@ -36,7 +36,7 @@ impl Place {
     {
         match site {
             Some(Site::InCell(index)) => Place { cell: Some(index) },
-            Some(Site::Own) | None => Place { cell: None },
+            Some(Site::Here) | None => Place { cell: None },
         }
     }
 }
@@ -44,26 +44,29 @@ impl Place {
 /// Where a value's content stands that is found along its holders. Each takes no memory.
 impl Dynamic {
     /// Finds where the first content stands.
+    /// Cost: constant; no memory.
     #[inline(always)]
     #[tactic(auto, using(crate::proofs::Lent::is_within))]
-    pub fn first_place(&self, s: &Store) -> Place
-        ensures which { result ≡ first_cell s.now self.now }
-        ensures within { IfSome result (λ c. c < length s.now) }
+    pub fn first_place(&self, store: &Store) -> Place
+        ensures which { result ≡ first_cell store.now self.now }
+        ensures within { IfSome result (λ c. c < length store.now) }
     {
-        Place::of(self.first_site(s))
+        Place::of(self.first_site(store))
     }
 
     /// Finds where the held value stands.
-    pub fn held_place(&self, s: &Store) -> Place
-        ensures which { result ≡ held_cell (end s.now [] self.now) }
-        ensures within { IfSome result (λ c. c < length s.now) }
+    /// Cost: that of `held`; no memory.
+    pub fn held_place(&self, store: &Store) -> Place
+        ensures which { result ≡ held_cell (end store.now [] self.now) }
+        ensures within { IfSome result (λ c. c < length store.now) }
     {
-        Place::of(self.held_site(s))
+        Place::of(self.held_site(store))
     }
 }
 
 impl Store {
-    /// Lends what stands in a place, if it is one of the cells, to write. Takes no memory.
+    /// Lends what stands in a place, if it is one of the cells, to write.
+    /// Cost: constant; no memory.
     #[inline(always)]
     pub fn content_at_mut(&mut self, place: Place) -> Option<&mut Dynamic>
         requires { IfSome place (λ c. c < length self.old) }

@@ -9,19 +9,21 @@ use crate::union::Union;
 use std::alloc::AllocError;
 
 impl Dynamic {
-    /// The value moves into a new cell, and a holder of it with tag 0 and the value's mode takes its place; the content keeps its
-    /// tag and mode. A holder stays as it is. Where the store has no room for a cell nothing changes.
-    pub fn share_in_place(&mut self, m: &mut Store) -> Result<(), AllocError>
-        ensures own { OnOk result (self.new ≡ shared_value m.old self.old) }
-        ensures store { OnOk result (m.new ≡ shared_store m.old self.old) }
-        ensures err { OnErr result ((self.new ≡ self.old) × (m.new ≡ m.old)) }
+    /// Moves the value into a new cell, and puts a holder of it with tag 0 and the value's mode in its place; the content
+    /// keeps its tag and mode. A holder stays as it is.
+    /// Errors: memory for the cell is refused, and nothing changes.
+    /// Cost: constant, but where the store has to grow.
+    pub fn share_in_place(&mut self, store: &mut Store) -> Result<(), AllocError>
+        ensures own { OnOk result (self.new ≡ shared_value store.old self.old) }
+        ensures store { OnOk result (store.new ≡ shared_store store.old self.old) }
+        ensures err { OnErr result ((self.new ≡ self.old) × (store.new ≡ store.old)) }
         ensures free { is_some (cell_of self.old) ≡ true → IsOk result }
     {
         if self.is_shared() {
             return Ok(());
         }
         let mode = self.access_mode();
-        match m.add(self.take()) {
+        match store.add(self.take()) {
             Ok(cell) => {
                 self.union = Union::Shared(0, mode, cell);
                 Ok(())
@@ -33,15 +35,17 @@ impl Dynamic {
         }
     }
 
-    /// `share_in_place` of a value that is passed; where the store has no room for a cell the value comes back.
-    /// (`Dynamic::into_shared`)
-    pub fn into_shared(mut self, m: &mut Store) -> Result<Dynamic, Dynamic>
-        ensures ok { IfOk result (λ d. (d ≡ shared_value m.old self)
-            × (m.new ≡ shared_store m.old self)) }
-        ensures err { IfErr result (λ d. (d ≡ self) × (m.new ≡ m.old)) }
+    /// Shares a value that is passed, as `share_in_place` does.
+    /// Errors: the value comes back where memory for the cell is refused.
+    /// Cost: that of `share_in_place`.
+    /// rhai: `Dynamic::into_shared`.
+    pub fn into_shared(mut self, store: &mut Store) -> Result<Dynamic, Dynamic>
+        ensures ok { IfOk result (λ d. (d ≡ shared_value store.old self)
+            × (store.new ≡ shared_store store.old self)) }
+        ensures err { IfErr result (λ d. (d ≡ self) × (store.new ≡ store.old)) }
         ensures free { is_some (cell_of self) ≡ true → IsOk result }
     {
-        match self.share_in_place(m) {
+        match self.share_in_place(store) {
             Ok(()) => Ok(self),
             Err(_) => Err(self),
         }

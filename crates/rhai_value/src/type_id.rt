@@ -2,7 +2,8 @@
 ghost use Rattle.std.specs.Prelude.{◌≡◌};
 ghost use Rattle.rhai_value.specs.Types.{type_name};
 
-/// A type that a value may be of, and the type of what can't be looked into (`TypeId` of `std::any` in rhai).
+/// A type that a value may be of, and the type of what can't be looked into.
+/// rhai: `TypeId` of `std::any`.
 #[derive(Debug, PartialEq, Eq, Copy, Clone)]
 pub enum TypeId {
     /// `()`.
@@ -54,7 +55,7 @@ pub enum TypeId {
 }
 
 impl TypeId {
-    /// The name of the type, as scripts see it.
+    /// Tells the name of the type, as scripts see it.
     pub fn name(self) -> &'static str
         ensures { result.now ≡ type_name self }
     {

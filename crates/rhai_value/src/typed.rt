@@ -15,30 +15,34 @@ use rhai_text::ImmutableString;
 
 /// The type of what is held. Each call follows the chain of holders and takes no memory; an unshared value looks at no cell.
 impl Dynamic {
-    /// The held type, or `TypeId::Shared` where the chain is stuck or closed. (`Dynamic::type_id`)
-    pub fn type_id(&self, s: &Store) -> TypeId
-        ensures { result ≡ end_type (end s.now [] self.now) }
+    /// Tells the held type, or `TypeId::Shared` where the chain is stuck or closed.
+    /// Cost: that of `held`; no memory, as for each question below.
+    /// rhai: `Dynamic::type_id`.
+    pub fn type_id(&self, store: &Store) -> TypeId
+        ensures { result ≡ end_type (end store.now [] self.now) }
     {
-        match self.held(s) {
+        match self.held(store) {
             Some(value) => value.own_type(),
             None => TypeId::Shared,
         }
     }
 
-    /// The name of the held type, or `<shared>` where the chain is stuck or closed. (`Dynamic::type_name`)
-    pub fn type_name(&self, s: &Store) -> &'static str
-        ensures { result.now ≡ end_name (end s.now [] self.now) }
+    /// Tells the name of the held type, or `<shared>` where the chain is stuck or closed.
+    /// Cost: that of `held`; no memory.
+    /// rhai: `Dynamic::type_name`.
+    pub fn type_name(&self, store: &Store) -> &'static str
+        ensures { result.now ≡ end_name (end store.now [] self.now) }
     {
-        self.type_id(s).name()
+        self.type_id(store).name()
     }
 
     /// The same in a function of its own, since it is asked where a call fails.
     #[cold]
     #[inline(never)]
-    pub(crate) fn held_name(&self, s: &Store) -> &'static str
-        ensures { result.now ≡ end_name (end s.now [] self.now) }
+    pub(crate) fn held_name(&self, store: &Store) -> &'static str
+        ensures { result.now ≡ end_name (end store.now [] self.now) }
     {
-        self.type_name(s)
+        self.type_name(store)
     }
 
     pub(crate) fn own_type(&self) -> TypeId
@@ -59,144 +63,186 @@ impl Dynamic {
         }
     }
 
-    /// Whether unit is held. (`Dynamic::is_unit`)
-    pub fn is_unit(&self, s: &Store) -> bool
-        ensures { result ≡ is_some (held_part unit_of (end s.now [] self.now)) }
+    /// Tells whether unit is held.
+    /// Cost: that of `held`; no memory.
+    /// rhai: `Dynamic::is_unit`.
+    pub fn is_unit(&self, store: &Store) -> bool
+        ensures { result ≡ is_some (held_part unit_of (end store.now [] self.now)) }
     {
-        self.held_part::<()>(s).is_some()
+        self.held_part::<()>(store).is_some()
     }
 
-    /// Whether a boolean is held. (`Dynamic::is_bool`)
-    pub fn is_bool(&self, s: &Store) -> bool
-        ensures { result ≡ is_some (held_part bool_of (end s.now [] self.now)) }
+    /// Tells whether a boolean is held.
+    /// Cost: that of `held`; no memory.
+    /// rhai: `Dynamic::is_bool`.
+    pub fn is_bool(&self, store: &Store) -> bool
+        ensures { result ≡ is_some (held_part bool_of (end store.now [] self.now)) }
     {
-        self.held_part::<bool>(s).is_some()
+        self.held_part::<bool>(store).is_some()
     }
 
-    /// Whether an int is held. (`Dynamic::is_int`)
-    pub fn is_int(&self, s: &Store) -> bool
-        ensures { result ≡ is_some (held_part int_of (end s.now [] self.now)) }
+    /// Tells whether an int is held.
+    /// Cost: that of `held`; no memory.
+    /// rhai: `Dynamic::is_int`.
+    pub fn is_int(&self, store: &Store) -> bool
+        ensures { result ≡ is_some (held_part int_of (end store.now [] self.now)) }
     {
-        self.held_part::<INT>(s).is_some()
+        self.held_part::<INT>(store).is_some()
     }
 
-    /// Whether a character is held. (`Dynamic::is_char`)
-    pub fn is_char(&self, s: &Store) -> bool
-        ensures { result ≡ is_some (held_part char_of (end s.now [] self.now)) }
+    /// Tells whether a character is held.
+    /// Cost: that of `held`; no memory.
+    /// rhai: `Dynamic::is_char`.
+    pub fn is_char(&self, store: &Store) -> bool
+        ensures { result ≡ is_some (held_part char_of (end store.now [] self.now)) }
     {
-        self.held_part::<char>(s).is_some()
+        self.held_part::<char>(store).is_some()
     }
 
-    /// Whether a text is held. (`Dynamic::is_string`)
-    pub fn is_string(&self, s: &Store) -> bool
-        ensures { result ≡ is_some (held_part text_of (end s.now [] self.now)) }
+    /// Tells whether a text is held.
+    /// Cost: that of `held`; no memory.
+    /// rhai: `Dynamic::is_string`.
+    pub fn is_string(&self, store: &Store) -> bool
+        ensures { result ≡ is_some (held_part text_of (end store.now [] self.now)) }
     {
-        self.held_part::<ImmutableString>(s).is_some()
+        self.held_part::<ImmutableString>(store).is_some()
     }
 
-    /// Whether an array is held. (`Dynamic::is_array`)
-    pub fn is_array(&self, s: &Store) -> bool
-        ensures { result ≡ is_some (held_part array_of (end s.now [] self.now)) }
+    /// Tells whether an array is held.
+    /// Cost: that of `held`; no memory.
+    /// rhai: `Dynamic::is_array`.
+    pub fn is_array(&self, store: &Store) -> bool
+        ensures { result ≡ is_some (held_part array_of (end store.now [] self.now)) }
     {
-        self.held_part::<Array>(s).is_some()
+        self.held_part::<Array>(store).is_some()
     }
 
-    /// Whether a blob is held. (`Dynamic::is_blob`)
-    pub fn is_blob(&self, s: &Store) -> bool
-        ensures { result ≡ is_some (held_part blob_of (end s.now [] self.now)) }
+    /// Tells whether a blob is held.
+    /// Cost: that of `held`; no memory.
+    /// rhai: `Dynamic::is_blob`.
+    pub fn is_blob(&self, store: &Store) -> bool
+        ensures { result ≡ is_some (held_part blob_of (end store.now [] self.now)) }
     {
-        self.held_part::<Blob>(s).is_some()
+        self.held_part::<Blob>(store).is_some()
     }
 
-    /// Whether a map is held. (`Dynamic::is_map`)
-    pub fn is_map(&self, s: &Store) -> bool
-        ensures { result ≡ is_some (held_part map_of (end s.now [] self.now)) }
+    /// Tells whether a map is held.
+    /// Cost: that of `held`; no memory.
+    /// rhai: `Dynamic::is_map`.
+    pub fn is_map(&self, store: &Store) -> bool
+        ensures { result ≡ is_some (held_part map_of (end store.now [] self.now)) }
     {
-        self.held_part::<Map>(s).is_some()
+        self.held_part::<Map>(store).is_some()
     }
 
-    /// Whether a function pointer is held. (`Dynamic::is_fnptr`)
-    pub fn is_fnptr(&self, s: &Store) -> bool
-        ensures { result ≡ is_some (held_part function_of (end s.now [] self.now)) }
+    /// Tells whether a function pointer is held.
+    /// Cost: that of `held`; no memory.
+    /// rhai: `Dynamic::is_fnptr`.
+    pub fn is_fnptr(&self, store: &Store) -> bool
+        ensures { result ≡ is_some (held_part function_of (end store.now [] self.now)) }
     {
-        self.held_part::<FnPtr>(s).is_some()
+        self.held_part::<FnPtr>(store).is_some()
     }
 }
 
 /// What is held, if it is of one kind, or the name of the held type.
 impl Dynamic {
-    /// The held unit. (`Dynamic::as_unit`)
-    pub fn as_unit(&self, s: &Store) -> Result<(), &'static str>
-        ensures ok { IfOk result (λ v. held_part unit_of (end s.now [] self.now) ≡ Some v) }
-        ensures err { IfErr result (λ name. (held_part unit_of (end s.now [] self.now) ≡ None)
-            × (name.now ≡ end_name (end s.now [] self.now))) }
+    /// Answers the held unit.
+    /// Errors: the name of the held type.
+    /// Cost: that of `held`; no memory.
+    /// rhai: `Dynamic::as_unit`.
+    pub fn as_unit(&self, store: &Store) -> Result<(), &'static str>
+        ensures ok { IfOk result (λ v. held_part unit_of (end store.now [] self.now) ≡ Some v) }
+        ensures err { IfErr result (λ name. (held_part unit_of (end store.now [] self.now) ≡ None)
+            × (name.now ≡ end_name (end store.now [] self.now))) }
     {
-        self.as_part::<()>(s).copied()
+        self.as_part::<()>(store).copied()
     }
 
-    /// The held boolean. (`Dynamic::as_bool`)
-    pub fn as_bool(&self, s: &Store) -> Result<bool, &'static str>
-        ensures ok { IfOk result (λ v. held_part bool_of (end s.now [] self.now) ≡ Some v) }
-        ensures err { IfErr result (λ name. (held_part bool_of (end s.now [] self.now) ≡ None)
-            × (name.now ≡ end_name (end s.now [] self.now))) }
+    /// Answers the held boolean.
+    /// Errors: the name of the held type.
+    /// Cost: that of `held`; no memory.
+    /// rhai: `Dynamic::as_bool`.
+    pub fn as_bool(&self, store: &Store) -> Result<bool, &'static str>
+        ensures ok { IfOk result (λ v. held_part bool_of (end store.now [] self.now) ≡ Some v) }
+        ensures err { IfErr result (λ name. (held_part bool_of (end store.now [] self.now) ≡ None)
+            × (name.now ≡ end_name (end store.now [] self.now))) }
     {
-        self.as_part::<bool>(s).copied()
+        self.as_part::<bool>(store).copied()
     }
 
-    /// The held int. (`Dynamic::as_int`)
-    pub fn as_int(&self, s: &Store) -> Result<INT, &'static str>
-        ensures ok { IfOk result (λ v. held_part int_of (end s.now [] self.now) ≡ Some v) }
-        ensures err { IfErr result (λ name. (held_part int_of (end s.now [] self.now) ≡ None)
-            × (name.now ≡ end_name (end s.now [] self.now))) }
+    /// Answers the held int.
+    /// Errors: the name of the held type.
+    /// Cost: that of `held`; no memory.
+    /// rhai: `Dynamic::as_int`.
+    pub fn as_int(&self, store: &Store) -> Result<INT, &'static str>
+        ensures ok { IfOk result (λ v. held_part int_of (end store.now [] self.now) ≡ Some v) }
+        ensures err { IfErr result (λ name. (held_part int_of (end store.now [] self.now) ≡ None)
+            × (name.now ≡ end_name (end store.now [] self.now))) }
     {
-        self.as_part::<INT>(s).copied()
+        self.as_part::<INT>(store).copied()
     }
 
-    /// The held character. (`Dynamic::as_char`)
-    pub fn as_char(&self, s: &Store) -> Result<char, &'static str>
-        ensures ok { IfOk result (λ v. held_part char_of (end s.now [] self.now) ≡ Some v) }
-        ensures err { IfErr result (λ name. (held_part char_of (end s.now [] self.now) ≡ None)
-            × (name.now ≡ end_name (end s.now [] self.now))) }
+    /// Answers the held character.
+    /// Errors: the name of the held type.
+    /// Cost: that of `held`; no memory.
+    /// rhai: `Dynamic::as_char`.
+    pub fn as_char(&self, store: &Store) -> Result<char, &'static str>
+        ensures ok { IfOk result (λ v. held_part char_of (end store.now [] self.now) ≡ Some v) }
+        ensures err { IfErr result (λ name. (held_part char_of (end store.now [] self.now) ≡ None)
+            × (name.now ≡ end_name (end store.now [] self.now))) }
     {
-        self.as_part::<char>(s).copied()
+        self.as_part::<char>(store).copied()
     }
 
-    /// The held text. (`Dynamic::as_immutable_string_ref`)
+    /// Lends the held text.
+    /// Errors: the name of the held type.
+    /// Cost: that of `held`; no memory.
+    /// rhai: `Dynamic::as_immutable_string_ref`.
     pub fn as_immutable_string_ref<'s>(
         &'s self,
-        s: &'s Store,
+        store: &'s Store,
     ) -> Result<&'s ImmutableString, &'static str>
-        ensures ok { IfOk result (λ v. held_part text_of (end s.now [] self.now) ≡ Some v.now) }
-        ensures err { IfErr result (λ name. (held_part text_of (end s.now [] self.now) ≡ None)
-            × (name.now ≡ end_name (end s.now [] self.now))) }
+        ensures ok { IfOk result (λ v. held_part text_of (end store.now [] self.now) ≡ Some v.now) }
+        ensures err { IfErr result (λ name. (held_part text_of (end store.now [] self.now) ≡ None)
+            × (name.now ≡ end_name (end store.now [] self.now))) }
     {
-        self.as_part::<ImmutableString>(s)
+        self.as_part::<ImmutableString>(store)
     }
 
-    /// The held array. (`Dynamic::as_array_ref`)
-    pub fn as_array_ref<'s>(&'s self, s: &'s Store) -> Result<&'s Array, &'static str>
-        ensures ok { IfOk result (λ v. held_part array_of (end s.now [] self.now) ≡ Some (trees_of v.now.items)) }
-        ensures err { IfErr result (λ name. (held_part array_of (end s.now [] self.now) ≡ None)
-            × (name.now ≡ end_name (end s.now [] self.now))) }
+    /// Lends the held array.
+    /// Errors: the name of the held type.
+    /// Cost: that of `held`; no memory.
+    /// rhai: `Dynamic::as_array_ref`.
+    pub fn as_array_ref<'s>(&'s self, store: &'s Store) -> Result<&'s Array, &'static str>
+        ensures ok { IfOk result (λ v. held_part array_of (end store.now [] self.now) ≡ Some (trees_of v.now.items)) }
+        ensures err { IfErr result (λ name. (held_part array_of (end store.now [] self.now) ≡ None)
+            × (name.now ≡ end_name (end store.now [] self.now))) }
     {
-        self.as_part::<Array>(s)
+        self.as_part::<Array>(store)
     }
 
-    /// The held blob. (`Dynamic::as_blob_ref`)
-    pub fn as_blob_ref<'s>(&'s self, s: &'s Store) -> Result<&'s Blob, &'static str>
-        ensures ok { IfOk result (λ v. held_part blob_of (end s.now [] self.now) ≡ Some v.now.items) }
-        ensures err { IfErr result (λ name. (held_part blob_of (end s.now [] self.now) ≡ None)
-            × (name.now ≡ end_name (end s.now [] self.now))) }
+    /// Lends the held blob.
+    /// Errors: the name of the held type.
+    /// Cost: that of `held`; no memory.
+    /// rhai: `Dynamic::as_blob_ref`.
+    pub fn as_blob_ref<'s>(&'s self, store: &'s Store) -> Result<&'s Blob, &'static str>
+        ensures ok { IfOk result (λ v. held_part blob_of (end store.now [] self.now) ≡ Some v.now.items) }
+        ensures err { IfErr result (λ name. (held_part blob_of (end store.now [] self.now) ≡ None)
+            × (name.now ≡ end_name (end store.now [] self.now))) }
     {
-        self.as_part::<Blob>(s)
+        self.as_part::<Blob>(store)
     }
 
-    /// The held map. (`Dynamic::as_map_ref`)
-    pub fn as_map_ref<'s>(&'s self, s: &'s Store) -> Result<&'s Map, &'static str>
-        ensures ok { IfOk result (λ v. held_part map_of (end s.now [] self.now) ≡ Some (fields_of v.now)) }
-        ensures err { IfErr result (λ name. (held_part map_of (end s.now [] self.now) ≡ None)
-            × (name.now ≡ end_name (end s.now [] self.now))) }
+    /// Lends the held map.
+    /// Errors: the name of the held type.
+    /// Cost: that of `held`; no memory.
+    /// rhai: `Dynamic::as_map_ref`.
+    pub fn as_map_ref<'s>(&'s self, store: &'s Store) -> Result<&'s Map, &'static str>
+        ensures ok { IfOk result (λ v. held_part map_of (end store.now [] self.now) ≡ Some (fields_of v.now)) }
+        ensures err { IfErr result (λ name. (held_part map_of (end store.now [] self.now) ≡ None)
+            × (name.now ≡ end_name (end store.now [] self.now))) }
     {
-        self.as_part::<Map>(s)
+        self.as_part::<Map>(store)
     }
 }

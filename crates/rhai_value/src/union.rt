@@ -9,18 +9,23 @@ use crate::map::Map;
 use rhai_text::ImmutableString;
 
 /// The integers of a script.
+/// rhai: `INT`.
 pub type INT = i64;
 
-/// A mark of the host's own on a value.
+/// A number of the host's own on a value.
+/// rhai: `Tag`.
 pub type Tag = i32;
 
 /// The items of an array.
+/// rhai: `Array`.
 pub type Array = Vec<Dynamic>;
 
 /// The bytes of a blob.
+/// rhai: `Blob`.
 pub type Blob = Vec<u8>;
 
-/// What a value is: its tag, its mode and its content (`Union` of rhai).
+/// What a value is: its tag, its mode and its content.
+/// rhai: `Union`, which is private.
 #[cycle(dynamic)]
 #[derive(Drop)]
 pub enum Union {

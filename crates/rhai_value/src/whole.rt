@@ -15,13 +15,14 @@ use crate::place::Place;
 use crate::store::Store;
 
 impl Dynamic {
-    /// The value itself, or what the cell of a holder has; `None` where that cell is marked or no cell of the store. Takes no
-    /// memory.
-    pub fn read_whole<'s>(&'s self, s: &'s Store) -> Option<&'s Dynamic>
-        ensures { option_copied result ≡ first s.now self.now }
+    /// Lends the value itself, or what the cell of a holder has; `None` where that cell is marked or no cell of the store.
+    /// Cost: constant; no memory.
+    /// rhai: `Dynamic::read_lock::<Dynamic>`.
+    pub fn read_whole<'s>(&'s self, store: &'s Store) -> Option<&'s Dynamic>
+        ensures { option_copied result ≡ first store.now self.now }
     {
-        match self.near(s) {
-            Near::Own => Some(self),
+        match self.near(store) {
+            Near::Here => Some(self),
             Near::InCell(_, content) => Some(content),
             Near::Barred => None,
         }
@@ -29,68 +30,75 @@ impl Dynamic {
 
     /// Where the first content is. Most chains of holders end there, so each search along a chain looks there before it walks.
     #[inline(always)]
-    pub(crate) fn near<'s>(&'s self, s: &'s Store) -> Near<'s>
-        ensures site { near_site result ≡ first_site s.now self.now }
-        ensures content { near_content self.now result ≡ first s.now self.now }
+    pub(crate) fn near<'s>(&'s self, store: &'s Store) -> Near<'s>
+        ensures site { near_site result ≡ first_site store.now self.now }
+        ensures content { near_content self.now result ≡ first store.now self.now }
     {
         let Some(cell) = self.cell() else {
-            return Near::Own;
+            return Near::Here;
         };
-        match s.read(cell) {
+        match store.read(cell) {
             None => Near::Barred,
             Some(content) => Near::InCell(cell.index, content),
         }
     }
 
-    /// The same, to write.
+    /// Lends the value itself, or what the cell of a holder has, to write; `None` where that cell is marked or no cell of
+    /// the store.
     ///
-    /// Once it was written, the value is the one that was written over it, where it is no holder, or else the store has that in the
-    /// holder's cell; the other is as it was, and both are where there is none. Proofs that the check writes by itself don't read
-    /// that of a call that lends from two: `InStore::whole_mut`, which lends from the pair of them, says it to those.
-    pub fn write_whole<'s>(&'s mut self, m: &'s mut Store) -> Option<&'s mut Dynamic>
-        ensures* writes_back { sem 𝓛 (LendsFirst self.entry m.entry (ghost_name_of result)) }
-        ensures value { option_map (λ d. d.now) result ≡ first m.old self.old }
+    /// Once it was written, the value is the one that was written over it, where it is no holder, or else the store has
+    /// that in the holder's cell; the other is as it was, and both are where there is none. Proofs that the check writes by
+    /// itself don't read that of a call that lends from two: `InStore::whole_mut`, which lends from the pair of them, says
+    /// it to those.
+    /// Cost: constant; no memory.
+    /// rhai: `Dynamic::write_lock::<Dynamic>`.
+    pub fn write_whole<'s>(&'s mut self, store: &'s mut Store) -> Option<&'s mut Dynamic>
+        ensures* writes_back { sem 𝓛 (LendsFirst self.entry store.entry (ghost_name_of result)) }
+        ensures value { option_map (λ d. d.now) result ≡ first store.old self.old }
         ensures own { IfSome result (λ d. cell_of self.old ≡ None → d.ghost_name ≡ self.entry.ghost_name) }
     {
-        let place = first_place_of(self, m);
+        let place = first_place_of(self, store);
         let own = own_mut(self);
-        let far = m.content_at_mut(place);
+        let far = store.content_at_mut(place);
         either(own, far)
     }
 
-    /// The value where the chain of holders ends, to write; `None` where the chain is stuck or closed. Takes no memory.
+    /// Lends the value where the chain of holders ends, to write; `None` where the chain is stuck or closed.
     ///
-    /// Once it was written, value and store are what they become where what is held is written over, and both are as before where
-    /// there is none. Proofs that the check writes by itself don't read that of a call that lends from two: `InStore::held_mut`, which
-    /// lends from the pair of them, says it to those.
-    pub fn held_mut<'s>(&'s mut self, m: &'s mut Store) -> Option<&'s mut Dynamic>
-        ensures* writes_back { sem 𝓛 (LendsHeld dynamic_type.the_row self.entry m.entry (ghost_name_of result) (λ w _. w)) }
-        ensures value { option_map (λ d. d.now) result ≡ held_in (end m.old [] self.old) }
+    /// Once it was written, value and store are what they become where what is held is written over, and both are as before
+    /// where there is none. Proofs that the check writes by itself don't read that of a call that lends from two:
+    /// `InStore::held_mut`, which lends from the pair of them, says it to those.
+    /// Cost: that of `held`; no memory.
+    pub fn held_mut<'s>(&'s mut self, store: &'s mut Store) -> Option<&'s mut Dynamic>
+        ensures* writes_back { sem 𝓛 (LendsHeld dynamic_type.the_row self.entry store.entry (ghost_name_of result) (λ w _. w)) }
+        ensures value { option_map (λ d. d.now) result ≡ held_in (end store.old [] self.old) }
         ensures own { IfSome result (λ d. cell_of self.old ≡ None → d.ghost_name ≡ self.entry.ghost_name) }
     {
-        let place = held_place_of(self, m);
+        let place = held_place_of(self, store);
         let own = own_mut(self);
-        let far = m.content_at_mut(place);
+        let far = store.content_at_mut(place);
         either(own, far)
     }
 
     /// Where the first content stands.
-    pub(crate) fn first_site(&self, s: &Store) -> Option<Site>
-        ensures { result ≡ first_site s.now self.now }
+    pub(crate) fn first_site(&self, store: &Store) -> Option<Site>
+        ensures { result ≡ first_site store.now self.now }
     {
-        match self.near(s) {
-            Near::Own => Some(Site::Own),
+        match self.near(store) {
+            Near::Here => Some(Site::Here),
             Near::InCell(index, _) => Some(Site::InCell(index)),
             Near::Barred => None,
         }
     }
 
-    /// Whether the value is a constant: the value's own mode, or the mode of what the cell of a holder has; `false` where that cell
-    /// is marked or no cell of the store. (`Dynamic::is_read_only`)
-    pub fn is_read_only(&self, s: &Store) -> bool
-        ensures { result ≡ constant_in (first s.now self.now) }
+    /// Tells whether the value is a constant: the value's own mode, or the mode of what the cell of a holder has; `false`
+    /// where that cell is marked or no cell of the store.
+    /// Cost: constant; no memory.
+    /// rhai: `Dynamic::is_read_only`.
+    pub fn is_read_only(&self, store: &Store) -> bool
+        ensures { result ≡ constant_in (first store.now self.now) }
     {
-        match self.read_whole(s) {
+        match self.read_whole(store) {
             None => false,
             Some(content) => content.is_constant(),
         }
@@ -108,22 +116,22 @@ impl Dynamic {
 
 /// Where the first content stands. A value and a store that are lent to write are asked here, since both are lent on afterwards.
 #[inline(always)]
-fn first_place_of(value: &mut Dynamic, m: &mut Store) -> Place
-    ensures place { result ≡ first_cell m.old value.old }
+fn first_place_of(value: &mut Dynamic, store: &mut Store) -> Place
+    ensures place { result ≡ first_cell store.old value.old }
     ensures value { value.new ≡ value.old }
-    ensures store { m.new ≡ m.old }
+    ensures store { store.new ≡ store.old }
 {
-    value.first_place(m)
+    value.first_place(store)
 }
 
 /// The same of the held value.
 #[inline(always)]
-fn held_place_of(value: &mut Dynamic, m: &mut Store) -> Place
-    ensures place { result ≡ held_cell (end m.old [] value.old) }
+fn held_place_of(value: &mut Dynamic, store: &mut Store) -> Place
+    ensures place { result ≡ held_cell (end store.old [] value.old) }
     ensures value { value.new ≡ value.old }
-    ensures store { m.new ≡ m.old }
+    ensures store { store.new ≡ store.old }
 {
-    value.held_place(m)
+    value.held_place(store)
 }
 
 /// A value that is no holder.

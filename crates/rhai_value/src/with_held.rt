@@ -26,30 +26,27 @@ impl Dynamic {
     /// rhai finds a cell that is borrowed. A value that is no holder has no cell, and nothing is marked. What `f` made of the value is
     /// put back in its place when `f` returns, whatever it answers. `f` may make cells, and read and write others; it must not
     /// collect them, since then the cell may have another number.
-    ///
     /// Errors: `Barred`, with nothing changed and `f` not called; `Lost` where `f` left a store in which the cell isn't marked, which
     /// stays as `f` left it, and what `f` made of the value is dropped.
-    ///
     /// Cost: that of `held`, and of `f`; no memory.
-    ///
     /// rhai: what `Dynamic::write_lock` guards.
     pub fn with_held<R: Drop, F: FnOnce(&mut Dynamic, &mut Store) -> R + Drop>(
         &mut self,
-        m: &mut Store,
+        store: &mut Store,
         f: F,
     ) -> Result<R, HeldError>
         requires { F.IsAlwaysCallable f }
-        ensures barred { held_in (end m.old [] self.old) ≡ None → (result ≡ Err Barred) × (self.new ≡ self.old) × (m.new ≡ m.old) }
-        ensures works { IfSome (held_in (end m.old [] self.old)) (λ v. WorksAt F.FnOnce f (end m.old [] self.old) v m.old self.old result self.new m.new) }
+        ensures barred { held_in (end store.old [] self.old) ≡ None → (result ≡ Err Barred) × (self.new ≡ self.old) × (store.new ≡ store.old) }
+        ensures works { IfSome (held_in (end store.old [] self.old)) (λ v. WorksAt F.FnOnce f (end store.old [] self.old) v store.old self.old result self.new store.new) }
     {
         if !self.is_shared() {
-            return Ok(f(self, m));
+            return Ok(f(self, store));
         }
-        let Some((token, mut content)) = m.lend_held(self) else {
+        let Some((token, mut content)) = store.lend_held(self) else {
             return Err(HeldError::Barred);
         };
-        let answer = f(&mut content, m);
-        if m.put_back(token, content) {
+        let answer = f(&mut content, store);
+        if store.put_back(token, content) {
             Ok(answer)
         } else {
             Err(HeldError::Lost)

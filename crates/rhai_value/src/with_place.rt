@@ -32,21 +32,18 @@ impl Dynamic {
     /// on the way may be held in a cell, and so may be what stands at the place; `f` gets what is held there. Each of these cells is
     /// marked meanwhile, as those of `with_held` are, and what `f` made is put back in its place, whatever `f` answers; all other items,
     /// keys and cells are as `f` left them. `f` may make cells, and read and write others; it must not collect them.
-    ///
     /// Errors: the step that can't be gone, and why, with nothing changed and `f` not called; `TooFar` where there are more than 64
     /// steps; `Lost` where `f` left a store in which one of the cells isn't marked, whose content is dropped then.
-    ///
     /// Cost: that of `held` for each step, of a look-up for each key, and of `f`; no memory. Each step takes a piece of the stack.
-    ///
     /// rhai: an assignment to a chain of indices and properties.
     pub fn with_place<R: Drop, F: FnOnce(&mut Dynamic, &mut Store) -> R + Drop>(
         &mut self,
-        m: &mut Store,
+        store: &mut Store,
         steps: &[Step<'_>],
         f: F,
     ) -> Result<R, PlaceError>
         requires { F.IsAlwaysCallable f }
-        ensures { WorksAlong F.FnOnce f (way steps.now m.old self.old) self.old m.old result self.new m.new }
+        ensures { WorksAlong F.FnOnce f (way steps.now store.old self.old) self.old store.old result self.new store.new }
     {
         if steps.len() > MOST_STEPS {
             return Err(PlaceError {
@@ -54,7 +51,7 @@ impl Dynamic {
                 kind: PlaceErrorKind::TooFar,
             });
         }
-        work_below(self, m, steps, 0, f)
+        work_below(self, store, steps, 0, f)
     }
 }
 
@@ -62,26 +59,26 @@ impl Dynamic {
 #[cycle(work)]
 fn work_below<R: Drop, F: FnOnce(&mut Dynamic, &mut Store) -> R + Drop>(
     value: &mut Dynamic,
-    m: &mut Store,
+    store: &mut Store,
     steps: &[Step<'_>],
     gone: usize,
     f: F,
 ) -> Result<R, PlaceError>
     requires callable { F.IsAlwaysCallable f }
     requires few { gone + length steps.now ≤ 64 }
-    ensures { WorksAlong F.FnOnce f (way_held (way_in steps.now gone) gone m.old value.old) value.old m.old result value.new m.new }
+    ensures { WorksAlong F.FnOnce f (way_held (way_in steps.now gone) gone store.old value.old) value.old store.old result value.new store.new }
 {
     if !value.is_shared() {
-        return work_in(value, m, steps, gone, f);
+        return work_in(value, store, steps, gone, f);
     }
-    let Some((token, mut content)) = m.lend_held(value) else {
+    let Some((token, mut content)) = store.lend_held(value) else {
         return Err(PlaceError {
             step: gone,
             kind: PlaceErrorKind::Barred,
         });
     };
-    let answer = work_in(&mut content, m, steps, gone, f);
-    if m.put_back(token, content) {
+    let answer = work_in(&mut content, store, steps, gone, f);
+    if store.put_back(token, content) {
         answer
     } else {
         Err(PlaceError {
@@ -95,26 +92,26 @@ fn work_below<R: Drop, F: FnOnce(&mut Dynamic, &mut Store) -> R + Drop>(
 #[cycle(work)]
 fn work_in<R: Drop, F: FnOnce(&mut Dynamic, &mut Store) -> R + Drop>(
     value: &mut Dynamic,
-    m: &mut Store,
+    store: &mut Store,
     steps: &[Step<'_>],
     gone: usize,
     f: F,
 ) -> Result<R, PlaceError>
     requires callable { F.IsAlwaysCallable f }
     requires few { gone + length steps.now ≤ 64 }
-    ensures { WorksAlong F.FnOnce f (way_in steps.now gone m.old value.old) value.old m.old result value.new m.new }
+    ensures { WorksAlong F.FnOnce f (way_in steps.now gone store.old value.old) value.old store.old result value.new store.new }
 {
     let Some((step, rest)) = steps.split_first() else {
-        return Ok(f(value, m));
+        return Ok(f(value, store));
     };
     let kind = PlaceErrorKind::OtherType(value.own_type());
     match step {
         Step::Index(index) => match Array::own_mut(value) {
-            Some(items) => work_in_array(items, m, *index, rest, gone, f),
+            Some(items) => work_in_array(items, store, *index, rest, gone, f),
             None => Err(PlaceError { step: gone, kind }),
         },
         Step::Key(key) => match Map::own_mut(value) {
-            Some(map) => work_in_map(map, m, key, rest, gone, f),
+            Some(map) => work_in_map(map, store, key, rest, gone, f),
             None => Err(PlaceError { step: gone, kind }),
         },
     }
@@ -124,7 +121,7 @@ fn work_in<R: Drop, F: FnOnce(&mut Dynamic, &mut Store) -> R + Drop>(
 #[cycle(work)]
 fn work_in_array<R: Drop, F: FnOnce(&mut Dynamic, &mut Store) -> R + Drop>(
     items: &mut Array,
-    m: &mut Store,
+    store: &mut Store,
     index: INT,
     rest: &[Step<'_>],
     gone: usize,
@@ -132,11 +129,11 @@ fn work_in_array<R: Drop, F: FnOnce(&mut Dynamic, &mut Store) -> R + Drop>(
 ) -> Result<R, PlaceError>
     requires callable { F.IsAlwaysCallable f }
     requires few { gone + length rest.now < 64 }
-    ensures { (g : ℤ) (n : AccessMode) → WorksAlong F.FnOnce f (way_in (Index index ∷ rest.now) gone m.old (node (branch array (trees_of items.old.items)) g n))
-        (node (branch array (trees_of items.old.items)) g n) m.old result (node (branch array (trees_of items.new.items)) g n) m.new }
+    ensures { (g : ℤ) (n : AccessMode) → WorksAlong F.FnOnce f (way_in (Index index ∷ rest.now) gone store.old (node (branch array (trees_of items.old.items)) g n))
+        (node (branch array (trees_of items.old.items)) g n) store.old result (node (branch array (trees_of items.new.items)) g n) store.new }
 {
     match item_place(items.len(), index) {
-        Some(place) => work_below(&mut items[place], m, rest, gone + 1, f),
+        Some(place) => work_below(&mut items[place], store, rest, gone + 1, f),
         None => Err(PlaceError {
             step: gone,
             kind: PlaceErrorKind::NoItem(items.len()),
@@ -148,7 +145,7 @@ fn work_in_array<R: Drop, F: FnOnce(&mut Dynamic, &mut Store) -> R + Drop>(
 #[cycle(work)]
 fn work_in_map<R: Drop, F: FnOnce(&mut Dynamic, &mut Store) -> R + Drop>(
     map: &mut Map,
-    m: &mut Store,
+    store: &mut Store,
     key: &&str,
     rest: &[Step<'_>],
     gone: usize,
@@ -156,11 +153,11 @@ fn work_in_map<R: Drop, F: FnOnce(&mut Dynamic, &mut Store) -> R + Drop>(
 ) -> Result<R, PlaceError>
     requires callable { F.IsAlwaysCallable f }
     requires few { gone + length rest.now < 64 }
-    ensures { (g : ℤ) (n : AccessMode) → WorksAlong F.FnOnce f (way_in (Key key.now ∷ rest.now) gone m.old (node (fields (fields_of map.old)) g n))
-        (node (fields (fields_of map.old)) g n) m.old result (node (fields (fields_of map.new)) g n) m.new }
+    ensures { (g : ℤ) (n : AccessMode) → WorksAlong F.FnOnce f (way_in (Key key.now ∷ rest.now) gone store.old (node (fields (fields_of map.old)) g n))
+        (node (fields (fields_of map.old)) g n) store.old result (node (fields (fields_of map.new)) g n) store.new }
 {
     match value_mut(map, key) {
-        Some(value) => work_below(value, m, rest, gone + 1, f),
+        Some(value) => work_below(value, store, rest, gone + 1, f),
         None => Err(PlaceError {
             step: gone,
             kind: PlaceErrorKind::NoKey,

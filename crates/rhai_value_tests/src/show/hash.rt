@@ -29,7 +29,7 @@ fn equal_bytes_have_equal_hashes(rt: HostRuntime) -> Result<(), Fail> {
     let second = Hashed::from_bytes(vec![in alloc; 1, 1]?);
     let third = Hashed::from_bytes(vec![in alloc; 1, 0]?);
     assert!(rt; are_told_apart(&first, &second, &third));
-    assert!(rt; first.into_bytes().len() == 2);
+    assert!(rt; first.into_bytes(alloc)?.len() == 2);
     Ok(())
 }
 
@@ -38,15 +38,15 @@ fn are_alike(
     alloc: Global,
     value: &Dynamic,
     other: &Dynamic,
-    s: &Store,
+    store: &Store,
 ) -> Result<Option<bool>, AllocError>
-    ensures { IfOk result (λ o. IfSome o (λ same. IsTrue same ↔ (plain s.now [] value.now ≡ plain s.now [] other.now))) }
+    ensures { IfOk result (λ o. IfSome o (λ same. IsTrue same ↔ (plain store.now [] value.now ≡ plain store.now [] other.now))) }
 {
     laws::hashes::hash_bytes_tell_values_apart();
-    let Some(first) = hashed(alloc, value, s)? else {
+    let Some(first) = hashed(alloc, value, store)? else {
         return Ok(None);
     };
-    let Some(second) = hashed(alloc, other, s)? else {
+    let Some(second) = hashed(alloc, other, store)? else {
         return Ok(None);
     };
     Ok(Some(first == second))

@@ -10,10 +10,15 @@ use std::alloc::{AllocError, Global};
 use std::test::Fail;
 
 /// Whether two values are the same, where both can be compared.
-fn are_same(alloc: Global, value: &Dynamic, other: &Dynamic, s: &Store) -> Result<bool, AllocError>
-    ensures { IfOk result (λ same. OnTrue same (plain s.now [] value.now ≡ plain s.now [] other.now)) }
+fn are_same(
+    alloc: Global,
+    value: &Dynamic,
+    other: &Dynamic,
+    store: &Store,
+) -> Result<bool, AllocError>
+    ensures { IfOk result (λ same. OnTrue same (plain store.now [] value.now ≡ plain store.now [] other.now)) }
 {
-    match same_value(alloc, value, other, s)? {
+    match same_value(alloc, value, other, store)? {
         Some(same) => Ok(same),
         None => Ok(false),
     }

@@ -8,16 +8,16 @@ use crate::values::shared;
 use rhai_value::{Array, Dynamic, InStore, Store, laws};
 
 /// Adds an item behind the others. It comes back where no array is held, and where memory is refused; nothing changed then.
-fn push_item(array: &mut Dynamic, m: &mut Store, item: Dynamic) -> Result<(), Dynamic>
-    ensures items { OnOk result ((xs : List Tree) × (held_part items_of (end m.old [] array.old) ≡ Some xs)
-        × (held_part items_of (end m.new [] array.new) ≡ Some (xs ++ item ∷ []))) }
-    ensures err { IfErr result (λ back. (back ≡ item) × (array.new ≡ array.old) × (m.new ≡ m.old)) }
+fn push_item(array: &mut Dynamic, store: &mut Store, item: Dynamic) -> Result<(), Dynamic>
+    ensures items { OnOk result ((xs : List Tree) × (held_part items_of (end store.old [] array.old) ≡ Some xs)
+        × (held_part items_of (end store.new [] array.new) ≡ Some (xs ++ item ∷ []))) }
+    ensures err { IfErr result (λ back. (back ≡ item) × (array.new ≡ array.old) × (store.new ≡ store.old)) }
 {
     laws::parts::part_is_written_over_itself::<Array>();
     laws::parts::items_are_chained();
     let mut place = InStore {
         value: array,
-        store: m,
+        store,
     };
     match place.array_mut() {
         Ok(items) => match items.push(item) {
@@ -29,12 +29,12 @@ fn push_item(array: &mut Dynamic, m: &mut Store, item: Dynamic) -> Result<(), Dy
 }
 
 /// Adds two items.
-fn push_both(array: &mut Dynamic, m: &mut Store, one: Dynamic, other: Dynamic) -> bool
-    ensures { result ≡ true → (xs : List Tree) × (held_part items_of (end m.old [] array.old) ≡ Some xs)
-        × (held_part items_of (end m.new [] array.new) ≡ Some ((xs ++ one ∷ []) ++ other ∷ [])) }
+fn push_both(array: &mut Dynamic, store: &mut Store, one: Dynamic, other: Dynamic) -> bool
+    ensures { result ≡ true → (xs : List Tree) × (held_part items_of (end store.old [] array.old) ≡ Some xs)
+        × (held_part items_of (end store.new [] array.new) ≡ Some ((xs ++ one ∷ []) ++ other ∷ [])) }
 {
-    match push_item(array, m, one) {
-        Ok(()) => push_item(array, m, other).is_ok(),
+    match push_item(array, store, one) {
+        Ok(()) => push_item(array, store, other).is_ok(),
         Err(_) => false,
     }
 }

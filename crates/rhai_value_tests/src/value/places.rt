@@ -11,43 +11,47 @@ use rhai_value::{
 use std::alloc::Global;
 
 /// Writes over what is held, and says whether anything is.
-fn overwrite(value: &mut Dynamic, m: &mut Store, other: Dynamic) -> bool
-    ensures own { OnTrue result (value.new ≡ value_after (λ _. other) (end m.old [] value.old) value.old) }
-    ensures store { OnTrue result (m.new ≡ store_after (λ _. other) (end m.old [] value.old) m.old) }
+fn overwrite(value: &mut Dynamic, store: &mut Store, other: Dynamic) -> bool
+    ensures own { OnTrue result (value.new ≡ value_after (λ _. other) (end store.old [] value.old) value.old) }
+    ensures store { OnTrue result (store.new ≡ store_after (λ _. other) (end store.old [] value.old) store.old) }
 {
     laws::places::what_is_lent_comes_back();
-    value.with_held(m, |held, _| *held = other).is_ok()
+    value.with_held(store, |held, _| *held = other).is_ok()
 }
 
 /// Writes over what is held at a place.
 fn put_at(
     value: &mut Dynamic,
-    m: &mut Store,
+    store: &mut Store,
     steps: &[Step<'_>],
     other: Dynamic,
 ) -> Result<(), PlaceError>
-    ensures placed { IfOk result (λ _. (q : Place) × (way steps.now m.old value.old ≡ Ok q) × (value.new ≡ (q.back other q.store).value) × (m.new ≡ (q.back other q.store).store)) }
-    ensures refused { IfErr (way steps.now m.old value.old) (λ why. (result ≡ Err why) × (value.new ≡ value.old) × (m.new ≡ m.old)) }
+    ensures placed { IfOk result (λ _. (q : Place) × (way steps.now store.old value.old ≡ Ok q) × (value.new ≡ (q.back other q.store).value) × (store.new ≡ (q.back other q.store).store)) }
+    ensures refused { IfErr (way steps.now store.old value.old) (λ why. (result ≡ Err why) × (value.new ≡ value.old) × (store.new ≡ store.old)) }
 {
-    value.with_place(m, steps, |place, _| *place = other)
+    value.with_place(store, steps, |place, _| *place = other)
 }
 
 /// Adds to the int at a place, as `a[i].f += y` does: `Ok(false)` where another type is held there.
 fn add_at(
     value: &mut Dynamic,
-    m: &mut Store,
+    store: &mut Store,
     steps: &[Step<'_>],
     more: INT,
 ) -> Result<bool, PlaceError> {
-    value.with_place(m, steps, |place, store| match place.as_int(store) {
+    value.with_place(store, steps, |place, store| match place.as_int(store) {
         Ok(int) => place.set_int(store, int.wrapping_add(more)),
         Err(_) => false,
     })
 }
 
 /// Moves what stands at a place into a new cell, where there is room.
-fn share_at(value: &mut Dynamic, m: &mut Store, steps: &[Step<'_>]) -> bool {
-    let answer = value.with_place(m, steps, |place, store| place.share_in_place(store).is_ok());
+fn share_at(value: &mut Dynamic, store: &mut Store, steps: &[Step<'_>]) -> bool {
+    let answer = value.with_place(
+        store,
+        steps,
+        |place, store| place.share_in_place(store).is_ok(),
+    );
     matches!(answer, Ok(true))
 }
 
@@ -70,8 +74,8 @@ fn sample(alloc: Global, store: &mut Store) -> Dynamic {
 }
 
 /// Whether this int is held at a place.
-fn holds_at(value: &mut Dynamic, m: &mut Store, steps: &[Step<'_>], wanted: INT) -> bool {
-    let answer = value.with_place(m, steps, |place, store| holds(place, store, wanted));
+fn holds_at(value: &mut Dynamic, store: &mut Store, steps: &[Step<'_>], wanted: INT) -> bool {
+    let answer = value.with_place(store, steps, |place, store| holds(place, store, wanted));
     matches!(answer, Ok(true))
 }
 

@@ -18,13 +18,13 @@ locks_map-locks_entries-requires t c =
 
 pub locks_far-loop-found-init : goal.locks_far-loop-found-init
 locks_far-loop-found-init t c = record {
-  same = ap (any_locked c.args.s.now) c.inside-visits.ensures ∙ sym (locked_inside c.args.s.now c.args.value.now c.requires);
+  same = ap (any_locked c.args.store.now) c.inside-visits.ensures ∙ sym (locked_inside c.args.store.now c.args.value.now c.requires);
   fewer = rw c.inside-visits.ensures (nodes_children c.args.value.now);
 }
 
 pub is_locked_or_entered-returns-then-enter-clause-entered : goal.is_locked_or_entered-returns-then-enter-clause-entered
 is_locked_or_entered-returns-then-enter-clause-entered t c =
-    let s = c.args.s.now in
+    let s = c.args.store.now in
     let found = c.args.found.now in
     let old = c.args.visits.now in
     λ done. ap (any_locked s) (c.enter.ensures.entered c.if-enter.true) ∙ any_more s (children_of found) old ∙ ap (λ b. b || any_locked s old) (sym (locked_inside s found c.requires))

@@ -8,7 +8,7 @@ use Rattle.rhai_value.proofs.locked.+locks.Given as goal
 abbrev pub invariant-locks_items-loop-item : goal.invariant-locks_items-loop-item
 invariant-locks_items-loop-item l = record {
   fewer : nodes_trees (trees_of (drop l.item-index l.item-items)) ≤ nodes_trees (trees_of l.items.items);
-  same : is_one_locked l.s (trees_of (drop l.item-index l.item-items)) ≡ is_one_locked l.s (trees_of l.items.items);
+  same : is_one_locked l.store (trees_of (drop l.item-index l.item-items)) ≡ is_one_locked l.store (trees_of l.items.items);
 }
 
 abbrev pub invariant-locks_entries-loop-number : goal.invariant-locks_entries-loop-number
@@ -16,7 +16,7 @@ invariant-locks_entries-loop-number l =
     record {
       taken : AreTaken l.number-iterator l.slots.items;
       fewer : nodes_fields (fields_of (rows l.number-iterator l.slots.items)) ≤ nodes_fields (fields_of (rows l.index.entries l.slots.items));
-      same : is_field_locked l.s (fields_of (rows l.number-iterator l.slots.items)) ≡ is_field_locked l.s (fields_of (rows l.index.entries l.slots.items));
+      same : is_field_locked l.store (fields_of (rows l.number-iterator l.slots.items)) ≡ is_field_locked l.store (fields_of (rows l.index.entries l.slots.items));
     }
 
 abbrev pub decreases-locks : goal.decreases-locks
@@ -36,7 +36,7 @@ decreases-locks_far l = 4 * nodes l.value.now
 
 abbrev pub invariant-locks_far-loop-found : goal.invariant-locks_far-loop-found
 invariant-locks_far-loop-found l = record {
-  same : any_locked l.s l.visits ≡ is_locked l.s l.value;
+  same : any_locked l.store l.visits ≡ is_locked l.store l.value;
   fewer : nodes_trees (trees_of l.visits) < nodes l.value;
 }
 

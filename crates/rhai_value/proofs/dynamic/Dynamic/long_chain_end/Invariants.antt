@@ -4,7 +4,7 @@ use Rattle.rhai_value.proofs.Chains.{chain, IsBehind}
 use Rattle.rhai_value.proofs.dynamic.Dynamic.long_chain_end.Given as goal
 
 abbrev pub invariant-loop-cell : goal.invariant-loop-cell
-invariant-loop-cell l = (chain l.left l.s l.site l.at ≡ end l.s [] l.self) × IsBehind l.s l.kept l.at
+invariant-loop-cell l = (chain l.left l.store l.site l.at ≡ end l.store [] l.self) × IsBehind l.store l.kept l.at
 
 abbrev pub decreases-loop-cell : goal.decreases-loop-cell
 decreases-loop-cell l = l.left

@@ -9,7 +9,7 @@ use Rattle.rhai_value.proofs.dynamic.Dynamic.put_near_part.Goals as goal
 pub returns-in-Ok : goal.returns-in-Ok
 returns-in-Ok g c =
     let P = g.T.Part in
-    let s = c.args.m.now in
+    let s = c.args.store.now in
     let i = c.in-Some-InCell.index in
     let w = c.content_mut.result.now in
     let site : Some (InCell i) ≡ first_site s c.args.self.now = ap Some (sym c.in-Some-InCell.field-0-is) ∙ c.in-Some-InCell.ensures in
@@ -19,7 +19,7 @@ returns-in-Ok g c =
 
 pub returns-in-Err-clause-err : goal.returns-in-Err-clause-err
 returns-in-Err-clause-err g c =
-    let s = c.args.m.now in
+    let s = c.args.store.now in
     let i = c.in-Some-InCell.index in
     let w = c.content_mut.result.now in
     let site : Some (InCell i) ≡ first_site s c.args.self.now = ap Some (sym c.in-Some-InCell.field-0-is) ∙ c.in-Some-InCell.ensures in

@@ -1,6 +1,6 @@
 use Rattle.std.proofs.Common.{◌≡◌, [], Some, ap, sym, ◌∙◌, inl}
 use mathlib.Core.Path.{fun_ext}
-use Rattle.rhai_value.specs.declared.chain.Site.TheVariants.{Own, InCell}
+use Rattle.rhai_value.specs.declared.chain.Site.TheVariants.{Here, InCell}
 use Rattle.rhai_value.specs.declared.in_store.InStore.{InStore}
 use Rattle.rhai_value.specs.End.{end, site_of}
 use Rattle.rhai_value.specs.Tree.{Tree}
@@ -14,12 +14,12 @@ content_mut-requires c =
     let e : Some (InCell c.in-InCell.index) ≡ site_of (end h.store.now [] h.value.now) = ap Some (sym c.in-InCell.is) ∙ sym (c.in_ok-site.was {u = tt}) ∙ c.requires in
     cell_within h.store.now h.value.now c.in-InCell.index e
 
-pub returns-in-Own : goal.returns-in-Own
-returns-in-Own c =
+pub returns-in-Here : goal.returns-in-Here
+returns-in-Here c =
     let h = c.args.self.now in
-    let p : Some Own ≡ site_of (end h.store.now [] h.value.now) = ap Some (sym c.in-Own.is) ∙ sym (c.in_ok-site.was {u = tt}) ∙ c.requires in
+    let p : Some Here ≡ site_of (end h.store.now [] h.value.now) = ap Some (sym c.in-Here.is) ∙ sym (c.in_ok-site.was {u = tt}) ∙ c.requires in
     let e : ◌≡◌ {A = Tree → InStore} (λ w. record { value = record (h.value) { now = w }; store = h.store }) (λ w. written h (λ _. w)) = fun_ext (own_written h p) in
-    (ap (λ F. inl (c.self-in-Own-1.given, F)) e, record { writes_back = tt; value = own_value h.store.now h.value.now p })
+    (ap (λ F. inl (c.self-in-Here-1.given, F)) e, record { writes_back = tt; value = own_value h.store.now h.value.now p })
 
 pub returns-in-InCell : goal.returns-in-InCell
 returns-in-InCell c =

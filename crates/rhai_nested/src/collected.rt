@@ -9,7 +9,7 @@ fn met(alloc: Global, store: &Store, value: &mut Dynamic) -> Result<Reach, Alloc
     ensures { IfOk result (λ reach. length reach ≡ length store.now) }
 {
     let mut reach = Reach::new(alloc, store)?;
-    reach.meet(value);
+    reach.mark_reachable(value);
     Ok(reach)
 }
 

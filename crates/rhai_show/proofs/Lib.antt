@@ -10,6 +10,7 @@ pub mod Frames
 pub mod Hashes
 pub mod HashRests
 pub mod Heads
+pub mod Ints
 pub mod Measures
 pub mod NoHolders
 pub mod Plains

@@ -1,5 +1,6 @@
 -- The bytes by which a value is hashed.
 use Rattle.std.specs.Prelude.{ℕ, suc, ℤ, cond, List, [], ◌∷◌, ◌++◌, length, Option, Some, None}
+use Rattle.std.specs.Option.{option_map_or}
 use Rattle.std.specs.Int.{w16, w32, w64, w128, w8, to_le_bytes, cast_unsigned}
 use Rattle.std.specs.Str.{encode_utf8_all}
 use Rattle.rhai_value.specs.declared.host.Host.{Host}
@@ -78,8 +79,7 @@ abbrev mutual
 
 -- the bytes of a value that can be hashed; of another, none
 abbrev pub some_bytes : Option Plain → List ℕ
-some_bytes None = []
-some_bytes (Some p) = plain_bytes p
+some_bytes o = option_map_or plain_bytes o []
 
 abbrev pub hash_bytes : List Cell → List ℕ → Tree → List ℕ
 hash_bytes s path t = some_bytes (plain s path t)

@@ -8,6 +8,7 @@ pub mod Plain
 pub mod Bare
 pub mod Clean
 pub mod HashBytes
+pub mod HashedBytes
 pub mod HashRows
 pub mod HashRests
 pub mod InRange

@@ -1,5 +1,5 @@
 -- Values without tags, modes and holders.
-use Rattle.std.specs.Prelude.{ℕ, List, Option, Some, None, option_map}
+use Rattle.std.specs.Prelude.{ℕ, List, Option, Some, None, option_map, option_and_then}
 use Rattle.rhai_value.specs.declared.store.Cell.{Cell}
 use Rattle.rhai_value.specs.Tree.{Leaf, Kind, Tree, node, Content, leaf, branch, fields, holder, Trees, no_trees, tree_then, Fields, no_fields, field_then}
 use Rattle.rhai_value.specs.Walk.{Visit, entered, barred, revisited, walk}
@@ -22,13 +22,11 @@ mutual
 
 -- one more child, where there are all
 abbrev pub plain_more : Option Plain → Option Plains → Option Plains
-plain_more None o = None
-plain_more (Some p) o = option_map (plain_then p) o
+plain_more first o = option_and_then (λ p. option_map (plain_then p) o) first
 
 -- one more field, where there are all
 abbrev pub plain_field_more : List ℕ → Option Plain → Option PlainFields → Option PlainFields
-plain_field_more k None o = None
-plain_field_more k (Some p) o = option_map (plain_field_then k p) o
+plain_field_more k first o = option_and_then (λ p. option_map (plain_field_then k p) o) first
 
 -- a holder is its cell's content; it is none where the cell is open, marked or foreign
 abbrev pub plain_held : Visit (Option Plain) → Option Plain

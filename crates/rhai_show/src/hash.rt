@@ -1,10 +1,11 @@
 //! The hash bytes of a value.
-ghost use Rattle.std.specs.Prelude.{ℕ, ℤ, ◌≡◌, ◌++◌, ◌∷◌, [], true, IfOk, IfSome, IsOk, List, None, OnOk, Some, is_some, length, option_map};
+ghost use Rattle.std.specs.Prelude.{ℕ, ℤ, ◌≡◌, ◌++◌, ◌∷◌, [], true, IfOk, IfSome, IsOk, IsSome, List, None, OnOk, Some, is_some, length, option_and_then, option_map};
 ghost use Rattle.std.specs.List.{All, flat_map};
 ghost use Rattle.rhai_value.specs.declared.access_mode.AccessMode.{AccessMode};
 ghost use Rattle.rhai_value.specs.declared.store.Cell.{Cell};
 ghost use Rattle.rhai_value.specs.Tree.{holder, node};
 ghost use Rattle.rhai_value.specs.End.{first};
+ghost use Rattle.rhai_value.specs.Parts.{int_of};
 ghost use Rattle.rhai_value.specs.Rows.{trees_of, fields_of};
 ghost use Rattle.rhai_show.specs.Plain.{plain};
 ghost use Rattle.rhai_show.specs.Clean.{are_plain, values_in};
@@ -18,7 +19,7 @@ use crate::hash_bytes::{
 use crate::hash_far::{add_far, opened_cell};
 use crate::hashable::is_hashable;
 use crate::hashed_value::Hashed;
-use rhai_value::{Dynamic, Map, NEAR, Path, Store, Union};
+use rhai_value::{Dynamic, INT, Map, NEAR, Part, Path, Store, Union};
 use std::alloc::{AllocError, Global};
 
 /// How many bytes there is room for at first where a value may hold others, so that short ones don't grow.
@@ -173,38 +174,44 @@ fn add_leaf(value: &Dynamic, out: &mut Vec<u8>) -> Result<bool, AllocError>
 /// The hash bytes of a value that may hold others, once it is found hashable.
 #[inline(never)]
 #[tactic(auto, using(crate::proofs::Barred::barred_plain))]
-fn hashed_below(alloc: Global, value: &Dynamic, s: &Store) -> Result<Option<Hashed>, AllocError>
-    ensures bytes { IfOk result (λ o. o ≡ option_map plain_bytes (plain s.now [] value.now)) }
-    ensures told { IfOk result (λ o. IfSome o (IsHashed s.now value.now)) }
-    ensures barred { first s.now value.now ≡ None → IsOk result }
+fn hashed_below(alloc: Global, value: &Dynamic, store: &Store) -> Result<Option<Hashed>, AllocError>
+    ensures bytes { IfOk result (λ o. o ≡ option_map plain_bytes (plain store.now [] value.now)) }
+    ensures told { IfOk result (λ o. IfSome o (IsHashed store.now value.now)) }
+    ensures barred { first store.now value.now ≡ None → IsOk result }
 {
-    if !is_hashable(alloc, value, s)? {
+    if !is_hashable(alloc, value, store)? {
         return Ok(None);
     }
     let mut bytes = Vec::with_capacity(alloc, FIRST_ROOM)?;
     let mut path = Path::new(alloc);
-    add_value(s, &mut path, value, NEAR, &mut bytes)?;
+    add_value(store, &mut path, value, NEAR, &mut bytes)?;
     Ok(Some(Hashed::from_bytes(bytes)))
 }
 
-/// The hash bytes of a value, `None` exactly where it isn't hashable (`Hash` of rhai's `Dynamic`, which feeds any hasher). A unit,
-/// boolean, int, character, text, blob or value of the host, also as what a holder's cell has, costs the number of its bytes, for
-/// which memory is asked once. Another value costs what `is_hashable` costs and the number of the bytes, and for each holder on the
-/// way the logarithm of how many cells are open then. A cell that is reached on many ways gives its bytes on each, so that these
-/// can be very many more than the values are. Bytes are written down 64 levels of values and cells by calls; each level below takes
-/// memory in a list, and an `Err` comes where that is refused.
+/// Answers the hash bytes of a value, `None` exactly where it isn't hashable.
+/// Errors: memory is refused.
+/// Cost: of an int, also as what a holder's cell has, constant, and no memory. Of a unit, boolean, character, text, blob or
+/// value of the host the number of its bytes, for which memory is asked once. Of another value that of `is_hashable`, the number of the bytes, and for
+/// each holder on the way the logarithm of how many cells are open then. A cell that is reached on many ways gives its
+/// bytes on each, so that these can be very many more than the values are. Each level below the 64th takes memory in a
+/// list.
+/// rhai: `Hash` of `Dynamic`, which feeds any hasher.
 #[tactic(auto, using(crate::proofs::Barred::barred_plain))]
-pub fn hashed(alloc: Global, value: &Dynamic, s: &Store) -> Result<Option<Hashed>, AllocError>
-    ensures bytes { IfOk result (λ o. o ≡ option_map plain_bytes (plain s.now [] value.now)) }
-    ensures told { IfOk result (λ o. IfSome o (IsHashed s.now value.now)) }
-    ensures barred { first s.now value.now ≡ None → IsOk result }
+pub fn hashed(alloc: Global, value: &Dynamic, store: &Store) -> Result<Option<Hashed>, AllocError>
+    ensures bytes { IfOk result (λ o. o ≡ option_map plain_bytes (plain store.now [] value.now)) }
+    ensures told { IfOk result (λ o. IfSome o (IsHashed store.now value.now)) }
+    ensures barred { first store.now value.now ≡ None → IsOk result }
+    ensures int { IsSome (option_and_then int_of (first store.now value.now)) → IsOk result }
 {
-    let Some(content) = value.read_whole(s) else {
+    let Some(content) = value.read_whole(store) else {
         return Ok(None);
     };
+    if let Some(number) = INT::own(content) {
+        return Ok(Some(Hashed::of_int(number)));
+    }
     let mut bytes = Vec::new(alloc);
     if add_leaf(content, &mut bytes)? {
         return Ok(Some(Hashed::from_bytes(bytes)));
     }
-    hashed_below(alloc, value, s)
+    hashed_below(alloc, value, store)
 }

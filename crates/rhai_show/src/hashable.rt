@@ -206,17 +206,19 @@ fn is_map_clean(
     Ok(true)
 }
 
-/// Whether the value can be hashed: not where it has to go through a cell that is marked, no cell of the store, or in a loop
-/// (`Dynamic::is_hashable`). The content of each cell is looked into once, however many holders lead to it; each holder costs
-/// the logarithm of the number of cells that were reached, and memory grows with these. It goes down 64 levels of values and cells by
-/// calls; for deeper ones it asks for memory for a list, and goes on by calls for another 64 levels where that is refused. So a value
-/// in which no holder stands is answered whatever memory does.
-pub fn is_hashable(alloc: Global, value: &Dynamic, s: &Store) -> Result<bool, AllocError>
-    ensures answer { IfOk result (λ b. b ≡ is_some (plain s.now [] value.now)) }
+/// Tells whether the value can be hashed: not where it has to go through a cell that is marked, no cell of the store, or in
+/// a loop.
+/// Errors: memory is refused; never for a value in which no holder stands.
+/// Cost: the number of values inside and in the cells, each cell being looked into once; for each holder the logarithm of
+/// the number of cells that were reached, with which memory grows. Levels below the 64th ask for a list, and go on by calls
+/// for another 64 levels where that is refused.
+/// rhai: `Dynamic::is_hashable`, which is private.
+pub fn is_hashable(alloc: Global, value: &Dynamic, store: &Store) -> Result<bool, AllocError>
+    ensures answer { IfOk result (λ b. b ≡ is_some (plain store.now [] value.now)) }
     ensures free { HasNoHolder value.now → IsOk result }
-    ensures barred { first s.now value.now ≡ None → IsOk result }
+    ensures barred { first store.now value.now ≡ None → IsOk result }
 {
     let mut path = Path::new(alloc);
     let mut seen = Path::new(alloc);
-    is_clean(s, &mut path, &mut seen, value, NEAR, alloc)
+    is_clean(store, &mut path, &mut seen, value, NEAR, alloc)
 }

@@ -1,47 +1,91 @@
 //! Hash bytes.
-ghost use Rattle.std.specs.Prelude.{◌≡◌, ◌↔◌, IsTrue, nat_eq};
+ghost use Rattle.std.specs.Prelude.{◌≡◌, ◌↔◌, IfOk, IsTrue, nat_eq};
 ghost use Rattle.std.specs.Cmp.{partial_equiv_from_equiv};
 ghost use Rattle.std.specs.Cmp.Lexicographic.{bytes_decides, pointwise, nat_list_eq_equiv};
 ghost use Rattle.std.specs.Hash as fed;
 ghost use Rattle.std.proofs.Common.{ap};
+ghost use Rattle.rhai_value.specs.Tree.{int as an_int};
+ghost use Rattle.rhai_show.specs.HashBytes.{leaf_bytes};
+ghost use Rattle.rhai_show.specs.HashedBytes.{hashed_bytes};
+ghost use Rattle.rhai_show.specs.InRange.{IsLeaf};
 
+use arrayvec::ArrayVec;
+use rhai_value::INT;
+use std::alloc::{AllocError, Global};
 use std::hash::{Hash, Hasher};
 use std::marker::Model;
+
+/// How many hash bytes an int has.
+const INT_BYTES: usize = 9;
+
+/// Where hash bytes stand: those of an int here, others in a block of memory.
+#[derive(Drop)]
+pub(crate) enum HashedBytes {
+    Short(ArrayVec<u8, INT_BYTES>),
+    Long(Vec<u8>),
+}
 
 /// The hash bytes of a value, which contracts see as the list of these.
 #[derive(Drop)]
 pub struct Hashed {
-    bytes: Vec<u8>,
+    bytes: HashedBytes,
 }
 
 impl Model for Hashed {
     ghost use Rattle.std.specs.Prelude.{List, ℕ};
+    ghost use Rattle.rhai_show.specs.HashedBytes.{hashed_bytes};
 
     ghost Value = { List ℕ };
 
-    ghost view = { λ h. h.bytes.items };
+    ghost view = { λ h. hashed_bytes h.bytes };
 }
 
 impl Hashed {
-    /// Bytes that are at hand.
+    /// Takes bytes that are at hand.
     pub fn from_bytes(bytes: Vec<u8>) -> Hashed
         ensures { result ≡ bytes.items }
     {
-        Hashed { bytes }
+        Hashed {
+            bytes: HashedBytes::Long(bytes),
+        }
     }
 
-    /// The bytes.
+    /// Makes those of an int, for which no memory is asked.
+    pub(crate) fn of_int(value: &INT) -> Hashed
+        ensures bytes { result ≡ leaf_bytes (an_int value.now) }
+        ensures range { IsLeaf (an_int value.now) }
+    {
+        let mut bytes = ArrayVec::new();
+        bytes.push(4);
+        bytes.try_extend_from_slice(&value.to_le_bytes()).unwrap();
+        Hashed {
+            bytes: HashedBytes::Short(bytes),
+        }
+    }
+
+    /// Lends the bytes.
     pub fn bytes(&self) -> &[u8]
         ensures { result.now ≡ self.now }
     {
-        self.bytes.as_slice()
+        match &self.bytes {
+            HashedBytes::Short(bytes) => bytes.as_slice(),
+            HashedBytes::Long(bytes) => bytes.as_slice(),
+        }
     }
 
-    /// The bytes, moved out.
-    pub fn into_bytes(self) -> Vec<u8>
-        ensures { result.items ≡ self }
+    /// Moves the bytes out.
+    /// Errors: memory is refused; it is asked for those of an int alone, which stand in no block of memory.
+    pub fn into_bytes(self, alloc: Global) -> Result<Vec<u8>, AllocError>
+        ensures { IfOk result (λ bytes. bytes.items ≡ self) }
     {
-        self.bytes
+        match self.bytes {
+            HashedBytes::Short(short) => {
+                let mut bytes = Vec::new(alloc);
+                bytes.extend_from_slice(short.as_slice())?;
+                Ok(bytes)
+            }
+            HashedBytes::Long(bytes) => Ok(bytes),
+        }
     }
 }
 

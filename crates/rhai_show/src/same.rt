@@ -8,32 +8,33 @@ use crate::laws::hashes::hash_bytes_tell_values_apart;
 use rhai_value::{Dynamic, Store};
 use std::alloc::{AllocError, Global};
 
-/// Whether two values are equal without tags, modes and holders, as their hash bytes are; `None` exactly where one of them isn't
-/// hashable. Costs what `hashed` of both costs; an `Err` comes where memory for that is refused, and none where nothing is read of one
-/// of them.
+/// Tells whether two values are equal without tags, modes and holders, as their hash bytes are; `None` exactly where one of
+/// them isn't hashable.
+/// Errors: memory for the hash bytes is refused; never where nothing is read of one of them.
+/// Cost: that of `hashed` of both.
 #[tactic(auto, using(crate::proofs::Barred::barred_plain))]
 pub fn same_value(
     alloc: Global,
     x: &Dynamic,
     y: &Dynamic,
-    s: &Store,
+    store: &Store,
 ) -> Result<Option<bool>, AllocError>
-    ensures same { IfOk result (λ o. IfSome o (λ same. IsTrue same ↔ (plain s.now [] x.now ≡ plain s.now [] y.now))) }
-    ensures which { IfOk result (λ o. is_some o ≡ (is_some (plain s.now [] x.now) && is_some (plain s.now [] y.now))) }
-    ensures first_barred { first s.now x.now ≡ None → IsOk result }
-    ensures second_barred { first s.now y.now ≡ None → IsOk result }
+    ensures same { IfOk result (λ o. IfSome o (λ same. IsTrue same ↔ (plain store.now [] x.now ≡ plain store.now [] y.now))) }
+    ensures which { IfOk result (λ o. is_some o ≡ (is_some (plain store.now [] x.now) && is_some (plain store.now [] y.now))) }
+    ensures first_barred { first store.now x.now ≡ None → IsOk result }
+    ensures second_barred { first store.now y.now ≡ None → IsOk result }
 {
     hash_bytes_tell_values_apart();
-    if x.read_whole(s).is_none() {
+    if x.read_whole(store).is_none() {
         return Ok(None);
     }
-    if y.read_whole(s).is_none() {
+    if y.read_whole(store).is_none() {
         return Ok(None);
     }
-    let Some(a) = hashed(alloc, x, s)? else {
+    let Some(a) = hashed(alloc, x, store)? else {
         return Ok(None);
     };
-    let Some(b) = hashed(alloc, y, s)? else {
+    let Some(b) = hashed(alloc, y, store)? else {
         return Ok(None);
     };
     Ok(Some(a == b))

@@ -26,30 +26,36 @@ impl Model for Shown {
 }
 
 impl Shown {
-    /// What `{}` prints of a value.
-    pub fn display(alloc: Global, value: &Dynamic, s: &Store) -> Result<Shown, AllocError>
-        ensures { IfOk result (λ x. x ≡ printed s.now [] value.now Display) }
+    /// Makes what `{}` prints of a value.
+    /// Errors: memory is refused.
+    /// Cost: that of `display_text`.
+    /// rhai: `Display` of `Dynamic`.
+    pub fn display(alloc: Global, value: &Dynamic, store: &Store) -> Result<Shown, AllocError>
+        ensures { IfOk result (λ x. x ≡ printed store.now [] value.now Display) }
     {
-        let text = display_text(alloc, value, s)?;
+        let text = display_text(alloc, value, store)?;
         Ok(Shown { text })
     }
 
-    /// What `{:?}` prints of a value.
-    pub fn debug(alloc: Global, value: &Dynamic, s: &Store) -> Result<Shown, AllocError>
-        ensures { IfOk result (λ x. x ≡ printed s.now [] value.now Debug) }
+    /// Makes what `{:?}` prints of a value.
+    /// Errors: memory is refused.
+    /// Cost: that of `debug_text`.
+    /// rhai: `Debug` of `Dynamic`.
+    pub fn debug(alloc: Global, value: &Dynamic, store: &Store) -> Result<Shown, AllocError>
+        ensures { IfOk result (λ x. x ≡ printed store.now [] value.now Debug) }
     {
-        let text = debug_text(alloc, value, s)?;
+        let text = debug_text(alloc, value, store)?;
         Ok(Shown { text })
     }
 
-    /// A text that is at hand.
+    /// Takes a text that is at hand.
     pub fn from_text(text: String) -> Shown
         ensures { result ≡ chars (string_bytes text) }
     {
         Shown { text }
     }
 
-    /// The text, moved out.
+    /// Moves the text out.
     pub fn into_text(self) -> String
         ensures { chars (string_bytes result) ≡ self }
     {

@@ -252,29 +252,32 @@ pub(crate) fn add_comma(out: &mut String, is_first: bool) -> Result<(), AllocErr
     }
 }
 
-fn text_of(alloc: Global, value: &Dynamic, s: &Store, form: Form) -> Result<String, AllocError>
-    ensures { IfOk result (λ t. chars (string_bytes t) ≡ printed s.now [] value.now form) }
+fn text_of(alloc: Global, value: &Dynamic, store: &Store, form: Form) -> Result<String, AllocError>
+    ensures { IfOk result (λ t. chars (string_bytes t) ≡ printed store.now [] value.now form) }
 {
     let mut out = String::new(alloc);
     let mut path = Path::new(alloc);
-    add_value(s, &mut path, value, form, NEAR, &mut out)?;
+    add_value(store, &mut path, value, form, NEAR, &mut out)?;
     Ok(out)
 }
 
-/// The text of a value as `{}` prints it (`Display` of rhai's `Dynamic`). Costs the length of the text, and for each holder on the
-/// way the logarithm of how many cells are open then. It goes down 64 levels of values and cells by calls; each level below takes
-/// memory in a list, and an `Err` comes where that is refused.
-pub fn display_text(alloc: Global, value: &Dynamic, s: &Store) -> Result<String, AllocError>
-    ensures { IfOk result (λ t. chars (string_bytes t) ≡ printed s.now [] value.now Display) }
+/// Makes the text of a value as `{}` prints it.
+/// Errors: memory is refused.
+/// Cost: the length of the text, and for each holder on the way the logarithm of how many cells are open then; memory for
+/// the text, and for each level below the 64th in a list.
+/// rhai: `Display` of `Dynamic`.
+pub fn display_text(alloc: Global, value: &Dynamic, store: &Store) -> Result<String, AllocError>
+    ensures { IfOk result (λ t. chars (string_bytes t) ≡ printed store.now [] value.now Display) }
 {
-    text_of(alloc, value, s, Form::Display)
+    text_of(alloc, value, store, Form::Display)
 }
 
-/// The text of a value as `{:?}` prints it (`Debug` of rhai's `Dynamic`). Costs the length of the text, and for each holder on the
-/// way the logarithm of how many cells are open then. It goes down 64 levels of values and cells by calls; each level below takes
-/// memory in a list, and an `Err` comes where that is refused.
-pub fn debug_text(alloc: Global, value: &Dynamic, s: &Store) -> Result<String, AllocError>
-    ensures { IfOk result (λ t. chars (string_bytes t) ≡ printed s.now [] value.now Debug) }
+/// Makes the text of a value as `{:?}` prints it.
+/// Errors: memory is refused.
+/// Cost: that of `display_text`.
+/// rhai: `Debug` of `Dynamic`.
+pub fn debug_text(alloc: Global, value: &Dynamic, store: &Store) -> Result<String, AllocError>
+    ensures { IfOk result (λ t. chars (string_bytes t) ≡ printed store.now [] value.now Debug) }
 {
-    text_of(alloc, value, s, Form::Debug)
+    text_of(alloc, value, store, Form::Debug)
 }

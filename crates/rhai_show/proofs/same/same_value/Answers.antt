@@ -4,7 +4,7 @@ use Rattle.rhai_show.proofs.same.same_value.Goals as goal
 
 pub returns-clause-same : goal.returns-clause-same
 returns-clause-same c =
-    let s = c.args.s.now in
+    let s = c.args.store.now in
     let first = subst (λ o. IfSome o (IsHashed s c.args.x.now)) c.in-Some.is c.in_ok-a.ensures.told in
     let second = subst (λ o. IfSome o (IsHashed s c.args.y.now)) c.in-Some-2.is c.in_ok-b.ensures.told in
     let tell = c.hash_bytes_tell_values_apart.ensures s s c.args.x.now c.args.y.now _ _ first second in

@@ -16,15 +16,15 @@ use std::alloc::{AllocError, Global};
 pub(crate) fn read_items<T: Variant>(
     items: Array,
     alloc: Global,
-    s: &Store,
+    store: &Store,
 ) -> Result<Vec<T>, IntoError>
-    ensures ok { IfOk result (λ xs. read_all T.KIND s.now (trees_of items.items) ≡ Some (map T.tree xs.items)) }
-    ensures err { IfErr result (λ e. IsUnread T.KIND e s.now (trees_of items.items)) }
+    ensures ok { IfOk result (λ xs. read_all T.KIND store.now (trees_of items.items) ≡ Some (map T.tree xs.items)) }
+    ensures err { IfErr result (λ e. IsUnread T.KIND e store.now (trees_of items.items)) }
 {
     let mut xs = Vec::with_capacity(alloc, items.len())?;
     for item in items {
-        let kind = own_type(&item, s);
-        match item.try_cast::<T>(alloc, s)? {
+        let kind = own_type(&item, store);
+        match item.try_cast::<T>(alloc, store)? {
             Some(x) => add(&mut xs, x)?,
             None => return Err(IntoError::Mismatch(kind.name())),
         }
@@ -40,22 +40,22 @@ fn add<T: Drop>(xs: &mut Vec<T>, x: T) -> Result<(), AllocError>
 
 /// The type of the value itself; of a holder that of what can't be looked into.
 #[tactic(auto, using(crate::proofs::Items::own_end_type))]
-fn own_type(value: &Dynamic, s: &Store) -> TypeId
+fn own_type(value: &Dynamic, store: &Store) -> TypeId
     ensures { result ≡ tree_type value.now }
 {
     if value.is_shared() {
         TypeId::Shared
     } else {
-        value.type_id(s)
+        value.type_id(store)
     }
 }
 
 /// The bytes that are held, where the type is that of a byte.
-pub(crate) fn held_bytes<'s, T: Variant>(value: &'s Dynamic, s: &'s Store) -> Option<&'s Blob>
-    ensures { option_map (λ bytes. map byte_tree bytes.now.items) result ≡ bytes_at T.KIND (end s.now [] value.now) }
+pub(crate) fn held_bytes<'s, T: Variant>(value: &'s Dynamic, store: &'s Store) -> Option<&'s Blob>
+    ensures { option_map (λ bytes. map byte_tree bytes.now.items) result ≡ bytes_at T.KIND (end store.now [] value.now) }
 {
     if T::KIND == TypeId::U8 {
-        value.held_part::<Blob>(s)
+        value.held_part::<Blob>(store)
     } else {
         None
     }

@@ -14,12 +14,14 @@ ghost use Rattle.rhai_cast.specs.Casts.{locked, lock_cell, lock_written, own_vie
 use rhai_value::{Dynamic, InStore, Place, Store, TypeId};
 use rhai_variant::Variant;
 
-/// What the held value has of this type, to write; of a `Dynamic` the first content, as `InStore::whole_mut` gives it. Takes no
-/// memory.
+/// Lends what the held value has of this type, to write; of a `Dynamic` the first content, as `InStore::whole_mut` gives
+/// it.
 ///
-/// This is `DynamicCast::write_lock` of the pair of a value and its store, and its clause says what both are once it was written:
-/// what was written is the content of the held value, tag and mode staying, or of a `Dynamic` the whole first content, and all else
-/// is as before.
+/// This is `DynamicCast::write_lock` of the pair of a value and its store, and its clause says what both are once it was
+/// written: what was written is the content of the held value, tag and mode staying, or of a `Dynamic` the whole first
+/// content, and all else is as before.
+/// Cost: that of `Dynamic::held`; no memory.
+/// rhai: `Dynamic::write_lock`.
 #[tactic(auto, using(rhai_value::proofs::ForCallers::kept_written))]
 pub fn write_lock<'s, T: Variant>(place: &'s mut InStore) -> Option<&'s mut T>
     ensures* writes_back { sem 𝓛 (LendsIf in_store_row T.row place.entry result (λ w. lock_written T.KIND place.old (T.tree w)) place.old) }
@@ -36,39 +38,40 @@ pub fn write_lock<'s, T: Variant>(place: &'s mut InStore) -> Option<&'s mut T>
     }
 }
 
-/// Lends the same of a value or its store, each for itself, being told whether it is the first content, as of a `Dynamic`: this is what
-/// `DynamicCast::write_lock` lends, of which that is one call.
+/// Lends what `write_lock` does of a value or its store, each for itself, being told whether it is the first content, as of
+/// a `Dynamic`: `DynamicCast::write_lock` is one call of this.
 ///
-/// Once it was written, value and store are what `write_lock` of the pair leaves; where there is none both are as before. That comes
-/// first which is no reference: of a method of the value, a proof that the check writes by itself would take the value alone for what
-/// lends, and couldn't make the call.
+/// Once it was written, value and store are what `write_lock` of the pair leaves; where there is none both are as before.
+/// That comes first which is no reference: of a method of the value, a proof that the check writes by itself would take the
+/// value alone for what lends, and couldn't make the call.
+/// Cost: that of `Dynamic::held`; no memory.
 pub fn lent_lock<'s, T: Variant>(
     is_first: bool,
     value: &'s mut Dynamic,
-    m: &'s mut Store,
+    store: &'s mut Store,
 ) -> Option<&'s mut T>
     requires { is_first ≡ is_type T.KIND type_id.Dynamic }
-    ensures* writes_back { sem 𝓛 (LendsLock T.row T.KIND T.tree value.entry m.entry (ghost_name_of result)) }
-    ensures value { option_map (λ x. T.tree x.now) result ≡ locked T.KIND m.old value.old }
+    ensures* writes_back { sem 𝓛 (LendsLock T.row T.KIND T.tree value.entry store.entry (ghost_name_of result)) }
+    ensures value { option_map (λ x. T.tree x.now) result ≡ locked T.KIND store.old value.old }
 {
-    let place = lock_place::<T>(is_first, value, m);
+    let place = lock_place::<T>(is_first, value, store);
     let own = own_view::<T>(value);
-    let far = view_at::<T>(m, place);
+    let far = view_at::<T>(store, place);
     either::<T>(own, far)
 }
 
 /// Where stands what is lent: the first content, or what is held.
-fn lock_place<T: Variant>(is_first: bool, value: &mut Dynamic, m: &mut Store) -> Place
+fn lock_place<T: Variant>(is_first: bool, value: &mut Dynamic, store: &mut Store) -> Place
     requires { is_first ≡ is_type T.KIND type_id.Dynamic }
-    ensures place { result ≡ lock_cell T.KIND m.old value.old }
-    ensures within { IfSome result (λ c. c < length m.old) }
+    ensures place { result ≡ lock_cell T.KIND store.old value.old }
+    ensures within { IfSome result (λ c. c < length store.old) }
     ensures value { value.new ≡ value.old }
-    ensures store { m.new ≡ m.old }
+    ensures store { store.new ≡ store.old }
 {
     if is_first {
-        value.first_place(m)
+        value.first_place(store)
     } else {
-        value.held_place(m)
+        value.held_place(store)
     }
 }
 
@@ -86,12 +89,12 @@ fn own_view<T: Variant>(value: &mut Dynamic) -> Option<&mut T>
 
 /// What the content of a cell has of this type, to write, if there is one.
 #[inline(always)]
-fn view_at<T: Variant>(m: &mut Store, place: Place) -> Option<&mut T>
-    requires { IfSome place (λ c. c < length m.old) }
-    ensures* writes_back { sem 𝓛 (LendsIf store_type.the_row T.row m.entry result (λ w. edit_in place (written_as T.KIND (T.tree w)) m.old) m.old) }
-    ensures value { option_map (λ x. T.tree x.now) result ≡ option_and_then (viewed T.KIND) (content_in place m.old) }
+fn view_at<T: Variant>(store: &mut Store, place: Place) -> Option<&mut T>
+    requires { IfSome place (λ c. c < length store.old) }
+    ensures* writes_back { sem 𝓛 (LendsIf store_type.the_row T.row store.entry result (λ w. edit_in place (written_as T.KIND (T.tree w)) store.old) store.old) }
+    ensures value { option_map (λ x. T.tree x.now) result ≡ option_and_then (viewed T.KIND) (content_in place store.old) }
 {
-    match T::view_mut(m.content_at_mut(place)?) {
+    match T::view_mut(store.content_at_mut(place)?) {
         Some(x) => Some(x),
         None => None,
     }

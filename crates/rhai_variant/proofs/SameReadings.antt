@@ -1,6 +1,6 @@
 -- What is read and written as a type doesn't depend on the numbers of cells.
 use Rattle.std.proofs.Common.{Bool, true, false, Some, None, option_map, cond, refl, subst}
-use Rattle.rhai_value.specs.declared.chain.Site.TheVariants.{Own}
+use Rattle.rhai_value.specs.declared.chain.Site.TheVariants.{Here}
 use Rattle.rhai_value.specs.declared.type_id.TypeId.{TypeId}
 use Rattle.rhai_value.specs.declared.type_id.TypeId.TheVariants as id
 use Rattle.rhai_value.specs.End.{held}
@@ -20,7 +20,7 @@ same_content r (node c g m) (node d h n) e = e.0
 same_typed : (r : Renaming) (k : TypeId) (t u : Tree) → Related r t u → Alike (Related r) (option_map made (typed_content k t)) (option_map made (typed_content k u))
 same_typed r k t u e =
     subst (λ o. Alike (Related r) (option_map made (typed_content k t)) (option_map made (cond (is_type k o) (Some (content_of u)) None)))
-    (same_end_type r (held Own t) (held Own u) (tt, e)) (same_if r (is_type k (tree_type t)) (content_of t) (content_of u) (same_content r t u e))
+    (same_end_type r (held Here t) (held Here u) (tt, e)) (same_if r (is_type k (tree_type t)) (content_of t) (content_of u) (same_content r t u e))
 
 pub same_read : (r : Renaming) (k : TypeId) (t u : Tree) → Related r t u → Alike (Related r) (read k t) (read k u)
 same_read r id.Dynamic t u e = e

@@ -16,11 +16,12 @@ use rhai_text::ImmutableString;
 use rhai_value::{Dynamic, Part, TypeId};
 use std::alloc::{AllocError, Global};
 
-/// A type that script values are made of and read as (`Variant` of rhai, which any type is): the 22 types of this crate.
+/// A type that script values are made of and read as: the 22 types of this crate.
 ///
 /// `KIND` says all that is read of a value and written to one: the content of the values of that type for most, a text for
-/// `String`, and any value at all for `Dynamic`. An implementation whose calls read or make another constructor than `KIND` names
-/// is refused.
+/// `String`, and any value at all for `Dynamic`. An implementation whose calls read or make another constructor than `KIND`
+/// names is refused.
+/// rhai: `Variant`, which any type is.
 pub trait Variant: Sized + Drop {
     /// The type itself.
     const KIND: TypeId;
@@ -30,47 +31,46 @@ pub trait Variant: Sized + Drop {
     // The value that is made of one.
     ghost tree: { Self → Tree };
 
-    /// The value that is made of this one, with tag 0 and mode ReadWrite; a `Dynamic` is itself. Takes no memory but for a
-    /// `String`, whose text is copied.
-    ///
-    /// # Errors
-    ///
-    /// A `String` comes back where memory is refused.
+    /// Makes a value of this one, with tag 0 and mode ReadWrite; a `Dynamic` is itself.
+    /// Errors: a `String` comes back where memory is refused.
+    /// Cost: constant; of a `String` the length of its text, which is copied.
+    /// rhai: `Dynamic::from`.
     fn into_dynamic(self, alloc: Global) -> Result<Dynamic, Self>
         ensures ok { IfOk result (λ value. value ≡ tree self) }
         ensures err { IfErr result (λ back. (back ≡ self) × (is_type KIND type_id.String ≡ true)) };
 
-    /// What is read of the value itself, moved out of it. Takes no memory but for a `String`, to which the text is copied.
-    ///
-    /// # Errors
-    ///
-    /// `Mismatch` exactly where nothing is read, as of any holder for all types but `Dynamic`. `Memory` where a text isn't copied
-    /// to a `String`.
+    /// Moves what is read of the value itself out of it.
+    /// Errors: `Mismatch` exactly where nothing is read, as of any holder for all types but `Dynamic`; `Memory` where a
+    /// text isn't copied to a `String`.
+    /// Cost: constant; to a `String` the length of the text, which is copied.
     fn from_dynamic(alloc: Global, value: Dynamic) -> Result<Self, CastError>
         ensures ok { IfOk result (λ x. read KIND value ≡ Some (tree x)) }
         ensures err { IfErr result (λ e. IsRefused KIND e value) };
 
-    /// What the value itself has. No value has a `String`; a `Dynamic` is the value. Takes no memory. (`as_any` of rhai's
-    /// `Variant`)
+    /// Lends what the value itself has. No value has a `String`; a `Dynamic` is the value.
+    /// Cost: constant; no memory.
+    /// rhai: `Variant::as_any`.
     fn view(value: &Dynamic) -> Option<&Self>
         ensures { option_map (λ x. tree x.now) result ≡ viewed KIND value.now };
 
-    /// The same, to write: what is written is then the content of the value, tag and mode staying; of a `Dynamic` it is the whole
-    /// value. Takes no memory. (`as_any_mut` of rhai's `Variant`)
+    /// Lends what the value itself has, to write: what is written is then the content of the value, tag and mode staying;
+    /// of a `Dynamic` it is the whole value.
+    /// Cost: constant; no memory.
+    /// rhai: `Variant::as_any_mut`.
     fn view_mut(value: &mut Dynamic) -> Option<&mut Self>
         ensures* writes_back { sem 𝓛 (LendsIf dynamic_type.the_row Self.row value.entry result (λ w. written_as KIND (tree w) value.old) value.old) }
         ensures value { option_map (λ x. tree x.now) result ≡ viewed KIND value.old };
 
-    /// One more, of which the copy of the value is made. (`clone_object` of rhai's `Variant`)
-    ///
-    /// # Errors
-    ///
-    /// Where memory is refused.
+    /// Makes one more, of which the copy of the value is made.
+    /// Errors: memory is refused.
+    /// Cost: that of `Dynamic::copy`; of a `String` the length of its text.
+    /// rhai: `Variant::clone_object`.
     fn duplicate(&self, alloc: Global) -> Result<Self, AllocError>
         ensures copied { IfOk result (λ x. tree x ≡ copy (tree self.now)) }
         ensures free { TakesNoMemory (tree self.now) → IsOk result };
 
-    /// The name of the type, as scripts see it. (`Variant::type_name` of rhai, which is the path of the type in Rust)
+    /// Tells the name of the type, as scripts see it.
+    /// rhai: `Variant::type_name`, which is the path of the type in Rust.
     final fn type_name() -> &'static str
         ensures { result.now ≡ type_name KIND }
     {
@@ -111,7 +111,7 @@ impl<T: Content> Variant for T {
     }
 
     fn duplicate(&self, alloc: Global) -> Result<T, AllocError> {
-        self.again(alloc)
+        self.try_clone(alloc)
     }
 
     ghost looks_into = { not_shared T.KIND T.constructs };

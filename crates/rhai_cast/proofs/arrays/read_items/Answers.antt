@@ -12,7 +12,7 @@ pub loop-item-preserved : goal.loop-item-preserved
 loop-item-preserved g c =
     let tree = g.T.Variant.tree in
     let k = g.T.Variant.KIND in
-    let s = c.args.s.now in
+    let s = c.args.store.now in
     let xs = c.loop-item.xs.items in
     let x = c.in-Some-2.x in
     let t = c.in-Some.item in
@@ -29,7 +29,7 @@ pub returns-clause-ok : goal.returns-clause-ok
 returns-clause-ok g c =
     let tree = g.T.Variant.tree in
     let k = g.T.Variant.KIND in
-    let s = c.args.s.now in
+    let s = c.args.store.now in
     let xs = c.loop-item.xs.items in
     let it = c.loop-item.item-iterator in
     let none : into_iter_items it ≡ [] = empty (into_iter_items it) (omega (arith, it.rest.ok.0, c.in-None.ensures.steps.0)) in

@@ -11,6 +11,6 @@ invariant-loop-item g l =
     let all = trees_of l.fn.items.items in
     let rest = trees_of (into_iter_items l.item-iterator) in
     record {
-      read : option_map (λ ys. map g.T.Variant.tree l.xs.items ++ ys) (read_all k l.s rest) ≡ read_all k l.s all;
-      unread : first_unread k l.s rest ≡ first_unread k l.s all;
+      read : option_map (λ ys. map g.T.Variant.tree l.xs.items ++ ys) (read_all k l.store rest) ≡ read_all k l.store all;
+      unread : first_unread k l.store rest ≡ first_unread k l.store all;
     }

@@ -20,13 +20,14 @@ use Rattle.rhai_value.specs.Types.{is_type}
 use Rattle.rhai_value.specs.End.{end, end_type, value_ahead, value_after, flat}
 use Rattle.rhai_ops.specs.declared.builtin.FnBuiltin.{FnBuiltin}
 use Rattle.rhai_ops.specs.declared.builtin.FnBuiltin.TheVariants as row
-use Rattle.rhai_ops.specs.declared.own.Own.{Own}
-use Rattle.rhai_ops.specs.declared.own.Own.TheVariants as is
+use Rattle.rhai_ops.specs.declared.operand_kind.OperandKind.{OperandKind}
+use Rattle.rhai_ops.specs.declared.operand_kind.OperandKind.TheVariants as is
 use Rattle.rhai_ops.specs.AssignTable.{assign_row, assign_line}
 use Rattle.rhai_ops.specs.Outcome.{Outcome, answers, too_large, limited_text, limited_blob}
-use Rattle.rhai_ops.specs.Results.{of_ints, outcome, joined_texts, joined_blobs}
-use Rattle.rhai_ops.specs.Table.{own, own_leaf, row_of, own_pair, pair_row, type_line, pick, Line, is_numeric, is_range_type}
-use Rattle.rhai_ops.specs.Tokens.{role, arithmetic, base_operation, is_assignment, is_token, without_assign}
+use Rattle.rhai_ops.specs.Results.{outcome, joined_texts, joined_blobs}
+use Rattle.rhai_ops.specs.Table.{operand_kind, leaf_operand, row_of, rows_of_kinds, pair_row, type_line, pick, Line, is_numeric, is_range_type}
+use Rattle.rhai_ops.specs.Tokens.{is_assignment, is_number, is_token, without_assign}
+use Rattle.rhai_ops.proofs.Questions.{base_is_number}
 use Rattle.rhai_ops.specs.Effects.{Effect, operator, assignment, effect, writes, rewritten, first_left, takes_nothing}
 use Rattle.rhai_ops.proofs.Roles.{assignments}
 use Rattle.rhai_ops.proofs.Suited.{leaf_end, own_part}
@@ -86,21 +87,6 @@ one : (q : Bool) (r a : FnBuiltin) → pick ((q, r) ∷ []) ≡ Some a → (q �
 one true r a e = (refl, e)
 one false r a e = cc
 
--- what an assignment does before it writes is what its operator does
-same_role : (t : Token) → is_assignment t ≡ true → arithmetic (role (without_assign t)) ≡ base_operation (role t)
-same_role op.PlusAssign e = refl
-same_role op.MinusAssign e = refl
-same_role op.MultiplyAssign e = refl
-same_role op.DivideAssign e = refl
-same_role op.ModuloAssign e = refl
-same_role op.PowerOfAssign e = refl
-same_role op.RightShiftAssign e = refl
-same_role op.LeftShiftAssign e = refl
-same_role op.AndAssign e = refl
-same_role op.OrAssign e = refl
-same_role op.XOrAssign e = refl
-same_role _ e = cc
-
 first_row : (q : Bool) (r b : FnBuiltin) (rest : Line) → q ≡ true → pick ((q, r) ∷ rest) ≡ Some b → Some r ≡ Some b
 first_row true r b rest h e = e
 first_row false r b rest h e = cc
@@ -116,9 +102,8 @@ module _ (l : Limits) (s : List Cell) (g h : ℤ) (m n : AccessMode) (b a : FnBu
   ints : (t : Token) (i j : ℤ) → Leaves t (int i) (int j)
   ints t i j e f k =
       let p = one (is_assignment t) (row.IntAssign t) a f in
-      let same : arithmetic (role (without_assign t)) ≡ base_operation (role t) = same_role t p.0 in
       rows (row.Int (without_assign t)) (row.IntAssign t) (int i) (int j)
-      (λ v w x y. one_outcome _ v w (subst (λ r. (of_ints r).comes_to l s (node (leaf (int i)) g m) (node (leaf (int j)) h n) ≡ answers v) same x) y) (first_row _ _ b _ (ap is_some same ∙ p.0) e) p.1
+      (λ v w. one_outcome _ v w) (first_row _ _ b _ (base_is_number t p.0) e) p.1
 
   bools : (t : Token) (i j : Bool) → Leaves t (bool i) (bool j)
   bools op.AndAssign i j e f k = rows (row.Bool op.Ampersand) (row.BoolAssign op.AndAssign) (bool i) (bool j) (λ v w. one_outcome _ v w) e f
@@ -181,25 +166,25 @@ module _ (l : Limits) (s : List Cell) (g h : ℤ) (m n : AccessMode) (b a : FnBu
   leaves t _ _ = λ e f k. cc
 
 -- of an array only `+=` has rows, and `+` has none; of other values no assignment has
-array_plus : (t : Token) (o : Own) (a : FnBuiltin) → pick (assign_line t is.Array o) ≡ Some a → is_token t op.PlusAssign ≡ true
+array_plus : (t : Token) (o : OperandKind) (a : FnBuiltin) → pick (assign_line t is.Array o) ≡ Some a → is_token t op.PlusAssign ≡ true
 array_plus t is.Array a e = (one (is_token t op.PlusAssign) row.ArrayAppend a e).0
 array_plus t _ a e = (one (is_token t op.PlusAssign) row.ArrayPush a e).0
 
 plus_is : (t : Token) → is_token t op.PlusAssign ≡ true → t ≡ op.PlusAssign
 plus_is t e = same_true token.the_type tt t op.PlusAssign e
 
-array_none : (o : Own) (a b : TypeId) → pair_row (own_pair op.Plus is.Array o) (type_line op.Plus a b) ≡ None
+array_none : (o : OperandKind) (a b : TypeId) → pair_row (rows_of_kinds op.Plus is.Array o) (type_line op.Plus a b) ≡ None
 array_none _ a b = no_plus a b
 
 arrays : (t : Token) (s : List Cell) (ts : Trees) (g : ℤ) (m : AccessMode) (y : Tree) (b a : FnBuiltin) → row_of (without_assign t) s (node (branch array ts) g m) y ≡ Some b → assign_row t (node (branch array ts) g m) y ≡ Some a → ⊥
 arrays t s ts g m y b a e f =
-    let plus : t ≡ op.PlusAssign = plus_is t (array_plus t (own y) a f) in
-    none_is_some (row_of op.Plus s (node (branch array ts) g m) y) b (array_none (own y) (end_type (end s [] (node (branch array ts) g m))) (end_type (end s [] y))) (subst (λ k. row_of (without_assign k) s (node (branch array ts) g m) y ≡ Some b) plus e)
+    let plus : t ≡ op.PlusAssign = plus_is t (array_plus t (operand_kind y) a f) in
+    none_is_some (row_of op.Plus s (node (branch array ts) g m) y) b (array_none (operand_kind y) (end_type (end s [] (node (branch array ts) g m))) (end_type (end s [] y))) (subst (λ k. row_of (without_assign k) s (node (branch array ts) g m) y ≡ Some b) plus e)
 
-other_none : (t : Token) (o : Own) → pick (assign_line t is.Other o) ≡ None
+other_none : (t : Token) (o : OperandKind) → pick (assign_line t is.Other o) ≡ None
 other_none t _ = refl
 
-beside : (t : Token) (i : Leaf) → (pick (assign_line t (own_leaf i) is.Array) ≡ None) × (pick (assign_line t (own_leaf i) is.Other) ≡ None)
+beside : (t : Token) (i : Leaf) → (pick (assign_line t (leaf_operand i) is.Array) ≡ None) × (pick (assign_line t (leaf_operand i) is.Other) ≡ None)
 beside t unit = (refl, refl)
 beside t (bool b) = (refl, refl)
 beside t (int n) = (refl, refl)
@@ -224,9 +209,9 @@ agree t l s (node (leaf i) g m) (node (branch (function j) us) h n) b a v w e f 
 agree t l s (node (leaf i) g m) (node (fields fs) h n) b a v w e f p q k = absurd (none_is_some _ a (beside t i).1 f)
 agree t l s (node (leaf i) g m) (node (holder c) h n) b a v w e f p q k = absurd (none_is_some _ a (beside t i).1 f)
 agree t l s (node (branch array ts) g m) y b a v w e f p q k = absurd (arrays t s ts g m y b a e f)
-agree t l s (node (branch (function j) ts) g m) y b a v w e f p q k = absurd (none_is_some _ a (other_none t (own y)) f)
-agree t l s (node (fields fs) g m) y b a v w e f p q k = absurd (none_is_some _ a (other_none t (own y)) f)
-agree t l s (node (holder c) g m) y b a v w e f p q k = absurd (none_is_some _ a (other_none t (own y)) f)
+agree t l s (node (branch (function j) ts) g m) y b a v w e f p q k = absurd (none_is_some _ a (other_none t (operand_kind y)) f)
+agree t l s (node (fields fs) g m) y b a v w e f p q k = absurd (none_is_some _ a (other_none t (operand_kind y)) f)
+agree t l s (node (holder c) g m) y b a v w e f p q k = absurd (none_is_some _ a (other_none t (operand_kind y)) f)
 
 -- a character that takes an empty text
 pub stays : (l : Limits) (s : List Cell) (x y : Tree) → takes_nothing x y ≡ true → first_left (effect row.CharTextAssign) (outcome row.CharTextAssign l s x y) s x ≡ x

@@ -7,21 +7,20 @@ use Rattle.std.specs.declared.cmp.Ordering.{Ordering}
 use Rattle.std.specs.declared.cmp.Ordering.TheVariants as order
 use Rattle.rhai_text.specs.declared.limits.Limits.{Limits}
 use Rattle.rhai_text.specs.declared.token.Token.{Token}
+use Rattle.rhai_text.specs.declared.token.Token.TheVariants as op
 use Rattle.rhai_value.specs.declared.access_mode.AccessMode.{AccessMode}
 use Rattle.rhai_value.specs.declared.store.Cell.{Cell}
 use Rattle.rhai_value.specs.Tree.{Tree, node, leaf, char, text}
 use Rattle.rhai_value.specs.Parts.{char_of, text_of}
 use Rattle.rhai_ops.specs.declared.builtin.FnBuiltin.TheVariants as row
-use Rattle.rhai_ops.specs.Numbers.{compared, compared_by}
+use Rattle.rhai_ops.specs.Numbers.{compared}
 use Rattle.rhai_ops.specs.Outcome.{bool_answer, both}
 use Rattle.rhai_ops.specs.Results.{part, outcome, text_order}
-use Rattle.rhai_ops.specs.declared.role.Comparison.TheVariants.{Equal}
-use Rattle.rhai_ops.specs.Tokens.{role, comparison}
 use Rattle.rhai_ops.proofs.Suited.{own_part}
 
 -- texts are equal where the order says so
-pub equal_by_order : (v w : List ℕ) → compared Equal (text_order v w) ≡ pointwise nat_eq v w
-equal_by_order v w = is_eq-slice_cmp v w
+pub equal_by_order : (v w : List ℕ) → compared op.EqualsTo (text_order v w) ≡ Some (pointwise nat_eq v w)
+equal_by_order v w = ap Some (is_eq-slice_cmp v w)
 
 -- no comparison looks at the limits
 abbrev l : Limits
@@ -34,7 +33,7 @@ module _ (t : Token) (s : List Cell) where
   pub second_as_text : (x : Tree) (d : ℕ) (g : ℤ) (m : AccessMode) → outcome (row.TextCharCompare t) l s x (node (leaf (char d)) g m) ≡ outcome (row.TextCompare t) l s x (node (leaf (text (d ∷ []))) g m)
   second_as_text x d g m = rw (own_part char_of s (char d) g m, own_part text_of s (text (d ∷ [])) g m) (with_first (part text_of s x))
     where
-      with_first : (o : Option (List ℕ)) → both (λ v e. bool_answer (compared_by (comparison (role t)) (text_order v (e ∷ [])))) o (Some d) ≡ both (λ v w. bool_answer (compared_by (comparison (role t)) (text_order v w))) o (Some (d ∷ []))
+      with_first : (o : Option (List ℕ)) → both (λ v e. bool_answer (compared t (text_order v (e ∷ [])))) o (Some d) ≡ both (λ v w. bool_answer (compared t (text_order v w))) o (Some (d ∷ []))
       with_first (Some v) = refl
       with_first None = refl
 
@@ -46,4 +45,4 @@ module _ (t : Token) (s : List Cell) where
   pub both_as_texts : (c d : ℕ) (g h : ℤ) (m n : AccessMode) → outcome (row.CharCompare t) l s (node (leaf (char c)) g m) (node (leaf (char d)) h n) ≡ outcome (row.TextCompare t) l s (node (leaf (text (c ∷ []))) g m) (node (leaf (text (d ∷ []))) h n)
   both_as_texts c d g h m n =
       rw (own_part char_of s (char c) g m, own_part text_of s (text (c ∷ [])) g m, own_part char_of s (char d) h n, own_part text_of s (text (d ∷ [])) h n)
-      (ap (λ o. bool_answer (compared_by (comparison (role t)) o)) (one_order (nat_cmp c d)))
+      (ap (λ o. bool_answer (compared t o)) (one_order (nat_cmp c d)))

@@ -1,6 +1,6 @@
 -- A call keeps the tag and the mode of whatever it writes to.
 use Rattle.std.proofs.Common.{◌≡◌, ℕ, zero, suc, Bool, true, false, if◌then◌else◌, List, [], ◌∷◌, Some, None, option_map, refl, sym, ap, ◌∙◌}
-use Rattle.rhai_value.specs.declared.chain.Site.TheVariants.{Own, InCell}
+use Rattle.rhai_value.specs.declared.chain.Site.TheVariants.{Here, InCell}
 use Rattle.rhai_value.specs.declared.store.Cell.{Cell}
 use Rattle.rhai_value.specs.End.{End, held, stuck, closed, end, value_after, store_after}
 use Rattle.rhai_value.specs.Parts.{with_content}
@@ -21,7 +21,7 @@ sees_mode : Sees mode_of
 sees_mode c (node d g m) = refl
 
 value_kept : {A : Type 0} (f : Tree → A) → Sees f → (t : Tree) (s : List Cell) (x : Tree) (e : End) → e ≡ end s [] x → f (value_after (rewritten t) e x) ≡ f x
-value_kept f k t s x (held Own v) is = k (content_of t) v ∙ ap f (sym (stands s x Own v is))
+value_kept f k t s x (held Here v) is = k (content_of t) v ∙ ap f (sym (stands s x Here v is))
 value_kept f k t s x (held (InCell c) v) is = refl
 value_kept f k t s x (stuck v) is = refl
 value_kept f k t s x closed is = refl
@@ -39,7 +39,7 @@ put_kept f (x ∷ s) (suc d) (suc c) u v e h = put_kept f s d c u v e h
 
 cell_kept : {A : Type 0} (f : Tree → A) → Sees f → (t : Tree) (s : List Cell) (x : Tree) (c : ℕ) (e : End) → e ≡ end s [] x
     → option_map f (content_at (store_after (rewritten t) e s) c) ≡ option_map f (content_at s c)
-cell_kept f k t s x c (held Own v) is = refl
+cell_kept f k t s x c (held Here v) is = refl
 cell_kept f k t s x c (held (InCell d) v) is = put_kept f s d c (rewritten t v) v (stands s x (InCell d) v is) (k (content_of t) v)
 cell_kept f k t s x c (stuck v) is = refl
 cell_kept f k t s x c closed is = refl

@@ -9,6 +9,7 @@ pub mod Labels
 pub mod Lengths
 pub mod Lines
 pub mod Orders
+pub mod Questions
 pub mod Roles
 pub mod SameEffects
 pub mod SameItems

@@ -1,8 +1,9 @@
 -- What holds of each row of a line whose question is answered yes holds of the row that is picked.
 use Rattle.std.proofs.Common.{◌≡◌, Bool, true, false, [], ◌∷◌, Option, Some, None, if◌then◌else◌, refl, subst}
+use Rattle.std.specs.Option.{option_or}
 use Rattle.std.proofs.lemmas.Option.{same_Some}
 use Rattle.rhai_ops.specs.declared.builtin.FnBuiltin.{FnBuiltin}
-use Rattle.rhai_ops.specs.Table.{pair_row, or_else, pick, Line, Pair, only, first}
+use Rattle.rhai_ops.specs.Table.{pair_row, pick, Line, Pair, only, first}
 
 abbrev pub LineAll : (FnBuiltin → Type 0) → Line → Type 0
 LineAll P [] = Unit {0}
@@ -17,7 +18,7 @@ pick_all P [] r h e = cc
 pick_all P ((true, q) ∷ rest) r h e = let same : q ≡ r = same_Some q r e in subst P same (h.0 refl)
 pick_all P ((false, q) ∷ rest) r h e = pick_all P rest r h.1 e
 
-else_all : (P : FnBuiltin → Type 0) (o p : Option FnBuiltin) (r : FnBuiltin) → (o ≡ Some r → P r) → (p ≡ Some r → P r) → or_else o p ≡ Some r → P r
+else_all : (P : FnBuiltin → Type 0) (o p : Option FnBuiltin) (r : FnBuiltin) → (o ≡ Some r → P r) → (p ≡ Some r → P r) → option_or o p ≡ Some r → P r
 else_all P (Some q) p r h k e = h e
 else_all P None p r h k e = k e
 

@@ -1,5 +1,5 @@
 -- The rows that compare answer by the order of what both hold.
-use Rattle.std.proofs.Common.{◌≡◌, ◌||◌, ◌&&◌, [], ◌∷◌, List, Option, Some, None, refl, ap, ◌∙◌}
+use Rattle.std.proofs.Common.{◌≡◌, Bool, ◌||◌, ◌&&◌, [], ◌∷◌, List, Option, Some, None, refl, ap, sym, ◌∙◌}
 use Rattle.std.proofs.lemmas.Option.{same_Some}
 use Rattle.std.specs.Ordering.{bool_cmp, int_cmp, nat_cmp}
 use Rattle.std.specs.declared.cmp.Ordering.{Ordering}
@@ -14,15 +14,13 @@ use Rattle.rhai_value.specs.End.{end, end_type}
 use Rattle.rhai_value.specs.Types.{is_type}
 use Rattle.rhai_ops.specs.declared.builtin.FnBuiltin.{FnBuiltin}
 use Rattle.rhai_ops.specs.declared.builtin.FnBuiltin.TheVariants as row
-use Rattle.rhai_ops.specs.declared.own.Own.{Own}
-use Rattle.rhai_ops.specs.declared.own.Own.TheVariants as is
-use Rattle.rhai_ops.specs.declared.role.Comparison.{Comparison}
-use Rattle.rhai_ops.specs.Numbers.{compared, compared_by}
+use Rattle.rhai_ops.specs.declared.operand_kind.OperandKind.{OperandKind}
+use Rattle.rhai_ops.specs.declared.operand_kind.OperandKind.TheVariants as is
+use Rattle.rhai_ops.specs.Numbers.{compared}
 use Rattle.rhai_ops.specs.Order.{ordered, row_order}
 use Rattle.rhai_ops.specs.Outcome.{answers, both, bool_answer}
 use Rattle.rhai_ops.specs.Results.{part, text_order, outcome}
-use Rattle.rhai_ops.specs.Table.{own, row_of, own_pair, type_line, is_numeric, is_range_type}
-use Rattle.rhai_ops.specs.Tokens.{comparison, role}
+use Rattle.rhai_ops.specs.Table.{operand_kind, row_of, rows_of_kinds, type_line, is_numeric, is_range_type}
 use Rattle.rhai_ops.proofs.Lines.{LineAll, PairAll, pair_all, if_all}
 
 -- a row that compares does so by this operator
@@ -35,7 +33,7 @@ IsOf t (row.CharTextCompare u) = u ≡ t
 IsOf t (row.TextCharCompare u) = u ≡ t
 IsOf t _ = Unit {0}
 
-own_is : (t : Token) (a b : Own) → PairAll (IsOf t) (own_pair t a b)
+own_is : (t : Token) (a b : OperandKind) → PairAll (IsOf t) (rows_of_kinds t a b)
 own_is t is.Unit is.Unit = search refl
 own_is t is.Bool is.Bool = search refl
 own_is t is.Int is.Int = search refl
@@ -51,23 +49,23 @@ types_are t a b =
     if_all (IsOf t) (is_range_type a && is_range_type b) _ _ (λ r. if_all (IsOf t) (is_type a b) _ _ (λ i. (λ d. tt, (λ d. tt, tt))) (λ i. (λ d. tt, (λ d. tt, tt))))
     (λ r. if_all (IsOf t) (is_type a b || (is_numeric a && is_numeric b)) _ _ (λ i. tt) (λ i. (λ d. tt, (λ d. tt, tt)))))
 
-by_order : {A B : Type 0} (cmp : A → B → Ordering) (p : Option A) (q : Option B) (r : Option Comparison) (o : Ordering) (c : Comparison) → r ≡ Some c → ordered cmp p q ≡ Some o
-    → both (λ a b. bool_answer (compared_by r (cmp a b))) p q ≡ answers (fresh (bool (compared c o)))
-by_order cmp (Some a) (Some b) r o c k e = ap (λ z. bool_answer (compared_by z (cmp a b))) k ∙ ap (λ z. answers (fresh (bool (compared c z)))) (same_Some (cmp a b) o e)
-by_order cmp (Some a) None r o c k e = cc
-by_order cmp None q r o c k e = cc
+by_order : {A B : Type 0} (t : Token) (cmp : A → B → Ordering) (p : Option A) (q : Option B) (o : Ordering) (c : Bool) → ordered cmp p q ≡ Some o → compared t o ≡ Some c
+    → both (λ a b. bool_answer (compared t (cmp a b))) p q ≡ answers (fresh (bool c))
+by_order t cmp (Some a) (Some b) o c e k = ap (λ z. bool_answer (compared t z)) (same_Some (cmp a b) o e) ∙ ap bool_answer k
+by_order t cmp (Some a) None o c e k = cc
+by_order t cmp None q o c e k = cc
 
-row_by_order : (t : Token) (l : Limits) (s : List Cell) (x y : Tree) (b : FnBuiltin) (c : Comparison) (o : Ordering) → IsOf t b → comparison (role t) ≡ Some c → row_order b s x y ≡ Some o
-    → outcome b l s x y ≡ answers (fresh (bool (compared c o)))
-row_by_order t l s x y (row.IntCompare u) c o i k e = by_order int_cmp (part int_of s x) (part int_of s y) (comparison (role u)) o c (ap (λ v. comparison (role v)) i ∙ k) e
-row_by_order t l s x y (row.BoolCompare u) c o i k e = by_order bool_cmp (part bool_of s x) (part bool_of s y) (comparison (role u)) o c (ap (λ v. comparison (role v)) i ∙ k) e
-row_by_order t l s x y (row.TextCompare u) c o i k e = by_order text_order (part text_of s x) (part text_of s y) (comparison (role u)) o c (ap (λ v. comparison (role v)) i ∙ k) e
-row_by_order t l s x y (row.CharCompare u) c o i k e = by_order nat_cmp (part char_of s x) (part char_of s y) (comparison (role u)) o c (ap (λ v. comparison (role v)) i ∙ k) e
-row_by_order t l s x y (row.CharTextCompare u) c o i k e = by_order (λ d w. text_order (d ∷ []) w) (part char_of s x) (part text_of s y) (comparison (role u)) o c (ap (λ v. comparison (role v)) i ∙ k) e
-row_by_order t l s x y (row.TextCharCompare u) c o i k e = by_order (λ v d. text_order v (d ∷ [])) (part text_of s x) (part char_of s y) (comparison (role u)) o c (ap (λ v. comparison (role v)) i ∙ k) e
-row_by_order t l s x y b c o i k e = cc
+row_by_order : (t : Token) (l : Limits) (s : List Cell) (x y : Tree) (b : FnBuiltin) (o : Ordering) (c : Bool) → IsOf t b → row_order b s x y ≡ Some o → compared t o ≡ Some c
+    → outcome b l s x y ≡ answers (fresh (bool c))
+row_by_order t l s x y (row.IntCompare u) o c i e k = by_order u int_cmp (part int_of s x) (part int_of s y) o c e (ap (λ v. compared v o) i ∙ k)
+row_by_order t l s x y (row.BoolCompare u) o c i e k = by_order u bool_cmp (part bool_of s x) (part bool_of s y) o c e (ap (λ v. compared v o) i ∙ k)
+row_by_order t l s x y (row.TextCompare u) o c i e k = by_order u text_order (part text_of s x) (part text_of s y) o c e (ap (λ v. compared v o) i ∙ k)
+row_by_order t l s x y (row.CharCompare u) o c i e k = by_order u nat_cmp (part char_of s x) (part char_of s y) o c e (ap (λ v. compared v o) i ∙ k)
+row_by_order t l s x y (row.CharTextCompare u) o c i e k = by_order u (λ d w. text_order (d ∷ []) w) (part char_of s x) (part text_of s y) o c e (ap (λ v. compared v o) i ∙ k)
+row_by_order t l s x y (row.TextCharCompare u) o c i e k = by_order u (λ v d. text_order v (d ∷ [])) (part text_of s x) (part char_of s y) o c e (ap (λ v. compared v o) i ∙ k)
+row_by_order t l s x y b o c i e k = cc
 
-pub compared_by_order : (t : Token) (l : Limits) (s : List Cell) (x y : Tree) (b : FnBuiltin) (c : Comparison) (o : Ordering) → row_of t s x y ≡ Some b → comparison (role t) ≡ Some c
-    → row_order b s x y ≡ Some o → outcome b l s x y ≡ answers (fresh (bool (compared c o)))
-compared_by_order t l s x y b c o found k e =
-    row_by_order t l s x y b c o (pair_all (IsOf t) (own_pair t (own x) (own y)) _ b (own_is t (own x) (own y)) (types_are t (end_type (end s [] x)) (end_type (end s [] y))) found) k e
+pub compared_by_order : (t : Token) (l : Limits) (s : List Cell) (x y : Tree) (b : FnBuiltin) (o : Ordering) (c : Bool) → row_of t s x y ≡ Some b
+    → row_order b s x y ≡ Some o → compared t o ≡ Some c → outcome b l s x y ≡ answers (fresh (bool c))
+compared_by_order t l s x y b o c found e k =
+    row_by_order t l s x y b o c (pair_all (IsOf t) (rows_of_kinds t (operand_kind x) (operand_kind y)) _ b (own_is t (operand_kind x) (operand_kind y)) (types_are t (end_type (end s [] x)) (end_type (end s [] y))) found) e k

@@ -8,10 +8,10 @@ use Rattle.rhai_value.specs.Tree.{Tree}
 use Rattle.rhai_value.specs.End.{end, end_type}
 use Rattle.rhai_value.specs.Types.{is_type}
 use Rattle.rhai_ops.specs.declared.builtin.FnBuiltin.{FnBuiltin}
-use Rattle.rhai_ops.specs.declared.own.Own.{Own}
-use Rattle.rhai_ops.specs.declared.own.Own.TheVariants as is
+use Rattle.rhai_ops.specs.declared.operand_kind.OperandKind.{OperandKind}
+use Rattle.rhai_ops.specs.declared.operand_kind.OperandKind.TheVariants as is
 use Rattle.rhai_ops.specs.AssignTable.{assign_line, assign_row}
-use Rattle.rhai_ops.specs.Table.{own, row_of, own_pair, type_line, is_numeric, is_range_type}
+use Rattle.rhai_ops.specs.Table.{operand_kind, row_of, rows_of_kinds, type_line, is_numeric, is_range_type}
 use Rattle.rhai_ops.specs.Effects.{effect, operator, writes}
 use Rattle.rhai_ops.proofs.Lines.{LineAll, PairAll, pick_all, pair_all, if_all}
 
@@ -22,7 +22,7 @@ abbrev Writes : FnBuiltin → Type 0
 Writes r = IsTrue (writes (effect r))
 
 -- pair by pair; a row more is found without a line more
-own_answers : (t : Token) (a b : Own) → PairAll Answers (own_pair t a b)
+own_answers : (t : Token) (a b : OperandKind) → PairAll Answers (rows_of_kinds t a b)
 own_answers t is.Unit is.Unit = search refl
 own_answers t is.Bool is.Bool = search refl
 own_answers t is.Int is.Int = search refl
@@ -39,9 +39,9 @@ types_answer t a b =
     (λ r. if_all Answers (is_type a b || (is_numeric a && is_numeric b)) _ _ (λ i. tt) (λ i. (λ d. refl, (λ d. refl, tt)))))
 
 pub operators : (t : Token) (s : List Cell) (x y : Tree) (r : FnBuiltin) → row_of t s x y ≡ Some r → effect r ≡ operator
-operators t s x y r e = pair_all Answers (own_pair t (own x) (own y)) _ r (own_answers t (own x) (own y)) (types_answer t (end_type (end s [] x)) (end_type (end s [] y))) e
+operators t s x y r e = pair_all Answers (rows_of_kinds t (operand_kind x) (operand_kind y)) _ r (own_answers t (operand_kind x) (operand_kind y)) (types_answer t (end_type (end s [] x)) (end_type (end s [] y))) e
 
-own_writes : (t : Token) (a b : Own) → LineAll Writes (assign_line t a b)
+own_writes : (t : Token) (a b : OperandKind) → LineAll Writes (assign_line t a b)
 own_writes t is.Unit is.Unit = search refl
 own_writes t is.Bool is.Bool = search refl
 own_writes t is.Int is.Int = search refl
@@ -52,4 +52,4 @@ own_writes t is.Array is.Array = search refl
 own_writes t a b = search refl
 
 pub assignments : (t : Token) (x y : Tree) (r : FnBuiltin) → assign_row t x y ≡ Some r → IsTrue (writes (effect r))
-assignments t x y r e = pick_all Writes (assign_line t (own x) (own y)) r (own_writes t (own x) (own y)) e
+assignments t x y r e = pick_all Writes (assign_line t (operand_kind x) (operand_kind y)) r (own_writes t (operand_kind x) (operand_kind y)) e

@@ -17,19 +17,18 @@ use Rattle.rhai_value.specs.Relation.{Renaming, Related, AllRelated, IsOneToOne,
 use Rattle.rhai_value.proofs.ForCallers.{by_trees, same_copy, same_end, same_end_type, same_flat, same_held_leaf}
 use Rattle.rhai_ops.specs.declared.builtin.FnBuiltin.{FnBuiltin}
 use Rattle.rhai_ops.specs.declared.builtin.FnBuiltin.TheVariants as row
-use Rattle.rhai_ops.specs.Numbers.{Number, number_by}
+use Rattle.rhai_ops.specs.Numbers.{Number, number}
 use Rattle.rhai_ops.specs.AssignTable.{assign_line, assign_row}
-use Rattle.rhai_ops.specs.Table.{own, row_of, own_pair, type_line, pair_row, pick}
+use Rattle.rhai_ops.specs.Table.{operand_kind, row_of, rows_of_kinds, type_line, pair_row, pick}
 use Rattle.rhai_ops.specs.Outcome.{Outcome, answers, too_large, both, number_answer, bool_answer, is_allowed, limited_text, limited_blob, RelatedOutcomes}
 use Rattle.rhai_value.specs.Bytes.{low_byte}
 use Rattle.rhai_ops.specs.Results.{blob_and_char, part, joined_blobs, joined_texts, joined_to_char, blob_and_text, pushed, joined_items, outcome, range_type}
-use Rattle.rhai_ops.specs.Tokens.{role, arithmetic}
 use Rattle.rhai_ops.proofs.SameItems.{both_alike, pushed_related, joined_related, same_items, same_moved}
 
-pub same_own : (r : Renaming) (t u : Tree) → Related r t u → own t ≡ own u
-same_own r = by_trees r (λ t u. own t ≡ own u) (λ l g m. refl) same_branch (λ fs hs g m h. refl) (λ c d g m p. refl)
+pub same_kind : (r : Renaming) (t u : Tree) → Related r t u → operand_kind t ≡ operand_kind u
+same_kind r = by_trees r (λ t u. operand_kind t ≡ operand_kind u) (λ l g m. refl) same_branch (λ fs hs g m h. refl) (λ c d g m p. refl)
   where
-    same_branch : (k : Kind) (ts us : Trees) (g : ℤ) (m : AccessMode) → AllRelated r ts us → own (node (branch k ts) g m) ≡ own (node (branch k us) g m)
+    same_branch : (k : Kind) (ts us : Trees) (g : ℤ) (m : AccessMode) → AllRelated r ts us → operand_kind (node (branch k ts) g m) ≡ operand_kind (node (branch k us) g m)
     same_branch array ts us g m h = refl
     same_branch (function f) ts us g m h = refl
 
@@ -95,7 +94,7 @@ module _ (r : Renaming) (s z : List Cell) (one : IsOneToOne r) (cells : RelatedC
 
   pub same_row : (k : Token) (t u v w : Tree) → Related r t u → Related r v w → row_of k s t v ≡ row_of k z u w
   same_row k t u v w h q =
-      ap₂ pair_row (ap₂ (own_pair k) (same_own r t u h) (same_own r v w q)) (ap₂ (type_line k) (same_type t u h) (same_type v w q))
+      ap₂ pair_row (ap₂ (rows_of_kinds k) (same_kind r t u h) (same_kind r v w q)) (ap₂ (type_line k) (same_type t u h) (same_type v w q))
 
   module _ (t u v w : Tree) (h : Related r t u) (q : Related r v w) where
     -- of two leaves that both hold
@@ -106,10 +105,10 @@ module _ (r : Renaming) (s z : List Cell) (one : IsOneToOne r) (cells : RelatedC
     blob_and_char_same l = rw (same_leaf leaf_blob t u h, same_leaf leaf_char v w q) (both_self r _ _ (λ a b. blob_self r l (a ++ b)) (part (leaf_part leaf_blob) z u) (option_map encode_utf8 (part (leaf_part leaf_char) z w)))
 
     pub same_assign_row : (k : Token) → assign_row k t v ≡ assign_row k u w
-    same_assign_row k = ap₂ (λ a b. pick (assign_line k a b)) (same_own r t u h) (same_own r v w q)
+    same_assign_row k = ap₂ (λ a b. pick (assign_line k a b)) (same_kind r t u h) (same_kind r v w q)
 
     pub same_outcome : (b : FnBuiltin) (l : Limits) → RelatedOutcomes r (outcome b l s t v) (outcome b l z u w)
-    same_outcome (row.Int k) l = by_both leaf_int leaf_int _ (λ m n. number_self r (number_by (arithmetic (role k)) m n))
+    same_outcome (row.Int k) l = by_both leaf_int leaf_int _ (λ m n. number_self r (number k m n))
     same_outcome row.BlobJoin l =
         rw (same_leaf leaf_blob t u h, same_leaf leaf_blob v w q) (both_self r _ _ (joined_same r l (flat s t) (flat z u) (flat s v) (flat z w) (same_flat r s z t u one cells h) (same_flat r s z v w one cells q)) (part (leaf_part leaf_blob) z u) (part (leaf_part leaf_blob) z w))
     same_outcome row.BlobChar l = blob_and_char_same l

@@ -17,11 +17,12 @@ use Rattle.rhai_value.specs.End.{End, held, stuck, closed, site_after, end, end_
 use Rattle.rhai_value.proofs.ForCallers.{walk_opens}
 use Rattle.rhai_ops.specs.declared.builtin.FnBuiltin.{FnBuiltin}
 use Rattle.rhai_ops.specs.declared.builtin.FnBuiltin.TheVariants as row
-use Rattle.rhai_ops.specs.declared.own.Own.{Own}
-use Rattle.rhai_ops.specs.declared.own.Own.TheVariants as is
-use Rattle.rhai_ops.specs.Table.{own, own_leaf, row_of, own_pair, type_line, pick, is_numeric, is_range_type}
+use Rattle.rhai_ops.specs.declared.operand_kind.OperandKind.{OperandKind}
+use Rattle.rhai_ops.specs.declared.operand_kind.OperandKind.TheVariants as is
+use Rattle.rhai_ops.specs.Table.{operand_kind, leaf_operand, row_of, rows_of_kinds, type_line, pick, is_numeric, is_range_type}
 use Rattle.rhai_ops.specs.AssignTable.{assign_line, assign_row}
 use Rattle.rhai_ops.specs.Results.{part, Holds, Suits, range_type}
+use Rattle.rhai_ops.proofs.Questions.{base_is_number}
 use Rattle.rhai_ops.proofs.Lines.{LineAll, PairAll, pick_all, pair_all, if_all}
 
 -- a value that is no holder is held
@@ -41,8 +42,8 @@ holder_end s c g m v e = walk_opens end_of s [] (node (holder c) g m) ∙ ap (λ
 pub own_part : {A : Type 0} (of : Tree → Option A) (s : List Cell) (l : Leaf) (g : ℤ) (m : AccessMode) → part of s (node (leaf l) g m) ≡ of (node (leaf l) g m)
 own_part of s l g m = ap (held_part of) (leaf_end s [] l g m)
 
--- what a value holds by its own constructor, of the end of its chain
-abbrev HoldsOwn : Own → End → Type 0
+-- what a value holds by its operand_kind constructor, of the end of its chain
+abbrev HoldsOwn : OperandKind → End → Type 0
 HoldsOwn is.Unit e = IsSome (held_part unit_of e)
 HoldsOwn is.Bool e = IsSome (held_part bool_of e)
 HoldsOwn is.Int e = IsSome (held_part int_of e)
@@ -52,7 +53,7 @@ HoldsOwn is.Blob e = IsSome (held_part blob_of e)
 HoldsOwn is.Array e = IsSome (held_part array_of e)
 HoldsOwn is.Other e = Unit {0}
 
-leaf_holds : (site : Site) (l : Leaf) (g : ℤ) (m : AccessMode) → HoldsOwn (own_leaf l) (held site (node (leaf l) g m))
+leaf_holds : (site : Site) (l : Leaf) (g : ℤ) (m : AccessMode) → HoldsOwn (leaf_operand l) (held site (node (leaf l) g m))
 leaf_holds site unit g m = refl
 leaf_holds site (bool b) g m = refl
 leaf_holds site (int n) g m = refl
@@ -61,8 +62,8 @@ leaf_holds site (char c) g m = refl
 leaf_holds site (blob bs) g m = refl
 leaf_holds site (host h) g m = tt
 
-holds_own : (s : List Cell) (p : List ℕ) (t : Tree) → HoldsOwn (own t) (end s p t)
-holds_own s p (node (leaf l) g m) = subst (HoldsOwn (own_leaf l)) (sym (leaf_end s p l g m)) (leaf_holds (site_after (slice_get p 0)) l g m)
+holds_own : (s : List Cell) (p : List ℕ) (t : Tree) → HoldsOwn (operand_kind t) (end s p t)
+holds_own s p (node (leaf l) g m) = subst (HoldsOwn (leaf_operand l)) (sym (leaf_end s p l g m)) (leaf_holds (site_after (slice_get p 0)) l g m)
 holds_own s p (node (branch array ts) g m) = subst (HoldsOwn is.Array) (sym (branch_end s p array ts g m)) refl
 holds_own s p (node (branch (function f) ts) g m) = tt
 holds_own s p (node (fields fs) g m) = tt
@@ -89,7 +90,7 @@ module _ (t : Token) (s : List Cell) (x y : Tree) where
   Fit r = Suits r s x y
 
   -- pair by pair; a row more is found without a line more
-  own_suits : (a b : Own) → HoldsOwn a (end s [] x) → HoldsOwn b (end s [] y) → PairAll Fit (own_pair t a b)
+  own_suits : (a b : OperandKind) → HoldsOwn a (end s [] x) → HoldsOwn b (end s [] y) → PairAll Fit (rows_of_kinds t a b)
   own_suits is.Unit is.Unit h k = search refl
   own_suits is.Bool is.Bool h k = search refl
   own_suits is.Int is.Int h k = search refl
@@ -128,35 +129,35 @@ module _ (t : Token) (s : List Cell) (x y : Tree) where
       if_all Fit (is_range_type first_type && is_range_type second_type) _ _ (λ b. if_all Fit (is_type first_type second_type) _ _ (λ i. (λ d. ranges_suit false (both_true _ _ b).0 i, (λ d. ranges_suit true (both_true _ _ b).0 i, tt))) (λ i. (λ d. tt, (λ d. tt, tt))))
       (λ b. if_all Fit (is_type first_type second_type || (is_numeric first_type && is_numeric second_type)) _ _ (λ i. tt) (λ i. (λ d. tt, (λ d. tt, tt)))))
 
-  assign_suits : (a b : Own) → HoldsOwn a (end s [] x) → HoldsOwn b (end s [] y) → LineAll Fit (assign_line t a b)
+  assign_suits : (a b : OperandKind) → HoldsOwn a (end s [] x) → HoldsOwn b (end s [] y) → LineAll Fit (assign_line t a b)
   assign_suits is.Unit is.Unit h k = search refl
-  assign_suits is.Bool is.Bool h k = search refl
-  assign_suits is.Int is.Int h k = search refl
+  assign_suits is.Bool is.Bool h k = (λ e. ((both_true _ _ e).0, ((both_true _ _ e).1, (h, k))), tt)
+  assign_suits is.Int is.Int h k = (λ e. (e, (base_is_number t e, (h, k))), tt)
   assign_suits is.Str is.Str h k = search refl
   assign_suits is.Char is.Char h k = search refl
   assign_suits is.Blob is.Blob h k = search refl
   assign_suits is.Array is.Array h k = search refl
   assign_suits a b h k = search refl
 
-  -- the first operand holds what its first content is by its own constructor
-  assign_row_suits : (a : Own) (r : FnBuiltin) → HoldsOwn a (end s [] x) → pick (assign_line t a (own y)) ≡ Some r → Suits r s x y
-  assign_row_suits a r h e = pick_all Fit (assign_line t a (own y)) r (assign_suits a (own y) h (holds_own s [] y)) e
+  -- the first operand holds what its first content is by its operand_kind constructor
+  assign_row_suits : (a : OperandKind) (r : FnBuiltin) → HoldsOwn a (end s [] x) → pick (assign_line t a (operand_kind y)) ≡ Some r → Suits r s x y
+  assign_row_suits a r h e = pick_all Fit (assign_line t a (operand_kind y)) r (assign_suits a (operand_kind y) h (holds_own s [] y)) e
 
   pub row_suits : (r : FnBuiltin) → row_of t s x y ≡ Some r → Suits r s x y
-  row_suits r e = pair_all Fit (own_pair t (own x) (own y)) (type_line t first_type second_type) r (own_suits (own x) (own y) (holds_own s [] x) (holds_own s [] y)) types_suit e
+  row_suits r e = pair_all Fit (rows_of_kinds t (operand_kind x) (operand_kind y)) (type_line t first_type second_type) r (own_suits (operand_kind x) (operand_kind y) (holds_own s [] x) (holds_own s [] y)) types_suit e
 
 -- the row that is looked up for the first content of x may be called on x
-own_first : (s : List Cell) (x v : Tree) → Some x ≡ Some v → HoldsOwn (own v) (end s [] x)
-own_first s x v e = subst (λ u. HoldsOwn (own u) (end s [] x)) (same_Some x v e) (holds_own s [] x)
+own_first : (s : List Cell) (x v : Tree) → Some x ≡ Some v → HoldsOwn (operand_kind v) (end s [] x)
+own_first s x v e = subst (λ u. HoldsOwn (operand_kind u) (end s [] x)) (same_Some x v e) (holds_own s [] x)
 
-holds_first : (s : List Cell) (x v : Tree) → first s x ≡ Some v → HoldsOwn (own v) (end s [] x)
-holds_first s (node (holder c) g m) v e = subst (HoldsOwn (own v)) (sym (holder_end s c g m v e)) (holds_own s (c ∷ []) v)
+holds_first : (s : List Cell) (x v : Tree) → first s x ≡ Some v → HoldsOwn (operand_kind v) (end s [] x)
+holds_first s (node (holder c) g m) v e = subst (HoldsOwn (operand_kind v)) (sym (holder_end s c g m v e)) (holds_own s (c ∷ []) v)
 holds_first s (node (leaf l) g m) v e = own_first s (node (leaf l) g m) v e
 holds_first s (node (branch k ts) g m) v e = own_first s (node (branch k ts) g m) v e
 holds_first s (node (fields fs) g m) v e = own_first s (node (fields fs) g m) v e
 
 pub place_suits : (t : Token) (s : List Cell) (x v y : Tree) (r : FnBuiltin) → first s x ≡ Some v → assign_row t v y ≡ Some r → Suits r s x y
-place_suits t s x v y r f e = assign_row_suits t s x y (own v) r (holds_first s x v f) e
+place_suits t s x v y r f e = assign_row_suits t s x y (operand_kind v) r (holds_first s x v f) e
 
 pub assigned_suits : (t : Token) (s : List Cell) (x y : Tree) (r : FnBuiltin) → assign_row t x y ≡ Some r → Suits r s x y
-assigned_suits t s x y r e = assign_row_suits t s x y (own x) r (holds_own s [] x) e
+assigned_suits t s x y r e = assign_row_suits t s x y (operand_kind x) r (holds_own s [] x) e

@@ -1,17 +1,17 @@
--- The table of assignments: which row an operator has on a place and a second operand, by their own constructors alone.
+-- The table of assignments: which row an operator has on a place and a second operand, by their operand_kind constructors alone.
 use Rattle.std.specs.Prelude.{[], ◌∷◌, Option}
 use Rattle.rhai_text.specs.declared.token.Token.{Token}
 use Rattle.rhai_text.specs.declared.token.Token.TheVariants as op
 use Rattle.rhai_value.specs.Tree.{Tree}
 use Rattle.rhai_ops.specs.declared.builtin.FnBuiltin.{FnBuiltin}
 use Rattle.rhai_ops.specs.declared.builtin.FnBuiltin.TheVariants as row
-use Rattle.rhai_ops.specs.declared.own.Own.{Own}
-use Rattle.rhai_ops.specs.declared.own.Own.TheVariants as is
-use Rattle.rhai_ops.specs.Table.{own, Line, pick}
+use Rattle.rhai_ops.specs.declared.operand_kind.OperandKind.{OperandKind}
+use Rattle.rhai_ops.specs.declared.operand_kind.OperandKind.TheVariants as is
+use Rattle.rhai_ops.specs.Table.{operand_kind, Line, pick}
 use Rattle.rhai_ops.specs.Tokens.{is_assignment, is_bits_assignment, is_token}
 
 -- the questions are about the assignment t
-abbrev pub assign_line : Token → Own → Own → Line
+abbrev pub assign_line : Token → OperandKind → OperandKind → Line
 assign_line t is.Int is.Int = (is_assignment t, row.IntAssign t) ∷ []
 assign_line t is.Bool is.Bool = (is_bits_assignment t, row.BoolAssign t) ∷ []
 assign_line t is.Char is.Char = (is_token t op.PlusAssign, row.CharJoinAssign) ∷ []
@@ -28,4 +28,4 @@ assign_line t _ _ = []
 
 -- the row of the assignment on x and y
 abbrev pub assign_row : Token → Tree → Tree → Option FnBuiltin
-assign_row t x y = pick (assign_line t (own x) (own y))
+assign_row t x y = pick (assign_line t (operand_kind x) (operand_kind y))

@@ -1,17 +1,12 @@
 -- What the operators answer on two numbers, on two booleans, and on the order of two contents.
-use Rattle.std.specs.Prelude.{Option, option_map, ℕ, ℤ, pos, negsuc, zero, suc, ◌+ℤ◌, ◌-ℤ◌, ◌*ℤ◌, ◌^◌, Bool, Result, Ok, Err, nat_lt, not, ◌&&◌, ◌||◌, bit_and, bit_or, bit_xor, int_div, int_rem, if◌then◌else◌}
+use Rattle.std.specs.Prelude.{Option, Some, None, ℕ, ℤ, pos, negsuc, zero, suc, ◌+ℤ◌, ◌-ℤ◌, ◌*ℤ◌, ◌^◌, Bool, Result, Ok, Err, nat_lt, not, ◌&&◌, ◌||◌, bit_and, bit_or, bit_xor, int_div, int_rem, if◌then◌else◌}
 use Rattle.std.specs.Int.{w64, int_pow, int_wrap, int_shr, cast_signed, cast_unsigned}
 use Rattle.std.specs.Ordering.{is_eq, is_ne, is_lt, is_gt, is_le, is_ge}
 use Rattle.std.specs.declared.cmp.Ordering.{Ordering}
 use Rattle.rhai_text.specs.declared.error.ArithmeticFault.{ArithmeticFault}
 use Rattle.rhai_text.specs.declared.error.ArithmeticFault.TheVariants.{Overflow, DivisionByZero, NegativePower, PowerTooLarge}
-use Rattle.rhai_ops.specs.declared.role.Arithmetic.{Arithmetic}
-use Rattle.rhai_ops.specs.declared.role.Arithmetic.TheVariants.{Plus, Minus, Multiplicative, Bits}
-use Rattle.rhai_ops.specs.declared.role.Bits.{Bits as BitOperation}
-use Rattle.rhai_ops.specs.declared.role.Bits.TheVariants.{And, Or, XOr}
-use Rattle.rhai_ops.specs.declared.role.Comparison.{Comparison}
-use Rattle.rhai_ops.specs.declared.role.Comparison.TheVariants.{Equal, Unequal, Greater, GreaterOrEqual, Less, LessOrEqual}
-use Rattle.rhai_ops.specs.declared.role.Multiplicative.TheVariants.{Multiply, Divide, Modulo, PowerOf, RightShift, LeftShift}
+use Rattle.rhai_text.specs.declared.token.Token.{Token}
+use Rattle.rhai_text.specs.declared.token.Token.TheVariants as op
 
 -- a number, or why there is none
 abbrev pub Number : Type 0
@@ -54,41 +49,34 @@ shifted_right x (negsuc n) = times_power x (suc n)
 abbrev pub by_bits : (ℕ → ℕ → ℕ) → ℤ → ℤ → ℤ
 by_bits f x y = cast_signed w64 (f (cast_unsigned w64 x) (cast_unsigned w64 y))
 
--- whole numbers, and one test of the range at the end
-abbrev pub number : Arithmetic → ℤ → ℤ → Number
-number Plus x y = ranged (x +ℤ y)
-number Minus x y = ranged (x -ℤ y)
-number (Multiplicative Multiply) x y = ranged (x *ℤ y)
-number (Multiplicative Divide) x y = by_divisor y (ranged (int_div x y))
-number (Multiplicative Modulo) x y = by_divisor y (if in_range (int_div x y) then Ok (int_rem x y) else Err Overflow)
-number (Multiplicative PowerOf) x y = powered x y
-number (Multiplicative RightShift) x y = Ok (shifted_right x y)
-number (Multiplicative LeftShift) x y = Ok (shifted_left x y)
-number (Bits And) x y = Ok (by_bits bit_and x y)
-number (Bits Or) x y = Ok (by_bits bit_or x y)
-number (Bits XOr) x y = Ok (by_bits bit_xor x y)
+-- Of two ints: whole numbers, and one test of the range at the end. An operator that makes no number of ints has nothing here.
+abbrev pub number : Token → ℤ → ℤ → Option Number
+number op.Plus x y = Some (ranged (x +ℤ y))
+number op.Minus x y = Some (ranged (x -ℤ y))
+number op.Multiply x y = Some (ranged (x *ℤ y))
+number op.Divide x y = Some (by_divisor y (ranged (int_div x y)))
+number op.Modulo x y = Some (by_divisor y (if in_range (int_div x y) then Ok (int_rem x y) else Err Overflow))
+number op.PowerOf x y = Some (powered x y)
+number op.RightShift x y = Some (Ok (shifted_right x y))
+number op.LeftShift x y = Some (Ok (shifted_left x y))
+number op.Ampersand x y = Some (Ok (by_bits bit_and x y))
+number op.Pipe x y = Some (Ok (by_bits bit_or x y))
+number op.XOr x y = Some (Ok (by_bits bit_xor x y))
+number _ x y = None
 
 -- of two booleans
-abbrev pub both_bits : BitOperation → Bool → Bool → Bool
-both_bits And a b = a && b
-both_bits Or a b = a || b
-both_bits XOr a b = if a then not b else b
+abbrev pub both_bits : Token → Bool → Bool → Option Bool
+both_bits op.Ampersand a b = Some (a && b)
+both_bits op.Pipe a b = Some (a || b)
+both_bits op.XOr a b = Some (if a then not b else b)
+both_bits _ a b = None
 
 -- of the order of two contents
-abbrev pub compared : Comparison → Ordering → Bool
-compared Equal o = is_eq o
-compared Unequal o = is_ne o
-compared Greater o = is_gt o
-compared GreaterOrEqual o = is_ge o
-compared Less o = is_lt o
-compared LessOrEqual o = is_le o
-
--- The same of what an operator does. Of one that does something else there is nothing.
-abbrev pub number_by : Option Arithmetic → ℤ → ℤ → Option Number
-number_by o x y = option_map (λ n. number n x y) o
-
-abbrev pub bits_by : Option BitOperation → Bool → Bool → Option Bool
-bits_by o a b = option_map (λ f. both_bits f a b) o
-
-abbrev pub compared_by : Option Comparison → Ordering → Option Bool
-compared_by o order = option_map (λ c. compared c order) o
+abbrev pub compared : Token → Ordering → Option Bool
+compared op.EqualsTo o = Some (is_eq o)
+compared op.NotEqualsTo o = Some (is_ne o)
+compared op.GreaterThan o = Some (is_gt o)
+compared op.GreaterThanEqualsTo o = Some (is_ge o)
+compared op.LessThan o = Some (is_lt o)
+compared op.LessThanEqualsTo o = Some (is_le o)
+compared _ o = None

@@ -1,5 +1,6 @@
 -- What a call of a row comes to.
 use Rattle.std.specs.Prelude.{◌≡◌, ℕ, Bool, true, false, ◌||◌, nat_eq, nat_le, List, length, Option, Some, None, Result, Ok, Err, if◌then◌else◌}
+use Rattle.std.specs.Option.{option_map_or}
 use Rattle.std.specs.Str.{encode_utf8_all}
 use Rattle.rhai_text.specs.declared.error.ArithmeticFault.{ArithmeticFault}
 use Rattle.rhai_text.specs.declared.error.EvalAltResult.{EvalAltResult}
@@ -42,8 +43,7 @@ number_answer (Some (Err f)) = fault f
 number_answer None = unsuited
 
 abbrev pub bool_answer : Option Bool → Outcome
-bool_answer (Some b) = answers (fresh (bool b))
-bool_answer None = unsuited
+bool_answer o = option_map_or (λ b. answers (fresh (bool b))) o unsuited
 
 -- whether a length is allowed: a limit of 0 is none, and an equal length is
 abbrev pub is_allowed : ℕ → ℕ → Bool

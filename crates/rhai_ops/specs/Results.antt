@@ -19,11 +19,9 @@ use Rattle.rhai_value.specs.Parts.{unit_of, bool_of, int_of, char_of, text_of, b
 use Rattle.rhai_value.specs.End.{end, held_part, flat, array_moved}
 use Rattle.rhai_ops.specs.declared.builtin.FnBuiltin.{FnBuiltin}
 use Rattle.rhai_ops.specs.declared.builtin.FnBuiltin.TheVariants as row
-use Rattle.rhai_ops.specs.declared.role.Arithmetic.{Arithmetic}
-use Rattle.rhai_ops.specs.declared.role.Bits.{Bits}
-use Rattle.rhai_ops.specs.declared.role.Comparison.{Comparison}
-use Rattle.rhai_ops.specs.Tokens.{role, arithmetic, base_operation, bits, comparison}
-use Rattle.rhai_ops.specs.Numbers.{number_by, bits_by, compared_by}
+use Rattle.rhai_text.specs.declared.token.Token.{Token}
+use Rattle.rhai_ops.specs.Tokens.{is_number, is_bits, is_cmp, is_assignment, without_assign}
+use Rattle.rhai_ops.specs.Numbers.{number, both_bits, compared}
 use Rattle.rhai_ops.specs.Outcome.{Outcome, Effect, operator, assignment, Second, stays, taken, answers, too_large, both, number_answer, bool_answer, is_allowed, limited_text, limited_blob}
 
 -- what is held of a kind
@@ -156,19 +154,19 @@ abbrev pub writing : Second → Rule → Rule
 writing second r = record r { effect = assignment second }
 
 -- a comparison, by the order of such parts
-abbrev pub comparing : {A B : Type 0} → Option Comparison → (Tree → Option A) → (Tree → Option B) → (A → B → Ordering) → Rule
-comparing c first second order = only_if (is_some c) (of_parts first second (λ l a b. bool_answer (compared_by c (order a b))))
+abbrev pub comparing : {A B : Type 0} → Token → (Tree → Option A) → (Tree → Option B) → (A → B → Ordering) → Rule
+comparing t first second order = only_if (is_cmp t) (of_parts first second (λ l a b. bool_answer (compared t (order a b))))
 
 -- two blobs as one
 abbrev pub blob_join : Rule
 blob_join = record (limited (of_parts blob_of blob_of appended)) { comes_to = λ l s x y. both (joined_blobs l (flat s x) (flat s y)) (part blob_of s x) (part blob_of s y) }
 
 -- what an operator and its assignment have alike
-abbrev pub of_ints : Option Arithmetic → Rule
-of_ints o = only_if (is_some o) (of_parts int_of int_of (λ l m n. number_answer (number_by o m n)))
+abbrev pub of_ints : Token → Rule
+of_ints t = only_if (is_number t) (of_parts int_of int_of (λ l m n. number_answer (number t m n)))
 
-abbrev pub of_bools : Option Bits → Rule
-of_bools o = only_if (is_some o) (of_parts bool_of bool_of (λ l a b. bool_answer (bits_by o a b)))
+abbrev pub of_bools : Token → Rule
+of_bools t = only_if (is_bits t) (of_parts bool_of bool_of (λ l a b. bool_answer (both_bits t a b)))
 
 abbrev pub text_minus : Rule
 text_minus = making (of_parts text_of text_of (λ l v w. answers (fresh (text (minus v w)))))
@@ -184,16 +182,16 @@ blob_and_char = limited (of_read blob_of (Holds char_of) (λ s y. option_map enc
 
 -- each row's rule
 abbrev pub rule : FnBuiltin → Rule
-rule (row.Int t) = of_ints (arithmetic (role t))
-rule (row.IntCompare t) = comparing (comparison (role t)) int_of int_of int_cmp
+rule (row.Int t) = of_ints t
+rule (row.IntCompare t) = comparing t int_of int_of int_cmp
 rule (row.IntRange i) = of_parts int_of int_of (λ l m n. answers (fresh (host (range i m n))))
-rule (row.BoolCompare t) = comparing (comparison (role t)) bool_of bool_of bool_cmp
-rule (row.Bool t) = of_bools (bits (arithmetic (role t)))
+rule (row.BoolCompare t) = comparing t bool_of bool_of bool_cmp
+rule (row.Bool t) = of_bools t
 rule row.TextJoin = limited (of_parts text_of text_of (λ l v w. limited_text l (v ++ w)))
 rule row.TextMinus = text_minus
-rule (row.TextCompare t) = comparing (comparison (role t)) text_of text_of text_order
+rule (row.TextCompare t) = comparing t text_of text_of text_order
 rule row.CharJoin = limited (of_parts char_of char_of (λ l c d. limited_text l (c ∷ d ∷ [])))
-rule (row.CharCompare t) = comparing (comparison (role t)) char_of char_of nat_cmp
+rule (row.CharCompare t) = comparing t char_of char_of nat_cmp
 rule row.BlobJoin = blob_join
 rule (row.BlobEqual n) = of_parts blob_of blob_of (λ l v w. bool_answer (Some (unless n (pointwise nat_eq v w))))
 rule row.ConstTrue = of_any (λ x y. answers (fresh (bool true)))
@@ -201,16 +199,16 @@ rule row.ConstFalse = of_any (λ x y. answers (fresh (bool false)))
 rule (row.RangeFrom i) = of_parts int_of unit_of (λ l m u. answers (fresh (host (range i m int_max))))
 rule (row.RangeTo i) = of_parts unit_of int_of (λ l u n. answers (fresh (host (range i (pos 0) n))))
 rule row.CharText = limited (of_parts char_of text_of (λ l c w. limited_text l (c ∷ w)))
-rule (row.CharTextCompare t) = comparing (comparison (role t)) char_of text_of (λ c w. text_order (c ∷ []) w)
+rule (row.CharTextCompare t) = comparing t char_of text_of (λ c w. text_order (c ∷ []) w)
 rule row.TextChar = text_and_char
 rule row.TextMinusChar = text_minus_char
-rule (row.TextCharCompare t) = comparing (comparison (role t)) text_of char_of (λ v d. text_order v (d ∷ []))
+rule (row.TextCharCompare t) = comparing t text_of char_of (λ v d. text_order v (d ∷ []))
 rule row.FirstCopy = record (of_any (λ x y. answers (copy x))) { wants = λ x y. TakesNoMemory x → ⊥ }
 rule row.SecondCopy = record (of_any (λ x y. answers (copy y))) { wants = λ x y. TakesNoMemory y → ⊥ }
 rule row.BlobChar = blob_and_char
 rule (row.RangeEqual i n) = of_parts (typed_host_of (range_type i)) (typed_host_of (range_type i)) (λ l a b. range_answer n (same_range a b))
-rule (row.IntAssign t) = writing stays (of_ints (base_operation (role t)))
-rule (row.BoolAssign t) = writing stays (of_bools (bits (base_operation (role t))))
+rule (row.IntAssign t) = writing stays (only_if (is_assignment t) (of_ints (without_assign t)))
+rule (row.BoolAssign t) = writing stays (only_if (is_assignment t) (of_bools (without_assign t)))
 rule row.CharJoinAssign = writing stays (making (of_parts char_of char_of (λ l c d. answers (fresh (text (c ∷ d ∷ []))))))
 rule row.TextJoinAssign = writing stays (limited (of_parts text_of text_of joined_texts))
 rule row.TextMinusAssign = writing stays text_minus

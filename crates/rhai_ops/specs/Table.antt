@@ -1,5 +1,7 @@
 -- The table of binary operators: which row an operator has on two operands.
 use Rattle.std.specs.Prelude.{Bool, true, false, ◌||◌, ◌&&◌, List, [], ◌∷◌, Option, Some, None, if◌then◌else◌}
+use Rattle.std.specs.List.{list_any}
+use Rattle.std.specs.Option.{option_or}
 use Rattle.rhai_text.specs.declared.token.Token.{Token}
 use Rattle.rhai_text.specs.declared.token.Token.TheVariants as op
 use Rattle.rhai_value.specs.declared.store.Cell.{Cell}
@@ -10,31 +12,31 @@ use Rattle.rhai_value.specs.End.{end, end_type}
 use Rattle.rhai_value.specs.Types.{is_type}
 use Rattle.rhai_ops.specs.declared.builtin.FnBuiltin.{FnBuiltin}
 use Rattle.rhai_ops.specs.declared.builtin.FnBuiltin.TheVariants as row
-use Rattle.rhai_ops.specs.declared.own.Own.{Own}
-use Rattle.rhai_ops.specs.declared.own.Own.TheVariants as is
+use Rattle.rhai_ops.specs.declared.operand_kind.OperandKind.{OperandKind}
+use Rattle.rhai_ops.specs.declared.operand_kind.OperandKind.TheVariants as is
 use Rattle.rhai_ops.specs.Tokens.{is_number, is_bits, is_cmp, is_token}
 
 -- the constructor of a value, as far as the table tells constructors apart
-abbrev pub own_leaf : Leaf → Own
-own_leaf unit = is.Unit
-own_leaf (bool b) = is.Bool
-own_leaf (int n) = is.Int
-own_leaf (text s) = is.Str
-own_leaf (char c) = is.Char
-own_leaf (blob bs) = is.Blob
-own_leaf (host h) = is.Other
+abbrev pub leaf_operand : Leaf → OperandKind
+leaf_operand unit = is.Unit
+leaf_operand (bool b) = is.Bool
+leaf_operand (int n) = is.Int
+leaf_operand (text s) = is.Str
+leaf_operand (char c) = is.Char
+leaf_operand (blob bs) = is.Blob
+leaf_operand (host h) = is.Other
 
-abbrev pub own_content : Content → Own
-own_content (leaf l) = own_leaf l
-own_content (branch array ts) = is.Array
-own_content (branch (function f) ts) = is.Other
-own_content (fields fs) = is.Other
-own_content (holder c) = is.Other
+abbrev pub content_operand : Content → OperandKind
+content_operand (leaf l) = leaf_operand l
+content_operand (branch array ts) = is.Array
+content_operand (branch (function f) ts) = is.Other
+content_operand (fields fs) = is.Other
+content_operand (holder c) = is.Other
 
-abbrev pub own : Tree → Own
-own (node c g m) = own_content c
+abbrev pub operand_kind : Tree → OperandKind
+operand_kind (node c g m) = content_operand c
 
--- a line of the table: rows, each with the question whether the operator is one of its own
+-- a line of the table: rows, each with the question whether the operator is one of its operand_kind
 abbrev pub Line : Type 0
 Line = List (Bool × FnBuiltin)
 
@@ -50,40 +52,29 @@ pub data Pair : Type 0 where
   first : Line → Pair
 
 -- the questions are about the operator t
-abbrev pub own_pair : Token → Own → Own → Pair
-own_pair t is.Int is.Int = only ((is_number t, row.Int t) ∷ (is_cmp t, row.IntCompare t) ∷ (is_token t op.ExclusiveRange, row.IntRange false) ∷ (is_token t op.InclusiveRange, row.IntRange true) ∷ [])
-own_pair t is.Bool is.Bool = only ((is_cmp t, row.BoolCompare t) ∷ (is_bits t, row.Bool t) ∷ [])
-own_pair t is.Str is.Str = only ((is_token t op.Plus, row.TextJoin) ∷ (is_token t op.Minus, row.TextMinus) ∷ (is_cmp t, row.TextCompare t) ∷ [])
-own_pair t is.Char is.Char = only ((is_token t op.Plus, row.CharJoin) ∷ (is_cmp t, row.CharCompare t) ∷ [])
-own_pair t is.Blob is.Blob = only ((is_token t op.Plus, row.BlobJoin) ∷ (is_token t op.EqualsTo, row.BlobEqual false) ∷ (is_token t op.NotEqualsTo, row.BlobEqual true) ∷ [])
-own_pair t is.Unit is.Unit = only ((is_token t op.EqualsTo, row.ConstTrue) ∷ (is_cmp t, row.ConstFalse) ∷ [])
-own_pair t is.Int is.Unit = first ((is_token t op.ExclusiveRange, row.RangeFrom false) ∷ (is_token t op.InclusiveRange, row.RangeFrom true) ∷ [])
-own_pair t is.Unit is.Int = first ((is_token t op.ExclusiveRange, row.RangeTo false) ∷ (is_token t op.InclusiveRange, row.RangeTo true) ∷ [])
-own_pair t is.Char is.Str = only ((is_token t op.Plus, row.CharText) ∷ (is_cmp t, row.CharTextCompare t) ∷ [])
-own_pair t is.Str is.Char = only ((is_token t op.Plus, row.TextChar) ∷ (is_token t op.Minus, row.TextMinusChar) ∷ (is_cmp t, row.TextCharCompare t) ∷ [])
-own_pair t is.Unit is.Str = only ((is_token t op.Plus, row.SecondCopy) ∷ (is_token t op.NotEqualsTo, row.ConstTrue) ∷ (is_cmp t, row.ConstFalse) ∷ [])
-own_pair t is.Str is.Unit = only ((is_token t op.Plus, row.FirstCopy) ∷ (is_token t op.NotEqualsTo, row.ConstTrue) ∷ (is_cmp t, row.ConstFalse) ∷ [])
-own_pair t is.Blob is.Char = only ((is_token t op.Plus, row.BlobChar) ∷ [])
-own_pair t _ _ = first []
+abbrev pub rows_of_kinds : Token → OperandKind → OperandKind → Pair
+rows_of_kinds t is.Int is.Int = only ((is_number t, row.Int t) ∷ (is_cmp t, row.IntCompare t) ∷ (is_token t op.ExclusiveRange, row.IntRange false) ∷ (is_token t op.InclusiveRange, row.IntRange true) ∷ [])
+rows_of_kinds t is.Bool is.Bool = only ((is_cmp t, row.BoolCompare t) ∷ (is_bits t, row.Bool t) ∷ [])
+rows_of_kinds t is.Str is.Str = only ((is_token t op.Plus, row.TextJoin) ∷ (is_token t op.Minus, row.TextMinus) ∷ (is_cmp t, row.TextCompare t) ∷ [])
+rows_of_kinds t is.Char is.Char = only ((is_token t op.Plus, row.CharJoin) ∷ (is_cmp t, row.CharCompare t) ∷ [])
+rows_of_kinds t is.Blob is.Blob = only ((is_token t op.Plus, row.BlobJoin) ∷ (is_token t op.EqualsTo, row.BlobEqual false) ∷ (is_token t op.NotEqualsTo, row.BlobEqual true) ∷ [])
+rows_of_kinds t is.Unit is.Unit = only ((is_token t op.EqualsTo, row.ConstTrue) ∷ (is_cmp t, row.ConstFalse) ∷ [])
+rows_of_kinds t is.Int is.Unit = first ((is_token t op.ExclusiveRange, row.RangeFrom false) ∷ (is_token t op.InclusiveRange, row.RangeFrom true) ∷ [])
+rows_of_kinds t is.Unit is.Int = first ((is_token t op.ExclusiveRange, row.RangeTo false) ∷ (is_token t op.InclusiveRange, row.RangeTo true) ∷ [])
+rows_of_kinds t is.Char is.Str = only ((is_token t op.Plus, row.CharText) ∷ (is_cmp t, row.CharTextCompare t) ∷ [])
+rows_of_kinds t is.Str is.Char = only ((is_token t op.Plus, row.TextChar) ∷ (is_token t op.Minus, row.TextMinusChar) ∷ (is_cmp t, row.TextCharCompare t) ∷ [])
+rows_of_kinds t is.Unit is.Str = only ((is_token t op.Plus, row.SecondCopy) ∷ (is_token t op.NotEqualsTo, row.ConstTrue) ∷ (is_cmp t, row.ConstFalse) ∷ [])
+rows_of_kinds t is.Str is.Unit = only ((is_token t op.Plus, row.FirstCopy) ∷ (is_token t op.NotEqualsTo, row.ConstTrue) ∷ (is_cmp t, row.ConstFalse) ∷ [])
+rows_of_kinds t is.Blob is.Char = only ((is_token t op.Plus, row.BlobChar) ∷ [])
+rows_of_kinds t _ _ = first []
 
 -- the nine numbers of the host and i64
 abbrev pub is_numeric : TypeId → Bool
-is_numeric id.Int = true
-is_numeric id.U8 = true
-is_numeric id.U16 = true
-is_numeric id.U32 = true
-is_numeric id.U64 = true
-is_numeric id.U128 = true
-is_numeric id.I8 = true
-is_numeric id.I16 = true
-is_numeric id.I32 = true
-is_numeric id.I128 = true
-is_numeric _ = false
+is_numeric k =
+    list_any (is_type k) (id.Int ∷ id.U8 ∷ id.U16 ∷ id.U32 ∷ id.U64 ∷ id.U128 ∷ id.I8 ∷ id.I16 ∷ id.I32 ∷ id.I128 ∷ [])
 
 abbrev pub is_range_type : TypeId → Bool
-is_range_type id.ExclusiveRange = true
-is_range_type id.InclusiveRange = true
-is_range_type _ = false
+is_range_type k = list_any (is_type k) (id.ExclusiveRange ∷ id.InclusiveRange ∷ [])
 
 -- by the held types; `Shared` is the type where a chain is stuck or closed
 abbrev pub type_line : Token → TypeId → TypeId → Line
@@ -95,14 +86,10 @@ type_line t a b =
     else (if is_type a b || (is_numeric a && is_numeric b) then []
     else (is_token t op.NotEqualsTo, row.ConstTrue) ∷ (is_cmp t, row.ConstFalse) ∷ []))
 
-abbrev pub or_else : Option FnBuiltin → Option FnBuiltin → Option FnBuiltin
-or_else (Some r) q = Some r
-or_else None q = q
-
 abbrev pub pair_row : Pair → Line → Option FnBuiltin
 pair_row (only l) types = pick l
-pair_row (first l) types = or_else (pick l) (pick types)
+pair_row (first l) types = option_or (pick l) (pick types)
 
 -- the row of the operator on x and y in the store s
 abbrev pub row_of : Token → List Cell → Tree → Tree → Option FnBuiltin
-row_of t s x y = pair_row (own_pair t (own x) (own y)) (type_line t (end_type (end s [] x)) (end_type (end s [] y)))
+row_of t s x y = pair_row (rows_of_kinds t (operand_kind x) (operand_kind y)) (type_line t (end_type (end s [] x)) (end_type (end s [] y)))

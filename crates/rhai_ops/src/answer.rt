@@ -6,20 +6,20 @@ ghost use Rattle.rhai_ops.specs.Results.{Holds, part as part_in, unless as unles
 use rhai_value::{Dynamic, Part, Store};
 
 /// What is held of a kind.
-pub(crate) fn part<'s, T: Part>(value: &'s Dynamic, s: &'s Store) -> &'s T
-    requires { Holds T.part_of s.now value.now }
-    ensures { part_in T.part_of s.now value.now ≡ Some (T.meaning result.now) }
+pub(crate) fn part<'s, T: Part>(value: &'s Dynamic, store: &'s Store) -> &'s T
+    requires { Holds T.part_of store.now value.now }
+    ensures { part_in T.part_of store.now value.now ≡ Some (T.meaning result.now) }
 {
     // Rows are public and take any operator and operands: which ones suit is said by the `requires` of their call, and by no type.
-    value.held_part::<T>(s).unwrap()
+    value.held_part::<T>(store).unwrap()
 }
 
 /// The same, of what is passed by value.
-pub(crate) fn value<T: Part + Copy>(value: &Dynamic, s: &Store) -> T
-    requires { Holds T.part_of s.now value.now }
-    ensures { part_in T.part_of s.now value.now ≡ Some (T.meaning result) }
+pub(crate) fn value<T: Part + Copy>(value: &Dynamic, store: &Store) -> T
+    requires { Holds T.part_of store.now value.now }
+    ensures { part_in T.part_of store.now value.now ≡ Some (T.meaning result) }
 {
-    *part::<T>(value, s)
+    *part::<T>(value, store)
 }
 
 /// An equality, or its opposite.

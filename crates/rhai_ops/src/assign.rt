@@ -4,7 +4,7 @@ ghost use Rattle.rhai_text.specs.Text.{minus, minus_char};
 ghost use Rattle.rhai_value.specs.End.{end, value_after, store_after};
 ghost use Rattle.rhai_value.specs.Parts.{bool_of, char_of, text_of};
 ghost use Rattle.rhai_value.specs.Tree.{fresh, text, unit};
-ghost use Rattle.rhai_ops.specs.Numbers.{bits_by};
+ghost use Rattle.rhai_ops.specs.Numbers.{both_bits};
 ghost use Rattle.rhai_ops.specs.Outcome.{answers, bool_answer, both, limited_text};
 ghost use Rattle.rhai_ops.specs.Results.{Holds, joined_texts, joined_to_char, part as part_in};
 ghost use Rattle.rhai_ops.specs.Tokens as asked;
@@ -23,16 +23,20 @@ use std::alloc::Global;
 #[tactic(auto, using(crate::proofs::Effects::still_answer))]
 pub(crate) fn bits(
     op: Token,
-    m: &mut Store,
-    x: &mut Dynamic,
-    y: &Dynamic,
+    store: &mut Store,
+    left: &mut Dynamic,
+    right: &Dynamic,
 ) -> Result<Dynamic, EvalAltResult>
     requires bits { IsTrue (is_bits_assignment op) }
-    requires first { Holds bool_of m.old x.old }
-    requires second { Holds bool_of m.old y.now }
-    ensures { IsAssigned ⊥ result (both (λ a b. bool_answer (bits_by (asked.bits (asked.base_operation (asked.role op))) a b)) (part_in bool_of m.old x.old) (part_in bool_of m.old y.now)) x.old x.new m.old m.new }
+    requires first { Holds bool_of store.old left.old }
+    requires second { Holds bool_of store.old right.now }
+    ensures { IsAssigned ⊥ result (both (λ a b. bool_answer (both_bits (asked.without_assign op) a b)) (part_in bool_of store.old left.old) (part_in bool_of store.old right.now)) left.old left.new store.old store.new }
 {
-    put(bools::assigned(op, value(x, m), value(y, m))?, m, x)
+    put(
+        bools::assigned(op, value(left, store), value(right, store))?,
+        store,
+        left,
+    )
 }
 
 /// The text of two characters in the place of the first.
@@ -40,15 +44,19 @@ pub(crate) fn bits(
 #[tactic(auto, using(crate::proofs::Effects::still_answer))]
 pub(crate) fn two_chars(
     alloc: Global,
-    m: &mut Store,
-    x: &mut Dynamic,
-    y: &Dynamic,
+    store: &mut Store,
+    left: &mut Dynamic,
+    right: &Dynamic,
 ) -> Result<Dynamic, EvalAltResult>
-    requires first { Holds char_of m.old x.old }
-    requires second { Holds char_of m.old y.now }
-    ensures { IsAssigned (Unit {0}) result (both (λ c d. answers (fresh (text (c ∷ d ∷ [])))) (part_in char_of m.old x.old) (part_in char_of m.old y.now)) x.old x.new m.old m.new }
+    requires first { Holds char_of store.old left.old }
+    requires second { Holds char_of store.old right.now }
+    ensures { IsAssigned (Unit {0}) result (both (λ c d. answers (fresh (text (c ∷ d ∷ [])))) (part_in char_of store.old left.old) (part_in char_of store.old right.now)) left.old left.new store.old store.new }
 {
-    put(chars::append(alloc, value(x, m), value(y, m))?, m, x)
+    put(
+        chars::append(alloc, value(left, store), value(right, store))?,
+        store,
+        left,
+    )
 }
 
 /// A text behind a text.
@@ -56,16 +64,20 @@ pub(crate) fn two_chars(
 #[tactic(auto, using(crate::proofs::Effects::still_answer))]
 pub(crate) fn text_and_text(
     alloc: Global,
-    m: &mut Store,
+    store: &mut Store,
     limits: &Limits,
-    x: &mut Dynamic,
-    y: &Dynamic,
+    left: &mut Dynamic,
+    right: &Dynamic,
 ) -> Result<Dynamic, EvalAltResult>
-    requires first { Holds text_of m.old x.old }
-    requires second { Holds text_of m.old y.now }
-    ensures { IsAssigned (Unit {0}) result (both (joined_texts limits.now) (part_in text_of m.old x.old) (part_in text_of m.old y.now)) x.old x.new m.old m.new }
+    requires first { Holds text_of store.old left.old }
+    requires second { Holds text_of store.old right.now }
+    ensures { IsAssigned (Unit {0}) result (both (joined_texts limits.now) (part_in text_of store.old left.old) (part_in text_of store.old right.now)) left.old left.new store.old store.new }
 {
-    put(texts::append(alloc, limits, m, x, y)?, m, x)
+    put(
+        texts::append(alloc, limits, store, left, right)?,
+        store,
+        left,
+    )
 }
 
 /// The occurrences of a text out of a text.
@@ -73,15 +85,15 @@ pub(crate) fn text_and_text(
 #[tactic(auto, using(crate::proofs::Effects::still_answer))]
 pub(crate) fn text_minus_text(
     alloc: Global,
-    m: &mut Store,
-    x: &mut Dynamic,
-    y: &Dynamic,
+    store: &mut Store,
+    left: &mut Dynamic,
+    right: &Dynamic,
 ) -> Result<Dynamic, EvalAltResult>
-    requires first { Holds text_of m.old x.old }
-    requires second { Holds text_of m.old y.now }
-    ensures { IsAssigned (Unit {0}) result (both (λ v w. answers (fresh (text (minus v w)))) (part_in text_of m.old x.old) (part_in text_of m.old y.now)) x.old x.new m.old m.new }
+    requires first { Holds text_of store.old left.old }
+    requires second { Holds text_of store.old right.now }
+    ensures { IsAssigned (Unit {0}) result (both (λ v w. answers (fresh (text (minus v w)))) (part_in text_of store.old left.old) (part_in text_of store.old right.now)) left.old left.new store.old store.new }
 {
-    put(texts::minus(alloc, m, x, y)?, m, x)
+    put(texts::minus(alloc, store, left, right)?, store, left)
 }
 
 /// A character behind a text.
@@ -89,16 +101,20 @@ pub(crate) fn text_minus_text(
 #[tactic(auto, using(crate::proofs::Effects::still_answer))]
 pub(crate) fn text_and_char(
     alloc: Global,
-    m: &mut Store,
+    store: &mut Store,
     limits: &Limits,
-    x: &mut Dynamic,
-    y: &Dynamic,
+    left: &mut Dynamic,
+    right: &Dynamic,
 ) -> Result<Dynamic, EvalAltResult>
-    requires first { Holds text_of m.old x.old }
-    requires second { Holds char_of m.old y.now }
-    ensures { IsAssigned (Unit {0}) result (both (λ v d. limited_text limits.now (v ++ (d ∷ []))) (part_in text_of m.old x.old) (part_in char_of m.old y.now)) x.old x.new m.old m.new }
+    requires first { Holds text_of store.old left.old }
+    requires second { Holds char_of store.old right.now }
+    ensures { IsAssigned (Unit {0}) result (both (λ v d. limited_text limits.now (v ++ (d ∷ []))) (part_in text_of store.old left.old) (part_in char_of store.old right.now)) left.old left.new store.old store.new }
 {
-    put(texts::join_char(alloc, limits, m, x, y)?, m, x)
+    put(
+        texts::join_char(alloc, limits, store, left, right)?,
+        store,
+        left,
+    )
 }
 
 /// A character out of a text.
@@ -106,15 +122,15 @@ pub(crate) fn text_and_char(
 #[tactic(auto, using(crate::proofs::Effects::still_answer))]
 pub(crate) fn text_minus_char(
     alloc: Global,
-    m: &mut Store,
-    x: &mut Dynamic,
-    y: &Dynamic,
+    store: &mut Store,
+    left: &mut Dynamic,
+    right: &Dynamic,
 ) -> Result<Dynamic, EvalAltResult>
-    requires first { Holds text_of m.old x.old }
-    requires second { Holds char_of m.old y.now }
-    ensures { IsAssigned (Unit {0}) result (both (λ v d. answers (fresh (text (minus_char v d)))) (part_in text_of m.old x.old) (part_in char_of m.old y.now)) x.old x.new m.old m.new }
+    requires first { Holds text_of store.old left.old }
+    requires second { Holds char_of store.old right.now }
+    ensures { IsAssigned (Unit {0}) result (both (λ v d. answers (fresh (text (minus_char v d)))) (part_in text_of store.old left.old) (part_in char_of store.old right.now)) left.old left.new store.old store.new }
 {
-    put(texts::minus_char(alloc, m, x, y)?, m, x)
+    put(texts::minus_char(alloc, store, left, right)?, store, left)
 }
 
 /// A text behind a character, in its place.
@@ -122,28 +138,28 @@ pub(crate) fn text_minus_char(
 #[tactic(auto, using(crate::proofs::Effects::still_answer))]
 pub(crate) fn char_and_text(
     alloc: Global,
-    m: &mut Store,
+    store: &mut Store,
     limits: &Limits,
-    x: &mut Dynamic,
-    y: &Dynamic,
+    left: &mut Dynamic,
+    right: &Dynamic,
 ) -> Result<Dynamic, EvalAltResult>
-    requires first { Holds char_of m.old x.old }
-    requires second { Holds text_of m.old y.now }
-    ensures { IsAssigned (Unit {0}) result (both (joined_to_char limits.now) (part_in char_of m.old x.old) (part_in text_of m.old y.now)) x.old x.new m.old m.new }
+    requires first { Holds char_of store.old left.old }
+    requires second { Holds text_of store.old right.now }
+    ensures { IsAssigned (Unit {0}) result (both (joined_to_char limits.now) (part_in char_of store.old left.old) (part_in text_of store.old right.now)) left.old left.new store.old store.new }
 {
     put(
-        chars::append_text(alloc, limits, value(x, m), part(y, m))?,
-        m,
-        x,
+        chars::append_text(alloc, limits, value(left, store), part(right, store))?,
+        store,
+        left,
     )
 }
 
 /// Writes a value to the place, and answers unit.
-fn put(new: Dynamic, m: &mut Store, x: &mut Dynamic) -> Result<Dynamic, EvalAltResult>
+fn put(new: Dynamic, store: &mut Store, left: &mut Dynamic) -> Result<Dynamic, EvalAltResult>
     ensures result { result ≡ Ok (fresh unit) }
-    ensures value { x.new ≡ value_after (rewritten new) (end m.old [] x.old) x.old }
-    ensures store { m.new ≡ store_after (rewritten new) (end m.old [] x.old) m.old }
+    ensures value { left.new ≡ value_after (rewritten new) (end store.old [] left.old) left.old }
+    ensures store { store.new ≡ store_after (rewritten new) (end store.old [] left.old) store.old }
 {
-    write(new, m, x);
+    write(new, store, left);
     Ok(Dynamic::UNIT)
 }

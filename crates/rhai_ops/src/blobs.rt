@@ -14,22 +14,22 @@ use std::alloc::Global;
 /// A blob behind a blob. Where one is empty the other is copied as it is held, and no limit is tested.
 pub(crate) fn join(
     alloc: Global,
-    s: &Store,
+    store: &Store,
     limits: &Limits,
-    x: &Dynamic,
-    y: &Dynamic,
+    left: &Dynamic,
+    right: &Dynamic,
 ) -> Result<Dynamic, EvalAltResult>
-    requires first { Holds blob_of s.now x.now }
-    requires second { Holds blob_of s.now y.now }
-    ensures { IsOutcome (Unit {0}) result (both (joined_blobs limits.now (flat s.now x.now) (flat s.now y.now)) (part_in blob_of s.now x.now) (part_in blob_of s.now y.now)) }
+    requires first { Holds blob_of store.now left.now }
+    requires second { Holds blob_of store.now right.now }
+    ensures { IsOutcome (Unit {0}) result (both (joined_blobs limits.now (flat store.now left.now) (flat store.now right.now)) (part_in blob_of store.now left.now) (part_in blob_of store.now right.now)) }
 {
-    let a = part::<Blob>(x, s);
-    let b = part::<Blob>(y, s);
+    let a = part::<Blob>(left, store);
+    let b = part::<Blob>(right, store);
     if b.is_empty() {
-        return Ok(x.flatten_clone(alloc, s)?);
+        return Ok(left.flatten_clone(alloc, store)?);
     }
     if a.is_empty() {
-        return Ok(y.flatten_clone(alloc, s)?);
+        return Ok(right.flatten_clone(alloc, store)?);
     }
     appended(alloc, limits, a, b)
 }
@@ -50,15 +50,15 @@ fn appended(alloc: Global, limits: &Limits, a: &[u8], b: &[u8]) -> Result<Dynami
 /// Whether two blobs have the same bytes, or the opposite.
 pub(crate) fn equal(
     negated: bool,
-    s: &Store,
-    x: &Dynamic,
-    y: &Dynamic,
+    store: &Store,
+    left: &Dynamic,
+    right: &Dynamic,
 ) -> Result<Dynamic, EvalAltResult>
-    requires first { Holds blob_of s.now x.now }
-    requires second { Holds blob_of s.now y.now }
-    ensures { IsOutcome ⊥ result (both (λ v w. bool_answer (Some (unless_it negated (pointwise nat_eq v w)))) (part_in blob_of s.now x.now) (part_in blob_of s.now y.now)) }
+    requires first { Holds blob_of store.now left.now }
+    requires second { Holds blob_of store.now right.now }
+    ensures { IsOutcome ⊥ result (both (λ v w. bool_answer (Some (unless_it negated (pointwise nat_eq v w)))) (part_in blob_of store.now left.now) (part_in blob_of store.now right.now)) }
 {
-    let same = part::<Blob>(x, s) == part::<Blob>(y, s);
+    let same = part::<Blob>(left, store) == part::<Blob>(right, store);
     Ok(Dynamic::from_bool(unless(negated, same)))
 }
 
@@ -66,16 +66,18 @@ pub(crate) fn equal(
 pub(crate) fn join_char(
     alloc: Global,
     limits: &Limits,
-    s: &Store,
-    x: &Dynamic,
-    y: &Dynamic,
+    store: &Store,
+    left: &Dynamic,
+    right: &Dynamic,
 ) -> Result<Dynamic, EvalAltResult>
-    requires first { Holds blob_of s.now x.now }
-    requires second { Holds char_of s.now y.now }
-    ensures { IsOutcome (Unit {0}) result (blob_and_char.comes_to limits.now s.now x.now y.now) }
+    requires first { Holds blob_of store.now left.now }
+    requires second { Holds char_of store.now right.now }
+    ensures { IsOutcome (Unit {0}) result (blob_and_char.comes_to limits.now store.now left.now right.now) }
 {
-    let a = part::<Blob>(x, s);
+    let a = part::<Blob>(left, store);
     let mut buffer = [0; 4];
-    let b = value::<char>(y, s).encode_utf8(&mut buffer).as_bytes();
+    let b = value::<char>(right, store)
+        .encode_utf8(&mut buffer)
+        .as_bytes();
     appended(alloc, limits, a, b)
 }

@@ -7,40 +7,71 @@ ghost use Rattle.rhai_ops.specs.Tokens as asked;
 ghost use Rattle.rhai_ops.specs.Tokens.{is_bits, is_bits_assignment, is_cmp};
 
 use crate::compare::compared;
-use crate::role::{Bits, arithmetic_of, base_operation, bits_of, comparison_of};
+use crate::tokens::without_assign;
 use rhai_text::{EvalAltResult, Token};
 use rhai_value::Dynamic;
 
 /// `&`, `|` or `^` of two booleans.
+#[tactic(auto, using(crate::proofs::Questions::some_bits))]
 pub(crate) fn answer(op: Token, a: bool, b: bool) -> Result<Dynamic, EvalAltResult>
     requires { IsTrue (is_bits op) }
-    ensures { IsOutcome ⊥ result (bool_answer (specs.bits_by (asked.bits (asked.arithmetic (asked.role op))) a b)) }
+    ensures { IsOutcome ⊥ result (bool_answer (specs.both_bits op a b)) }
 {
-    Ok(Dynamic::from_bool(both_bits(bits_of(arithmetic_of(op)).unwrap(), a, b)))
+    Ok(Dynamic::from_bool(both_bits(op, a, b).unwrap()))
 }
 
 /// What an assignment by one of these operators writes.
+#[tactic(auto, using(crate::proofs::Questions::some_bits))]
 pub(crate) fn assigned(op: Token, a: bool, b: bool) -> Result<Dynamic, EvalAltResult>
     requires { IsTrue (is_bits_assignment op) }
-    ensures { IsOutcome ⊥ result (bool_answer (specs.bits_by (asked.bits (asked.base_operation (asked.role op))) a b)) }
+    ensures { IsOutcome ⊥ result (bool_answer (specs.both_bits (asked.without_assign op) a b)) }
 {
-    Ok(Dynamic::from_bool(both_bits(bits_of(base_operation(op)).unwrap(), a, b)))
+    Ok(Dynamic::from_bool(both_bits(without_assign(op), a, b).unwrap()))
 }
 
-fn both_bits(operation: Bits, a: bool, b: bool) -> bool
-    ensures { result ≡ specs.both_bits operation a b }
+fn both_bits(op: Token, a: bool, b: bool) -> Option<bool>
+    ensures { result ≡ specs.both_bits op a b }
 {
-    match operation {
-        Bits::And => a && b,
-        Bits::Or => a || b,
-        Bits::XOr => a != b,
+    match op {
+        Token::Ampersand => Some(a && b),
+        Token::Pipe => Some(a || b),
+        Token::XOr => Some(a != b),
+        Token::Plus
+        | Token::Minus
+        | Token::Multiply
+        | Token::Divide
+        | Token::Modulo
+        | Token::PowerOf
+        | Token::RightShift
+        | Token::LeftShift
+        | Token::EqualsTo
+        | Token::NotEqualsTo
+        | Token::GreaterThan
+        | Token::GreaterThanEqualsTo
+        | Token::LessThan
+        | Token::LessThanEqualsTo
+        | Token::ExclusiveRange
+        | Token::InclusiveRange
+        | Token::Equals
+        | Token::PlusAssign
+        | Token::MinusAssign
+        | Token::MultiplyAssign
+        | Token::DivideAssign
+        | Token::ModuloAssign
+        | Token::PowerOfAssign
+        | Token::RightShiftAssign
+        | Token::LeftShiftAssign
+        | Token::AndAssign
+        | Token::OrAssign
+        | Token::XOrAssign => None,
     }
 }
 
 /// A comparison of two booleans, of which false is the lesser.
+#[tactic(auto, using(crate::proofs::Questions::some_order))]
 pub(crate) fn compare(op: Token, a: bool, b: bool) -> Result<Dynamic, EvalAltResult>
     requires { IsTrue (is_cmp op) }
-    ensures { IsOutcome ⊥ result (bool_answer (specs.compared_by (asked.comparison (asked.role op)) (bool_cmp a b))) }
+    ensures { IsOutcome ⊥ result (bool_answer (specs.compared op (bool_cmp a b))) }
 {
-    Ok(Dynamic::from_bool(compared(comparison_of(op).unwrap(), a.cmp(&b))))
+    Ok(Dynamic::from_bool(compared(op, a.cmp(&b)).unwrap()))
 }

@@ -4,9 +4,9 @@ ghost use Rattle.rhai_ops.specs.Results.{is_limited};
 
 use rhai_text::Token;
 
-/// A built-in operator on operands of certain types: a row of the tables. Lookups answer it. The first 25 are between two operands;
-/// the others assign: they write the place where the chain of the first operand ends. (The function with a flag that rhai's lookups
-/// answer)
+/// A built-in operator on operands of certain types: a row of the tables. Lookups answer it. The first 25 are between two
+/// operands; the others assign: they write the place where the chain of the first operand ends.
+/// rhai: the function with a flag that its lookups answer.
 #[derive(Clone, Copy, Debug, PartialEq, Eq)]
 pub enum FnBuiltin {
     /// Two ints, by one of the first eleven operators.
@@ -90,7 +90,7 @@ pub enum FnBuiltin {
 }
 
 impl FnBuiltin {
-    /// Whether the row looks at the limits. Takes no memory.
+    /// Tells whether the row looks at the limits.
     pub fn uses_limits(&self) -> bool
         ensures { result ≡ is_limited self.now }
     {

@@ -7,41 +7,40 @@ ghost use Rattle.rhai_value.specs.Tree.{TakesNoMemory, copy};
 
 use crate::answer::{part, value};
 use crate::builtin::FnBuiltin;
-use crate::own::{own_int, own_text};
+use crate::operand_kind::{own_int, own_text};
 use crate::{assign, blobs, bools, chars, ints, push, ranges, texts};
 use rhai_text::{EvalAltResult, Limits};
 use rhai_value::{Dynamic, INT, Store};
 use std::alloc::Global;
 
 impl FnBuiltin {
-    /// What the row answers on these operands, which hold what it asks for. An operator changes nothing. An assignment writes what
-    /// it comes to where the chain of the first operand ends, and answers unit; both operands are read before, also where they are
-    /// holders of one cell.
-    ///
-    /// # Errors
-    ///
-    /// `ErrorArithmetic` where an int has no answer, `ErrorDataTooLarge` where the new length is above its limit, each at
-    /// `Position::NONE`; `ErrorMemory` where a growth was refused, which is of the rows that make a text, a blob, an array or a copy
-    /// alone. Operands and store are then as they were.
+    /// Calls the row on these operands, which hold what it asks for. An operator changes nothing. An assignment writes what
+    /// it comes to where the chain of the first operand ends, and answers unit; both operands are read before, also where
+    /// they are holders of one cell.
+    /// Errors: `ErrorArithmetic` where an int has no answer, `ErrorDataTooLarge` where the new length is above its limit,
+    /// each at `Position::NONE`; `ErrorMemory` where a growth was refused, which is of the rows that make a text, a blob,
+    /// an array or a copy alone. Operands and store are then as they were.
+    /// Cost: the length of the operands' texts, blobs and items; of ints, booleans and characters constant, with no memory.
+    /// rhai: a call of the function that a lookup answered.
     #[inline(always)]
     pub fn call(
         &self,
         alloc: Global,
-        m: &mut Store,
+        store: &mut Store,
         limits: &Limits,
-        x: &mut Dynamic,
-        y: &mut Dynamic,
+        left: &mut Dynamic,
+        right: &mut Dynamic,
     ) -> Result<Dynamic, EvalAltResult>
-        requires { Suits self.now m.old x.old y.old }
-        ensures result { IsOutcome (MayWant self.now x.old y.old) result (answered (effect self.now) (outcome self.now limits.now m.old x.old y.old)) }
-        ensures first { IfOk result (λ d. x.new ≡ first_left (effect self.now) (outcome self.now limits.now m.old x.old y.old) m.old x.old) }
-        ensures second { IfOk result (λ d. y.new ≡ second_left (effect self.now) (outcome self.now limits.now m.old x.old y.old) y.old) }
-        ensures store { IfOk result (λ d. m.new ≡ store_left (effect self.now) (outcome self.now limits.now m.old x.old y.old) m.old x.old) }
-        ensures err { IfErr result (λ e. (x.new ≡ x.old) × (y.new ≡ y.old) × (m.new ≡ m.old)) }
+        requires { Suits self.now store.old left.old right.old }
+        ensures result { IsOutcome (MayWant self.now left.old right.old) result (answered (effect self.now) (outcome self.now limits.now store.old left.old right.old)) }
+        ensures first { IfOk result (λ d. left.new ≡ first_left (effect self.now) (outcome self.now limits.now store.old left.old right.old) store.old left.old) }
+        ensures second { IfOk result (λ d. right.new ≡ second_left (effect self.now) (outcome self.now limits.now store.old left.old right.old) right.old) }
+        ensures store { IfOk result (λ d. store.new ≡ store_left (effect self.now) (outcome self.now limits.now store.old left.old right.old) store.old left.old) }
+        ensures err { IfErr result (λ e. (left.new ≡ left.old) × (right.new ≡ right.old) × (store.new ≡ store.old)) }
     {
         if let FnBuiltin::IntAssign(t) = *self {
-            if let Some(j) = own_int(y) {
-                return ints::assign_number(t, m, x, j);
+            if let Some(j) = own_int(right) {
+                return ints::assign_number(t, store, left, j);
             }
         }
         match *self {
@@ -69,94 +68,106 @@ impl FnBuiltin {
             | FnBuiltin::FirstCopy
             | FnBuiltin::SecondCopy
             | FnBuiltin::BlobChar
-            | FnBuiltin::RangeEqual(_, _) => self.call_ref(alloc, m, limits, x, y),
-            FnBuiltin::IntAssign(t) => ints::assign(t, m, x, y),
-            FnBuiltin::BoolAssign(t) => assign::bits(t, m, x, y),
-            FnBuiltin::CharJoinAssign => assign::two_chars(alloc, m, x, y),
-            FnBuiltin::TextJoinAssign => assign::text_and_text(alloc, m, limits, x, y),
-            FnBuiltin::TextMinusAssign => assign::text_minus_text(alloc, m, x, y),
-            FnBuiltin::ArrayAppend => push::append_items(alloc, limits, m, x, y),
-            FnBuiltin::BlobAppend => push::append_blob(alloc, limits, m, x, y),
-            FnBuiltin::TextCharAssign => assign::text_and_char(alloc, m, limits, x, y),
-            FnBuiltin::TextMinusCharAssign => assign::text_minus_char(alloc, m, x, y),
-            FnBuiltin::CharTextAssign => assign::char_and_text(alloc, m, limits, x, y),
-            FnBuiltin::ArrayPush => push::push_item(limits, m, x, y),
-            FnBuiltin::BlobPush => push::push_byte(limits, m, x, y),
+            | FnBuiltin::RangeEqual(_, _) => self.call_ref(alloc, store, limits, left, right),
+            FnBuiltin::IntAssign(t) => ints::assign(t, store, left, right),
+            FnBuiltin::BoolAssign(t) => assign::bits(t, store, left, right),
+            FnBuiltin::CharJoinAssign => assign::two_chars(alloc, store, left, right),
+            FnBuiltin::TextJoinAssign => assign::text_and_text(alloc, store, limits, left, right),
+            FnBuiltin::TextMinusAssign => assign::text_minus_text(alloc, store, left, right),
+            FnBuiltin::ArrayAppend => push::append_items(alloc, limits, store, left, right),
+            FnBuiltin::BlobAppend => push::append_blob(alloc, limits, store, left, right),
+            FnBuiltin::TextCharAssign => assign::text_and_char(alloc, store, limits, left, right),
+            FnBuiltin::TextMinusCharAssign => assign::text_minus_char(alloc, store, left, right),
+            FnBuiltin::CharTextAssign => assign::char_and_text(alloc, store, limits, left, right),
+            FnBuiltin::ArrayPush => push::push_item(limits, store, left, right),
+            FnBuiltin::BlobPush => push::push_byte(limits, store, left, right),
             FnBuiltin::BlobCharAssign => {
-                let character = value(y, m);
-                push::push_char(limits, m, x, character)
+                let character = value(right, store);
+                push::push_char(limits, store, left, character)
             }
-            FnBuiltin::BlobTextAssign => push::append_text(alloc, limits, m, x, y),
+            FnBuiltin::BlobTextAssign => push::append_text(alloc, limits, store, left, right),
         }
     }
 
-    /// What the row of an operator answers on these operands, which are only read: the same that `call` answers.
-    ///
-    /// # Errors
-    ///
-    /// As those of `call`.
+    /// Calls the row of an operator on these operands, which are only read: it answers what `call` does.
+    /// Errors: as those of `call`.
+    /// Cost: that of `call`.
     #[inline(always)]
     pub fn call_ref(
         &self,
         alloc: Global,
-        s: &Store,
+        store: &Store,
         limits: &Limits,
-        x: &Dynamic,
-        y: &Dynamic,
+        left: &Dynamic,
+        right: &Dynamic,
     ) -> Result<Dynamic, EvalAltResult>
         requires operator { effect self.now ≡ operator }
-        requires suits { Suits self.now s.now x.now y.now }
-        ensures { IsOutcome (MayWant self.now x.now y.now) result (outcome self.now limits.now s.now x.now y.now) }
+        requires suits { Suits self.now store.now left.now right.now }
+        ensures { IsOutcome (MayWant self.now left.now right.now) result (outcome self.now limits.now store.now left.now right.now) }
     {
         // what operands have themselves, as most do, is read here; the rows on any operands follow
         if let FnBuiltin::Int(t) = *self {
-            if let Some(i) = own_int(x) {
-                if let Some(j) = own_int(y) {
+            if let Some(i) = own_int(left) {
+                if let Some(j) = own_int(right) {
                     return ints::answer_numbers(t, i, j);
                 }
             }
         }
         if let FnBuiltin::IntCompare(t) = *self {
-            if let Some(i) = own_int(x) {
-                if let Some(j) = own_int(y) {
+            if let Some(i) = own_int(left) {
+                if let Some(j) = own_int(right) {
                     return ints::compare_numbers(t, i, j);
                 }
             }
         }
         if let FnBuiltin::TextCompare(t) = *self {
-            if let Some(a) = own_text(x) {
-                if let Some(b) = own_text(y) {
+            if let Some(a) = own_text(left) {
+                if let Some(b) = own_text(right) {
                     return texts::compare_two(t, a, b);
                 }
             }
         }
         match *self {
-            FnBuiltin::Int(t) => ints::answer(t, s, x, y),
-            FnBuiltin::IntCompare(t) => ints::compare(t, s, x, y),
-            FnBuiltin::IntRange(i) => ranges::between(i, value(x, s), value(y, s)),
-            FnBuiltin::BoolCompare(t) => bools::compare(t, value(x, s), value(y, s)),
-            FnBuiltin::Bool(t) => bools::answer(t, value(x, s), value(y, s)),
-            FnBuiltin::TextJoin => texts::join(alloc, limits, s, x, y),
-            FnBuiltin::TextMinus => texts::minus(alloc, s, x, y),
-            FnBuiltin::TextCompare(t) => texts::compare(t, s, x, y),
-            FnBuiltin::CharJoin => chars::join(alloc, limits, value(x, s), value(y, s)),
-            FnBuiltin::CharCompare(t) => chars::compare(t, value(x, s), value(y, s)),
-            FnBuiltin::BlobJoin => blobs::join(alloc, s, limits, x, y),
-            FnBuiltin::BlobEqual(n) => blobs::equal(n, s, x, y),
+            FnBuiltin::Int(t) => ints::answer(t, store, left, right),
+            FnBuiltin::IntCompare(t) => ints::compare(t, store, left, right),
+            FnBuiltin::IntRange(i) => ranges::between(i, value(left, store), value(right, store)),
+            FnBuiltin::BoolCompare(t) => bools::compare(t, value(left, store), value(right, store)),
+            FnBuiltin::Bool(t) => bools::answer(t, value(left, store), value(right, store)),
+            FnBuiltin::TextJoin => texts::join(alloc, limits, store, left, right),
+            FnBuiltin::TextMinus => texts::minus(alloc, store, left, right),
+            FnBuiltin::TextCompare(t) => texts::compare(t, store, left, right),
+            FnBuiltin::CharJoin => chars::join(
+                alloc,
+                limits,
+                value(left, store),
+                value(right, store),
+            ),
+            FnBuiltin::CharCompare(t) => chars::compare(t, value(left, store), value(right, store)),
+            FnBuiltin::BlobJoin => blobs::join(alloc, store, limits, left, right),
+            FnBuiltin::BlobEqual(n) => blobs::equal(n, store, left, right),
             FnBuiltin::ConstTrue => Ok(Dynamic::TRUE),
             FnBuiltin::ConstFalse => Ok(Dynamic::FALSE),
-            FnBuiltin::RangeFrom(i) => ranges::between(i, value(x, s), INT::MAX),
-            FnBuiltin::RangeTo(i) => ranges::between(i, 0, value(y, s)),
-            FnBuiltin::CharText => chars::join_text(alloc, limits, value(x, s), part(y, s)),
-            FnBuiltin::CharTextCompare(t) => chars::compare_text(t, value(x, s), part(y, s)),
-            FnBuiltin::TextChar => texts::join_char(alloc, limits, s, x, y),
-            FnBuiltin::TextMinusChar => texts::minus_char(alloc, s, x, y),
-            FnBuiltin::TextCharCompare(t) => texts::compare_char(t, s, x, y),
-            FnBuiltin::FirstCopy => copied(alloc, x),
-            FnBuiltin::SecondCopy => copied(alloc, y),
-            FnBuiltin::BlobChar => blobs::join_char(alloc, limits, s, x, y),
-            FnBuiltin::RangeEqual(false, n) => ranges::equal_exclusive(n, s, x, y),
-            FnBuiltin::RangeEqual(true, n) => ranges::equal_inclusive(n, s, x, y),
+            FnBuiltin::RangeFrom(i) => ranges::between(i, value(left, store), INT::MAX),
+            FnBuiltin::RangeTo(i) => ranges::between(i, 0, value(right, store)),
+            FnBuiltin::CharText => chars::join_text(
+                alloc,
+                limits,
+                value(left, store),
+                part(right, store),
+            ),
+            FnBuiltin::CharTextCompare(t) => chars::compare_text(
+                t,
+                value(left, store),
+                part(right, store),
+            ),
+            FnBuiltin::TextChar => texts::join_char(alloc, limits, store, left, right),
+            FnBuiltin::TextMinusChar => texts::minus_char(alloc, store, left, right),
+            FnBuiltin::TextCharCompare(t) => texts::compare_char(t, store, left, right),
+            FnBuiltin::FirstCopy => copied(alloc, left),
+            FnBuiltin::SecondCopy => copied(alloc, right),
+            FnBuiltin::BlobChar => blobs::join_char(alloc, limits, store, left, right),
+            FnBuiltin::RangeEqual(false, n) => ranges::equal_exclusive(n, store, left, right),
+            FnBuiltin::RangeEqual(true, n) => ranges::equal_inclusive(n, store, left, right),
             // Rows of operators and of assignments are one type, as what a look-up hands out; the `requires` asks for an operator's.
             FnBuiltin::IntAssign(_)
             | FnBuiltin::BoolAssign(_)

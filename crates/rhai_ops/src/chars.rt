@@ -6,12 +6,10 @@ ghost use Rattle.rhai_ops.specs.Numbers as specs;
 ghost use Rattle.rhai_value.specs.Tree.{fresh, text as a_text};
 ghost use Rattle.rhai_ops.specs.Outcome.{IsOutcome, answers, bool_answer, limited_text};
 ghost use Rattle.rhai_ops.specs.Results.{joined_to_char, text_order};
-ghost use Rattle.rhai_ops.specs.Tokens as asked;
 ghost use Rattle.rhai_ops.specs.Tokens.{is_cmp};
 
 use crate::answer::is_allowed;
 use crate::compare::compared;
-use crate::role::comparison_of;
 use rhai_text::laws::byte_order_is_character_order;
 use rhai_text::{EvalAltResult, ImmutableString, Limits, Position, SizeKind, Token};
 use rhai_value::Dynamic;
@@ -56,11 +54,12 @@ pub(crate) fn append(alloc: Global, a: char, b: char) -> Result<Dynamic, EvalAlt
 }
 
 /// A comparison of two characters.
+#[tactic(auto, using(crate::proofs::Questions::some_order))]
 pub(crate) fn compare(op: Token, a: char, b: char) -> Result<Dynamic, EvalAltResult>
     requires { IsTrue (is_cmp op) }
-    ensures { IsOutcome ⊥ result (bool_answer (specs.compared_by (asked.comparison (asked.role op)) (nat_cmp a b))) }
+    ensures { IsOutcome ⊥ result (bool_answer (specs.compared op (nat_cmp a b))) }
 {
-    Ok(Dynamic::from_bool(compared(comparison_of(op).unwrap(), a.cmp(&b))))
+    Ok(Dynamic::from_bool(compared(op, a.cmp(&b)).unwrap()))
 }
 
 /// A text behind a character.
@@ -97,15 +96,16 @@ pub(crate) fn append_text(
 }
 
 /// A comparison of a character, as the text of it alone, with a text.
+#[tactic(auto, using(crate::proofs::Questions::some_order))]
 pub(crate) fn compare_text(
     op: Token,
     a: char,
     b: &ImmutableString,
 ) -> Result<Dynamic, EvalAltResult>
     requires { IsTrue (is_cmp op) }
-    ensures { IsOutcome ⊥ result (bool_answer (specs.compared_by (asked.comparison (asked.role op)) (text_order (a ∷ []) b.now))) }
+    ensures { IsOutcome ⊥ result (bool_answer (specs.compared op (text_order (a ∷ []) b.now))) }
 {
-    Ok(Dynamic::from_bool(compared(comparison_of(op).unwrap(), text_order_of(a, b))))
+    Ok(Dynamic::from_bool(compared(op, text_order_of(a, b)).unwrap()))
 }
 
 /// The order of a character, as the text of it alone, and a text.

@@ -2,19 +2,44 @@
 ghost use Rattle.std.specs.Prelude.{◌≡◌};
 ghost use Rattle.rhai_ops.specs.Numbers as specs;
 
-use crate::role::Comparison;
+use rhai_text::Token;
 use std::cmp::Ordering;
 
-/// Whether the comparison holds of contents in this order.
-pub(crate) fn compared(comparison: Comparison, order: Ordering) -> bool
-    ensures { result ≡ specs.compared comparison order }
+/// Whether the comparison holds of contents in this order; nothing of another operator.
+pub(crate) fn compared(op: Token, order: Ordering) -> Option<bool>
+    ensures { result ≡ specs.compared op order }
 {
-    match comparison {
-        Comparison::Equal => order.is_eq(),
-        Comparison::Unequal => order.is_ne(),
-        Comparison::Greater => order.is_gt(),
-        Comparison::GreaterOrEqual => order.is_ge(),
-        Comparison::Less => order.is_lt(),
-        Comparison::LessOrEqual => order.is_le(),
+    match op {
+        Token::EqualsTo => Some(order.is_eq()),
+        Token::NotEqualsTo => Some(order.is_ne()),
+        Token::GreaterThan => Some(order.is_gt()),
+        Token::GreaterThanEqualsTo => Some(order.is_ge()),
+        Token::LessThan => Some(order.is_lt()),
+        Token::LessThanEqualsTo => Some(order.is_le()),
+        Token::Plus
+        | Token::Minus
+        | Token::Multiply
+        | Token::Divide
+        | Token::Modulo
+        | Token::PowerOf
+        | Token::RightShift
+        | Token::LeftShift
+        | Token::Ampersand
+        | Token::Pipe
+        | Token::XOr
+        | Token::ExclusiveRange
+        | Token::InclusiveRange
+        | Token::Equals
+        | Token::PlusAssign
+        | Token::MinusAssign
+        | Token::MultiplyAssign
+        | Token::DivideAssign
+        | Token::ModuloAssign
+        | Token::PowerOfAssign
+        | Token::RightShiftAssign
+        | Token::LeftShiftAssign
+        | Token::AndAssign
+        | Token::OrAssign
+        | Token::XOrAssign => None,
     }
 }

@@ -14,7 +14,7 @@ ghost use Rattle.rhai_ops.specs.Tokens.{is_assignment, is_cmp, is_number};
 
 use crate::answer::value;
 use crate::compare::compared;
-use crate::role::{Arithmetic, Bits, Multiplicative, arithmetic_of, base_operation, comparison_of};
+use crate::tokens::without_assign;
 use rhai_text::{ArithmeticFault, EvalAltResult, Position, Token};
 use rhai_value::{Dynamic, INT, InStore, Store};
 
@@ -22,25 +22,26 @@ use rhai_value::{Dynamic, INT, InStore, Store};
 #[inline(never)]
 pub(crate) fn answer(
     op: Token,
-    s: &Store,
-    x: &Dynamic,
-    y: &Dynamic,
+    store: &Store,
+    left: &Dynamic,
+    right: &Dynamic,
 ) -> Result<Dynamic, EvalAltResult>
     requires number { IsTrue (is_number op) }
-    requires first { Holds int_of s.now x.now }
-    requires second { Holds int_of s.now y.now }
-    ensures { IsOutcome ⊥ result (both (λ i j. number_answer (specs.number_by (asked.arithmetic (asked.role op)) i j)) (part int_of s.now x.now) (part int_of s.now y.now)) }
+    requires first { Holds int_of store.now left.now }
+    requires second { Holds int_of store.now right.now }
+    ensures { IsOutcome ⊥ result (both (λ i j. number_answer (specs.number op i j)) (part int_of store.now left.now) (part int_of store.now right.now)) }
 {
-    answer_numbers(op, value(x, s), value(y, s))
+    answer_numbers(op, value(left, store), value(right, store))
 }
 
 /// The same of two numbers.
 #[inline(always)]
+#[tactic(auto, using(crate::proofs::Questions::some_number))]
 pub(crate) fn answer_numbers(op: Token, i: INT, j: INT) -> Result<Dynamic, EvalAltResult>
     requires { IsTrue (is_number op) }
-    ensures { IsOutcome ⊥ result (number_answer (specs.number_by (asked.arithmetic (asked.role op)) i j)) }
+    ensures { IsOutcome ⊥ result (number_answer (specs.number op i j)) }
 {
-    match number(arithmetic_of(op).unwrap(), i, j) {
+    match number(op, i, j).unwrap() {
         Ok(n) => Ok(Dynamic::from_int(n)),
         Err(fault) => Err(EvalAltResult::ErrorArithmetic(fault, Position::NONE)),
     }
@@ -50,72 +51,72 @@ pub(crate) fn answer_numbers(op: Token, i: INT, j: INT) -> Result<Dynamic, EvalA
 #[inline(never)]
 pub(crate) fn compare(
     op: Token,
-    s: &Store,
-    x: &Dynamic,
-    y: &Dynamic,
+    store: &Store,
+    left: &Dynamic,
+    right: &Dynamic,
 ) -> Result<Dynamic, EvalAltResult>
     requires comparison { IsTrue (is_cmp op) }
-    requires first { Holds int_of s.now x.now }
-    requires second { Holds int_of s.now y.now }
-    ensures { IsOutcome ⊥ result (both (λ i j. bool_answer (specs.compared_by (asked.comparison (asked.role op)) (int_cmp i j))) (part int_of s.now x.now) (part int_of s.now y.now)) }
+    requires first { Holds int_of store.now left.now }
+    requires second { Holds int_of store.now right.now }
+    ensures { IsOutcome ⊥ result (both (λ i j. bool_answer (specs.compared op (int_cmp i j))) (part int_of store.now left.now) (part int_of store.now right.now)) }
 {
-    compare_numbers(op, value(x, s), value(y, s))
+    compare_numbers(op, value(left, store), value(right, store))
 }
 
 /// The same of two numbers.
 #[inline(always)]
+#[tactic(auto, using(crate::proofs::Questions::some_order))]
 pub(crate) fn compare_numbers(op: Token, i: INT, j: INT) -> Result<Dynamic, EvalAltResult>
     requires { IsTrue (is_cmp op) }
-    ensures { IsOutcome ⊥ result (bool_answer (specs.compared_by (asked.comparison (asked.role op)) (int_cmp i j))) }
+    ensures { IsOutcome ⊥ result (bool_answer (specs.compared op (int_cmp i j))) }
 {
-    Ok(Dynamic::from_bool(compared(comparison_of(op).unwrap(), i.cmp(&j))))
+    Ok(Dynamic::from_bool(compared(op, i.cmp(&j)).unwrap()))
 }
 
 /// An assignment of one of these operators to the int at a place. The place and the second operand are each looked up once.
 #[inline(never)]
 pub(crate) fn assign(
     op: Token,
-    m: &mut Store,
-    x: &mut Dynamic,
-    y: &Dynamic,
+    store: &mut Store,
+    left: &mut Dynamic,
+    right: &Dynamic,
 ) -> Result<Dynamic, EvalAltResult>
     requires assignment { IsTrue (is_assignment op) }
-    requires first { Holds int_of m.old x.old }
-    requires second { Holds int_of m.old y.now }
-    ensures { IsAssigned ⊥ result (both (λ i j. number_answer (specs.number_by (asked.base_operation (asked.role op)) i j)) (part int_of m.old x.old) (part int_of m.old y.now)) x.old x.new m.old m.new }
+    requires first { Holds int_of store.old left.old }
+    requires second { Holds int_of store.old right.now }
+    ensures { IsAssigned ⊥ result (both (λ i j. number_answer (specs.number (asked.without_assign op) i j)) (part int_of store.old left.old) (part int_of store.old right.now)) left.old left.new store.old store.new }
 {
-    let number = value(y, m);
-    assign_number(op, m, x, number)
+    let number = value(right, store);
+    assign_number(op, store, left, number)
 }
 
 /// The same of a number.
 #[inline(always)]
+#[tactic(auto, using(crate::proofs::Questions::base_is_number))]
 pub(crate) fn assign_number(
     op: Token,
-    m: &mut Store,
-    x: &mut Dynamic,
+    store: &mut Store,
+    left: &mut Dynamic,
     number: INT,
 ) -> Result<Dynamic, EvalAltResult>
     requires assignment { IsTrue (is_assignment op) }
-    requires first { Holds int_of m.old x.old }
-    ensures { IsAssigned ⊥ result (both (λ i j. number_answer (specs.number_by (asked.base_operation (asked.role op)) i j)) (part int_of m.old x.old) (Some number)) x.old x.new m.old m.new }
+    requires first { Holds int_of store.old left.old }
+    ensures { IsAssigned ⊥ result (both (λ i j. number_answer (specs.number (asked.without_assign op) i j)) (part int_of store.old left.old) (Some number)) left.old left.new store.old store.new }
 {
-    let mut place = InStore { value: x, store: m };
-    write_number(
-        base_operation(op).unwrap(),
-        place.held_part_mut::<INT>(),
-        number,
-    )
+    let mut place = InStore { value: left, store };
+    write_number(without_assign(op), place.held_part_mut::<INT>(), number)
 }
 
 /// The same of an int that is held and a number.
 #[inline(always)]
-fn write_number(operation: Arithmetic, held: &mut INT, y: INT) -> Result<Dynamic, EvalAltResult>
-    ensures result { IsOutcome ⊥ result (answered (assignment stays) (number_answer (Some (specs.number operation held.old y)))) }
-    ensures ok { OnOk result (number_answer (Some (specs.number operation held.old y)) ≡ answers (fresh (int held.new))) }
+#[tactic(auto, using(crate::proofs::Questions::some_number))]
+fn write_number(op: Token, held: &mut INT, y: INT) -> Result<Dynamic, EvalAltResult>
+    requires { IsTrue (is_number op) }
+    ensures result { IsOutcome ⊥ result (answered (assignment stays) (number_answer (specs.number op held.old y))) }
+    ensures ok { OnOk result (number_answer (specs.number op held.old y) ≡ answers (fresh (int held.new))) }
     ensures err { OnErr result (held.new ≡ held.old) }
 {
-    match number(operation, *held, y) {
+    match number(op, *held, y).unwrap() {
         Ok(n) => {
             *held = n;
             Ok(Dynamic::UNIT)
@@ -124,32 +125,43 @@ fn write_number(operation: Arithmetic, held: &mut INT, y: INT) -> Result<Dynamic
     }
 }
 
-/// The number that the operator answers, or why there is none.
+/// The number that the operator answers, or why there is none; nothing of an operator that makes none.
 #[inline(always)]
-fn number(operation: Arithmetic, x: INT, y: INT) -> Result<INT, ArithmeticFault>
-    ensures { result ≡ specs.number operation x y }
+fn number(op: Token, x: INT, y: INT) -> Option<Result<INT, ArithmeticFault>>
+    ensures { result ≡ specs.number op x y }
 {
-    match operation {
-        Arithmetic::Plus => ranged(x.checked_add(y)),
-        Arithmetic::Minus => ranged(x.checked_sub(y)),
-        Arithmetic::Multiplicative(operation) => scaled(operation, x, y),
-        Arithmetic::Bits(Bits::And) => Ok(x & y),
-        Arithmetic::Bits(Bits::Or) => Ok(x | y),
-        Arithmetic::Bits(Bits::XOr) => Ok(x ^ y),
-    }
-}
-
-#[inline(always)]
-fn scaled(operation: Multiplicative, x: INT, y: INT) -> Result<INT, ArithmeticFault>
-    ensures { result ≡ specs.number (Arithmetic.Multiplicative operation) x y }
-{
-    match operation {
-        Multiplicative::Multiply => ranged(x.checked_mul(y)),
-        Multiplicative::Divide => quotient(x, y),
-        Multiplicative::Modulo => remainder(x, y),
-        Multiplicative::PowerOf => power(x, y),
-        Multiplicative::RightShift => Ok(shifted_right(x, y)),
-        Multiplicative::LeftShift => Ok(shifted_left(x, y)),
+    match op {
+        Token::Plus => Some(ranged(x.checked_add(y))),
+        Token::Minus => Some(ranged(x.checked_sub(y))),
+        Token::Multiply => Some(ranged(x.checked_mul(y))),
+        Token::Divide => Some(quotient(x, y)),
+        Token::Modulo => Some(remainder(x, y)),
+        Token::PowerOf => Some(power(x, y)),
+        Token::RightShift => Some(Ok(shifted_right(x, y))),
+        Token::LeftShift => Some(Ok(shifted_left(x, y))),
+        Token::Ampersand => Some(Ok(x & y)),
+        Token::Pipe => Some(Ok(x | y)),
+        Token::XOr => Some(Ok(x ^ y)),
+        Token::EqualsTo
+        | Token::NotEqualsTo
+        | Token::GreaterThan
+        | Token::GreaterThanEqualsTo
+        | Token::LessThan
+        | Token::LessThanEqualsTo
+        | Token::ExclusiveRange
+        | Token::InclusiveRange
+        | Token::Equals
+        | Token::PlusAssign
+        | Token::MinusAssign
+        | Token::MultiplyAssign
+        | Token::DivideAssign
+        | Token::ModuloAssign
+        | Token::PowerOfAssign
+        | Token::RightShiftAssign
+        | Token::LeftShiftAssign
+        | Token::AndAssign
+        | Token::OrAssign
+        | Token::XOrAssign => None,
     }
 }
 
@@ -161,7 +173,7 @@ fn ranged(value: Option<INT>) -> Result<INT, ArithmeticFault>
 }
 
 fn quotient(x: INT, y: INT) -> Result<INT, ArithmeticFault>
-    ensures { result ≡ specs.number (Arithmetic.Multiplicative Multiplicative.Divide) x y }
+    ensures { Some result ≡ specs.number Token.Divide x y }
 {
     if y == 0 {
         return Err(ArithmeticFault::DivisionByZero);
@@ -170,7 +182,7 @@ fn quotient(x: INT, y: INT) -> Result<INT, ArithmeticFault>
 }
 
 fn remainder(x: INT, y: INT) -> Result<INT, ArithmeticFault>
-    ensures { result ≡ specs.number (Arithmetic.Multiplicative Multiplicative.Modulo) x y }
+    ensures { Some result ≡ specs.number Token.Modulo x y }
 {
     if y == 0 {
         return Err(ArithmeticFault::DivisionByZero);

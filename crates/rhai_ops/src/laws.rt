@@ -1,5 +1,5 @@
 //! Laws of the operators, each the contract of a function that does nothing.
-ghost use Rattle.std.specs.Prelude.{◌≡◌, ℕ, ℤ, true, false, [], ◌∷◌, List, Some, option_map, IsTrue};
+ghost use Rattle.std.specs.Prelude.{◌≡◌, ℕ, ℤ, Bool, true, false, [], ◌∷◌, List, Some, option_map, IsTrue};
 ghost use Rattle.rhai_text.specs.declared.limits.Limits.{Limits};
 ghost use Rattle.rhai_text.specs.declared.token.Token.{Token};
 ghost use Rattle.rhai_value.specs.declared.access_mode.AccessMode.{AccessMode};
@@ -10,13 +10,12 @@ ghost use Rattle.rhai_value.specs.Store.{content_at};
 ghost use Rattle.rhai_value.specs.Tree.{Tree, node, leaf, char as character, text, bool as a_bool, fresh, content_of, tag_of, mode_of};
 ghost use Rattle.std.specs.declared.cmp.Ordering.{Ordering};
 ghost use Rattle.rhai_ops.specs.declared.builtin.FnBuiltin.{FnBuiltin as Row};
-ghost use Rattle.rhai_ops.specs.declared.role.Comparison.{Comparison};
 ghost use Rattle.rhai_ops.specs.declared.builtin.FnBuiltin.TheVariants as row;
 ghost use Rattle.rhai_ops.specs.AssignTable.{assign_row};
 ghost use Rattle.rhai_ops.specs.Outcome.{Outcome, RelatedOutcomes, answers};
 ghost use Rattle.rhai_ops.specs.Results.{Suits, outcome};
 ghost use Rattle.rhai_ops.specs.Table.{row_of};
-ghost use Rattle.rhai_ops.specs.Tokens.{comparison, role, without_assign};
+ghost use Rattle.rhai_ops.specs.Tokens.{without_assign};
 ghost use Rattle.rhai_ops.specs.Numbers.{compared};
 ghost use Rattle.rhai_ops.specs.Order.{row_order};
 ghost use Rattle.rhai_ops.specs.Effects.{Effect, first_left, operator, second_left, store_left, takes_nothing, effect, writes};
@@ -39,8 +38,8 @@ pub fn operators_write_nothing()
 
 /// An operator whose row orders two operands answers by that order. (`compare_values` is the order by the row of `<`)
 pub fn comparisons_go_by_the_order()
-    ensures { (t : Token) (l : Limits) (s : List Cell) (x y : Tree) (b : Row) (c : Comparison) (o : Ordering) → row_of t s x y ≡ Some b → comparison (role t) ≡ Some c
-        → row_order b s x y ≡ Some o → outcome b l s x y ≡ answers (fresh (a_bool (compared c o))) }
+    ensures { (t : Token) (l : Limits) (s : List Cell) (x y : Tree) (b : Row) (o : Ordering) (c : Bool) → row_of t s x y ≡ Some b
+        → row_order b s x y ≡ Some o → compared t o ≡ Some c → outcome b l s x y ≡ answers (fresh (a_bool c)) }
 {}
 
 /// A call keeps the tag and the mode of whatever it writes to: of the first operand, and of what each cell has.

@@ -13,12 +13,12 @@ mod compare;
 mod ints;
 pub mod laws;
 mod lookup;
+mod operand_kind;
 mod order;
-mod own;
 mod push;
 mod ranges;
-mod role;
 mod texts;
+mod tokens;
 mod write;
 
 pub use assign_lookup::get_builtin_op_assignment_fn;

@@ -1,66 +1,67 @@
 //! The lookups.
 ghost use Rattle.std.specs.Prelude.{◌≡◌, ◌∷◌, [], Option, Some, None};
 ghost use Rattle.rhai_value.specs.End.{end, end_type};
-ghost use Rattle.rhai_ops.specs.Table.{row_of, pick, type_line, own_pair, pair_row};
+ghost use Rattle.rhai_ops.specs.Table.{row_of, pick, type_line, rows_of_kinds, pair_row};
 ghost use Rattle.rhai_ops.specs.Table as table;
 ghost use Rattle.rhai_ops.specs.Tokens as asked;
 
 use crate::builtin::FnBuiltin;
-use crate::own::{Own, is_int, is_text, own_of};
-use crate::role::{Role, arithmetic_of, bits_of, is_cmp, role_of};
+use crate::operand_kind::{OperandKind, is_int, is_text, operand_kind_of};
+use crate::tokens::{is_bits, is_cmp, is_number};
 use rhai_text::Token;
 use rhai_value::{Dynamic, Store, TypeId};
 
-/// The row of a binary operator on these operands. Takes no memory; that of two ints is found first, that of two texts next.
+/// Finds the row of a binary operator on these operands; that of two ints is found first, that of two texts next.
+/// Cost: that of `Dynamic::held`; no memory.
+/// rhai: `get_builtin_binary_op_fn`.
 #[inline(always)]
 pub fn get_builtin_binary_op_fn(
     op: &Token,
-    x: &Dynamic,
-    y: &Dynamic,
-    s: &Store,
+    left: &Dynamic,
+    right: &Dynamic,
+    store: &Store,
 ) -> Option<FnBuiltin>
-    ensures { result ≡ row_of op.now s.now x.now y.now }
+    ensures { result ≡ row_of op.now store.now left.now right.now }
 {
-    if is_int(x) {
-        if is_int(y) {
+    if is_int(left) {
+        if is_int(right) {
             return int_row(*op);
         }
-    } else if is_text(x) {
-        if is_text(y) {
+    } else if is_text(left) {
+        if is_text(right) {
             return two_texts_row(*op);
         }
     }
-    other_row(*op, x, y, s)
+    other_row(*op, left, right, store)
 }
 
 /// The row on any operands, in a function of its own, so that the lookup on two ints or texts stays short.
 #[inline(never)]
-fn other_row(op: Token, x: &Dynamic, y: &Dynamic, s: &Store) -> Option<FnBuiltin>
-    ensures { result ≡ row_of op s.now x.now y.now }
+fn other_row(op: Token, left: &Dynamic, right: &Dynamic, store: &Store) -> Option<FnBuiltin>
+    ensures { result ≡ row_of op store.now left.now right.now }
 {
-    own_row(op, own_of(x), own_of(y), x, y, s)
+    let (a, b) = (operand_kind_of(left), operand_kind_of(right));
+    row_of_kinds(op, a, b, left, right, store)
 }
 
 fn int_row(t: Token) -> Option<FnBuiltin>
-    ensures { result ≡ pair_row (own_pair t Own.Int Own.Int) [] }
+    ensures { result ≡ pair_row (rows_of_kinds t OperandKind.Int OperandKind.Int) [] }
 {
-    match role_of(t) {
-        Role::Arithmetic(_) => Some(FnBuiltin::Int(t)),
-        Role::Compare(_) => Some(FnBuiltin::IntCompare(t)),
-        Role::Assign(_) | Role::Other => range_row(
-            t,
-            FnBuiltin::IntRange(false),
-            FnBuiltin::IntRange(true),
-        ),
+    if is_number(t) {
+        Some(FnBuiltin::Int(t))
+    } else if is_cmp(t) {
+        Some(FnBuiltin::IntCompare(t))
+    } else {
+        range_row(t, FnBuiltin::IntRange(false), FnBuiltin::IntRange(true))
     }
 }
 
 fn bool_row(t: Token) -> Option<FnBuiltin>
-    ensures { result ≡ pair_row (own_pair t Own.Bool Own.Bool) [] }
+    ensures { result ≡ pair_row (rows_of_kinds t OperandKind.Bool OperandKind.Bool) [] }
 {
     if is_cmp(t) {
         Some(FnBuiltin::BoolCompare(t))
-    } else if bits_of(arithmetic_of(t)).is_some() {
+    } else if is_bits(t) {
         Some(FnBuiltin::Bool(t))
     } else {
         None
@@ -103,7 +104,7 @@ fn range_row(t: Token, exclusive: FnBuiltin, inclusive: FnBuiltin) -> Option<FnB
 }
 
 fn two_texts_row(t: Token) -> Option<FnBuiltin>
-    ensures { result ≡ pair_row (own_pair t Own.Str Own.Str) [] }
+    ensures { result ≡ pair_row (rows_of_kinds t OperandKind.Str OperandKind.Str) [] }
 {
     text_row(
         t,
@@ -200,91 +201,109 @@ fn is_range_type(a: TypeId) -> bool
     matches!(a, TypeId::ExclusiveRange | TypeId::InclusiveRange)
 }
 
-fn own_row(t: Token, a: Own, b: Own, x: &Dynamic, y: &Dynamic, s: &Store) -> Option<FnBuiltin>
-    ensures { result ≡ pair_row (own_pair t a b) (type_line t (end_type (end s.now [] x.now)) (end_type (end s.now [] y.now))) }
+fn row_of_kinds(
+    t: Token,
+    a: OperandKind,
+    b: OperandKind,
+    left: &Dynamic,
+    right: &Dynamic,
+    store: &Store,
+) -> Option<FnBuiltin>
+    ensures { result ≡ pair_row (rows_of_kinds t a b) (type_line t (end_type (end store.now [] left.now)) (end_type (end store.now [] right.now))) }
 {
     match a {
-        Own::Unit => match b {
-            Own::Unit => one_or_comparison(
+        OperandKind::Unit => match b {
+            OperandKind::Unit => one_or_comparison(
                 t,
                 (Token::EqualsTo, FnBuiltin::ConstTrue),
                 FnBuiltin::ConstFalse,
             ),
-            Own::Int => match range_row(t, FnBuiltin::RangeTo(false), FnBuiltin::RangeTo(true)) {
+            OperandKind::Int => match range_row(
+                t,
+                FnBuiltin::RangeTo(false),
+                FnBuiltin::RangeTo(true),
+            ) {
                 Some(row) => Some(row),
-                None => type_row(t, x.type_id(s), y.type_id(s)),
+                None => type_row(t, left.type_id(store), right.type_id(store)),
             },
-            Own::Str => if t == Token::Plus {
+            OperandKind::Str => if t == Token::Plus {
                 Some(FnBuiltin::SecondCopy)
             } else {
                 unlike_row(t)
             },
-            Own::Bool | Own::Char | Own::Blob | Own::Array | Own::Other => type_row(
-                t,
-                x.type_id(s),
-                y.type_id(s),
-            ),
+            OperandKind::Bool
+            | OperandKind::Char
+            | OperandKind::Blob
+            | OperandKind::Array
+            | OperandKind::Other => type_row(t, left.type_id(store), right.type_id(store)),
         },
-        Own::Bool => match b {
-            Own::Bool => bool_row(t),
-            Own::Unit | Own::Int | Own::Str | Own::Char | Own::Blob | Own::Array | Own::Other =>
-                type_row(t, x.type_id(s), y.type_id(s)),
+        OperandKind::Bool => match b {
+            OperandKind::Bool => bool_row(t),
+            OperandKind::Unit
+            | OperandKind::Int
+            | OperandKind::Str
+            | OperandKind::Char
+            | OperandKind::Blob
+            | OperandKind::Array
+            | OperandKind::Other => type_row(t, left.type_id(store), right.type_id(store)),
         },
-        Own::Int => match b {
-            Own::Unit => match range_row(
+        OperandKind::Int => match b {
+            OperandKind::Unit => match range_row(
                 t,
                 FnBuiltin::RangeFrom(false),
                 FnBuiltin::RangeFrom(true),
             ) {
                 Some(row) => Some(row),
-                None => type_row(t, x.type_id(s), y.type_id(s)),
+                None => type_row(t, left.type_id(store), right.type_id(store)),
             },
-            Own::Int => int_row(t),
-            Own::Bool | Own::Str | Own::Char | Own::Blob | Own::Array | Own::Other => type_row(
-                t,
-                x.type_id(s),
-                y.type_id(s),
-            ),
+            OperandKind::Int => int_row(t),
+            OperandKind::Bool
+            | OperandKind::Str
+            | OperandKind::Char
+            | OperandKind::Blob
+            | OperandKind::Array
+            | OperandKind::Other => type_row(t, left.type_id(store), right.type_id(store)),
         },
-        Own::Str => match b {
-            Own::Unit => if t == Token::Plus {
+        OperandKind::Str => match b {
+            OperandKind::Unit => if t == Token::Plus {
                 Some(FnBuiltin::FirstCopy)
             } else {
                 unlike_row(t)
             },
-            Own::Str => two_texts_row(t),
-            Own::Char => text_row(
+            OperandKind::Str => two_texts_row(t),
+            OperandKind::Char => text_row(
                 t,
                 FnBuiltin::TextChar,
                 FnBuiltin::TextMinusChar,
                 FnBuiltin::TextCharCompare(t),
             ),
-            Own::Bool | Own::Int | Own::Blob | Own::Array | Own::Other => type_row(
-                t,
-                x.type_id(s),
-                y.type_id(s),
-            ),
+            OperandKind::Bool
+            | OperandKind::Int
+            | OperandKind::Blob
+            | OperandKind::Array
+            | OperandKind::Other => type_row(t, left.type_id(store), right.type_id(store)),
         },
-        Own::Char => match b {
-            Own::Str => one_or_comparison(
+        OperandKind::Char => match b {
+            OperandKind::Str => one_or_comparison(
                 t,
                 (Token::Plus, FnBuiltin::CharText),
                 FnBuiltin::CharTextCompare(t),
             ),
-            Own::Char => one_or_comparison(
+            OperandKind::Char => one_or_comparison(
                 t,
                 (Token::Plus, FnBuiltin::CharJoin),
                 FnBuiltin::CharCompare(t),
             ),
-            Own::Unit | Own::Bool | Own::Int | Own::Blob | Own::Array | Own::Other => type_row(
-                t,
-                x.type_id(s),
-                y.type_id(s),
-            ),
+            OperandKind::Unit
+            | OperandKind::Bool
+            | OperandKind::Int
+            | OperandKind::Blob
+            | OperandKind::Array
+            | OperandKind::Other => type_row(t, left.type_id(store), right.type_id(store)),
         },
-        Own::Blob => match b {
-            Own::Char => row_if(t == Token::Plus, FnBuiltin::BlobChar),
-            Own::Blob => if t == Token::Plus {
+        OperandKind::Blob => match b {
+            OperandKind::Char => row_if(t == Token::Plus, FnBuiltin::BlobChar),
+            OperandKind::Blob => if t == Token::Plus {
                 Some(FnBuiltin::BlobJoin)
             } else {
                 one_of(
@@ -293,12 +312,17 @@ fn own_row(t: Token, a: Own, b: Own, x: &Dynamic, y: &Dynamic, s: &Store) -> Opt
                     (Token::NotEqualsTo, FnBuiltin::BlobEqual(true)),
                 )
             },
-            Own::Unit | Own::Bool | Own::Int | Own::Str | Own::Array | Own::Other => type_row(
-                t,
-                x.type_id(s),
-                y.type_id(s),
-            ),
+            OperandKind::Unit
+            | OperandKind::Bool
+            | OperandKind::Int
+            | OperandKind::Str
+            | OperandKind::Array
+            | OperandKind::Other => type_row(t, left.type_id(store), right.type_id(store)),
         },
-        Own::Array | Own::Other => type_row(t, x.type_id(s), y.type_id(s)),
+        OperandKind::Array | OperandKind::Other => type_row(
+            t,
+            left.type_id(store),
+            right.type_id(store),
+        ),
     }
 }

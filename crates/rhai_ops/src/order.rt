@@ -13,38 +13,51 @@ use rhai_text::{ImmutableString, Token};
 use rhai_value::{Dynamic, INT, Store};
 use std::cmp::Ordering;
 
-/// The order of what two values hold, which is that of the row of `<` for them; `None` where it has no row, or one that answers the
-/// same for all operands of these types. Takes no memory.
-pub fn compare_values(x: &Dynamic, y: &Dynamic, s: &Store) -> Option<Ordering>
-    ensures { result ≡ value_order s.now x.now y.now }
+/// Orders what two values hold, as the row of `<` for them does; `None` where it has no row, or one that answers the same
+/// for all operands of these types.
+/// Cost: that of `Dynamic::held`, and the length of two texts; no memory.
+pub fn compare_values(left: &Dynamic, right: &Dynamic, store: &Store) -> Option<Ordering>
+    ensures { result ≡ value_order store.now left.now right.now }
 {
-    let Some(x) = x.held(s) else {
+    let Some(left) = left.held(store) else {
         return None;
     };
-    let Some(y) = y.held(s) else {
+    let Some(right) = right.held(store) else {
         return None;
     };
     rows_suit();
-    match get_builtin_binary_op_fn(&Token::LessThan, x, y, s) {
-        Some(row) => order_by(row, x, y, s),
+    match get_builtin_binary_op_fn(&Token::LessThan, left, right, store) {
+        Some(row) => order_by(row, left, right, store),
         None => None,
     }
 }
 
 /// The order by which a row compares; the other rows have none.
-fn order_by(row: FnBuiltin, x: &Dynamic, y: &Dynamic, s: &Store) -> Option<Ordering>
-    requires { Suits row s.now x.now y.now }
-    ensures { result ≡ row_order row s.now x.now y.now }
+fn order_by(row: FnBuiltin, left: &Dynamic, right: &Dynamic, store: &Store) -> Option<Ordering>
+    requires { Suits row store.now left.now right.now }
+    ensures { result ≡ row_order row store.now left.now right.now }
 {
     match row {
-        FnBuiltin::IntCompare(_) => Some(value::<INT>(x, s).cmp(&value::<INT>(y, s))),
-        FnBuiltin::BoolCompare(_) => Some(value::<bool>(x, s).cmp(&value::<bool>(y, s))),
-        FnBuiltin::TextCompare(_) => Some(part::<ImmutableString>(x, s).cmp(part::<ImmutableString>(
-            y, s,
+        FnBuiltin::IntCompare(_) => Some(value::<INT>(left, store).cmp(&value::<INT>(
+            right, store,
         ))),
-        FnBuiltin::CharCompare(_) => Some(value::<char>(x, s).cmp(&value::<char>(y, s))),
-        FnBuiltin::CharTextCompare(_) => Some(text_order_of(value(x, s), part(y, s))),
-        FnBuiltin::TextCharCompare(_) => Some(char_order_of(part(x, s), value(y, s))),
+        FnBuiltin::BoolCompare(_) => Some(value::<bool>(left, store).cmp(&value::<bool>(
+            right, store,
+        ))),
+        FnBuiltin::TextCompare(_) => Some(part::<ImmutableString>(left, store).cmp(part::<
+            ImmutableString,
+        >(right, store))),
+        FnBuiltin::CharCompare(_) => Some(value::<char>(left, store).cmp(&value::<char>(
+            right, store,
+        ))),
+        FnBuiltin::CharTextCompare(_) => Some(text_order_of(
+            value(left, store),
+            part(right, store),
+        )),
+        FnBuiltin::TextCharCompare(_) => Some(char_order_of(
+            part(left, store),
+            value(right, store),
+        )),
         FnBuiltin::Int(_)
         | FnBuiltin::IntRange(_)
         | FnBuiltin::Bool(_)

@@ -32,30 +32,30 @@ fn extend(limits: &Limits, bytes: &mut Blob, more: &[u8]) -> Result<Dynamic, Eva
 /// Bytes behind the blob at the place.
 pub(crate) fn push_bytes(
     limits: &Limits,
-    m: &mut Store,
-    x: &mut Dynamic,
+    store: &mut Store,
+    left: &mut Dynamic,
     more: &[u8],
 ) -> Result<Dynamic, EvalAltResult>
-    requires { Holds blob_of m.old x.old }
-    ensures { IsAssigned (Unit {0}) result (both (appended limits.now) (part_in blob_of m.old x.old) (Some more.now)) x.old x.new m.old m.new }
+    requires { Holds blob_of store.old left.old }
+    ensures { IsAssigned (Unit {0}) result (both (appended limits.now) (part_in blob_of store.old left.old) (Some more.now)) left.old left.new store.old store.new }
 {
-    let mut place = InStore { value: x, store: m };
+    let mut place = InStore { value: left, store };
     extend(limits, place.held_part_mut::<Blob>(), more)
 }
 
 /// An item behind an array, and unit where the item was, or both as they were.
 #[tactic(auto, using(crate::proofs::Items::item_behind, crate::proofs::Items::count_one_behind))]
-fn push(limits: &Limits, items: &mut Array, y: &mut Dynamic) -> Result<Dynamic, EvalAltResult>
-    ensures result { IsOutcome (Unit {0}) result (answered (assignment stays) (pushed limits.now (trees_of items.old.items) y.old)) }
-    ensures ok { OnOk result (pushed limits.now (trees_of items.old.items) y.old ≡ answers (made (branch array (trees_of items.new.items)))) }
-    ensures left { OnOk result (y.new ≡ fresh unit) }
-    ensures err { OnErr result ((items.new.items ≡ items.old.items) × (y.new ≡ y.old)) }
+fn push(limits: &Limits, items: &mut Array, right: &mut Dynamic) -> Result<Dynamic, EvalAltResult>
+    ensures result { IsOutcome (Unit {0}) result (answered (assignment stays) (pushed limits.now (trees_of items.old.items) right.old)) }
+    ensures ok { OnOk result (pushed limits.now (trees_of items.old.items) right.old ≡ answers (made (branch array (trees_of items.new.items)))) }
+    ensures left { OnOk result (right.new ≡ fresh unit) }
+    ensures err { OnErr result ((items.new.items ≡ items.old.items) × (right.new ≡ right.old)) }
 {
     if !is_allowed(limits.items, items.len(), 1) {
         return Err(EvalAltResult::ErrorDataTooLarge(SizeKind::Items, Position::NONE));
     }
     items.reserve(1)?;
-    items.push_reserved(y.take());
+    items.push_reserved(right.take());
     Ok(Dynamic::UNIT)
 }
 
@@ -63,17 +63,17 @@ fn push(limits: &Limits, items: &mut Array, y: &mut Dynamic) -> Result<Dynamic, 
 #[inline(never)]
 pub(crate) fn push_item(
     limits: &Limits,
-    m: &mut Store,
-    x: &mut Dynamic,
-    y: &mut Dynamic,
+    store: &mut Store,
+    left: &mut Dynamic,
+    right: &mut Dynamic,
 ) -> Result<Dynamic, EvalAltResult>
-    requires { Holds array_of m.old x.old }
-    ensures assigned { IsAssigned (Unit {0}) result (both (pushed limits.now) (part_in array_of m.old x.old) (Some y.old)) x.old x.new m.old m.new }
-    ensures second { IfOk result (λ d. y.new ≡ fresh unit) }
-    ensures kept { IfErr result (λ e. y.new ≡ y.old) }
+    requires { Holds array_of store.old left.old }
+    ensures assigned { IsAssigned (Unit {0}) result (both (pushed limits.now) (part_in array_of store.old left.old) (Some right.old)) left.old left.new store.old store.new }
+    ensures second { IfOk result (λ d. right.new ≡ fresh unit) }
+    ensures kept { IfErr result (λ e. right.new ≡ right.old) }
 {
-    let mut place = InStore { value: x, store: m };
-    push(limits, place.held_part_mut::<Array>(), y)
+    let mut place = InStore { value: left, store };
+    push(limits, place.held_part_mut::<Array>(), right)
 }
 
 /// Items behind an array, where none are left, or both as they were.
@@ -107,15 +107,15 @@ fn may_join(limits: &Limits, items: &Array, more: &Array) -> bool
 /// The items of an array behind those of the array at the place, where none are left.
 fn append_at(
     limits: &Limits,
-    m: &mut Store,
-    x: &mut Dynamic,
+    store: &mut Store,
+    left: &mut Dynamic,
     more: &mut Array,
 ) -> Result<Dynamic, EvalAltResult>
-    requires { Holds array_of m.old x.old }
-    ensures assigned { IsAssigned (Unit {0}) result (both (joined_items limits.now) (part_in array_of m.old x.old) (Some (trees_of more.old.items))) x.old x.new m.old m.new }
+    requires { Holds array_of store.old left.old }
+    ensures assigned { IsAssigned (Unit {0}) result (both (joined_items limits.now) (part_in array_of store.old left.old) (Some (trees_of more.old.items))) left.old left.new store.old store.new }
     ensures kept { IfErr result (λ e. more.new.items ≡ more.old.items) }
 {
-    let mut place = InStore { value: x, store: m };
+    let mut place = InStore { value: left, store };
     append(limits, place.held_part_mut::<Array>(), more)
 }
 
@@ -124,20 +124,20 @@ fn append_at(
 fn copies(
     alloc: Global,
     limits: &Limits,
-    s: &Store,
-    x: &Dynamic,
-    y: &Dynamic,
+    store: &Store,
+    left: &Dynamic,
+    right: &Dynamic,
 ) -> Result<Array, EvalAltResult>
-    requires first { Holds array_of s.now x.now }
-    requires second { Holds array_of s.now y.now }
-    ensures ok { IfOk result (λ v. option_map copy_trees (part_in array_of s.now y.now) ≡ Some (trees_of v.items)) }
-    ensures err { IfErr result (λ e. IsOutcome (Unit {0}) (Err e) (answered (assignment stays) (both (joined_items limits.now) (part_in array_of s.now x.now) (option_map copy_trees (part_in array_of s.now y.now))))) }
+    requires first { Holds array_of store.now left.now }
+    requires second { Holds array_of store.now right.now }
+    ensures ok { IfOk result (λ v. option_map copy_trees (part_in array_of store.now right.now) ≡ Some (trees_of v.items)) }
+    ensures err { IfErr result (λ e. IsOutcome (Unit {0}) (Err e) (answered (assignment stays) (both (joined_items limits.now) (part_in array_of store.now left.now) (option_map copy_trees (part_in array_of store.now right.now))))) }
 {
-    let more = part::<Array>(y, s);
-    if !may_join(limits, part::<Array>(x, s), more) {
+    let more = part::<Array>(right, store);
+    if !may_join(limits, part::<Array>(left, store), more) {
         return Err(EvalAltResult::ErrorDataTooLarge(SizeKind::Items, Position::NONE));
     }
-    Ok(more.again(alloc)?)
+    Ok(more.try_clone(alloc)?)
 }
 
 /// The items of the second operand behind those of the array at the place, and unit where the second operand was. Its own items are
@@ -146,32 +146,32 @@ fn copies(
 pub(crate) fn append_items(
     alloc: Global,
     limits: &Limits,
-    m: &mut Store,
-    x: &mut Dynamic,
-    y: &mut Dynamic,
+    store: &mut Store,
+    left: &mut Dynamic,
+    right: &mut Dynamic,
 ) -> Result<Dynamic, EvalAltResult>
-    requires first { Holds array_of m.old x.old }
-    requires second { Holds array_of m.old y.old }
-    ensures assigned { IsAssigned (Unit {0}) result (both (joined_items limits.now) (part_in array_of m.old x.old) (array_moved m.old y.old)) x.old x.new m.old m.new }
-    ensures second { IfOk result (λ d. y.new ≡ fresh unit) }
-    ensures kept { IfErr result (λ e. y.new ≡ y.old) }
+    requires first { Holds array_of store.old left.old }
+    requires second { Holds array_of store.old right.old }
+    ensures assigned { IsAssigned (Unit {0}) result (both (joined_items limits.now) (part_in array_of store.old left.old) (array_moved store.old right.old)) left.old left.new store.old store.new }
+    ensures second { IfOk result (λ d. right.new ≡ fresh unit) }
+    ensures kept { IfErr result (λ e. right.new ≡ right.old) }
 {
-    if let Some(own) = Array::own_mut(y) {
-        let done = append_at(limits, m, x, own)?;
-        leave_unit(y);
+    if let Some(own) = Array::own_mut(right) {
+        let done = append_at(limits, store, left, own)?;
+        leave_unit(right);
         return Ok(done);
     }
-    let mut copies = copies(alloc, limits, m, x, y)?;
-    let done = append_at(limits, m, x, &mut copies)?;
-    leave_unit(y);
+    let mut copies = copies(alloc, limits, store, left, right)?;
+    let done = append_at(limits, store, left, &mut copies)?;
+    leave_unit(right);
     Ok(done)
 }
 
 /// Unit where the second operand was.
-fn leave_unit(y: &mut Dynamic)
-    ensures { y.new ≡ fresh unit }
+fn leave_unit(right: &mut Dynamic)
+    ensures { right.new ≡ fresh unit }
 {
-    *y = Dynamic::UNIT;
+    *right = Dynamic::UNIT;
 }
 
 /// The bytes of a blob behind those of the blob at the place. The limit is tested before anything is copied.
@@ -179,41 +179,41 @@ fn leave_unit(y: &mut Dynamic)
 fn append_bytes(
     alloc: Global,
     limits: &Limits,
-    m: &mut Store,
-    x: &mut Dynamic,
-    y: &Dynamic,
+    store: &mut Store,
+    left: &mut Dynamic,
+    right: &Dynamic,
 ) -> Result<Dynamic, EvalAltResult>
-    requires first { Holds blob_of m.old x.old }
-    requires second { Holds blob_of m.old y.now }
-    ensures { IsAssigned (Unit {0}) result (both (appended limits.now) (part_in blob_of m.old x.old) (part_in blob_of m.old y.now)) x.old x.new m.old m.new }
+    requires first { Holds blob_of store.old left.old }
+    requires second { Holds blob_of store.old right.now }
+    ensures { IsAssigned (Unit {0}) result (both (appended limits.now) (part_in blob_of store.old left.old) (part_in blob_of store.old right.now)) left.old left.new store.old store.new }
 {
-    if let Some(own) = Blob::own(y) {
-        return push_bytes(limits, m, x, own);
+    if let Some(own) = Blob::own(right) {
+        return push_bytes(limits, store, left, own);
     }
-    let bytes = part::<Blob>(y, m);
-    if !is_allowed(limits.items, part::<Blob>(x, m).len(), bytes.len()) {
+    let bytes = part::<Blob>(right, store);
+    if !is_allowed(limits.items, part::<Blob>(left, store).len(), bytes.len()) {
         return Err(EvalAltResult::ErrorDataTooLarge(SizeKind::Items, Position::NONE));
     }
     let bytes = Vec::from_slice(alloc, bytes)?;
-    push_bytes(limits, m, x, &bytes)
+    push_bytes(limits, store, left, &bytes)
 }
 
 /// The bytes of the second operand behind those of the blob at the place, and unit where the second operand was.
 pub(crate) fn append_blob(
     alloc: Global,
     limits: &Limits,
-    m: &mut Store,
-    x: &mut Dynamic,
-    y: &mut Dynamic,
+    store: &mut Store,
+    left: &mut Dynamic,
+    right: &mut Dynamic,
 ) -> Result<Dynamic, EvalAltResult>
-    requires first { Holds blob_of m.old x.old }
-    requires second { Holds blob_of m.old y.old }
-    ensures assigned { IsAssigned (Unit {0}) result (both (appended limits.now) (part_in blob_of m.old x.old) (part_in blob_of m.old y.old)) x.old x.new m.old m.new }
-    ensures second { IfOk result (λ d. y.new ≡ fresh unit) }
-    ensures kept { IfErr result (λ e. y.new ≡ y.old) }
+    requires first { Holds blob_of store.old left.old }
+    requires second { Holds blob_of store.old right.old }
+    ensures assigned { IsAssigned (Unit {0}) result (both (appended limits.now) (part_in blob_of store.old left.old) (part_in blob_of store.old right.old)) left.old left.new store.old store.new }
+    ensures second { IfOk result (λ d. right.new ≡ fresh unit) }
+    ensures kept { IfErr result (λ e. right.new ≡ right.old) }
 {
-    let done = append_bytes(alloc, limits, m, x, y)?;
-    leave_unit(y);
+    let done = append_bytes(alloc, limits, store, left, right)?;
+    leave_unit(right);
     Ok(done)
 }
 
@@ -221,16 +221,16 @@ pub(crate) fn append_blob(
 #[inline(never)]
 pub(crate) fn push_byte(
     limits: &Limits,
-    m: &mut Store,
-    x: &mut Dynamic,
-    y: &Dynamic,
+    store: &mut Store,
+    left: &mut Dynamic,
+    right: &Dynamic,
 ) -> Result<Dynamic, EvalAltResult>
-    requires first { Holds blob_of m.old x.old }
-    requires second { Holds int_of m.old y.now }
-    ensures { IsAssigned (Unit {0}) result (both (appended limits.now) (part_in blob_of m.old x.old) (option_map (λ n. low_byte n ∷ []) (part_in int_of m.old y.now))) x.old x.new m.old m.new }
+    requires first { Holds blob_of store.old left.old }
+    requires second { Holds int_of store.old right.now }
+    ensures { IsAssigned (Unit {0}) result (both (appended limits.now) (part_in blob_of store.old left.old) (option_map (λ n. low_byte n ∷ []) (part_in int_of store.old right.now))) left.old left.new store.old store.new }
 {
-    let number = value::<INT>(y, m);
-    let mut place = InStore { value: x, store: m };
+    let number = value::<INT>(right, store);
+    let mut place = InStore { value: left, store };
     extend_by_one(
         limits,
         place.held_part_mut::<Blob>(),
@@ -255,15 +255,20 @@ fn extend_by_one(limits: &Limits, bytes: &mut Blob, byte: u8) -> Result<Dynamic,
 /// The UTF-8 bytes of a character behind the blob at the place.
 pub(crate) fn push_char(
     limits: &Limits,
-    m: &mut Store,
-    x: &mut Dynamic,
+    store: &mut Store,
+    left: &mut Dynamic,
     character: char,
 ) -> Result<Dynamic, EvalAltResult>
-    requires { Holds blob_of m.old x.old }
-    ensures { IsAssigned (Unit {0}) result (both (appended limits.now) (part_in blob_of m.old x.old) (Some (encode_utf8 character))) x.old x.new m.old m.new }
+    requires { Holds blob_of store.old left.old }
+    ensures { IsAssigned (Unit {0}) result (both (appended limits.now) (part_in blob_of store.old left.old) (Some (encode_utf8 character))) left.old left.new store.old store.new }
 {
     let mut buffer = [0; 4];
-    push_bytes(limits, m, x, character.encode_utf8(&mut buffer).as_bytes())
+    push_bytes(
+        limits,
+        store,
+        left,
+        character.encode_utf8(&mut buffer).as_bytes(),
+    )
 }
 
 /// The UTF-8 bytes of a text behind the blob at the place. Of an empty one no limit is tested.
@@ -271,40 +276,40 @@ pub(crate) fn push_char(
 pub(crate) fn append_text(
     alloc: Global,
     limits: &Limits,
-    m: &mut Store,
-    x: &mut Dynamic,
-    y: &Dynamic,
+    store: &mut Store,
+    left: &mut Dynamic,
+    right: &Dynamic,
 ) -> Result<Dynamic, EvalAltResult>
-    requires first { Holds blob_of m.old x.old }
-    requires second { Holds text_of m.old y.now }
-    ensures { IsAssigned (Unit {0}) result (both (blob_and_text limits.now) (part_in blob_of m.old x.old) (part_in text_of m.old y.now)) x.old x.new m.old m.new }
+    requires first { Holds blob_of store.old left.old }
+    requires second { Holds text_of store.old right.now }
+    ensures { IsAssigned (Unit {0}) result (both (blob_and_text limits.now) (part_in blob_of store.old left.old) (part_in text_of store.old right.now)) left.old left.new store.old store.new }
 {
-    if let Some(own) = ImmutableString::own(y) {
-        return push_text(limits, m, x, own);
+    if let Some(own) = ImmutableString::own(right) {
+        return push_text(limits, store, left, own);
     }
-    let text = part::<ImmutableString>(y, m);
+    let text = part::<ImmutableString>(right, store);
     if text.is_empty() {
         return Ok(Dynamic::UNIT);
     }
-    if !is_allowed(limits.items, part::<Blob>(x, m).len(), text.len()) {
+    if !is_allowed(limits.items, part::<Blob>(left, store).len(), text.len()) {
         return Err(EvalAltResult::ErrorDataTooLarge(SizeKind::Items, Position::NONE));
     }
     let text = text.copy(alloc)?;
-    push_text(limits, m, x, &text)
+    push_text(limits, store, left, &text)
 }
 
 /// The UTF-8 bytes of a text behind the blob at the place. Of an empty one no limit is tested.
 fn push_text(
     limits: &Limits,
-    m: &mut Store,
-    x: &mut Dynamic,
+    store: &mut Store,
+    left: &mut Dynamic,
     text: &ImmutableString,
 ) -> Result<Dynamic, EvalAltResult>
-    requires { Holds blob_of m.old x.old }
-    ensures { IsAssigned (Unit {0}) result (both (blob_and_text limits.now) (part_in blob_of m.old x.old) (Some text.now)) x.old x.new m.old m.new }
+    requires { Holds blob_of store.old left.old }
+    ensures { IsAssigned (Unit {0}) result (both (blob_and_text limits.now) (part_in blob_of store.old left.old) (Some text.now)) left.old left.new store.old store.new }
 {
     if text.is_empty() {
         return Ok(Dynamic::UNIT);
     }
-    push_bytes(limits, m, x, text.as_str().as_bytes())
+    push_bytes(limits, store, left, text.as_str().as_bytes())
 }

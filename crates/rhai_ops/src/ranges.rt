@@ -24,16 +24,16 @@ pub(crate) fn between(inclusive: bool, start: INT, end: INT) -> Result<Dynamic, 
 /// Whether two ranges without their ends are the same, or the opposite.
 pub(crate) fn equal_exclusive(
     negated: bool,
-    s: &Store,
-    x: &Dynamic,
-    y: &Dynamic,
+    store: &Store,
+    left: &Dynamic,
+    right: &Dynamic,
 ) -> Result<Dynamic, EvalAltResult>
-    requires first { Holds (typed_host_of (range_type false)) s.now x.now }
-    requires second { Holds (typed_host_of (range_type false)) s.now y.now }
-    ensures { IsOutcome ⊥ result (both (λ a b. range_answer negated (same_range a b)) (part_in (typed_host_of (range_type false)) s.now x.now) (part_in (typed_host_of (range_type false)) s.now y.now)) }
+    requires first { Holds (typed_host_of (range_type false)) store.now left.now }
+    requires second { Holds (typed_host_of (range_type false)) store.now right.now }
+    ensures { IsOutcome ⊥ result (both (λ a b. range_answer negated (same_range a b)) (part_in (typed_host_of (range_type false)) store.now left.now) (part_in (typed_host_of (range_type false)) store.now right.now)) }
 {
-    let a = value::<ExclusiveRange>(x, s);
-    let b = value::<ExclusiveRange>(y, s);
+    let a = value::<ExclusiveRange>(left, store);
+    let b = value::<ExclusiveRange>(right, store);
     let same = same_ends((a.start, a.end), (b.start, b.end));
     Ok(Dynamic::from_bool(unless(negated, same)))
 }
@@ -41,16 +41,16 @@ pub(crate) fn equal_exclusive(
 /// The same of two ranges with their ends.
 pub(crate) fn equal_inclusive(
     negated: bool,
-    s: &Store,
-    x: &Dynamic,
-    y: &Dynamic,
+    store: &Store,
+    left: &Dynamic,
+    right: &Dynamic,
 ) -> Result<Dynamic, EvalAltResult>
-    requires first { Holds (typed_host_of (range_type true)) s.now x.now }
-    requires second { Holds (typed_host_of (range_type true)) s.now y.now }
-    ensures { IsOutcome ⊥ result (both (λ a b. range_answer negated (same_range a b)) (part_in (typed_host_of (range_type true)) s.now x.now) (part_in (typed_host_of (range_type true)) s.now y.now)) }
+    requires first { Holds (typed_host_of (range_type true)) store.now left.now }
+    requires second { Holds (typed_host_of (range_type true)) store.now right.now }
+    ensures { IsOutcome ⊥ result (both (λ a b. range_answer negated (same_range a b)) (part_in (typed_host_of (range_type true)) store.now left.now) (part_in (typed_host_of (range_type true)) store.now right.now)) }
 {
-    let a = value::<InclusiveRange>(x, s);
-    let b = value::<InclusiveRange>(y, s);
+    let a = value::<InclusiveRange>(left, store);
+    let b = value::<InclusiveRange>(right, store);
     let same = same_ends((a.start, a.end), (b.start, b.end));
     Ok(Dynamic::from_bool(unless(negated, same)))
 }

@@ -6,13 +6,11 @@ ghost use Rattle.rhai_value.specs.Tree.{fresh, text as a_text};
 ghost use Rattle.rhai_ops.specs.Numbers as specs;
 ghost use Rattle.rhai_ops.specs.Outcome.{IsOutcome, answers, bool_answer, both, limited_text};
 ghost use Rattle.rhai_ops.specs.Results.{Holds, joined_texts, part as part_in, text_order};
-ghost use Rattle.rhai_ops.specs.Tokens as asked;
 ghost use Rattle.rhai_ops.specs.Tokens.{is_cmp};
 
 use crate::answer::{is_allowed, part, value};
 use crate::chars::spelled;
 use crate::compare::compared;
-use crate::role::{Comparison, comparison_of};
 use rhai_text::laws::byte_order_is_character_order;
 use rhai_text::{EvalAltResult, ImmutableString, Limits, Position, SizeKind, Token};
 use rhai_value::{Dynamic, Store};
@@ -23,15 +21,15 @@ use std::cmp::Ordering;
 pub(crate) fn join(
     alloc: Global,
     limits: &Limits,
-    s: &Store,
-    x: &Dynamic,
-    y: &Dynamic,
+    store: &Store,
+    left: &Dynamic,
+    right: &Dynamic,
 ) -> Result<Dynamic, EvalAltResult>
-    requires first { Holds text_of s.now x.now }
-    requires second { Holds text_of s.now y.now }
-    ensures { IsOutcome (Unit {0}) result (both (λ v w. limited_text limits.now (v ++ w)) (part_in text_of s.now x.now) (part_in text_of s.now y.now)) }
+    requires first { Holds text_of store.now left.now }
+    requires second { Holds text_of store.now right.now }
+    ensures { IsOutcome (Unit {0}) result (both (λ v w. limited_text limits.now (v ++ w)) (part_in text_of store.now left.now) (part_in text_of store.now right.now)) }
 {
-    joined(alloc, limits, part(x, s), part(y, s))
+    joined(alloc, limits, part(left, store), part(right, store))
 }
 
 #[tactic(auto, using(crate::proofs::Lengths::joined_length))]
@@ -53,16 +51,16 @@ fn joined(
 pub(crate) fn append(
     alloc: Global,
     limits: &Limits,
-    s: &Store,
-    x: &Dynamic,
-    y: &Dynamic,
+    store: &Store,
+    left: &Dynamic,
+    right: &Dynamic,
 ) -> Result<Dynamic, EvalAltResult>
-    requires first { Holds text_of s.now x.now }
-    requires second { Holds text_of s.now y.now }
-    ensures { IsOutcome (Unit {0}) result (both (joined_texts limits.now) (part_in text_of s.now x.now) (part_in text_of s.now y.now)) }
+    requires first { Holds text_of store.now left.now }
+    requires second { Holds text_of store.now right.now }
+    ensures { IsOutcome (Unit {0}) result (both (joined_texts limits.now) (part_in text_of store.now left.now) (part_in text_of store.now right.now)) }
 {
-    let a = part::<ImmutableString>(x, s);
-    let b = part::<ImmutableString>(y, s);
+    let a = part::<ImmutableString>(left, store);
+    let b = part::<ImmutableString>(right, store);
     if b.is_empty() {
         return Ok(Dynamic::from(a.copy(alloc)?));
     }
@@ -75,16 +73,16 @@ pub(crate) fn append(
 /// A text without the occurrences of a text.
 pub(crate) fn minus(
     alloc: Global,
-    s: &Store,
-    x: &Dynamic,
-    y: &Dynamic,
+    store: &Store,
+    left: &Dynamic,
+    right: &Dynamic,
 ) -> Result<Dynamic, EvalAltResult>
-    requires first { Holds text_of s.now x.now }
-    requires second { Holds text_of s.now y.now }
-    ensures { IsOutcome (Unit {0}) result (both (λ v w. answers (fresh (a_text (edits.minus v w)))) (part_in text_of s.now x.now) (part_in text_of s.now y.now)) }
+    requires first { Holds text_of store.now left.now }
+    requires second { Holds text_of store.now right.now }
+    ensures { IsOutcome (Unit {0}) result (both (λ v w. answers (fresh (a_text (edits.minus v w)))) (part_in text_of store.now left.now) (part_in text_of store.now right.now)) }
 {
-    let b = part::<ImmutableString>(y, s).as_str();
-    let text = part::<ImmutableString>(x, s).minus(alloc, b)?;
+    let b = part::<ImmutableString>(right, store).as_str();
+    let text = part::<ImmutableString>(left, store).minus(alloc, b)?;
     Ok(Dynamic::from(text))
 }
 
@@ -92,41 +90,42 @@ pub(crate) fn minus(
 #[inline(never)]
 pub(crate) fn compare(
     op: Token,
-    s: &Store,
-    x: &Dynamic,
-    y: &Dynamic,
+    store: &Store,
+    left: &Dynamic,
+    right: &Dynamic,
 ) -> Result<Dynamic, EvalAltResult>
     requires comparison { IsTrue (is_cmp op) }
-    requires first { Holds text_of s.now x.now }
-    requires second { Holds text_of s.now y.now }
-    ensures { IsOutcome ⊥ result (both (λ v w. bool_answer (specs.compared_by (asked.comparison (asked.role op)) (text_order v w))) (part_in text_of s.now x.now) (part_in text_of s.now y.now)) }
+    requires first { Holds text_of store.now left.now }
+    requires second { Holds text_of store.now right.now }
+    ensures { IsOutcome ⊥ result (both (λ v w. bool_answer (specs.compared op (text_order v w))) (part_in text_of store.now left.now) (part_in text_of store.now right.now)) }
 {
-    compare_two(op, part(x, s), part(y, s))
+    compare_two(op, part(left, store), part(right, store))
 }
 
 /// The same of what the operands have.
 #[inline(always)]
+#[tactic(auto, using(crate::proofs::Questions::some_order))]
 pub(crate) fn compare_two(
     op: Token,
     a: &ImmutableString,
     b: &ImmutableString,
 ) -> Result<Dynamic, EvalAltResult>
     requires { IsTrue (is_cmp op) }
-    ensures { IsOutcome ⊥ result (bool_answer (specs.compared_by (asked.comparison (asked.role op)) (text_order a.now b.now))) }
+    ensures { IsOutcome ⊥ result (bool_answer (specs.compared op (text_order a.now b.now))) }
 {
-    Ok(Dynamic::from_bool(compared_texts(comparison_of(op).unwrap(), a, b)))
+    Ok(Dynamic::from_bool(compared_texts(op, a, b).unwrap()))
 }
 
 /// Whether the comparison holds of two texts. Whether they are equal is told by their lengths first.
 #[inline(never)]
 #[tactic(auto, using(crate::proofs::Characters::equal_by_order))]
-fn compared_texts(comparison: Comparison, a: &ImmutableString, b: &ImmutableString) -> bool
-    ensures { result ≡ specs.compared comparison (text_order a.now b.now) }
+fn compared_texts(op: Token, a: &ImmutableString, b: &ImmutableString) -> Option<bool>
+    ensures { result ≡ specs.compared op (text_order a.now b.now) }
 {
-    if matches!(comparison, Comparison::Equal) {
-        return a == b;
+    if op == Token::EqualsTo {
+        return Some(a == b);
     }
-    compared(comparison, a.cmp(b))
+    compared(op, a.cmp(b))
 }
 
 /// A character behind a text.
@@ -134,17 +133,17 @@ fn compared_texts(comparison: Comparison, a: &ImmutableString, b: &ImmutableStri
 pub(crate) fn join_char(
     alloc: Global,
     limits: &Limits,
-    s: &Store,
-    x: &Dynamic,
-    y: &Dynamic,
+    store: &Store,
+    left: &Dynamic,
+    right: &Dynamic,
 ) -> Result<Dynamic, EvalAltResult>
-    requires first { Holds text_of s.now x.now }
-    requires second { Holds char_of s.now y.now }
-    ensures { IsOutcome (Unit {0}) result (both (λ v d. limited_text limits.now (v ++ d ∷ [])) (part_in text_of s.now x.now) (part_in char_of s.now y.now)) }
+    requires first { Holds text_of store.now left.now }
+    requires second { Holds char_of store.now right.now }
+    ensures { IsOutcome (Unit {0}) result (both (λ v d. limited_text limits.now (v ++ d ∷ [])) (part_in text_of store.now left.now) (part_in char_of store.now right.now)) }
 {
-    let a = part::<ImmutableString>(x, s);
+    let a = part::<ImmutableString>(left, store);
     let mut buffer = [0; 4];
-    let b = spelled(value(y, s), &mut buffer);
+    let b = spelled(value(right, store), &mut buffer);
     if !is_allowed(limits.text, a.len(), b.len()) {
         return Err(EvalAltResult::ErrorDataTooLarge(SizeKind::Text, Position::NONE));
     }
@@ -154,32 +153,33 @@ pub(crate) fn join_char(
 /// A text without a character.
 pub(crate) fn minus_char(
     alloc: Global,
-    s: &Store,
-    x: &Dynamic,
-    y: &Dynamic,
+    store: &Store,
+    left: &Dynamic,
+    right: &Dynamic,
 ) -> Result<Dynamic, EvalAltResult>
-    requires first { Holds text_of s.now x.now }
-    requires second { Holds char_of s.now y.now }
-    ensures { IsOutcome (Unit {0}) result (both (λ v d. answers (fresh (a_text (edits.minus_char v d)))) (part_in text_of s.now x.now) (part_in char_of s.now y.now)) }
+    requires first { Holds text_of store.now left.now }
+    requires second { Holds char_of store.now right.now }
+    ensures { IsOutcome (Unit {0}) result (both (λ v d. answers (fresh (a_text (edits.minus_char v d)))) (part_in text_of store.now left.now) (part_in char_of store.now right.now)) }
 {
-    let text = part::<ImmutableString>(x, s).minus_char(alloc, value(y, s))?;
+    let text = part::<ImmutableString>(left, store).minus_char(alloc, value(right, store))?;
     Ok(Dynamic::from(text))
 }
 
 /// A comparison of a text with a character, as the text of it alone.
+#[tactic(auto, using(crate::proofs::Questions::some_order))]
 pub(crate) fn compare_char(
     op: Token,
-    s: &Store,
-    x: &Dynamic,
-    y: &Dynamic,
+    store: &Store,
+    left: &Dynamic,
+    right: &Dynamic,
 ) -> Result<Dynamic, EvalAltResult>
     requires comparison { IsTrue (is_cmp op) }
-    requires first { Holds text_of s.now x.now }
-    requires second { Holds char_of s.now y.now }
-    ensures { IsOutcome ⊥ result (both (λ v d. bool_answer (specs.compared_by (asked.comparison (asked.role op)) (text_order v (d ∷ [])))) (part_in text_of s.now x.now) (part_in char_of s.now y.now)) }
+    requires first { Holds text_of store.now left.now }
+    requires second { Holds char_of store.now right.now }
+    ensures { IsOutcome ⊥ result (both (λ v d. bool_answer (specs.compared op (text_order v (d ∷ [])))) (part_in text_of store.now left.now) (part_in char_of store.now right.now)) }
 {
-    let order = char_order_of(part(x, s), value(y, s));
-    Ok(Dynamic::from_bool(compared(comparison_of(op).unwrap(), order)))
+    let order = char_order_of(part(left, store), value(right, store));
+    Ok(Dynamic::from_bool(compared(op, order).unwrap()))
 }
 
 /// The order of a text and a character, as the text of it alone.

@@ -6,11 +6,11 @@ ghost use Rattle.rhai_ops.specs.Effects.{rewritten};
 use rhai_value::{Dynamic, InStore, Store};
 
 /// Writes the content of a value to the place where the chain ends; nothing changes where the chain is stuck or closed.
-pub(crate) fn write(new: Dynamic, m: &mut Store, x: &mut Dynamic)
-    ensures value { x.new ≡ value_after (rewritten new) (end m.old [] x.old) x.old }
-    ensures store { m.new ≡ store_after (rewritten new) (end m.old [] x.old) m.old }
+pub(crate) fn write(new: Dynamic, store: &mut Store, left: &mut Dynamic)
+    ensures value { left.new ≡ value_after (rewritten new) (end store.old [] left.old) left.old }
+    ensures store { store.new ≡ store_after (rewritten new) (end store.old [] left.old) store.old }
 {
-    let mut place = InStore { value: x, store: m };
+    let mut place = InStore { value: left, store };
     if let Some(held) = place.held_mut() {
         *held = under(held, new);
     }

@@ -3,14 +3,14 @@ ghost use Rattle.std.specs.Prelude.{◌≡◌, IfSome, IsTrue, List, Some};
 ghost use Rattle.rhai_value.specs.declared.store.Cell.{Cell};
 ghost use Rattle.rhai_value.specs.Parts.{int_of, text_of};
 ghost use Rattle.rhai_ops.specs.Results.{part};
-ghost use Rattle.rhai_ops.specs.Table.{own};
+ghost use Rattle.rhai_ops.specs.Table.{operand_kind};
 
 use rhai_text::ImmutableString;
 use rhai_value::{Dynamic, INT, Union};
 
 // The constructors that the table names; a map, a function pointer, a value of the host and a holder are none of them.
 #[derive(Clone, Copy)]
-pub(crate) enum Own {
+pub(crate) enum OperandKind {
     Unit,
     Bool,
     Int,
@@ -21,32 +21,32 @@ pub(crate) enum Own {
     Other,
 }
 
-pub(crate) fn own_of(value: &Dynamic) -> Own
-    ensures { result ≡ own value.now }
+pub(crate) fn operand_kind_of(value: &Dynamic) -> OperandKind
+    ensures { result ≡ operand_kind value.now }
 {
     match value.parts() {
-        Union::Unit(_, _, _) => Own::Unit,
-        Union::Bool(_, _, _) => Own::Bool,
-        Union::Int(_, _, _) => Own::Int,
-        Union::Str(_, _, _) => Own::Str,
-        Union::Char(_, _, _) => Own::Char,
-        Union::Blob(_, _, _) => Own::Blob,
-        Union::Array(_, _, _) => Own::Array,
-        Union::Map(_, _, _) => Own::Other,
-        Union::FnPtr(_, _, _) => Own::Other,
-        Union::Variant(_, _, _) => Own::Other,
-        Union::Shared(_, _, _) => Own::Other,
+        Union::Unit(_, _, _) => OperandKind::Unit,
+        Union::Bool(_, _, _) => OperandKind::Bool,
+        Union::Int(_, _, _) => OperandKind::Int,
+        Union::Str(_, _, _) => OperandKind::Str,
+        Union::Char(_, _, _) => OperandKind::Char,
+        Union::Blob(_, _, _) => OperandKind::Blob,
+        Union::Array(_, _, _) => OperandKind::Array,
+        Union::Map(_, _, _) => OperandKind::Other,
+        Union::FnPtr(_, _, _) => OperandKind::Other,
+        Union::Variant(_, _, _) => OperandKind::Other,
+        Union::Shared(_, _, _) => OperandKind::Other,
     }
 }
 
 pub(crate) fn is_int(value: &Dynamic) -> bool
-    ensures { IsTrue result → own value.now ≡ Own.Int }
+    ensures { IsTrue result → operand_kind value.now ≡ OperandKind.Int }
 {
     matches!(value.parts(), Union::Int(_, _, _))
 }
 
 pub(crate) fn is_text(value: &Dynamic) -> bool
-    ensures { IsTrue result → own value.now ≡ Own.Str }
+    ensures { IsTrue result → operand_kind value.now ≡ OperandKind.Str }
 {
     matches!(value.parts(), Union::Str(_, _, _))
 }

@@ -1,7 +1,7 @@
 -- A text that is changed where it is held: in the value itself, or in a cell that is marked meanwhile.
 use Rattle.std.proofs.Common.{◌≡◌, ℕ, zero, suc, Bool, true, false, List, [], ◌∷◌, Option, Some, None, IfSome, MatchOption, Result, Ok, Err, IfOk, MatchResult, is_some, option_map, refl, sym, ap, ◌∙◌, subst}
 use Rattle.rhai_value.specs.declared.in_store.InStore.{InStore}
-use Rattle.rhai_value.specs.declared.chain.Site.TheVariants.{Own, InCell}
+use Rattle.rhai_value.specs.declared.chain.Site.TheVariants.{Here, InCell}
 use Rattle.rhai_value.specs.declared.store.Cell.{Cell}
 use Rattle.rhai_value.specs.Tree.{Tree, leaf, text}
 use Rattle.rhai_value.specs.Parts.{text_of, with_content}
@@ -29,7 +29,7 @@ of_ok (Err x) f b P e h = absurd h
 -- ---- where the value itself has the text
 own_at : (e : End) (h : InStore) → is_some (held_part text_of e) ≡ true → None ≡ held_cell e → ((v : Tree) → Some v ≡ held_in e → written_at e h (λ _. v) ≡ h)
     → (is_some (text_of h.value.now) ≡ true) × ((f : Tree → Tree) → f h.value.now ≡ value_after f e h.value.now) × ((f : Tree → Tree) (s : List Cell) → s ≡ store_after f e s)
-own_at (held Own v) h has none kept =
+own_at (held Here v) h has none kept =
     let same : v ≡ h.value.now = ap (λ x. x.value.now) (kept v refl) in
     (ap (λ t. is_some (text_of t)) (sym same) ∙ has, λ f. ap f (sym same), λ f s. refl)
 own_at (held (InCell c) v) h has none kept = cc
@@ -66,7 +66,7 @@ HeldInCell e s c = (v : Tree) × (content_at (set_mark s c true) c ≡ Some v) �
 
 cell_at : (e : End) (h : InStore) (c : ℕ) → is_some (held_part text_of e) ≡ true → Some c ≡ held_cell e → is_marked_at (set_mark h.store.now c true) c ≡ true
     → ((v : Tree) → Some v ≡ held_in e → written_at e h (λ _. v) ≡ h) → HeldInCell e h.store.now c
-cell_at (held Own v) h c has some marked kept = cc
+cell_at (held Here v) h c has some marked kept = cc
 cell_at (held (InCell d) v) h c has some marked kept =
     let s = h.store.now in
     let same : c ≡ d = cc in

@@ -1,7 +1,7 @@
 -- What was written back is held afterwards, and what is written over itself leaves all as it was.
 use Rattle.std.proofs.Common.{◌≡◌, ℕ, ℤ, pos, ◌<◌, ◌^◌, ◌*ℤ◌, ◌+◌, Bool, true, false, ◌&&◌, List, [], length, slice_get, slice_set, Option, Some, None, option_map, option_and_then, refl, sym, ap, ◌∙◌, w64, FitsSigned}
 use Rattle.std.specs.Int.{int_wrap}
-use Rattle.rhai_value.specs.declared.chain.Site.TheVariants.{Own, InCell}
+use Rattle.rhai_value.specs.declared.chain.Site.TheVariants.{Here, InCell}
 use Rattle.rhai_value.specs.declared.store.Cell.{Cell}
 use Rattle.rhai_value.specs.Tree.{Tree, node, Leaf, leaf, branch, fields, holder, unit, bool, int, char, text, blob, host, cell_of}
 use Rattle.rhai_value.specs.Parts.{leaf_part, leaf_int, leaf_text, leaf_blob, bool_of, int_of, char_of, text_of, blob_of}
@@ -29,7 +29,7 @@ module _ {A : Type 0} (part : Leaf → Option A) (make : A → Leaf) (has : (a :
 
   held_at : (f : A → A) (s : List Cell) (t : Tree) (a : A) (e : End) → e ≡ end s [] t → held_part (leaf_part part) e ≡ Some a
       → held_part (leaf_part part) (end (store_after (on f) e s) [] (value_after (on f) e t)) ≡ Some (f a)
-  held_at f s t a (held Own v) here some =
+  held_at f s t a (held Here v) here some =
       let read = changed part make has f v (leaf_part part v) refl ∙ ap (option_map f) some in
       ap (held_part (leaf_part part)) (end_own s [] (on f v) (no_holder (on f v) (f a) read)) ∙ read
   held_at f s t a (held (InCell c) v) here some =
@@ -46,7 +46,7 @@ module _ {A : Type 0} (part : Leaf → Option A) (make : A → Leaf) (has : (a :
 
   kept_at : (f : A → A) (s : List Cell) (t : Tree) (a : A) (e : End) → e ≡ end s [] t → held_part (leaf_part part) e ≡ Some a → f a ≡ a
       → (value_after (on f) e t ≡ t) × (store_after (on f) e s ≡ s)
-  kept_at f s t a (held Own v) here some same = (over_itself f v a some same ∙ sym (stands s t Own v here), refl)
+  kept_at f s t a (held Here v) here some same = (over_itself f v a some same ∙ sym (stands s t Here v here), refl)
   kept_at f s t a (held (InCell c) v) here some same = (refl, ap (put s c) (over_itself f v a some same) ∙ put-same s c v (stands s t (InCell c) v here))
   kept_at f s t a (stuck v) here some same = cc
   kept_at f s t a closed here some same = cc

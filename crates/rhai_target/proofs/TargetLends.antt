@@ -1,13 +1,13 @@
 -- What a target and the store lend, each by itself, as what they are said to lend together.
-use Rattle.std.proofs.Common.{◌≡◌, ℕ, true, List, Option, Some, None, is_some, option_map, slice_get, refl, sym, ap, ◌∙◌, subst}
+use Rattle.std.proofs.Common.{◌≡◌, ℕ, true, false, List, Option, Some, None, is_some, option_map, slice_get, refl, sym, ap, ◌∙◌, subst}
 use Rattle.std.specs.Borrow.{MutBor, GName, Fml, follows_if}
-use Rattle.std.specs.Option.{ghost_name_of}
+use Rattle.std.specs.Option.{ghost_name_of, option_map_or}
 use denote.Follow.{follows_by}
 use Rattle.rhai_value.specs.declared.store.Cell.{Cell}
 use Rattle.rhai_value.specs.contracts.dynamic.Dynamic as dynamic
 use Rattle.rhai_value.specs.contracts.store.Store as store
 use Rattle.rhai_value.specs.Tree.{Tree}
-use Rattle.rhai_value.specs.Store.{content_at, is_marked_at, mark_of}
+use Rattle.rhai_value.specs.Store.{content_at, is_marked_at}
 use Rattle.rhai_target.specs.declared.target.Target.{Target}
 use Rattle.rhai_target.specs.declared.target.Target.TheVariants.{RefMut, SharedValue, TempValue, Bit, BitField, BlobByte, StringChar, StringSlice}
 use Rattle.rhai_target.specs.Target.{mark_in, IsMarkedIn, value_in, with_value, put_marked}
@@ -89,7 +89,7 @@ has_value s t o r h f = has_either o r ∙ ap (λ z. either_of z (Has r)) h ∙ 
 pub is_value : (s : List Cell) (t : Target) (o r : Option (MutBor Tree)) (p : MutBor Tree) → Has o ≡ own_value t → Has r ≡ marked_value (mark_in t) s → either_of o r ≡ Some p → value_in s t ≡ Some p.now
 is_value s t o r p h f e = sym (has_value s t o r h f) ∙ ap Has e
 
-content_of : (o : Option Cell) → mark_of o ≡ true → is_some (option_map (λ x. x.content) o) ≡ true
+content_of : (o : Option Cell) → option_map_or (λ x. x.is_marked) o false ≡ true → is_some (option_map (λ x. x.content) o) ≡ true
 content_of None h = cc
 content_of (Some x) h = refl
 

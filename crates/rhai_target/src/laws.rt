@@ -71,7 +71,8 @@ pub fn bytes_read_as_written()
         → (value_changed (byte_change s v index) (end s [] t) t ≡ t) × (store_changed (byte_change s v index) (end s [] t) s ≡ s) }
 {}
 
-/// The same of characters.
+/// A character that was written back reads as written, and every other character stays; a character that is written over
+/// itself leaves source and store.
 #[tactic(auto, using(crate::proofs::ReadBack::char_read, crate::proofs::ReadBack::other_chars_read))]
 pub fn characters_read_as_written()
     ensures written { (s : List Cell) (t v : Tree) (index : ℕ) (cs : List ℕ) (c : ℕ) → index < length cs

@@ -12,30 +12,33 @@ use crate::target::Target;
 use rhai_value::{Dynamic, Store};
 
 impl<'a> Target<'a> {
-    /// Lends what `as_mut` does. Once it was written, the target has that value in the place of what is worked on; or, where it has a
-    /// mark, the store has it in the marked cell. All else is as it was. Takes no memory.
+    /// Lends what `as_mut` does. Once it was written, the target has that value in the place of what is worked on; or,
+    /// where it has a mark, the store has it in the marked cell. All else is as it was.
+    /// Cost: constant; no memory.
+    /// rhai: `AsMut` of `Target`.
     #[inline(always)]
-    pub fn lent_mut<'s>(&'s mut self, m: &'s mut Store) -> &'s mut Dynamic
-        requires { IsMarkedIn m.old self.old }
-        ensures* writes_back { sem 𝓛 (LendsTarget self.entry m.entry result.ghost_name) }
-        ensures value { value_in m.old self.old ≡ Some result.now }
+    pub fn lent_mut<'s>(&'s mut self, store: &'s mut Store) -> &'s mut Dynamic
+        requires { IsMarkedIn store.old self.old }
+        ensures* writes_back { sem 𝓛 (LendsTarget self.entry store.entry result.ghost_name) }
+        ensures value { value_in store.old self.old ≡ Some result.now }
     {
-        let far = marked_mut(m, self);
+        let far = marked_mut(store, self);
         let own = own_value_mut(self);
         one_of(own, far)
     }
 
-    /// Hands a function what `as_mut` lends, and says what target and store are afterwards: what the function left there is in the
-    /// place of what it found, and all else is as before.
-    pub fn with_mut<R, F: FnOnce(&mut Dynamic) -> R + Drop>(&mut self, m: &mut Store, f: F) -> R
-        requires marked { IsMarkedIn m.old self.old }
+    /// Hands a function what `as_mut` lends, and says what target and store are afterwards: what the function left there is
+    /// in the place of what it found, and all else is as before.
+    /// Cost: that of the function; no memory.
+    pub fn with_mut<R, F: FnOnce(&mut Dynamic) -> R + Drop>(&mut self, store: &mut Store, f: F) -> R
+        requires marked { IsMarkedIn store.old self.old }
         requires callable { F.IsAlwaysCallable f }
-        ensures { (v w : Tree) × (value_in m.old self.old ≡ Some v) × FnOnceReturnsAtMut F.FnOnce f v result w
-            × (self.new ≡ with_value w self.old) × (m.new ≡ put_marked (mark_in self.old) w m.old) × IsMarkedIn m.new self.new }
+        ensures { (v w : Tree) × (value_in store.old self.old ≡ Some v) × FnOnceReturnsAtMut F.FnOnce f v result w
+            × (self.new ≡ with_value w self.old) × (store.new ≡ put_marked (mark_in self.old) w store.old) × IsMarkedIn store.new self.new }
     {
         match self {
             Target::RefMut(r) => f(r),
-            Target::SharedValue { token, .. } => f(m.through_mut(token)),
+            Target::SharedValue { token, .. } => f(store.through_mut(token)),
             Target::TempValue(value) => f(value),
             Target::Bit { value, .. } => f(value),
             Target::BitField { value, .. } => f(value),
@@ -48,14 +51,14 @@ impl<'a> Target<'a> {
 
 /// What is in the cell that the target has marked, to write.
 #[inline(always)]
-fn marked_mut<'m>(m: &'m mut Store, target: &mut Target<'_>) -> Option<&'m mut Dynamic>
-    requires { IsMarkedIn m.old target.old }
-    ensures* writes_back { sem 𝓛 (LendsIf store_type.the_row dynamic_type.the_row m.entry result (λ w. put_marked (mark_in target.old) w m.old) m.old) }
-    ensures value { option_map (λ d. d.now) result ≡ marked_value (mark_in target.old) m.old }
+fn marked_mut<'m>(store: &'m mut Store, target: &mut Target<'_>) -> Option<&'m mut Dynamic>
+    requires { IsMarkedIn store.old target.old }
+    ensures* writes_back { sem 𝓛 (LendsIf store_type.the_row dynamic_type.the_row store.entry result (λ w. put_marked (mark_in target.old) w store.old) store.old) }
+    ensures value { option_map (λ d. d.now) result ≡ marked_value (mark_in target.old) store.old }
     ensures target { target.new ≡ target.old }
 {
     match target {
-        Target::SharedValue { token, .. } => Some(m.through_mut(token)),
+        Target::SharedValue { token, .. } => Some(store.through_mut(token)),
         Target::RefMut(_)
         | Target::TempValue(_)
         | Target::Bit { .. }

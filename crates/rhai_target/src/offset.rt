@@ -4,8 +4,9 @@ ghost use Rattle.rhai_target.specs.Offset.{offset, count, place};
 
 use rhai_value::INT;
 
-/// Where a slice of a list of this length starts, and how many items it has. A negative start counts from the end; what goes past
-/// either end stops there. (`calc_offset_len`)
+/// Tells where a slice of a list of this length starts, and how many items it has. A negative start counts from the end;
+/// what goes past either end stops there.
+/// rhai: `calc_offset_len`.
 pub fn calc_offset_len(length: usize, start: INT, len: INT) -> (usize, usize)
     ensures start { result.0 ≡ offset length start }
     ensures len { result.1 ≡ count (length - offset length start) len }
@@ -23,8 +24,9 @@ pub fn calc_offset_len(length: usize, start: INT, len: INT) -> (usize, usize)
     (start, left.min(len.unsigned_abs() as usize))
 }
 
-/// The place of an item in a list of this length; `None` where there is none. A negative index counts from the end where
-/// `negative_count_from_end` says so. (`calc_index`)
+/// Tells the place of an item in a list of this length; `None` where there is none. A negative index counts from the end
+/// where `negative_count_from_end` says so.
+/// rhai: `calc_index`, which calls a function where there is no place.
 pub fn calc_index(length: usize, index: INT, negative_count_from_end: bool) -> Option<usize>
     ensures { result ≡ place length index negative_count_from_end }
 {

@@ -54,14 +54,16 @@ pub enum NoPart {
 
 /// Reading parts. A source that holds another type is refused first, by the name of that type; then a place that isn't there.
 impl ReadPart {
-    /// The bit at that place of the held int, as a boolean. Takes no memory.
-    ///
-    /// Errors: `OutOfRange` for a place that isn't one of 0 to 63; a negative one doesn't count from the end.
-    pub fn bit_at(source: &Dynamic, s: &Store, index: INT) -> Result<ReadPart, NoPart>
-        ensures read { IsRead (held_part int_of (end s.now [] source.now)) (end_name (end s.now [] source.now)) (bit_part index) false result }
-        ensures place { IfOk result (λ p. HasPlace s.now source.now p.place) }
+    /// Reads the bit at that place of the held int, as a boolean.
+    /// Errors: `Mismatch` for another type; `OutOfRange` for a place that isn't one of 0 to 63: a negative one doesn't
+    /// count from the end.
+    /// Cost: that of `Dynamic::held`; no memory.
+    /// rhai: an int indexed by an int.
+    pub fn bit_at(source: &Dynamic, store: &Store, index: INT) -> Result<ReadPart, NoPart>
+        ensures read { IsRead (held_part int_of (end store.now [] source.now)) (end_name (end store.now [] source.now)) (bit_part index) false result }
+        ensures place { IfOk result (λ p. HasPlace store.now source.now p.place) }
     {
-        let number = match source.as_int(s) {
+        let number = match source.as_int(store) {
             Ok(number) => number,
             Err(found) => return Err(NoPart::Mismatch(found)),
         };
@@ -75,14 +77,20 @@ impl ReadPart {
         })
     }
 
-    /// The bits of the mask in the held int, moved down by `shift`, as an int. Takes no memory.
-    ///
-    /// Errors: `OutOfRange` for a shift past 63.
-    pub fn field_at(source: &Dynamic, s: &Store, mask: INT, shift: u8) -> Result<ReadPart, NoPart>
-        ensures read { IsRead (held_part int_of (end s.now [] source.now)) (end_name (end s.now [] source.now)) (field_part mask shift) false result }
-        ensures place { IfOk result (λ p. HasPlace s.now source.now p.place) }
+    /// Reads the bits of the mask in the held int, moved down by `shift`, as an int.
+    /// Errors: `Mismatch` for another type; `OutOfRange` for a shift past 63.
+    /// Cost: that of `Dynamic::held`; no memory.
+    /// rhai: an int indexed by a range.
+    pub fn field_at(
+        source: &Dynamic,
+        store: &Store,
+        mask: INT,
+        shift: u8,
+    ) -> Result<ReadPart, NoPart>
+        ensures read { IsRead (held_part int_of (end store.now [] source.now)) (end_name (end store.now [] source.now)) (field_part mask shift) false result }
+        ensures place { IfOk result (λ p. HasPlace store.now source.now p.place) }
     {
-        let number = match source.as_int(s) {
+        let number = match source.as_int(store) {
             Ok(number) => number,
             Err(found) => return Err(NoPart::Mismatch(found)),
         };
@@ -95,12 +103,15 @@ impl ReadPart {
         })
     }
 
-    /// The byte at that place of the held blob, as an int. A negative place counts from the end. Takes no memory.
-    pub fn byte_at(source: &Dynamic, s: &Store, index: INT) -> Result<ReadPart, NoPart>
-        ensures read { IsRead (held_part blob_of (end s.now [] source.now)) (end_name (end s.now [] source.now)) (byte_part index) false result }
-        ensures place { IfOk result (λ p. HasPlace s.now source.now p.place) }
+    /// Reads the byte at that place of the held blob, as an int. A negative place counts from the end.
+    /// Errors: `Mismatch` for another type; `OutOfRange` where there is no such byte.
+    /// Cost: that of `Dynamic::held`; no memory.
+    /// rhai: a blob indexed by an int.
+    pub fn byte_at(source: &Dynamic, store: &Store, index: INT) -> Result<ReadPart, NoPart>
+        ensures read { IsRead (held_part blob_of (end store.now [] source.now)) (end_name (end store.now [] source.now)) (byte_part index) false result }
+        ensures place { IfOk result (λ p. HasPlace store.now source.now p.place) }
     {
-        let bytes = match source.as_blob_ref(s) {
+        let bytes = match source.as_blob_ref(store) {
             Ok(bytes) => bytes,
             Err(found) => return Err(NoPart::Mismatch(found)),
         };
@@ -116,13 +127,15 @@ impl ReadPart {
         })
     }
 
-    /// The character at that place of the held text. A negative place counts from the end. Takes no memory; goes over the text to the
-    /// character, and for a negative place over all of it first.
-    pub fn char_at(source: &Dynamic, s: &Store, index: INT) -> Result<ReadPart, NoPart>
-        ensures read { IsRead (held_part text_of (end s.now [] source.now)) (end_name (end s.now [] source.now)) (char_part index) false result }
-        ensures place { IfOk result (λ p. HasPlace s.now source.now p.place) }
+    /// Reads the character at that place of the held text. A negative place counts from the end.
+    /// Errors: `Mismatch` for another type; `OutOfRange` where there is no such character.
+    /// Cost: the length of the text up to the character, and for a negative place all of it first; no memory.
+    /// rhai: a text indexed by an int.
+    pub fn char_at(source: &Dynamic, store: &Store, index: INT) -> Result<ReadPart, NoPart>
+        ensures read { IsRead (held_part text_of (end store.now [] source.now)) (end_name (end store.now [] source.now)) (char_part index) false result }
+        ensures place { IfOk result (λ p. HasPlace store.now source.now p.place) }
     {
-        let text = match source.as_immutable_string_ref(s) {
+        let text = match source.as_immutable_string_ref(store) {
             Ok(text) => text.as_str(),
             Err(found) => return Err(NoPart::Mismatch(found)),
         };
@@ -138,18 +151,20 @@ impl ReadPart {
         })
     }
 
-    /// The characters of the slice in the held text, as a text; none where it ends before it starts. Makes one new text, and goes over
-    /// the held one to the end of the slice.
+    /// Reads the characters of the slice in the held text, as a text; none where it ends before it starts.
+    /// Errors: `Mismatch` for another type; `Memory` where the new text is refused.
+    /// Cost: the length of the text up to the end of the slice; memory for one new text.
+    /// rhai: a text indexed by a range.
     pub fn slice_at(
         alloc: Global,
         source: &Dynamic,
-        s: &Store,
+        store: &Store,
         slice: Slice,
     ) -> Result<ReadPart, NoPart>
-        ensures read { IsRead (held_part text_of (end s.now [] source.now)) (end_name (end s.now [] source.now)) (slice_part slice) true result }
-        ensures place { IfOk result (λ p. HasPlace s.now source.now p.place) }
+        ensures read { IsRead (held_part text_of (end store.now [] source.now)) (end_name (end store.now [] source.now)) (slice_part slice) true result }
+        ensures place { IfOk result (λ p. HasPlace store.now source.now p.place) }
     {
-        let text = match source.as_immutable_string_ref(s) {
+        let text = match source.as_immutable_string_ref(store) {
             Ok(text) => text,
             Err(found) => return Err(NoPart::Mismatch(found)),
         };
@@ -165,36 +180,46 @@ impl ReadPart {
 
 /// Writing parts back.
 impl ReadPart {
-    /// Writes the working value back into the source, and spends the part whatever comes: it is the write-back of that kind of part.
-    ///
-    /// Errors: as of `write_bit`, `write_field`, `write_byte`, `write_char` and `write_slice`; source and store are then as before.
+    /// Writes the working value back into the source, and spends the part whatever comes: it is the write-back of that kind
+    /// of part.
+    /// Errors: as of `write_bit`, `write_field`, `write_byte`, `write_char` and `write_slice`; source and store are then as
+    /// before.
+    /// Cost: that of the write-back.
+    /// rhai: `Target::propagate_changed_value`.
     pub fn write_back(
         self,
         source: &mut Dynamic,
         alloc: Global,
-        m: &mut Store,
+        store: &mut Store,
         pos: Position,
     ) -> Result<(), EvalAltResult>
-        requires { HasPlace m.old source.old self.place }
-        ensures answer { IsAnswer (wants_memory self.place) (part_change m.old source.old self) (wanted_at self.place) (end_name (end m.old [] self.value)) pos result }
-        ensures own { OnOk result (source.new ≡ value_changed (part_change m.old source.old self) (end m.old [] source.old) source.old) }
-        ensures store { OnOk result (m.new ≡ store_changed (part_change m.old source.old self) (end m.old [] source.old) m.old) }
-        ensures err { OnErr result ((source.new ≡ source.old) × (m.new ≡ m.old)) }
+        requires { HasPlace store.old source.old self.place }
+        ensures answer { IsAnswer (wants_memory self.place) (part_change store.old source.old self) (wanted_at self.place) (end_name (end store.old [] self.value)) pos result }
+        ensures own { OnOk result (source.new ≡ value_changed (part_change store.old source.old self) (end store.old [] source.old) source.old) }
+        ensures store { OnOk result (store.new ≡ store_changed (part_change store.old source.old self) (end store.old [] source.old) store.old) }
+        ensures err { OnErr result ((source.new ≡ source.old) × (store.new ≡ store.old)) }
     {
         match self.place {
-            PartPlace::Bit(bit) => write_bit(source, m, &self.value, bit, pos),
+            PartPlace::Bit(bit) => write_bit(source, store, &self.value, bit, pos),
             PartPlace::BitField { mask, shift } => write_field(
                 source,
-                m,
+                store,
                 &self.value,
                 mask,
                 shift,
                 pos,
             ),
-            PartPlace::BlobByte(index) => write_byte(source, m, &self.value, index, pos),
-            PartPlace::StringChar(index) => write_char(source, alloc, m, &self.value, index, pos),
+            PartPlace::BlobByte(index) => write_byte(source, store, &self.value, index, pos),
+            PartPlace::StringChar(index) => write_char(
+                source,
+                alloc,
+                store,
+                &self.value,
+                index,
+                pos,
+            ),
             PartPlace::StringSlice(slice) => {
-                write_slice(source, alloc, m, &self.value, slice)?;
+                write_slice(source, alloc, store, &self.value, slice)?;
                 Ok(())
             }
         }
@@ -202,7 +227,8 @@ impl ReadPart {
 }
 
 impl<'a> Target<'a> {
-    /// The target that is this part of the source.
+    /// Makes the target that is this part of the source.
+    /// Cost: constant; no memory.
     pub fn of_part(source: &'a mut Dynamic, part: ReadPart) -> Target<'a>
         ensures { result ≡ target_at source.entry part }
     {

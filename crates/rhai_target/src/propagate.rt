@@ -11,38 +11,39 @@ use std::alloc::Global;
 
 impl<'a> Target<'a> {
     /// Writes the working value of a part back into its source; nothing happens to any other target.
-    ///
-    /// A working value of the wrong type is refused, at this place of the script, before anything is written. After an `Err` target
-    /// and store are as before. The end of the source's chain is found once; a bit, some bits and a byte take no memory, a character
-    /// and a slice one new text. (`Target::propagate_changed_value`)
+    /// Errors: a working value of the wrong type, at this place of the script, before anything is written; `ErrorMemory`
+    /// for a character or a slice. Target and store are as before.
+    /// Cost: that of `Dynamic::held` once; a bit, some bits and a byte take no memory, a character and a slice one new
+    /// text.
+    /// rhai: `Target::propagate_changed_value`.
     #[inline(always)]
     pub fn propagate_changed_value(
         &mut self,
         alloc: Global,
-        m: &mut Store,
+        store: &mut Store,
         pos: Position,
     ) -> Result<(), EvalAltResult>
-        requires { HasPart m.old self.old }
-        ensures answer { IsWrittenBack m.old pos (write_back_of m.old self.old) result }
-        ensures own { OnOk result (self.new ≡ target_written m.old (write_back_of m.old self.old) self.old) }
-        ensures store { OnOk result (m.new ≡ store_written (write_back_of m.old self.old) m.old) }
-        ensures err { OnErr result ((self.new ≡ self.old) × (m.new ≡ m.old)) }
-        ensures marked { IsMarkedIn m.old self.old → IsMarkedIn m.new self.new }
+        requires { HasPart store.old self.old }
+        ensures answer { IsWrittenBack store.old pos (write_back_of store.old self.old) result }
+        ensures own { OnOk result (self.new ≡ target_written store.old (write_back_of store.old self.old) self.old) }
+        ensures store { OnOk result (store.new ≡ store_written (write_back_of store.old self.old) store.old) }
+        ensures err { OnErr result ((self.new ≡ self.old) × (store.new ≡ store.old)) }
+        ensures marked { IsMarkedIn store.old self.old → IsMarkedIn store.new self.new }
     {
         match self {
             Target::RefMut(_) | Target::SharedValue { .. } | Target::TempValue(_) => Ok(()),
-            Target::Bit { source, value, bit } => write_bit(source, m, value, *bit, pos),
-            Target::BitField { .. } => self.propagate_field(m, pos),
+            Target::Bit { source, value, bit } => write_bit(source, store, value, *bit, pos),
+            Target::BitField { .. } => self.propagate_field(store, pos),
             Target::BlobByte {
                 source,
                 value,
                 index,
-            } => write_byte(source, m, value, *index, pos),
+            } => write_byte(source, store, value, *index, pos),
             Target::StringChar {
                 source,
                 value,
                 index,
-            } => write_char(source, alloc, m, value, *index, pos),
+            } => write_char(source, alloc, store, value, *index, pos),
             Target::StringSlice {
                 source,
                 value,
@@ -55,7 +56,7 @@ impl<'a> Target<'a> {
                     end: *end,
                     exclusive: *exclusive,
                 };
-                write_slice(source, alloc, m, value, slice)?;
+                write_slice(source, alloc, store, value, slice)?;
                 Ok(())
             }
         }
@@ -63,14 +64,14 @@ impl<'a> Target<'a> {
 
     /// The same of some bits, which are read before the source is lent.
     #[inline(always)]
-    fn propagate_field(&mut self, m: &mut Store, pos: Position) -> Result<(), EvalAltResult>
-        requires part { HasPart m.old self.old }
+    fn propagate_field(&mut self, store: &mut Store, pos: Position) -> Result<(), EvalAltResult>
+        requires part { HasPart store.old self.old }
         requires field { IsField self.old }
-        ensures answer { IsWrittenBack m.old pos (write_back_of m.old self.old) result }
-        ensures own { OnOk result (self.new ≡ target_written m.old (write_back_of m.old self.old) self.old) }
-        ensures store { OnOk result (m.new ≡ store_written (write_back_of m.old self.old) m.old) }
-        ensures err { OnErr result ((self.new ≡ self.old) × (m.new ≡ m.old)) }
-        ensures marked { IsMarkedIn m.new self.new }
+        ensures answer { IsWrittenBack store.old pos (write_back_of store.old self.old) result }
+        ensures own { OnOk result (self.new ≡ target_written store.old (write_back_of store.old self.old) self.old) }
+        ensures store { OnOk result (store.new ≡ store_written (write_back_of store.old self.old) store.old) }
+        ensures err { OnErr result ((self.new ≡ self.old) × (store.new ≡ store.old)) }
+        ensures marked { IsMarkedIn store.new self.new }
     {
         if let Target::BitField {
             value,
@@ -80,14 +81,14 @@ impl<'a> Target<'a> {
         } = &*self
         {
             let (mask, shift) = (*mask, *shift);
-            let bits = match value.as_int(m) {
+            let bits = match value.as_int(store) {
                 Ok(bits) => bits,
                 Err(found) => return Err(EvalAltResult::ErrorMismatchDataType(
                     "integer", found, pos,
                 )),
             };
             if let Target::BitField { source, .. } = self {
-                put_field(source, m, mask, shift, bits);
+                put_field(source, store, mask, shift, bits);
                 return Ok(());
             }
         }

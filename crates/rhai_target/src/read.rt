@@ -13,58 +13,62 @@ use rhai_text::ImmutableString;
 use rhai_value::{Blob, Dynamic, INT, Store};
 use std::alloc::{AllocError, Global};
 
-/// One bit of the held int: what `write_bit` writes. Takes no memory.
-pub fn read_bit(source: &Dynamic, s: &Store, bit: u8) -> bool
+/// Reads one bit of the held int: what `write_bit` writes.
+/// Cost: that of `Dynamic::held`; no memory.
+pub fn read_bit(source: &Dynamic, store: &Store, bit: u8) -> bool
     requires place { bit < 64 }
-    requires held { is_some (held_part int_of (end s.now [] source.now)) ≡ true }
-    ensures { option_map (λ n. bit_in n bit) (held_part int_of (end s.now [] source.now)) ≡ Some result }
+    requires held { is_some (held_part int_of (end store.now [] source.now)) ≡ true }
+    ensures { option_map (λ n. bit_in n bit) (held_part int_of (end store.now [] source.now)) ≡ Some result }
 {
-    let number = source.held_part::<INT>(s).unwrap();
+    let number = source.held_part::<INT>(store).unwrap();
     bit_of(*number, bit)
 }
 
-/// The bits of the mask in the held int, moved down by `shift`: what `write_field` writes. No bit comes in above, so that what was
-/// written is read also at the top of the int. Takes no memory.
-pub fn read_field(source: &Dynamic, s: &Store, mask: INT, shift: u8) -> INT
+/// Reads the bits of the mask in the held int, moved down by `shift`: what `write_field` writes. No bit comes in above, so
+/// that what was written is read also at the top of the int.
+/// Cost: that of `Dynamic::held`; no memory.
+pub fn read_field(source: &Dynamic, store: &Store, mask: INT, shift: u8) -> INT
     requires place { shift < 64 }
-    requires held { is_some (held_part int_of (end s.now [] source.now)) ≡ true }
-    ensures { option_map (λ n. field mask shift n) (held_part int_of (end s.now [] source.now)) ≡ Some result }
+    requires held { is_some (held_part int_of (end store.now [] source.now)) ≡ true }
+    ensures { option_map (λ n. field mask shift n) (held_part int_of (end store.now [] source.now)) ≡ Some result }
 {
-    let number = source.held_part::<INT>(s).unwrap();
+    let number = source.held_part::<INT>(store).unwrap();
     field_of(*number, mask, shift)
 }
 
-/// One byte of the held blob: what `write_byte` writes. Takes no memory.
-pub fn read_byte(source: &Dynamic, s: &Store, index: usize) -> u8
-    requires place { MatchOption (held_part blob_of (end s.now [] source.now)) ⊥ (λ bytes. index < length bytes) }
-    ensures { option_and_then (λ bytes. slice_get bytes index) (held_part blob_of (end s.now [] source.now)) ≡ Some result }
+/// Reads one byte of the held blob: what `write_byte` writes.
+/// Cost: that of `Dynamic::held`; no memory.
+pub fn read_byte(source: &Dynamic, store: &Store, index: usize) -> u8
+    requires place { MatchOption (held_part blob_of (end store.now [] source.now)) ⊥ (λ bytes. index < length bytes) }
+    ensures { option_and_then (λ bytes. slice_get bytes index) (held_part blob_of (end store.now [] source.now)) ≡ Some result }
 {
-    let bytes = source.held_part::<Blob>(s).unwrap();
+    let bytes = source.held_part::<Blob>(store).unwrap();
     bytes[index]
 }
 
-/// One character of the held text: what `write_char` writes; `None` past the end of the text. Takes no memory, and goes over the text
-/// to that character.
-pub fn read_char(source: &Dynamic, s: &Store, index: usize) -> Option<char>
-    requires { is_some (held_part text_of (end s.now [] source.now)) ≡ true }
-    ensures { option_and_then (λ cs. slice_get cs index) (held_part text_of (end s.now [] source.now)) ≡ result }
+/// Reads one character of the held text: what `write_char` writes; `None` past the end of the text.
+/// Cost: the length of the text up to that character; no memory.
+pub fn read_char(source: &Dynamic, store: &Store, index: usize) -> Option<char>
+    requires { is_some (held_part text_of (end store.now [] source.now)) ≡ true }
+    ensures { option_and_then (λ cs. slice_get cs index) (held_part text_of (end store.now [] source.now)) ≡ result }
 {
-    let text = source.held_part::<ImmutableString>(s).unwrap();
+    let text = source.held_part::<ImmutableString>(store).unwrap();
     char_in(text.as_str(), index)
 }
 
-/// The characters of the held text that `write_slice` replaces; none where the slice ends before it starts. Makes one new text, and
-/// goes over the held one to the end of the slice.
+/// Reads the characters of the held text that `write_slice` replaces; none where the slice ends before it starts.
+/// Errors: memory for the new text is refused.
+/// Cost: the length of the text up to the end of the slice; memory for one new text.
 pub fn read_slice(
     alloc: Global,
     source: &Dynamic,
-    s: &Store,
+    store: &Store,
     slice: Slice,
 ) -> Result<ImmutableString, AllocError>
-    requires { is_some (held_part text_of (end s.now [] source.now)) ≡ true }
-    ensures { IfOk result (λ t. option_map (slice_in slice) (held_part text_of (end s.now [] source.now)) ≡ Some t) }
+    requires { is_some (held_part text_of (end store.now [] source.now)) ≡ true }
+    ensures { IfOk result (λ t. option_map (slice_in slice) (held_part text_of (end store.now [] source.now)) ≡ Some t) }
 {
-    let text = source.held_part::<ImmutableString>(s).unwrap();
+    let text = source.held_part::<ImmutableString>(store).unwrap();
     text.slice(alloc, slice.start, slice.end, slice.exclusive)
 }
 

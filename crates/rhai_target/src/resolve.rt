@@ -27,15 +27,15 @@ pub(crate) struct Marked {
 /// A value that is no holder as it is; of a holder the mark of its cell, the holder being left as it was.
 pub(crate) fn resolve<'a>(
     value: &'a mut Dynamic,
-    m: &mut Store,
+    store: &mut Store,
 ) -> Result<Whole<'a>, Result<Marked, EvalAltResult>>
     ensures* stays { sem 𝓛 (follows_if dynamic_type.the_row dynamic_type.the_row value.entry.ghost_name (name_if_ok (λ w. w.value.ghost_name) result) (λ w. w) value.old) }
-    ensures which { IsResolved m.old value.entry result }
-    ensures marks { m.new ≡ marked_with (first_cell m.old value.old) m.old }
-    ensures marked { IsMarkedResolved m.new result }
+    ensures which { IsResolved store.old value.entry result }
+    ensures marks { store.new ≡ marked_with (first_cell store.old value.old) store.old }
+    ensures marked { IsMarkedResolved store.new result }
 {
     if value.is_shared() {
-        Err(mark_cell(value, m))
+        Err(mark_cell(value, store))
     } else {
         Ok(Whole { value })
     }
@@ -43,15 +43,15 @@ pub(crate) fn resolve<'a>(
 
 /// Marks the cell of a holder, of which it makes a copy. `ErrorDataRace`, with nothing changed, exactly where there is no cell to
 /// mark: of a value that is no holder, and of a cell that is marked or no cell of the store.
-pub(crate) fn mark_cell(value: &Dynamic, m: &mut Store) -> Result<Marked, EvalAltResult>
-    ensures ok { IfOk result (λ p. (first_cell m.old value.now ≡ Some p.token) × (p.shared_value ≡ copy value.now)) }
-    ensures err { IfErr result (λ e. (first_cell m.old value.now ≡ None) × (e ≡ ErrorDataRace Position.NONE)) }
-    ensures marks { m.new ≡ marked_with (first_cell m.old value.now) m.old }
-    ensures marked { IfOk result (λ p. is_marked_at m.new p.token ≡ true) }
+pub(crate) fn mark_cell(value: &Dynamic, store: &mut Store) -> Result<Marked, EvalAltResult>
+    ensures ok { IfOk result (λ p. (first_cell store.old value.now ≡ Some p.token) × (p.shared_value ≡ copy value.now)) }
+    ensures err { IfErr result (λ e. (first_cell store.old value.now ≡ None) × (e ≡ ErrorDataRace Position.NONE)) }
+    ensures marks { store.new ≡ marked_with (first_cell store.old value.now) store.old }
+    ensures marked { IfOk result (λ p. is_marked_at store.new p.token ≡ true) }
 {
     if let Union::Shared(tag, _, cell) = value.parts() {
         let shared_value = Dynamic::from_parts(Union::Shared(*tag, AccessMode::ReadWrite, *cell));
-        if let Some(token) = m.mark(value) {
+        if let Some(token) = store.mark(value) {
             return Ok(Marked {
                 token,
                 shared_value,

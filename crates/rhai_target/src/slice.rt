@@ -24,24 +24,27 @@ pub struct Slice {
     pub exclusive: bool,
 }
 
-/// The characters of a slice of the held text become the text that the working value prints as. The text is taken while the cell
-/// in which the held text stands is marked, so that a holder of it prints as `<shared>`. Where the slice ends before it starts, the
-/// characters between stand twice. Makes that text and one new text; goes over both once.
+/// Writes the text that the working value prints as over the characters of a slice of the held text.
+/// The text is taken while the cell in which the held text stands is marked, so that a holder of it prints as `<shared>`.
+/// Where the slice ends before it starts, the characters between stand twice.
+/// Errors: memory for one of the two texts is refused; nothing changes.
+/// Cost: the length of both texts; memory for these.
+/// rhai: an assignment to a range of a text.
 #[inline(never)]
 pub fn write_slice(
     source: &mut Dynamic,
     alloc: Global,
-    m: &mut Store,
+    store: &mut Store,
     value: &Dynamic,
     slice: Slice,
 ) -> Result<(), AllocError>
-    requires held { is_some (held_part text_of (end m.old [] source.old)) ≡ true }
-    ensures own { OnOk result (source.new ≡ value_changed (slice_change m.old source.old value.now slice) (end m.old [] source.old) source.old) }
-    ensures store { OnOk result (m.new ≡ store_changed (slice_change m.old source.old value.now slice) (end m.old [] source.old) m.old) }
-    ensures err { OnErr result ((source.new ≡ source.old) × (m.new ≡ m.old)) }
+    requires held { is_some (held_part text_of (end store.old [] source.old)) ≡ true }
+    ensures own { OnOk result (source.new ≡ value_changed (slice_change store.old source.old value.now slice) (end store.old [] source.old) source.old) }
+    ensures store { OnOk result (store.new ≡ store_changed (slice_change store.old source.old value.now slice) (end store.old [] source.old) store.old) }
+    ensures err { OnErr result ((source.new ≡ source.old) × (store.new ≡ store.old)) }
 {
-    let mark = m.mark_held(source);
-    let printed = display_text(alloc, value, m);
+    let mark = store.mark_held(source);
+    let printed = display_text(alloc, value, store);
     match mark {
         None => {
             let text = sliced(source, alloc, printed?.as_str(), slice)?;
@@ -51,8 +54,8 @@ pub fn write_slice(
         Some(token) => {
             sites_are_read();
             mark_is_cleared();
-            let done = write_marked_slice(&token, alloc, m, printed, slice);
-            m.release(token);
+            let done = write_marked_slice(&token, alloc, store, printed, slice);
+            store.release(token);
             done
         }
     }
@@ -63,18 +66,18 @@ pub fn write_slice(
 fn write_marked_slice(
     token: &WriteToken,
     alloc: Global,
-    m: &mut Store,
+    store: &mut Store,
     printed: Result<String, AllocError>,
     slice: Slice,
 ) -> Result<(), AllocError>
-    requires marked { is_marked_at m.old token.now ≡ true }
-    requires held { MatchOption (content_at m.old token.now) ⊥ (λ t. is_some (text_of t) ≡ true) }
-    ensures ok { OnOk result (MatchResult printed (λ p. IfSome (content_at m.old token.now) (λ t. m.new ≡ put m.old token.now (on_text (spliced (chars (string_bytes p)) slice) t))) (λ e. ⊥)) }
-    ensures err { OnErr result (m.new ≡ m.old) }
-    ensures marked { is_marked_at m.new token.now ≡ true }
+    requires marked { is_marked_at store.old token.now ≡ true }
+    requires held { MatchOption (content_at store.old token.now) ⊥ (λ t. is_some (text_of t) ≡ true) }
+    ensures ok { OnOk result (MatchResult printed (λ p. IfSome (content_at store.old token.now) (λ t. store.new ≡ put store.old token.now (on_text (spliced (chars (string_bytes p)) slice) t))) (λ e. ⊥)) }
+    ensures err { OnErr result (store.new ≡ store.old) }
+    ensures marked { is_marked_at store.new token.now ≡ true }
 {
-    let text = sliced(m.through(token), alloc, printed?.as_str(), slice)?;
-    put_text(m.through_mut(token), text);
+    let text = sliced(store.through(token), alloc, printed?.as_str(), slice)?;
+    put_text(store.through_mut(token), text);
     Ok(())
 }
 

@@ -10,10 +10,10 @@ use std::alloc::Global;
 
 /// The reference in a target; a mark is cleared.
 #[inline(always)]
-pub(crate) fn source_out<'a>(target: Target<'a>, m: &mut Store) -> Option<&'a mut Dynamic>
-    requires { IsMarkedIn m.old target }
+pub(crate) fn source_out<'a>(target: Target<'a>, store: &mut Store) -> Option<&'a mut Dynamic>
+    requires { IsMarkedIn store.old target }
     ensures source { result ≡ source_of target.entry }
-    ensures store { m.new ≡ unmarked_from (mark_in target.entry) m.old }
+    ensures store { store.new ≡ unmarked_from (mark_in target.entry) store.old }
 {
     match target {
         Target::RefMut(r) => Some(r),
@@ -21,7 +21,7 @@ pub(crate) fn source_out<'a>(target: Target<'a>, m: &mut Store) -> Option<&'a mu
             token,
             shared_value: _holder,
         } => {
-            m.release(token);
+            store.release(token);
             None
         }
         Target::TempValue(_value) => None,
@@ -60,12 +60,12 @@ pub(crate) fn source_out<'a>(target: Target<'a>, m: &mut Store) -> Option<&'a mu
 #[inline(always)]
 pub(crate) fn reference_out<'a>(
     target: Target<'a>,
-    m: &mut Store,
+    store: &mut Store,
 ) -> (Option<&'a mut Dynamic>, Option<&'a mut Dynamic>)
-    requires { IsMarkedIn m.old target }
+    requires { IsMarkedIn store.old target }
     ensures kept { result.0 ≡ reference_in target.entry }
     ensures gone { result.1 ≡ let_go (source_of target.entry) result.0 }
-    ensures store { m.new ≡ unmarked_from (mark_in target.entry) m.old }
+    ensures store { store.new ≡ unmarked_from (mark_in target.entry) store.old }
 {
     match target {
         Target::RefMut(r) => (Some(r), None),
@@ -75,7 +75,7 @@ pub(crate) fn reference_out<'a>(
         | Target::BitField { .. }
         | Target::BlobByte { .. }
         | Target::StringChar { .. }
-        | Target::StringSlice { .. } => (None, source_out(target, m)),
+        | Target::StringSlice { .. } => (None, source_out(target, store)),
     }
 }
 
@@ -84,13 +84,13 @@ pub(crate) fn reference_out<'a>(
 pub(crate) fn value_out<'a>(
     target: Target<'a>,
     alloc: Global,
-    m: &mut Store,
+    store: &mut Store,
 ) -> (Result<Dynamic, Target<'a>>, Option<&'a mut Dynamic>)
-    requires { IsMarkedIn m.old target }
+    requires { IsMarkedIn store.old target }
     ensures ok { IfOk result.0 (λ v. v ≡ taken target.entry) }
-    ensures store { OnOk result.0 (m.new ≡ unmarked_from (mark_in target.entry) m.old) }
+    ensures store { OnOk result.0 (store.new ≡ unmarked_from (mark_in target.entry) store.old) }
     ensures err { IfErr result.0 (λ t. t ≡ target.entry) }
-    ensures stays { OnErr result.0 (m.new ≡ m.old) }
+    ensures stays { OnErr result.0 (store.new ≡ store.old) }
     ensures free { MatchOption (reference_in target.entry) (IsOk result.0) (λ r. TakesNoMemory r.now → IsOk result.0) }
     ensures gone { result.1 ≡ let_go (source_of target.entry) (kept_on_err result.0) }
 {
@@ -103,7 +103,7 @@ pub(crate) fn value_out<'a>(
             token,
             shared_value,
         } => {
-            m.release(token);
+            store.release(token);
             (Ok(shared_value), None)
         }
         Target::TempValue(value) => (Ok(value), None),
@@ -143,19 +143,19 @@ pub(crate) fn value_out<'a>(
 pub(crate) fn owned_out<'a>(
     target: Target<'a>,
     alloc: Global,
-    m: &mut Store,
+    store: &mut Store,
 ) -> (Result<Target<'a>, Target<'a>>, Option<&'a mut Dynamic>)
-    requires { IsMarkedIn m.old target }
+    requires { IsMarkedIn store.old target }
     ensures ok { IfOk result.0 (λ t. t ≡ owned target.entry) }
-    ensures store { OnOk result.0 (m.new ≡ unmarked_from (mark_in target.entry) m.old) }
+    ensures store { OnOk result.0 (store.new ≡ unmarked_from (mark_in target.entry) store.old) }
     ensures err { IfErr result.0 (λ t. t ≡ target.entry) }
-    ensures stays { OnErr result.0 (m.new ≡ m.old) }
+    ensures stays { OnErr result.0 (store.new ≡ store.old) }
     ensures free { MatchOption (reference_in target.entry) (IsOk result.0) (λ r. TakesNoMemory r.now → IsOk result.0) }
     ensures gone { result.1 ≡ let_go (source_of target.entry) (kept_in result.0) }
 {
     match target {
         Target::RefMut(_) | Target::SharedValue { .. } => {
-            let (value, source) = value_out(target, alloc, m);
+            let (value, source) = value_out(target, alloc, store);
             match value {
                 Ok(value) => (Ok(Target::TempValue(value)), source),
                 Err(target) => (Err(target), source),

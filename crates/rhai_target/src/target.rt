@@ -16,7 +16,9 @@ use rhai_text::{EvalAltResult, Position};
 use rhai_value::{Dynamic, INT, Store, WriteToken};
 use std::alloc::Global;
 
-/// What an assignment writes to. It must be spent, since it may have the mark of a cell: the compiler refuses to let one go.
+/// What an assignment writes to. It must be spent, since it may have the mark of a cell: the compiler refuses to let one
+/// go.
+/// rhai: `Target`, which has a guard in place of a mark, and may be dropped.
 pub enum Target<'a> {
     /// A value that is no holder.
     RefMut(&'a mut Dynamic),
@@ -84,28 +86,34 @@ pub enum Target<'a> {
 
 /// Making targets.
 impl<'a> Target<'a> {
-    /// A target that is this value: the value itself, or the content of a holder's cell, which is marked while the holder stays as it
-    /// is. `ErrorDataRace`, at no place and with nothing changed, exactly for a holder of a cell that is marked or no cell of the
-    /// store. Takes no memory. (`TryFrom<&mut Dynamic>`)
-    pub fn try_from(value: &'a mut Dynamic, m: &mut Store) -> Result<Target<'a>, EvalAltResult>
+    /// Makes a target that is this value: the value itself, or the content of a holder's cell, which is marked while the
+    /// holder stays as it is.
+    /// Errors: `ErrorDataRace`, at no place and with nothing changed, exactly for a holder of a cell that is marked or no
+    /// cell of the store.
+    /// Cost: constant; no memory.
+    /// rhai: `TryFrom<&mut Dynamic>` of `Target`.
+    pub fn try_from(value: &'a mut Dynamic, store: &mut Store) -> Result<Target<'a>, EvalAltResult>
         ensures* stays { sem 𝓛 (IsLeftBy value.entry result) }
-        ensures ok { IfOk result (λ t. target_of m.old value.entry ≡ Some t) }
-        ensures err { IfErr result (λ e. (target_of m.old value.entry ≡ None) × (e ≡ ErrorDataRace Position.NONE)) }
-        ensures marks { m.new ≡ marked_with (first_cell m.old value.old) m.old }
-        ensures marked { IfOk result (λ t. IsMarkedIn m.new t) }
+        ensures ok { IfOk result (λ t. target_of store.old value.entry ≡ Some t) }
+        ensures err { IfErr result (λ e. (target_of store.old value.entry ≡ None) × (e ≡ ErrorDataRace Position.NONE)) }
+        ensures marks { store.new ≡ marked_with (first_cell store.old value.old) store.old }
+        ensures marked { IfOk result (λ t. IsMarkedIn store.new t) }
     {
-        target_from(resolve(value, m))
+        target_from(resolve(value, store))
     }
 
-    /// The same for a holder, which stays as it is.
-    pub fn marked(holder: &Dynamic, m: &mut Store) -> Result<Target<'a>, EvalAltResult>
+    /// Makes a target of the content of a holder's cell, which is marked; the holder stays as it is.
+    /// Errors: `ErrorDataRace`, at no place and with nothing changed, exactly for a cell that is marked or no cell of the
+    /// store.
+    /// Cost: constant; no memory.
+    pub fn marked(holder: &Dynamic, store: &mut Store) -> Result<Target<'a>, EvalAltResult>
         requires { is_some (cell_of holder.now) ≡ true }
-        ensures ok { IfOk result (λ t. option_map (λ c. Target.SharedValue c (copy holder.now)) (first_cell m.old holder.now) ≡ Some t) }
-        ensures err { IfErr result (λ e. (first_cell m.old holder.now ≡ None) × (e ≡ ErrorDataRace Position.NONE)) }
-        ensures marks { m.new ≡ marked_with (first_cell m.old holder.now) m.old }
-        ensures marked { IfOk result (λ t. IsMarkedIn m.new t) }
+        ensures ok { IfOk result (λ t. option_map (λ c. Target.SharedValue c (copy holder.now)) (first_cell store.old holder.now) ≡ Some t) }
+        ensures err { IfErr result (λ e. (first_cell store.old holder.now ≡ None) × (e ≡ ErrorDataRace Position.NONE)) }
+        ensures marks { store.new ≡ marked_with (first_cell store.old holder.now) store.old }
+        ensures marked { IfOk result (λ t. IsMarkedIn store.new t) }
     {
-        match mark_cell(holder, m) {
+        match mark_cell(holder, store) {
             Ok(
                 Marked {
                     token,
@@ -130,21 +138,24 @@ impl<'a> From<Dynamic> for Target<'a> {
 
 /// What a target is.
 impl<'a> Target<'a> {
-    /// Whether it refers to other data: a value, or what is in a cell. (`Target::is_ref`)
+    /// Tells whether it refers to other data: a value, or what is in a cell.
+    /// rhai: `Target::is_ref`.
     pub const fn is_ref(&self) -> bool
         ensures { result ≡ is_reference self.now }
     {
         matches!(self, Target::RefMut(_) | Target::SharedValue { .. })
     }
 
-    /// Whether it is a value of its own. (`Target::is_temp_value`)
+    /// Tells whether it is a value of its own.
+    /// rhai: `Target::is_temp_value`.
     pub const fn is_temp_value(&self) -> bool
         ensures { result ≡ is_temporary self.now }
     {
         matches!(self, Target::TempValue(_))
     }
 
-    /// Whether it is shared: what is in a cell, or a holder. (`Target::is_shared`)
+    /// Tells whether it is shared: what is in a cell, or a holder.
+    /// rhai: `Target::is_shared`.
     pub fn is_shared(&self) -> bool
         ensures { result ≡ is_shared_target self.now }
     {
@@ -163,14 +174,16 @@ impl<'a> Target<'a> {
 
 /// What a target refers to.
 impl<'a> Target<'a> {
-    /// The value that it refers to; of a part of a value that value. (`Target::source`)
-    pub fn source<'s>(&'s self, s: &'s Store) -> &'s Dynamic
-        requires { IsMarkedIn s.now self.now }
-        ensures { source_in s.now self.now ≡ Some result.now }
+    /// Lends the value that it refers to; of a part of a value that value.
+    /// Cost: constant; no memory.
+    /// rhai: `Target::source`.
+    pub fn source<'s>(&'s self, store: &'s Store) -> &'s Dynamic
+        requires { IsMarkedIn store.now self.now }
+        ensures { source_in store.now self.now ≡ Some result.now }
     {
         match self {
             Target::RefMut(r) => r,
-            Target::SharedValue { token, .. } => s.through(token),
+            Target::SharedValue { token, .. } => store.through(token),
             Target::TempValue(value) => value,
             Target::Bit { source, .. }
             | Target::BitField { source, .. }
@@ -180,14 +193,16 @@ impl<'a> Target<'a> {
         }
     }
 
-    /// The value that it refers to; of a part of a value the working value. (`AsRef` and `Borrow`)
-    pub fn as_ref<'s>(&'s self, s: &'s Store) -> &'s Dynamic
-        requires { IsMarkedIn s.now self.now }
-        ensures { value_in s.now self.now ≡ Some result.now }
+    /// Lends the value that it refers to; of a part of a value the working value.
+    /// Cost: constant; no memory.
+    /// rhai: `AsRef` and `Borrow` of `Target`.
+    pub fn as_ref<'s>(&'s self, store: &'s Store) -> &'s Dynamic
+        requires { IsMarkedIn store.now self.now }
+        ensures { value_in store.now self.now ≡ Some result.now }
     {
         match self {
             Target::RefMut(r) => r,
-            Target::SharedValue { token, .. } => s.through(token),
+            Target::SharedValue { token, .. } => store.through(token),
             Target::TempValue(value)
             | Target::Bit { value, .. }
             | Target::BitField { value, .. }
@@ -197,29 +212,32 @@ impl<'a> Target<'a> {
         }
     }
 
-    /// The same, to write. (`AsMut` and `BorrowMut`)
+    /// Lends the value that it refers to, to write; of a part of a value the working value.
     ///
-    /// `lent_mut` is the same call with a clause on what target and store are once it was written. There are two, since a proof that
-    /// the check writes by itself can't make a call with a clause on two lenders: such a caller takes this one, or `with_mut` or
-    /// `put`, which say in plain clauses what is left.
-    pub fn as_mut<'s>(&'s mut self, m: &'s mut Store) -> &'s mut Dynamic
-        requires { IsMarkedIn m.old self.old }
-        ensures { value_in m.old self.old ≡ Some result.now }
+    /// `lent_mut` is the same call with a clause on what target and store are once it was written. There are two, since a
+    /// proof that the check writes by itself can't make a call with a clause on two lenders: such a caller takes this one,
+    /// or `with_mut` or `put`, which say in plain clauses what is left.
+    /// Cost: constant; no memory.
+    /// rhai: `AsMut` and `BorrowMut` of `Target`.
+    pub fn as_mut<'s>(&'s mut self, store: &'s mut Store) -> &'s mut Dynamic
+        requires { IsMarkedIn store.old self.old }
+        ensures { value_in store.old self.old ≡ Some result.now }
     {
-        self.lent_mut(m)
+        self.lent_mut(store)
     }
 
     /// Writes a whole value over what `as_mut` lends.
+    /// Cost: the drop of what was there; no memory.
     #[tactic(auto, using(crate::proofs::MarkedTexts::mark_outlasts))]
-    pub fn put(&mut self, m: &mut Store, new: Dynamic)
-        requires { IsMarkedIn m.old self.old }
+    pub fn put(&mut self, store: &mut Store, new: Dynamic)
+        requires { IsMarkedIn store.old self.old }
         ensures own { self.new ≡ with_value new self.old }
-        ensures store { m.new ≡ put_marked (mark_in self.old) new m.old }
-        ensures marked { IsMarkedIn m.new self.new }
+        ensures store { store.new ≡ put_marked (mark_in self.old) new store.old }
+        ensures marked { IsMarkedIn store.new self.new }
     {
         match self {
             Target::RefMut(r) => write(r, new),
-            Target::SharedValue { token, .. } => write(m.through_mut(token), new),
+            Target::SharedValue { token, .. } => write(store.through_mut(token), new),
             Target::TempValue(value) => write(value, new),
             Target::Bit { value, .. } => write(value, new),
             Target::BitField { value, .. } => write(value, new),
@@ -240,52 +258,61 @@ fn write(place: &mut Dynamic, new: Dynamic)
 /// Spending targets. The value behind the reference that a target is, or behind that to the source of a part, is as it was, unless its
 /// reference is handed back.
 impl<'a> Target<'a> {
-    /// A copy of the value that a reference leads to, the holder of a shared value, or the value itself; a mark is cleared. An `Err`,
-    /// where memory for a copy is refused, hands the target back with nothing changed. (`Target::take_or_clone`)
-    pub fn take_or_clone(self, alloc: Global, m: &mut Store) -> Result<Dynamic, Target<'a>>
-        requires { IsMarkedIn m.old self }
+    /// Spends the target: answers a copy of the value that a reference leads to, the holder of a shared value, or the value
+    /// itself; a mark is cleared.
+    /// Errors: the target comes back with nothing changed, where memory for a copy is refused.
+    /// Cost: that of `Dynamic::copy` for a reference or a part; else constant.
+    /// rhai: `Target::take_or_clone`.
+    pub fn take_or_clone(self, alloc: Global, store: &mut Store) -> Result<Dynamic, Target<'a>>
+        requires { IsMarkedIn store.old self }
         ensures* leaves { sem 𝓛 (LeavesSource self.entry (kept_on_err result)) }
         ensures ok { IfOk result (λ v. v ≡ taken self.entry) }
-        ensures store { OnOk result (m.new ≡ unmarked_from (mark_in self.entry) m.old) }
+        ensures store { OnOk result (store.new ≡ unmarked_from (mark_in self.entry) store.old) }
         ensures err { IfErr result (λ t. t ≡ self.entry) }
-        ensures stays { OnErr result (m.new ≡ m.old) }
+        ensures stays { OnErr result (store.new ≡ store.old) }
         ensures free { MatchOption (reference_in self.entry) (IsOk result) (λ r. TakesNoMemory r.now → IsOk result) }
     {
-        value_out(self, alloc, m).0
+        value_out(self, alloc, store).0
     }
 
-    /// The reference that the target is; `None` for any other target, a mark being cleared. Takes no memory. (`Target::take_ref`)
+    /// Spends the target, and answers the reference that it is; `None` for any other target, a mark being cleared.
+    /// Cost: constant; no memory.
+    /// rhai: `Target::take_ref`.
     #[inline(always)]
-    pub fn take_ref(self, m: &mut Store) -> Option<&'a mut Dynamic>
-        requires { IsMarkedIn m.old self }
+    pub fn take_ref(self, store: &mut Store) -> Option<&'a mut Dynamic>
+        requires { IsMarkedIn store.old self }
         ensures* leaves { sem 𝓛 (LeavesSource self.entry result) }
         ensures which { result ≡ reference_in self.entry }
-        ensures store { m.new ≡ unmarked_from (mark_in self.entry) m.old }
+        ensures store { store.new ≡ unmarked_from (mark_in self.entry) store.old }
     {
-        reference_out(self, m).0
+        reference_out(self, store).0
     }
 
-    /// Spends the target; a mark is cleared. Takes no memory.
+    /// Spends the target; a mark is cleared.
+    /// Cost: constant; no memory.
     #[inline(always)]
-    pub fn release(self, m: &mut Store)
-        requires { IsMarkedIn m.old self }
+    pub fn release(self, store: &mut Store)
+        requires { IsMarkedIn store.old self }
         ensures* leaves { sem 𝓛 (LeavesSource self.entry None) }
-        ensures store { m.new ≡ unmarked_from (mark_in self.entry) m.old }
+        ensures store { store.new ≡ unmarked_from (mark_in self.entry) store.old }
     {
-        let _source = source_out(self, m);
+        let _source = source_out(self, store);
     }
 
-    /// A reference and a shared value become a value of their own, which is what `take_or_clone` gives, and a mark is cleared; any
-    /// other target stays. An `Err` hands the target back with nothing changed. (`Target::into_owned`)
-    pub fn into_owned(self, alloc: Global, m: &mut Store) -> Result<Target<'a>, Target<'a>>
-        requires { IsMarkedIn m.old self }
+    /// Makes a reference and a shared value a value of their own, which is what `take_or_clone` gives, and clears a mark;
+    /// any other target stays.
+    /// Errors: the target comes back with nothing changed, where memory for a copy is refused.
+    /// Cost: that of `take_or_clone`.
+    /// rhai: `Target::into_owned`.
+    pub fn into_owned(self, alloc: Global, store: &mut Store) -> Result<Target<'a>, Target<'a>>
+        requires { IsMarkedIn store.old self }
         ensures* leaves { sem 𝓛 (LeavesSource self.entry (kept_in result)) }
         ensures ok { IfOk result (λ t. t ≡ owned self.entry) }
-        ensures store { OnOk result (m.new ≡ unmarked_from (mark_in self.entry) m.old) }
+        ensures store { OnOk result (store.new ≡ unmarked_from (mark_in self.entry) store.old) }
         ensures err { IfErr result (λ t. t ≡ self.entry) }
-        ensures stays { OnErr result (m.new ≡ m.old) }
+        ensures stays { OnErr result (store.new ≡ store.old) }
         ensures free { MatchOption (reference_in self.entry) (IsOk result) (λ r. TakesNoMemory r.now → IsOk result) }
     {
-        owned_out(self, alloc, m).0
+        owned_out(self, alloc, store).0
     }
 }

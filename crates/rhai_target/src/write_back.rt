@@ -10,127 +10,140 @@ use rhai_text::{EvalAltResult, ImmutableString, Position};
 use rhai_value::{Blob, Dynamic, INT, InStore, Store};
 use std::alloc::Global;
 
-/// One bit of the held int becomes the boolean that the working value holds. Takes no memory.
+/// Writes the boolean that the working value holds to one bit of the held int.
+/// Errors: `ErrorMismatchDataType`, at this place of the script, for a working value of another type; nothing changes.
+/// Cost: that of `Dynamic::held`; no memory.
+/// rhai: an assignment to an index of an int.
 #[inline(always)]
 pub fn write_bit(
     source: &mut Dynamic,
-    m: &mut Store,
+    store: &mut Store,
     value: &Dynamic,
     bit: u8,
     pos: Position,
 ) -> Result<(), EvalAltResult>
     requires place { bit < 64 }
-    requires held { is_some (held_part int_of (end m.old [] source.old)) ≡ true }
-    ensures answer { IsAnswer false (bit_change m.old value.now bit) (codes "bool") (end_name (end m.old [] value.now)) pos result }
-    ensures own { OnOk result (source.new ≡ value_changed (bit_change m.old value.now bit) (end m.old [] source.old) source.old) }
-    ensures store { OnOk result (m.new ≡ store_changed (bit_change m.old value.now bit) (end m.old [] source.old) m.old) }
-    ensures err { OnErr result ((source.new ≡ source.old) × (m.new ≡ m.old)) }
+    requires held { is_some (held_part int_of (end store.old [] source.old)) ≡ true }
+    ensures answer { IsAnswer false (bit_change store.old value.now bit) (codes "bool") (end_name (end store.old [] value.now)) pos result }
+    ensures own { OnOk result (source.new ≡ value_changed (bit_change store.old value.now bit) (end store.old [] source.old) source.old) }
+    ensures store { OnOk result (store.new ≡ store_changed (bit_change store.old value.now bit) (end store.old [] source.old) store.old) }
+    ensures err { OnErr result ((source.new ≡ source.old) × (store.new ≡ store.old)) }
 {
-    let is_set = match value.as_bool(m) {
+    let is_set = match value.as_bool(store) {
         Ok(is_set) => is_set,
         Err(found) => return Err(EvalAltResult::ErrorMismatchDataType("bool", found, pos)),
     };
     let mut place = InStore {
         value: source,
-        store: m,
+        store,
     };
     let number = place.held_part_mut::<INT>();
     *number = with_bit(*number, bit, is_set);
     Ok(())
 }
 
-/// The bits of the mask in the held int become those of the int that the working value holds, shifted left. Takes no memory.
+/// Writes the int that the working value holds, shifted left, to the bits of the mask in the held int.
+/// Errors: `ErrorMismatchDataType`, at this place of the script, for a working value of another type; nothing changes.
+/// Cost: that of `Dynamic::held`; no memory.
+/// rhai: an assignment to a range of an int.
 pub fn write_field(
     source: &mut Dynamic,
-    m: &mut Store,
+    store: &mut Store,
     value: &Dynamic,
     mask: INT,
     shift: u8,
     pos: Position,
 ) -> Result<(), EvalAltResult>
     requires place { shift < 64 }
-    requires held { is_some (held_part int_of (end m.old [] source.old)) ≡ true }
-    ensures answer { IsAnswer false (field_change m.old value.now mask shift) (codes "integer") (end_name (end m.old [] value.now)) pos result }
-    ensures own { OnOk result (source.new ≡ value_changed (field_change m.old value.now mask shift) (end m.old [] source.old) source.old) }
-    ensures store { OnOk result (m.new ≡ store_changed (field_change m.old value.now mask shift) (end m.old [] source.old) m.old) }
-    ensures err { OnErr result ((source.new ≡ source.old) × (m.new ≡ m.old)) }
+    requires held { is_some (held_part int_of (end store.old [] source.old)) ≡ true }
+    ensures answer { IsAnswer false (field_change store.old value.now mask shift) (codes "integer") (end_name (end store.old [] value.now)) pos result }
+    ensures own { OnOk result (source.new ≡ value_changed (field_change store.old value.now mask shift) (end store.old [] source.old) source.old) }
+    ensures store { OnOk result (store.new ≡ store_changed (field_change store.old value.now mask shift) (end store.old [] source.old) store.old) }
+    ensures err { OnErr result ((source.new ≡ source.old) × (store.new ≡ store.old)) }
 {
-    let bits = match value.as_int(m) {
+    let bits = match value.as_int(store) {
         Ok(bits) => bits,
         Err(found) => return Err(EvalAltResult::ErrorMismatchDataType("integer", found, pos)),
     };
-    put_field(source, m, mask, shift, bits);
+    put_field(source, store, mask, shift, bits);
     Ok(())
 }
 
 /// Puts these bits into a field of the held int: what `write_field` and the write-back of a target share.
 #[inline(always)]
-pub(crate) fn put_field(source: &mut Dynamic, m: &mut Store, mask: INT, shift: u8, bits: INT)
+pub(crate) fn put_field(source: &mut Dynamic, store: &mut Store, mask: INT, shift: u8, bits: INT)
     requires place { shift < 64 }
-    requires held { is_some (held_part int_of (end m.old [] source.old)) ≡ true }
-    ensures own { source.new ≡ value_after (on_int (changed_field mask shift bits)) (end m.old [] source.old) source.old }
-    ensures store { m.new ≡ store_after (on_int (changed_field mask shift bits)) (end m.old [] source.old) m.old }
+    requires held { is_some (held_part int_of (end store.old [] source.old)) ≡ true }
+    ensures own { source.new ≡ value_after (on_int (changed_field mask shift bits)) (end store.old [] source.old) source.old }
+    ensures store { store.new ≡ store_after (on_int (changed_field mask shift bits)) (end store.old [] source.old) store.old }
 {
     let mut place = InStore {
         value: source,
-        store: m,
+        store,
     };
     let number = place.held_part_mut::<INT>();
     *number = with_field(*number, mask, shift, bits);
 }
 
-/// One byte of the held blob becomes the int that the working value holds, modulo 256. Takes no memory.
+/// Writes the int that the working value holds, modulo 256, to one byte of the held blob.
+/// Errors: `ErrorMismatchDataType`, at this place of the script, for a working value of another type; nothing changes.
+/// Cost: that of `Dynamic::held`; no memory.
+/// rhai: an assignment to an index of a blob.
 #[inline(always)]
 pub fn write_byte(
     source: &mut Dynamic,
-    m: &mut Store,
+    store: &mut Store,
     value: &Dynamic,
     index: usize,
     pos: Position,
 ) -> Result<(), EvalAltResult>
-    requires place { MatchOption (held_part blob_of (end m.old [] source.old)) ⊥ (λ bytes. index < length bytes) }
-    ensures answer { IsAnswer false (byte_change m.old value.now index) (codes "INT") (end_name (end m.old [] value.now)) pos result }
-    ensures own { OnOk result (source.new ≡ value_changed (byte_change m.old value.now index) (end m.old [] source.old) source.old) }
-    ensures store { OnOk result (m.new ≡ store_changed (byte_change m.old value.now index) (end m.old [] source.old) m.old) }
-    ensures err { OnErr result ((source.new ≡ source.old) × (m.new ≡ m.old)) }
+    requires place { MatchOption (held_part blob_of (end store.old [] source.old)) ⊥ (λ bytes. index < length bytes) }
+    ensures answer { IsAnswer false (byte_change store.old value.now index) (codes "INT") (end_name (end store.old [] value.now)) pos result }
+    ensures own { OnOk result (source.new ≡ value_changed (byte_change store.old value.now index) (end store.old [] source.old) source.old) }
+    ensures store { OnOk result (store.new ≡ store_changed (byte_change store.old value.now index) (end store.old [] source.old) store.old) }
+    ensures err { OnErr result ((source.new ≡ source.old) × (store.new ≡ store.old)) }
 {
-    let number = match value.as_int(m) {
+    let number = match value.as_int(store) {
         Ok(number) => number,
         Err(found) => return Err(EvalAltResult::ErrorMismatchDataType("INT", found, pos)),
     };
     let byte = number.rem_euclid(256) as u8;
     let mut place = InStore {
         value: source,
-        store: m,
+        store,
     };
     place.held_part_mut::<Blob>()[index] = byte;
     Ok(())
 }
 
-/// One character of the held text becomes the one that the working value holds; past the end of the text nothing changes. Makes one
-/// new text, and goes over the old one once.
+/// Writes the character that the working value holds over one character of the held text; past the end of the text nothing
+/// changes.
+/// Errors: `ErrorMismatchDataType`, at this place of the script, for a working value of another type; `ErrorMemory`;
+/// nothing changes.
+/// Cost: the length of the text; memory for one new text.
+/// rhai: an assignment to an index of a text.
 #[inline(never)]
 pub fn write_char(
     source: &mut Dynamic,
     alloc: Global,
-    m: &mut Store,
+    store: &mut Store,
     value: &Dynamic,
     index: usize,
     pos: Position,
 ) -> Result<(), EvalAltResult>
-    requires held { is_some (held_part text_of (end m.old [] source.old)) ≡ true }
-    ensures answer { IsAnswer true (char_change m.old value.now index) (codes "char") (end_name (end m.old [] value.now)) pos result }
-    ensures own { OnOk result (source.new ≡ value_changed (char_change m.old value.now index) (end m.old [] source.old) source.old) }
-    ensures store { OnOk result (m.new ≡ store_changed (char_change m.old value.now index) (end m.old [] source.old) m.old) }
-    ensures err { OnErr result ((source.new ≡ source.old) × (m.new ≡ m.old)) }
+    requires held { is_some (held_part text_of (end store.old [] source.old)) ≡ true }
+    ensures answer { IsAnswer true (char_change store.old value.now index) (codes "char") (end_name (end store.old [] value.now)) pos result }
+    ensures own { OnOk result (source.new ≡ value_changed (char_change store.old value.now index) (end store.old [] source.old) source.old) }
+    ensures store { OnOk result (store.new ≡ store_changed (char_change store.old value.now index) (end store.old [] source.old) store.old) }
+    ensures err { OnErr result ((source.new ≡ source.old) × (store.new ≡ store.old)) }
 {
-    let character = match value.as_char(m) {
+    let character = match value.as_char(store) {
         Ok(character) => character,
         Err(found) => return Err(EvalAltResult::ErrorMismatchDataType("char", found, pos)),
     };
     let mut place = InStore {
         value: source,
-        store: m,
+        store,
     };
     let text = place.held_part_mut::<ImmutableString>();
     match text.with_char(alloc, index, character) {

@@ -11,7 +11,7 @@ returns-clause-own c =
     let fits_mask : FitsSigned w64 a.mask = search rules in
     let fits_bits : FitsSigned w64 c.in-Ok.bits = search rules in
     let own = simp to_z-of_z at c.put_field.ensures.own in
-    own ∙ ap (λ o. value_changed (option_map (λ n. on_int (with_field a.mask a.shift n)) o) (end a.m.now [] a.source.now) a.source.now) (sym c.in-Ok.ensures.ok)
+    own ∙ ap (λ o. value_changed (option_map (λ n. on_int (with_field a.mask a.shift n)) o) (end a.store.now [] a.source.now) a.source.now) (sym c.in-Ok.ensures.ok)
 
 pub returns-clause-store : goal.returns-clause-store
 returns-clause-store c =
@@ -19,4 +19,4 @@ returns-clause-store c =
     let fits_mask : FitsSigned w64 a.mask = search rules in
     let fits_bits : FitsSigned w64 c.in-Ok.bits = search rules in
     let store = simp to_z-of_z at c.put_field.ensures.store in
-    store ∙ ap (λ o. store_changed (option_map (λ n. on_int (with_field a.mask a.shift n)) o) (end a.m.now [] a.source.now) a.m.now) (sym c.in-Ok.ensures.ok)
+    store ∙ ap (λ o. store_changed (option_map (λ n. on_int (with_field a.mask a.shift n)) o) (end a.store.now [] a.source.now) a.store.now) (sym c.in-Ok.ensures.ok)

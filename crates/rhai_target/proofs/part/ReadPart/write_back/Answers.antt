@@ -12,7 +12,7 @@ returns-in-BitField-clause-own c =
     let fits : FitsSigned w64 c.in-BitField.mask = search rules in
     let own = simp to_z-of_z at c.write_field.ensures.own in
     on_ok_weaker c.write_field.result
-    (λ e. e ∙ ap (λ p. value_changed (change_at a.m.now a.source.now p a.self.value) (end a.m.now [] a.source.now) a.source.now) (sym c.in-BitField.is)) own
+    (λ e. e ∙ ap (λ p. value_changed (change_at a.store.now a.source.now p a.self.value) (end a.store.now [] a.source.now) a.source.now) (sym c.in-BitField.is)) own
 
 pub returns-in-BitField-clause-store : goal.returns-in-BitField-clause-store
 returns-in-BitField-clause-store c =
@@ -20,4 +20,4 @@ returns-in-BitField-clause-store c =
     let fits : FitsSigned w64 c.in-BitField.mask = search rules in
     let store = simp to_z-of_z at c.write_field.ensures.store in
     on_ok_weaker c.write_field.result
-    (λ e. e ∙ ap (λ p. store_changed (change_at a.m.now a.source.now p a.self.value) (end a.m.now [] a.source.now) a.m.now) (sym c.in-BitField.is)) store
+    (λ e. e ∙ ap (λ p. store_changed (change_at a.store.now a.source.now p a.self.value) (end a.store.now [] a.source.now) a.store.now) (sym c.in-BitField.is)) store

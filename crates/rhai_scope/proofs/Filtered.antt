@@ -3,10 +3,10 @@ use Rattle.std.proofs.Common.{◌≡◌, ℕ, Bool, true, false, cond, List, Opt
 use Rattle.std.proofs.lemmas.Slice.Eq.{bytes_eq-Decides}
 use Rattle.std.specs.Str.{bytes_eq}
 use Rattle.rhai_scope.specs.NameFilter.{passes}
-use Rattle.rhai_scope.specs.Places.{listed, AllPass, Relists}
-use Rattle.rhai_scope.specs.declared.places.Places.{Places}
+use Rattle.rhai_scope.specs.NameIndex.{listed, AllPass, Relists}
+use Rattle.rhai_scope.specs.declared.name_index.NameIndex.{NameIndex}
 
-module _ (p r : Places) (old : AllPass p) where
+module _ (p r : NameIndex) (old : AllPass p) where
   unlisted_before : r.filter ≡ p.filter → (q : List ℕ) → passes r.filter q ≡ false → listed p q ≡ None
   unlisted_before same q none = old q (ap (λ m. passes m q) (sym same) ∙ none)
 

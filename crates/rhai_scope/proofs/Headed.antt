@@ -1,8 +1,8 @@
 -- Lists of places while names come or go, one by one.
 use Rattle.std.proofs.Common.{◌≡◌, ℕ, ◌+◌, ◌<◌, ◌≤◌, List, [], ◌∷◌, ◌++◌, length, map, take, get_or, append_assoc, sym, ap, ◌∙◌, subst}
 use Rattle.std.proofs.lemmas.List.{append-nil, length-append, length-map, length-take-le, map-append, take_all, take_more}
-use Rattle.rhai_scope.specs.Places.{ListsNames}
-use Rattle.rhai_scope.specs.declared.places.Places.{Places}
+use Rattle.rhai_scope.specs.NameIndex.{ListsNames}
+use Rattle.rhai_scope.specs.declared.name_index.NameIndex.{NameIndex}
 
 module _ {H : Type 0} (name_of : H → List ℕ) (ns : List (List ℕ)) (hs : List H) where
   -- the names before, and those of the first headings
@@ -21,7 +21,7 @@ module _ {H : Type 0} (name_of : H → List ℕ) (ns : List (List ℕ)) (hs : Li
       ∙ sym (append_assoc ns (map name_of (take i hs)) (name_of h ∷ []))
       ∙ ap (λ m. so_far i ++ m ∷ []) (sym named)
 
-  module _ (p : Places) where
+  module _ (p : NameIndex) where
     pub one_more : (i : ℕ) (h : H) (n : List ℕ) → i < length hs → h ≡ get_or hs i h → n ≡ name_of h → ListsNames p (so_far i ++ n ∷ []) → ListsNames p (so_far (i + 1))
     one_more i h n l is named lists = subst (ListsNames p) (sym (more i h n l is named)) lists
 

@@ -11,9 +11,9 @@ use Rattle.rhai_scope.specs.Entry.{Entry}
 use Rattle.rhai_scope.specs.Index.{most_walked, IsIndexOf, names_of}
 use Rattle.rhai_scope.specs.Lookup.{later_or_here, last_position}
 use Rattle.rhai_value.specs.Reach.{trues_from}
-use Rattle.rhai_scope.specs.Places.{listed, unless_empty, last_item, are_named, ListsNames}
+use Rattle.rhai_scope.specs.NameIndex.{listed, unless_empty, last_item, are_named, ListsNames}
 use Rattle.rhai_scope.specs.declared.index.Index.{Index}
-use Rattle.rhai_scope.specs.declared.places.Places.{Places}
+use Rattle.rhai_scope.specs.declared.name_index.NameIndex.{NameIndex}
 use Rattle.rhai_scope.proofs.LastTrue.{last_more}
 
 -- what holds after a refusal, where it holds anyway
@@ -35,7 +35,7 @@ from_none : (o : Option ℕ) → option_map (λ k. 0 + k) o ≡ o
 from_none None = refl
 from_none (Some k) = let same_place : 0 + k ≡ k = omega arith in ap Some same_place
 
-pub last_listed : (p : Places) (text : List ℕ) (es : List Entry) → ListsNames p (names_of es) → IsUtf8 text → option_and_then last_item (listed p text) ≡ last_position (chars text) es
+pub last_listed : (p : NameIndex) (text : List ℕ) (es : List Entry) → ListsNames p (names_of es) → IsUtf8 text → option_and_then last_item (listed p text) ≡ last_position (chars text) es
 last_listed p text es lists u =
     ap (option_and_then last_item) (lists.places text u)
     ∙ unlisted (trues_from 0 (are_named (names_of es) (chars text)))
@@ -81,10 +81,10 @@ found_listed x es text index u none =
 
 -- ---- names that come
 
-abbrev pub index : ℕ → Places → Index
+abbrev pub index : ℕ → NameIndex → Index
 index n p = record { indexed = n; places = p }
 
-module _ (n : ℕ) (p : Places) (ns : List (List ℕ)) where
+module _ (n : ℕ) (p : NameIndex) (ns : List (List ℕ)) where
   -- and aren't listed
   pub walked_with : (ms : List (List ℕ)) → IsIndexOf (index n p) ns → length ns + length ms ≤ n + most_walked → IsIndexOf (index n p) (ns ++ ms)
   walked_with ms x h =
@@ -113,12 +113,12 @@ module _ (x : Index) (es : List Entry) (indexed : IsIndexOf x (names_of es)) whe
   length_first = length-map (take x.indexed es) (λ e. e.name) ∙ length-take-le x.indexed es (within x es indexed)
 
   -- those that weren't listed are
-  pub listed_others : (p : Places) → ListsNames p (names_of (take x.indexed es) ++ names_of (take (length es - x.indexed) (drop x.indexed es))) → ListsNames p (names_of es)
+  pub listed_others : (p : NameIndex) → ListsNames p (names_of (take x.indexed es) ++ names_of (take (length es - x.indexed) (drop x.indexed es))) → ListsNames p (names_of es)
   listed_others p lists =
       subst (ListsNames p) (first_and_others es x.indexed (length es) (within x es indexed) ∙ ap names_of (take_all (length es) es (omega arith))) lists
 
   -- only the first ones are still listed
-  pub first_again : (p : Places) → ListsNames p (names_of (take x.indexed es)) → IsIndexOf (index x.indexed p) (names_of es)
+  pub first_again : (p : NameIndex) → ListsNames p (names_of (take x.indexed es)) → IsIndexOf (index x.indexed p) (names_of es)
   first_again p lists = record { within = indexed.within; few = indexed.few; lists = subst (ListsNames p) (sym (take-map (λ e. e.name) x.indexed es)) lists }
 
   -- ---- entries that go from the end
@@ -144,7 +144,7 @@ module _ (x : Index) (es : List Entry) (indexed : IsIndexOf x (names_of es)) whe
 
 -- ---- a name that goes from between
 
-module _ (p r : Places) (w place : ℕ) (ms ns : List (List ℕ)) (n : List ℕ) (is : length ms ≡ place) (x : IsIndexOf (index w p) (ms ++ n ∷ ns)) where
+module _ (p r : NameIndex) (w place : ℕ) (ms ns : List (List ℕ)) (n : List ℕ) (is : length ms ≡ place) (x : IsIndexOf (index w p) (ms ++ n ∷ ns)) where
   pub walked_gone : w ≤ place → IsIndexOf (index w p) (ms ++ ns)
   walked_gone h =
       let long = length-append ms (n ∷ ns) in

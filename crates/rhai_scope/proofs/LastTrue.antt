@@ -3,7 +3,7 @@ use Rattle.std.proofs.Common.{◌≡◌, ℕ, suc, ◌+◌, ◌-◌, Bool, true,
 use Rattle.std.proofs.lemmas.Bool.{false≢true}
 use Rattle.rhai_scope.specs.Lookup.{later_or_here}
 use Rattle.rhai_value.specs.Reach.{trues_from}
-use Rattle.rhai_scope.specs.Places.{last_item}
+use Rattle.rhai_scope.specs.NameIndex.{last_item}
 
 last_two : (p q : ℕ) (ps : List ℕ) → last_item (p ∷ q ∷ ps) ≡ last_item (q ∷ ps)
 last_two p q ps =

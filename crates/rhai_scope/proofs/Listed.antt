@@ -9,7 +9,7 @@ use Rattle.std.specs.Map.Calls.{RetainsPairs}
 use Rattle.std.specs.Ordering.{nat_cmp}
 use Rattle.std.specs.Prelude.{string_bytes, string_cmp}
 use Rattle.std.specs.Str.{bytes_eq}
-use Rattle.rhai_scope.specs.Places.{shortened, unless_empty, with_place}
+use Rattle.rhai_scope.specs.NameIndex.{shortened, unless_empty, with_place}
 
 abbrev pub NameLists : Type 0
 NameLists = BTreeMap (String Global) (List ℕ)

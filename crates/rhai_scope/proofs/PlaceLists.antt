@@ -5,7 +5,7 @@ use Rattle.std.proofs.lemmas.List.{append-nil, length-append, map-append}
 use Rattle.std.proofs.lemmas.List.Elements.{filter-append}
 use Rattle.std.proofs.Math.Seq.{take-append_seam}
 use Rattle.std.specs.Prelude.{◌≢◌}
-use Rattle.rhai_scope.specs.Places.{unless_empty, last_item, front, others, lowered}
+use Rattle.rhai_scope.specs.NameIndex.{unless_empty, last_item, front, others, lowered}
 
 before_last : (ps : List ℕ) (p : ℕ) → length (ps ++ p ∷ []) - 1 ≡ length ps
 before_last ps p = let long = length-append ps (p ∷ []) in omega arith

@@ -6,8 +6,8 @@ use Rattle.std.proofs.Math.Seq.{take-append_seam}
 use Rattle.std.specs.Cmp.Lexicographic.{pointwise, bytes_decides}
 use Rattle.std.specs.Str.{IsUtf8, bytes_eq, chars}
 use Rattle.rhai_value.specs.Reach.{trues_from}
-use Rattle.rhai_scope.specs.Places.{listed, unless_empty, with_place, shortened, front, others, lowered, AllPass, Relists, Lists, are_named, with_gap, ListsNames}
-use Rattle.rhai_scope.specs.declared.places.Places.{Places}
+use Rattle.rhai_scope.specs.NameIndex.{listed, unless_empty, with_place, shortened, front, others, lowered, AllPass, Relists, Lists, are_named, with_gap, ListsNames}
+use Rattle.rhai_scope.specs.declared.name_index.NameIndex.{NameIndex}
 use Rattle.rhai_scope.proofs.Filtered.{still_pass, relisted_pass}
 use Rattle.rhai_scope.proofs.Names.{same_bytes}
 use Rattle.rhai_value.proofs.ForCallers.{false_more, true_more}
@@ -15,7 +15,7 @@ use Rattle.rhai_scope.proofs.Trues.{gap_made, gap_closed}
 
 -- ---- lists, one of which has become what f makes of it
 
-module _ (text : List ℕ) (utf8 : IsUtf8 text) (p r : Places) where
+module _ (text : List ℕ) (utf8 : IsUtf8 text) (p r : NameIndex) where
   relisted : (f : Option (List ℕ) → Option (List ℕ)) (stood stand : List ℕ → List Bool) → Lists p stood
       → f (unless_empty (trues_from 0 (stood (chars text)))) ≡ unless_empty (trues_from 0 (stand (chars text)))
       → ((name : List ℕ) → pointwise nat_eq (chars text) name ≡ false → trues_from 0 (stood name) ≡ trues_from 0 (stand name))
@@ -94,7 +94,7 @@ lowered_lists : (f : ℕ → ℕ) (ps : List ℕ) → option_map (map f) (unless
 lowered_lists f [] = refl
 lowered_lists f (q ∷ ps) = refl
 
-pub gap_gone : (p r : Places) (place : ℕ) (ms ns : List (List ℕ)) → length ms ≡ place → Lists p (with_gap ms ns) → ((q : List ℕ) → listed r q ≡ option_map (map (lowered place)) (listed p q)) → r.filter ≡ p.filter → ListsNames r (ms ++ ns)
+pub gap_gone : (p r : NameIndex) (place : ℕ) (ms ns : List (List ℕ)) → length ms ≡ place → Lists p (with_gap ms ns) → ((q : List ℕ) → listed r q ≡ option_map (map (lowered place)) (listed p q)) → r.filter ≡ p.filter → ListsNames r (ms ++ ns)
 gap_gone p r place ms ns is old new same = record { pass = still_pass p r old.pass (option_map (map (lowered place))) refl new same; places = closed }
   where
     closed : (q : List ℕ) → IsUtf8 q → listed r q ≡ unless_empty (trues_from 0 (are_named (ms ++ ns) (chars q)))
@@ -107,5 +107,5 @@ gap_gone p r place ms ns is old new same = record { pass = still_pass p r old.pa
         ∙ ap unless_empty (gap_closed before after ∙ ap (trues_from 0) (sym (map-append (λ m. pointwise nat_eq m (chars q)) ms ns)))
 
 -- nothing changed
-pub same_names : (p r : Places) (ns : List (List ℕ)) → ListsNames p ns → ((q : List ℕ) → listed r q ≡ listed p q) → r.filter ≡ p.filter → ListsNames r ns
+pub same_names : (p r : NameIndex) (ns : List (List ℕ)) → ListsNames p ns → ((q : List ℕ) → listed r q ≡ listed p q) → r.filter ≡ p.filter → ListsNames r ns
 same_names p r ns old new same = record { pass = still_pass p r old.pass (λ o. o) refl new same; places = λ q u. new q ∙ old.places q u }

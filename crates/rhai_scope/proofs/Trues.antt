@@ -5,7 +5,7 @@ use Rattle.std.proofs.lemmas.List.{map-append}
 use Rattle.std.proofs.lemmas.List.Elements.{filter-append}
 use Rattle.rhai_value.specs.Reach.{trues_from}
 use Rattle.rhai_value.proofs.ForCallers.{from_zero}
-use Rattle.rhai_scope.specs.Places.{others, lowered}
+use Rattle.rhai_scope.specs.NameIndex.{others, lowered}
 
 -- ---- a gap, which a place leaves that is dropped
 

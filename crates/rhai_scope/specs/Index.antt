@@ -1,7 +1,7 @@
 -- The index of names, which has those of the first entries.
 use Rattle.std.specs.Prelude.{ℕ, ◌+◌, ◌≤◌, List, length, take, map}
 use Rattle.rhai_scope.specs.Entry.{Entry}
-use Rattle.rhai_scope.specs.Places.{ListsNames}
+use Rattle.rhai_scope.specs.NameIndex.{ListsNames}
 use Rattle.rhai_scope.specs.declared.index.Index.{Index}
 
 -- the most entries that aren't indexed

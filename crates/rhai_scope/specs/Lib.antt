@@ -7,7 +7,7 @@ pub mod Items
 pub mod Lookup
 pub mod NameFilter
 pub mod NamesText
-pub mod Places
+pub mod NameIndex
 pub mod Pushes
 pub mod Records
 pub mod Relation

@@ -3,6 +3,7 @@ use Rattle.std.specs.Prelude.{ℕ, zero, suc, nat_eq, Bool, if◌then◌else◌,
 use Rattle.std.specs.Cmp.Lexicographic.{pointwise}
 use Rattle.rhai_value.specs.Tree.{Tree}
 use Rattle.rhai_scope.specs.Entry.{Entry, is_constant_entry, with_value}
+pub use Rattle.rhai_value.specs.Store.{changed_at}
 
 -- the position of the last entry of a name, seen from the rest of the entries and from the first one
 abbrev pub later_or_here : Option ℕ → Bool → Option ℕ
@@ -37,12 +38,7 @@ writable_position name es = option_and_then (λ k. option_and_then (unless_const
 abbrev pub value_at : List Entry → Option ℕ → Option Tree
 value_at es o = option_map (λ e. e.value) (option_and_then (slice_get es) o)
 
--- the entries with the one at a position changed
-abbrev pub changed_at : (Entry → Entry) → List Entry → ℕ → List Entry
-changed_at f [] i = []
-changed_at f (e ∷ es) zero = f e ∷ es
-changed_at f (e ∷ es) (suc i) = e ∷ changed_at f es i
-
+-- the entries with the one at a position changed, if there is one
 abbrev pub changed_if : (Entry → Entry) → List Entry → Option ℕ → List Entry
 changed_if f es None = es
 changed_if f es (Some i) = changed_at f es i

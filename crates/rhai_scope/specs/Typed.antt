@@ -1,5 +1,6 @@
 -- Values that are set, and entries that are taken out.
 use Rattle.std.specs.Prelude.{ℕ, List, remove, Option, Some, None}
+use Rattle.std.specs.Option.{option_map_or}
 use Rattle.rhai_value.specs.declared.access_mode.AccessMode.TheVariants.{ReadWrite}
 use Rattle.rhai_value.specs.declared.type_id.TypeId.{TypeId}
 use Rattle.rhai_value.specs.Tree.{Tree}
@@ -14,8 +15,7 @@ set_or_pushed (Some i) name t es = changed_at (with_value t) es i
 
 -- the entries without the one at a position, if there is one
 abbrev pub removed_at : Option ℕ → List Entry → List Entry
-removed_at None es = es
-removed_at (Some i) es = remove es i
+removed_at o es = option_map_or (remove es) o es
 
 -- an entry once w was written to its value as a type of Rust
 abbrev pub written_entry : TypeId → Tree → Entry → Entry

@@ -8,8 +8,8 @@ use std::marker::Model;
 
 /// Another name of an entry. Contracts see it as its characters.
 ///
-/// An alias list keeps blanks at its unused places, which must take no memory; so the blank is an alias of no text, which is the
-/// empty name.
+/// An alias list keeps blanks at its unused places, which must take no memory; so the blank is an alias of no text, which
+/// is the empty name.
 #[derive(Drop)]
 pub struct Alias {
     name: Option<ImmutableString>,
@@ -33,13 +33,16 @@ ghost use Rattle.std.specs.Cmp.Lexicographic.{pointwise};
 ghost use Rattle.std.specs.Str.{chars};
 
 impl Alias {
+    /// Makes an alias of this name.
+    /// Cost: constant; no memory.
     pub fn new(name: ImmutableString) -> Alias
         ensures { result ≡ name }
     {
         Alias { name: Some(name) }
     }
 
-    /// The name, at no cost.
+    /// Lends the name.
+    /// Cost: constant; no memory.
     #[tactic(auto, using(crate::proofs::Names::no_characters))]
     pub fn as_str(&self) -> &str
         ensures { chars result.now ≡ self.now }
@@ -58,7 +61,9 @@ impl Alias {
         self.as_str() == other.as_str()
     }
 
-    /// The same name again, which shares its bytes.
+    /// Copies the name, sharing its bytes.
+    /// Errors: memory is refused, as to `ImmutableString::copy`.
+    /// Cost: that of `ImmutableString::copy`.
     pub fn copy(&self, alloc: Global) -> Result<Alias, AllocError>
         ensures { IfOk result (λ a. a ≡ self.now) }
     {

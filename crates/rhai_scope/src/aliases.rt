@@ -59,8 +59,9 @@ impl Scope {
         self.records[i].add_alias(alias)
     }
 
-    /// The aliases of the last entry of a name, in the order in which they came. It takes no memory; the time is that of `search`.
-    /// (rhai shows aliases by its iterators alone)
+    /// Lends the aliases of the last entry of a name, in the order in which they came.
+    /// Cost: that of `search`; no memory.
+    /// rhai: its iterators alone show aliases.
     pub fn aliases(&self, name: &str) -> Option<&[Alias]>
         ensures { option_copied result ≡ aliases_named (chars name.now) self.now }
     {
@@ -70,8 +71,11 @@ impl Scope {
         }
     }
 
-    /// Gives the last entry of a name one more alias, the name itself if `alias` is empty. No entry of the name, or one that has the
-    /// alias: nothing changes. The time is that of `search`, and the number of aliases that the entry has. (`Scope::set_alias`)
+    /// Gives the last entry of a name one more alias, the name itself if `alias` is empty. No entry of the name, or one
+    /// that has the alias: nothing changes.
+    /// Errors: memory is refused; nothing changes.
+    /// Cost: that of `search`, and the number of aliases that the entry has.
+    /// rhai: `Scope::set_alias`.
     #[tactic(auto, using(crate::proofs::Found::position_within))]
     pub fn set_alias(&mut self, name: &str, alias: &str) -> Result<(), AllocError>
         ensures ok { OnOk result (self.new ≡ changed_named (aliased (meant_alias (chars name.now) (chars alias.now))) (chars name.now) self.old) }

@@ -48,9 +48,11 @@ impl Scope {
         self.push_record(entry)
     }
 
-    /// The same entries once more, with their aliases. Each value is copied and painted with its own mode; the copy of a holder
-    /// names the same cell. Names and aliases share their bytes. An `Err` comes where memory is refused.
-    /// (`Clone` of rhai's `Scope`)
+    /// Copies the entries with their aliases. Each value is copied and painted with its own mode; the copy of a holder
+    /// names the same cell. Names and aliases share their bytes.
+    /// Errors: memory is refused.
+    /// Cost: the number of entries, and that of `Dynamic::copy` for each value.
+    /// rhai: `Clone` of `Scope`.
     pub fn copy(&self) -> Result<Scope, AllocError>
         ensures { IfOk result (λ s. s ≡ map copied_entry self.now) }
     {

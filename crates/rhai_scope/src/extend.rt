@@ -11,9 +11,10 @@ use rhai_value::{AccessMode, Dynamic};
 use std::alloc::{AllocError, Global};
 
 impl Scope {
-    /// Adds an entry for each name with its value, painted ReadWrite, in the order in which they come. No name is copied, and where
-    /// the iterator knows how many come, room is made once. Where memory is refused, no entry stays.
-    /// (`Extend` of pairs, of rhai's `Scope`)
+    /// Adds an entry for each name with its value, painted ReadWrite, in the order in which they come. No name is copied.
+    /// Errors: memory is refused; none of the entries stays.
+    /// Cost: that of a push for each; room is made once where the iterator knows how many come.
+    /// rhai: `Extend` of pairs, of `Scope`.
     #[tactic(auto, using(crate::proofs::Extended::extended_last, crate::proofs::Extended::taken_back))]
     pub fn extend<U: IntoIterator<Item = (ImmutableString, Dynamic)>>(
         &mut self,
@@ -35,8 +36,11 @@ impl Scope {
         Ok(())
     }
 
-    /// The same, each value painted ReadOnly where `true` stands before it, and else ReadWrite.
-    /// (`Extend` of triples, of rhai's `Scope`)
+    /// Adds an entry for each name with its value, painted ReadOnly where `true` stands before it, and else ReadWrite, as
+    /// `extend` does.
+    /// Errors: memory is refused; none of the entries stays.
+    /// Cost: that of `extend`.
+    /// rhai: `Extend` of triples, of `Scope`.
     #[tactic(auto, using(crate::proofs::Extended::flagged_last, crate::proofs::Extended::flagged_back))]
     pub fn extend_flagged<U: IntoIterator<Item = (ImmutableString, bool, Dynamic)>>(
         &mut self,
@@ -61,7 +65,10 @@ impl Scope {
         Ok(())
     }
 
-    /// A scope of these entries, made as by `extend`. (`FromIterator` of pairs, of rhai's `Scope`)
+    /// Makes a scope of these entries, as by `extend`.
+    /// Errors: memory is refused.
+    /// Cost: that of `extend`.
+    /// rhai: `FromIterator` of pairs, of `Scope`.
     pub fn from_pairs<U: IntoIterator<Item = (ImmutableString, Dynamic)>>(
         alloc: Global,
         items: U,
@@ -74,7 +81,10 @@ impl Scope {
         Ok(scope)
     }
 
-    /// A scope of these entries, made as by `extend_flagged`. (`FromIterator` of triples, of rhai's `Scope`)
+    /// Makes a scope of these entries, as by `extend_flagged`.
+    /// Errors: memory is refused.
+    /// Cost: that of `extend`.
+    /// rhai: `FromIterator` of triples, of `Scope`.
     pub fn from_flagged<U: IntoIterator<Item = (ImmutableString, bool, Dynamic)>>(
         alloc: Global,
         items: U,

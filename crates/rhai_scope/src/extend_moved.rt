@@ -51,9 +51,10 @@ impl Scope {
         }
     }
 
-    /// Adds an entry for each name with the value at its place, painted ReadWrite, in their order. Room is made once, before all
-    /// else; where that is refused, names and values come back and the scope is as it was. No name is copied; the time is that of
-    /// one push an entry. (rhai has `extend` alone, which takes an iterator)
+    /// Adds an entry for each name with the value at its place, painted ReadWrite, in their order. No name is copied.
+    /// Errors: names and values come back where memory is refused, and the scope is as it was.
+    /// Cost: that of a push for each; room is made once, before all else.
+    /// rhai: `extend` alone, which takes an iterator.
     pub fn extend_moved(
         &mut self,
         names: Vec<ImmutableString>,
@@ -66,7 +67,10 @@ impl Scope {
         self.extend_headed(names, values)
     }
 
-    /// The same, each value painted ReadOnly where `true` stands beside its name, and else ReadWrite.
+    /// Adds an entry for each name with the value at its place, painted ReadOnly where `true` stands beside its name, and
+    /// else ReadWrite, as `extend_moved` does.
+    /// Errors: names and values come back where memory is refused, and the scope is as it was.
+    /// Cost: that of `extend_moved`.
     pub fn extend_flagged_moved(
         &mut self,
         names: Vec<(ImmutableString, bool)>,

@@ -19,11 +19,12 @@ fn values_of(alloc: Global, items: Iter<'_>) -> Result<Vec<Dynamic>, AllocError>
 }
 
 impl Scope {
-    /// The values that `iter` gives, from the first entry to the last: each as `Dynamic::flatten_clone` copies it, and at the cost of
-    /// that. An `Err` comes where memory is refused for one of them, or for the vector.
-    pub fn flat_values(&self, s: &Store) -> Result<Vec<Dynamic>, AllocError>
-        ensures { IfOk result (λ v. v.items ≡ flat_values s.now self.now) }
+    /// Copies the values that `iter` gives, from the first entry to the last.
+    /// Errors: memory is refused, for one of them or for the vector.
+    /// Cost: that of `Dynamic::flatten_clone` for each.
+    pub fn flat_values(&self, store: &Store) -> Result<Vec<Dynamic>, AllocError>
+        ensures { IfOk result (λ v. v.items ≡ flat_values store.now self.now) }
     {
-        values_of(self.alloc, self.iter(s))
+        values_of(self.alloc, self.iter(store))
     }
 }

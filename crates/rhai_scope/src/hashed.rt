@@ -61,11 +61,11 @@ fn with_entry(
     name: &ImmutableString,
     value: &Dynamic,
     aliases: &[Alias],
-    s: &Store,
+    store: &Store,
 ) -> Result<Option<Vec<u8>>, AllocError>
-    ensures { IfOk result (λ o. option_map (λ v. v.items) o ≡ both_bytes (Some out.items) (entry_bytes s.now (record { name = name.now; value = value.now; aliases = aliases.now }))) }
+    ensures { IfOk result (λ o. option_map (λ v. v.items) o ≡ both_bytes (Some out.items) (entry_bytes store.now (record { name = name.now; value = value.now; aliases = aliases.now }))) }
 {
-    match hashed(alloc, value, s)? {
+    match hashed(alloc, value, store)? {
         None => Ok(None),
         Some(hashed) => {
             add_name(&mut out, name.as_str())?;
@@ -76,14 +76,14 @@ fn with_entry(
     }
 }
 
-fn bytes_of(alloc: Global, entries: &[Record], s: &Store) -> Result<Option<Vec<u8>>, AllocError>
-    ensures { IfOk result (λ o. option_map (λ v. v.items) o ≡ scope_bytes s.now entries.now) }
+fn bytes_of(alloc: Global, entries: &[Record], store: &Store) -> Result<Option<Vec<u8>>, AllocError>
+    ensures { IfOk result (λ o. option_map (λ v. v.items) o ≡ scope_bytes store.now entries.now) }
 {
     let mut out = Vec::new(alloc);
     let mut rest = Rest::of(entries);
     add_count(&mut out, rest.len())?;
     while let Some((name, value, aliases)) = rest.next() {
-        match with_entry(alloc, out, name, value, aliases, s)? {
+        match with_entry(alloc, out, name, value, aliases, store)? {
             None => return Ok(None),
             Some(longer) => out = longer,
         }
@@ -92,13 +92,16 @@ fn bytes_of(alloc: Global, entries: &[Record], s: &Store) -> Result<Option<Vec<u
 }
 
 impl Scope {
-    /// The hash bytes of the scope, `None` where a value isn't hashable: the number of entries, and of each its name, its value
-    /// and its aliases, with the numbers of bytes and of aliases before them. Tags, modes and sharing aren't seen. Costs what
-    /// `rhai_show::hashed` costs for each value, and the number of the bytes. (`Hash` of rhai's `Scope`, which feeds any hasher)
-    pub fn hashed(&self, s: &Store) -> Result<Option<Hashed>, AllocError>
-        ensures { IfOk result (λ o. o ≡ scope_bytes s.now self.now) }
+    /// Answers the hash bytes of the scope, `None` where a value isn't hashable: the number of entries, and of each its
+    /// name, its value and its aliases, with the numbers of bytes and of aliases before them. Tags, modes and sharing
+    /// aren't seen.
+    /// Errors: memory is refused.
+    /// Cost: that of `rhai_show::hashed` for each value, and the number of the bytes.
+    /// rhai: `Hash` of `Scope`, which feeds any hasher.
+    pub fn hashed(&self, store: &Store) -> Result<Option<Hashed>, AllocError>
+        ensures { IfOk result (λ o. o ≡ scope_bytes store.now self.now) }
     {
-        match bytes_of(self.alloc, &self.records, s)? {
+        match bytes_of(self.alloc, &self.records, store)? {
             None => Ok(None),
             Some(bytes) => Ok(Some(Hashed::from_bytes(bytes))),
         }

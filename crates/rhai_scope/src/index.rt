@@ -3,10 +3,10 @@ ghost use Rattle.std.specs.Prelude.{◌≡◌, ◌+◌, ◌<◌, ◌^◌, ℕ, [
 ghost use Rattle.std.specs.Str.{chars};
 ghost use Rattle.rhai_scope.specs.Index.{IsIndexOf, names_of};
 ghost use Rattle.rhai_scope.specs.Lookup.{last_position};
-ghost use Rattle.rhai_scope.specs.Places.{ListsNames};
+ghost use Rattle.rhai_scope.specs.NameIndex.{ListsNames};
 
 use crate::heading::Named;
-use crate::places::Places;
+use crate::name_index::NameIndex;
 use crate::records::Record;
 use std::alloc::{AllocError, Global};
 
@@ -19,7 +19,7 @@ pub(crate) const WALKED_ENTRIES: usize = 32;
 pub(crate) struct Index {
     /// The number of the first entries, whose names are listed.
     pub(crate) indexed: usize,
-    pub(crate) places: Places,
+    pub(crate) places: NameIndex,
 }
 
 /// The position of the last of these entries that has the name.
@@ -42,7 +42,7 @@ impl Index {
     {
         Index {
             indexed: 0,
-            places: Places::new(alloc),
+            places: NameIndex::new(alloc),
         }
     }
 

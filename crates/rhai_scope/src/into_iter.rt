@@ -72,9 +72,7 @@ impl Scope {
     ghost use Rattle.rhai_scope.specs.Items.{moved_entry};
 
     /// Takes the last entry out, and answers its name, its own value and its aliases.
-    ///
     /// Cost: no memory; of an entry that is in the index, the time of a look-up there.
-    ///
     /// rhai: `Scope::pop_entry`, which is private, and answers `None` without an entry.
     pub fn pop_last(&mut self) -> (ImmutableString, Dynamic, AliasList)
         requires { 0 < length self.old }

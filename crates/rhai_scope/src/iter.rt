@@ -199,26 +199,29 @@ impl Scope {
     ghost use Rattle.std.specs.Prelude.{◌≡◌, map, reverse};
     ghost use Rattle.rhai_scope.specs.Items.{flat_left, raw_left, shown_flat, shown_raw};
 
-    /// Each entry, from the first to the last: its name, whether it is a constant by `Dynamic::is_read_only`, and its flat value.
-    /// Each item costs what `Dynamic::flatten_clone` costs; where that is refused memory, the item is an `Err`, and the next one
-    /// goes on behind it. (`Scope::iter`)
-    pub fn iter<'a>(&'a self, s: &'a Store) -> Iter<'a>
-        ensures { flat_left result ≡ map (shown_flat s.now) self.now }
+    /// Goes through the entries, from the first to the last: the name, whether it is a constant by `Dynamic::is_read_only`,
+    /// and the flat value. Where that is refused memory, the item is an `Err`, and the next one goes on behind it.
+    /// Cost: that of `Dynamic::flatten_clone` for each item.
+    /// rhai: `Scope::iter`.
+    pub fn iter<'a>(&'a self, store: &'a Store) -> Iter<'a>
+        ensures { flat_left result ≡ map (shown_flat store.now) self.now }
     {
         Iter {
             alloc: self.alloc,
-            store: s,
+            store,
             rest: Rest::of(&self.records),
         }
     }
 
-    /// Each entry, from the last to the first: its name, whether it is a constant by `Dynamic::is_read_only`, and its own value.
-    /// No item takes memory. (`Scope::iter_raw`)
-    pub fn iter_raw<'a>(&'a self, s: &'a Store) -> IterRaw<'a>
-        ensures { raw_left result ≡ map (shown_raw s.now) (reverse self.now) }
+    /// Goes through the entries, from the last to the first: the name, whether it is a constant by `Dynamic::is_read_only`,
+    /// and the value itself.
+    /// Cost: constant for each item; no memory.
+    /// rhai: `Scope::iter_raw`.
+    pub fn iter_raw<'a>(&'a self, store: &'a Store) -> IterRaw<'a>
+        ensures { raw_left result ≡ map (shown_raw store.now) (reverse self.now) }
     {
         IterRaw {
-            store: s,
+            store,
             rest: Rest::of(&self.records),
         }
     }

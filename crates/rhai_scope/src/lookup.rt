@@ -15,9 +15,11 @@ use rhai_text::ImmutableString;
 use rhai_value::{AccessMode, Dynamic};
 
 impl Scope {
-    /// The position of the last entry of a name. It takes no memory. The last entries, at most 32, are walked through, and then the
-    /// name is sought in the index, an ordered map, so the time is in the logarithm of the number of different names; of most names
-    /// that aren't there it is the walk's alone. (`Scope::search`, which is private in rhai)
+    /// Finds the position of the last entry of a name.
+    /// Cost: no memory. The last entries, at most 32, are walked through, and then the name is sought in the index, an
+    /// ordered map, so the time is in the logarithm of the number of different names; of most names that aren't there it is
+    /// the walk's alone.
+    /// rhai: `Scope::search`, which is private.
     pub fn search(&self, name: &str) -> Option<usize>
         ensures { result ≡ last_position (chars name.now) self.now }
     {
@@ -47,7 +49,8 @@ impl Scope {
         }
     }
 
-    /// The value at a position: `Scope::search` gives that of a name.
+    /// Lends the value at a position: `Scope::search` gives that of a name.
+    /// Cost: constant.
     pub fn at(&self, i: usize) -> &Dynamic
         requires { i < length self.now }
         ensures { option_map (λ e. e.value) (slice_get self.now i) ≡ Some result.now }
@@ -55,10 +58,8 @@ impl Scope {
         self.records[i].value()
     }
 
-    /// The name of the entry at a position.
-    ///
-    /// Cost: constant; no memory.
-    ///
+    /// Lends the name of the entry at a position.
+    /// Cost: constant.
     /// rhai: the name that `Scope::get_entry_by_index` answers, which is private.
     pub fn name_at(&self, i: usize) -> &ImmutableString
         requires { i < length self.now }
@@ -67,7 +68,9 @@ impl Scope {
         self.records[i].name()
     }
 
-    /// The value at a position, to write to, also of a constant. No cell is written.
+    /// Lends the value at a position, to write to, also of a constant. No cell is written.
+    /// Cost: constant.
+    /// rhai: `Scope::get_mut_by_index`, which is private.
     pub fn at_mut(&mut self, i: usize) -> &mut Dynamic
         requires { i < length self.old }
         ensures* writes_back { sem 𝓛 (Lends scope_type.the_row dynamic_type.the_row self.entry result (λ w. changed_at (with_value w) self.old i)) }
@@ -76,14 +79,18 @@ impl Scope {
         self.records[i].value_mut()
     }
 
-    /// Whether there is an entry of the name, at the cost of `search`. (`Scope::contains`)
+    /// Tells whether there is an entry of the name.
+    /// Cost: that of `search`.
+    /// rhai: `Scope::contains`.
     pub fn contains(&self, name: &str) -> bool
         ensures { result ≡ is_some (last_position (chars name.now) self.now) }
     {
         self.search(name).is_some()
     }
 
-    /// The own value of the last entry of a name, at the cost of `search`. (`Scope::get`)
+    /// Lends the value itself of the last entry of a name.
+    /// Cost: that of `search`.
+    /// rhai: `Scope::get`.
     pub fn get(&self, name: &str) -> Option<&Dynamic>
         ensures { option_copied result ≡ value_named (chars name.now) self.now }
     {
@@ -93,8 +100,10 @@ impl Scope {
         }
     }
 
-    /// The own value of the last entry of a name, to write to, unless its own mode is ReadOnly; at the cost of `search`. No cell is
-    /// written. (`Scope::get_mut`)
+    /// Lends the value itself of the last entry of a name, to write to, unless its own mode is ReadOnly. No cell is
+    /// written.
+    /// Cost: that of `search`.
+    /// rhai: `Scope::get_mut`.
     pub fn get_mut(&mut self, name: &str) -> Option<&mut Dynamic>
         ensures* writes_back { sem 𝓛 (LendsIf scope_type.the_row dynamic_type.the_row self.entry result (with_value_at self.old (writable_position (chars name.now) self.old)) self.old) }
         ensures value { option_copied_mut result ≡ value_at self.old (writable_position (chars name.now) self.old) }
@@ -117,7 +126,9 @@ impl Scope {
         }
     }
 
-    /// Whether the last entry of a name is a constant by its own mode, at the cost of `search`. (`Scope::is_constant`)
+    /// Tells whether the last entry of a name is a constant by its own mode.
+    /// Cost: that of `search`.
+    /// rhai: `Scope::is_constant`.
     #[tactic(auto, using(crate::proofs::Found::position_within))]
     pub fn is_constant(&self, name: &str) -> Option<bool>
         ensures { result ≡ option_map is_constant_entry (last_entry (chars name.now) self.now) }
@@ -126,7 +137,8 @@ impl Scope {
         Some(self.is_constant_at(i))
     }
 
-    /// Whether the entry at a position is a constant by its own mode.
+    /// Tells whether the entry at a position is a constant by its own mode.
+    /// Cost: constant.
     pub fn is_constant_at(&self, i: usize) -> bool
         requires { i < length self.now }
         ensures { option_map is_constant_entry (slice_get self.now i) ≡ Some result }

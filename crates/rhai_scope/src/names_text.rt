@@ -33,8 +33,9 @@ fn lines_of(alloc: Global, items: IterRaw<'_>) -> Result<String, AllocError>
     Ok(out)
 }
 
-/// Aliases as `Scope::aliases` gives them, a line each: an alias and a line feed. The time is in the characters of the text, as is
-/// the memory.
+/// Writes aliases as `Scope::aliases` gives them, a line each: an alias and a line feed.
+/// Errors: memory is refused.
+/// Cost: the length of the text; memory for it.
 #[tactic(auto, using(crate::proofs::Names::no_characters))]
 pub fn aliases_shown(alloc: Global, aliases: &[Alias]) -> Result<Shown, AllocError>
     ensures { IfOk result (λ x. x ≡ aliases_text aliases.now) }
@@ -47,12 +48,14 @@ pub fn aliases_shown(alloc: Global, aliases: &[Alias]) -> Result<Shown, AllocErr
 }
 
 impl Scope {
-    /// The names of the entries, a line each, from the last to the first: `x`, and `const y` for a constant by
-    /// `Dynamic::is_read_only`. It is what `iter_raw` gives as a text; the time is in the characters of the text, as is the memory.
-    pub fn names_shown(&self, s: &Store) -> Result<Shown, AllocError>
-        ensures { IfOk result (λ x. x ≡ names_text s.now self.now) }
+    /// Writes the names of the entries, a line each, from the last to the first: `x`, and `const y` for a constant by
+    /// `Dynamic::is_read_only`. It is what `iter_raw` gives as a text.
+    /// Errors: memory is refused.
+    /// Cost: the length of the text; memory for it.
+    pub fn names_shown(&self, store: &Store) -> Result<Shown, AllocError>
+        ensures { IfOk result (λ x. x ≡ names_text store.now self.now) }
     {
-        let text = lines_of(self.alloc, self.iter_raw(s))?;
+        let text = lines_of(self.alloc, self.iter_raw(store))?;
         Ok(Shown::from_text(text))
     }
 }

@@ -1,6 +1,6 @@
 //! The places of one name.
 ghost use Rattle.std.specs.Prelude.{◌≡◌, [], ◌∷◌, ◌++◌, map, Some, None, if◌then◌else◌, OnOk, OnErr};
-ghost use Rattle.rhai_scope.specs.Places.{unless_empty, last_item, front, others, lowered};
+ghost use Rattle.rhai_scope.specs.NameIndex.{unless_empty, last_item, front, others, lowered};
 
 use std::alloc::{AllocError, Global};
 use std::marker::Model;

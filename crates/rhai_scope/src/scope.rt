@@ -17,9 +17,10 @@ use std::marker::Model;
 /// The least number of entries that a scope has room for, once it has one.
 pub const MIN_SCOPE_ENTRIES: usize = 8;
 
-/// The named values of a script (`Scope` of rhai). Contracts see the list of entries, the newest last.
+/// The named values of a script. Contracts see the list of entries, the newest last.
 ///
 /// It keeps the allocator that it was made with.
+/// rhai: `Scope`.
 #[derive(Drop)]
 pub struct Scope {
     pub(crate) alloc: Global,
@@ -89,7 +90,9 @@ pub(crate) fn push_in_room(
 }
 
 impl Scope {
-    /// A scope of no entries. It takes no memory. (`Scope::new`)
+    /// Makes a scope of no entries.
+    /// Cost: constant; no memory.
+    /// rhai: `Scope::new`.
     pub fn new(alloc: Global) -> Scope
         ensures { result ≡ [] }
     {
@@ -100,7 +103,10 @@ impl Scope {
         }
     }
 
-    /// A scope of no entries, with room for so many. (`Scope::with_capacity`)
+    /// Makes a scope of no entries, with room for so many.
+    /// Errors: memory for the room is refused.
+    /// Cost: the room.
+    /// rhai: `Scope::with_capacity`.
     pub fn with_capacity(alloc: Global, capacity: usize) -> Result<Scope, AllocError>
         ensures { IfOk result (λ s. s ≡ []) }
     {
@@ -116,7 +122,9 @@ impl Scope {
         self.records.reserve(more)
     }
 
-    /// Drops all entries with their aliases, and keeps the room for them. (`Scope::clear`)
+    /// Drops all entries with their aliases, and keeps the room for them.
+    /// Cost: their drop.
+    /// rhai: `Scope::clear`.
     pub fn clear(&mut self)
         ensures { self.new ≡ [] }
     {
@@ -124,22 +132,27 @@ impl Scope {
         self.index.clear();
     }
 
-    /// The number of entries. (`Scope::len`)
+    /// Tells the number of entries.
+    /// rhai: `Scope::len`.
     pub fn len(&self) -> usize
         ensures { result ≡ length self.now }
     {
         self.records.len()
     }
 
-    /// Whether there is no entry. (`Scope::is_empty`)
+    /// Tells whether there is no entry.
+    /// rhai: `Scope::is_empty`.
     pub fn is_empty(&self) -> bool
         ensures { IsTrue result ↔ (self.now ≡ []) }
     {
         self.len() == 0
     }
 
-    /// Adds an entry behind the others, its value painted with a mode; name and value come back where memory is refused.
-    /// (`Scope::push_entry`, which is private in rhai)
+    /// Adds an entry behind the others, its value painted with a mode.
+    /// Errors: name and value come back where memory is refused, and the scope is as it was.
+    /// Cost: constant, and that of `Dynamic::set_access_mode`; where the entry comes into the index that of a look-up
+    /// there, and now and then the list of entries grows.
+    /// rhai: `Scope::push_entry`, which is private.
     #[inline(always)]
     pub fn push_entry(
         &mut self,
@@ -170,7 +183,10 @@ impl Scope {
         Ok(())
     }
 
-    /// Adds an entry behind the others. Its value is a constant where it was one. (`Scope::push_dynamic`)
+    /// Adds an entry behind the others. Its value is a constant where it was one.
+    /// Errors: memory is refused; the scope is as it was, and the value is gone.
+    /// Cost: that of `push_entry`, and the length of the name.
+    /// rhai: `Scope::push_dynamic`.
     pub fn push_dynamic(&mut self, name: &str, value: Dynamic) -> Result<(), AllocError>
         ensures ok { OnOk result (self.new ≡ pushed (mode_of value) (chars name.now) value self.old) }
         ensures err { OnErr result (self.new ≡ self.old) }
@@ -179,7 +195,10 @@ impl Scope {
         self.push_named(name, access, value)
     }
 
-    /// Adds a constant behind the other entries. (`Scope::push_constant_dynamic`)
+    /// Adds a constant behind the other entries.
+    /// Errors: memory is refused; the scope is as it was, and the value is gone.
+    /// Cost: that of `push_entry`, and the length of the name.
+    /// rhai: `Scope::push_constant_dynamic`.
     pub fn push_constant_dynamic(&mut self, name: &str, value: Dynamic) -> Result<(), AllocError>
         ensures ok { OnOk result (self.new ≡ pushed ReadOnly (chars name.now) value self.old) }
         ensures err { OnErr result (self.new ≡ self.old) }
@@ -203,7 +222,9 @@ impl Scope {
         }
     }
 
-    /// Drops the last entry with its aliases. (`Scope::pop`, which panics without an entry)
+    /// Drops the last entry with its aliases.
+    /// Cost: its drop; of an entry that is in the index that of a look-up there.
+    /// rhai: `Scope::pop`, which panics without an entry.
     pub fn pop(&mut self)
         requires { 0 < length self.old }
         ensures { self.new ≡ popped self.old }
@@ -226,8 +247,9 @@ impl Scope {
         self.index.remove(gone.name().as_str(), i);
     }
 
-    /// Keeps the first `size` entries with their aliases, and all where there are no more. The time is in the number of the
-    /// entries that go. (`Scope::rewind`)
+    /// Keeps the first `size` entries with their aliases, and all where there are no more.
+    /// Cost: the number of the entries that go.
+    /// rhai: `Scope::rewind`.
     pub fn rewind(&mut self, size: usize)
         ensures { self.new ≡ take size self.old }
     {

@@ -57,15 +57,15 @@ fn add_line(
     add_text(out, "\n")
 }
 
-fn text_of(alloc: Global, entries: &[Record], s: &Store) -> Result<String, AllocError>
-    ensures { IfOk result (λ t. chars (string_bytes t) ≡ scope_text s.now entries.now) }
+fn text_of(alloc: Global, entries: &[Record], store: &Store) -> Result<String, AllocError>
+    ensures { IfOk result (λ t. chars (string_bytes t) ≡ scope_text store.now entries.now) }
 {
     let mut out = String::new(alloc);
     let mut rest = Rest::of(entries);
     let len = rest.len();
     while let Some((name, value, _)) = rest.next() {
-        let is_constant = value.is_read_only(s);
-        let text = debug_text(alloc, value, s)?;
+        let is_constant = value.is_read_only(store);
+        let text = debug_text(alloc, value, store)?;
         add_line(
             &mut out,
             len - rest.len(),
@@ -78,12 +78,15 @@ fn text_of(alloc: Global, entries: &[Record], s: &Store) -> Result<String, Alloc
 }
 
 impl Scope {
-    /// The entries, a line each, from the first to the last: `[1] x = 42`, and `[2] const y = 1` for a constant by
-    /// `Dynamic::is_read_only`; the value is printed as `debug_text` prints it, at the cost of that. (`Display` of rhai's `Scope`)
-    pub fn shown(&self, s: &Store) -> Result<Shown, AllocError>
-        ensures { IfOk result (λ x. x ≡ scope_text s.now self.now) }
+    /// Writes the entries, a line each, from the first to the last: `[1] x = 42`, and `[2] const y = 1` for a constant by
+    /// `Dynamic::is_read_only`; the value is printed as `debug_text` prints it.
+    /// Errors: memory is refused.
+    /// Cost: that of `debug_text` for each.
+    /// rhai: `Display` of `Scope`.
+    pub fn shown(&self, store: &Store) -> Result<Shown, AllocError>
+        ensures { IfOk result (λ x. x ≡ scope_text store.now self.now) }
     {
-        let text = text_of(self.alloc, &self.records, s)?;
+        let text = text_of(self.alloc, &self.records, store)?;
         Ok(Shown::from_text(text))
     }
 }

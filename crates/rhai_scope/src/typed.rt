@@ -31,21 +31,25 @@ fn made<T: Variant>(alloc: Global, value: T) -> Result<Dynamic, AllocError>
 }
 
 /// What is read of the flat copy of a value, if it is of the type.
-fn read_flat<T: Variant>(alloc: Global, value: &Dynamic, s: &Store) -> Result<Option<T>, AllocError>
-    ensures found { IfOk result (λ found. option_map T.tree found ≡ read T.KIND (flat s.now value.now)) }
-    ensures unread { read T.KIND (flat s.now value.now) ≡ None → IsOk result }
-    ensures free { TakesNoMemory (flat s.now value.now) → is_type T.KIND type_id.String ≡ false → IsOk result }
+fn read_flat<T: Variant>(
+    alloc: Global,
+    value: &Dynamic,
+    store: &Store,
+) -> Result<Option<T>, AllocError>
+    ensures found { IfOk result (λ found. option_map T.tree found ≡ read T.KIND (flat store.now value.now)) }
+    ensures unread { read T.KIND (flat store.now value.now) ≡ None → IsOk result }
+    ensures free { TakesNoMemory (flat store.now value.now) → is_type T.KIND type_id.String ≡ false → IsOk result }
 {
-    if is_castable::<T>(value, s) {
-        Ok(Some(value.clone_cast::<T>(alloc, s)?))
+    if is_castable::<T>(value, store) {
+        Ok(Some(value.clone_cast::<T>(alloc, store)?))
     } else {
         Ok(None)
     }
 }
 
 impl Scope {
-    /// Takes the entry at a position out with its aliases, and answers its value as it is. It takes no memory; the time is in the
-    /// number of entries behind it.
+    /// Takes the entry at a position out with its aliases, and answers its value as it is.
+    /// Cost: the number of entries behind it; no memory.
     #[tactic(auto, using(crate::proofs::MovedOut::taken, crate::proofs::MovedOut::length_changed))]
     pub fn remove_at(&mut self, i: usize) -> Dynamic
         requires { i < length self.old }
@@ -79,22 +83,22 @@ impl Scope {
     fn take_at<T: Variant>(
         &mut self,
         place: Option<usize>,
-        s: &Store,
+        store: &Store,
     ) -> Result<Option<T>, AllocError>
         requires { IfSome place (λ i. i < length self.old) }
         ensures missing { place ≡ None → IsOk result }
-        ensures found { IfOk result (λ found. option_map T.tree found ≡ option_and_then (λ t. read T.KIND (flattened s.now t)) (value_at self.old place)) }
+        ensures found { IfOk result (λ found. option_map T.tree found ≡ option_and_then (λ t. read T.KIND (flattened store.now t)) (value_at self.old place)) }
         ensures ok { OnOk result (self.new ≡ removed_at place self.old) }
         ensures err { OnErr result (self.new ≡ self.old) }
-        ensures unread { option_and_then (λ t. read T.KIND (flattened s.now t)) (value_at self.old place) ≡ None → IsOk result }
+        ensures unread { option_and_then (λ t. read T.KIND (flattened store.now t)) (value_at self.old place) ≡ None → IsOk result }
         ensures own { IfSome (value_at self.old place) (λ t. cell_of t ≡ None) → is_type T.KIND type_id.String ≡ false → IsOk result }
-        ensures free { IfSome (value_at self.old place) (λ t. TakesNoMemory (flattened s.now t)) → is_type T.KIND type_id.String ≡ false → IsOk result }
+        ensures free { IfSome (value_at self.old place) (λ t. TakesNoMemory (flattened store.now t)) → is_type T.KIND type_id.String ≡ false → IsOk result }
     {
         let Some(i) = place else {
             return Ok(None);
         };
         let value = self.lift(i);
-        match cast_or_give_back(self.alloc, value, s) {
+        match cast_or_give_back(self.alloc, value, store) {
             Ok(found) => {
                 self.drop_at(i);
                 Ok(found)
@@ -108,7 +112,10 @@ impl Scope {
 }
 
 impl Scope {
-    /// Adds an entry behind the others. The text of the name is copied. (`Scope::push`)
+    /// Adds an entry behind the others. The text of the name is copied.
+    /// Errors: memory is refused; the scope is as it was, and the value is gone.
+    /// Cost: that of `push_entry`, and the length of the name.
+    /// rhai: `Scope::push`.
     pub fn push<T: Variant>(&mut self, name: &str, value: T) -> Result<(), AllocError>
         ensures ok { OnOk result (self.new ≡ pushed ReadWrite (chars name.now) (T.tree value) self.old) }
         ensures err { OnErr result (self.new ≡ self.old) }
@@ -117,7 +124,10 @@ impl Scope {
         self.push_named(name, AccessMode::ReadWrite, value)
     }
 
-    /// Adds a constant behind the other entries. (`Scope::push_constant`)
+    /// Adds a constant behind the other entries.
+    /// Errors: memory is refused; the scope is as it was, and the value is gone.
+    /// Cost: that of `push`.
+    /// rhai: `Scope::push_constant`.
     pub fn push_constant<T: Variant>(&mut self, name: &str, value: T) -> Result<(), AllocError>
         ensures ok { OnOk result (self.new ≡ pushed ReadOnly (chars name.now) (T.tree value) self.old) }
         ensures err { OnErr result (self.new ≡ self.old) }
@@ -126,9 +136,11 @@ impl Scope {
         self.push_named(name, AccessMode::ReadOnly, value)
     }
 
-    /// Gives the last entry of a name another value, which isn't painted, unless that entry is a constant by its own mode. Then, and
-    /// where there is none of the name, an entry is added behind the others. No cell is written. At the cost of `search`.
-    /// (`Scope::set_or_push`)
+    /// Gives the last entry of a name another value, which isn't painted, unless that entry is a constant by its own mode.
+    /// Then, and where there is none of the name, it adds an entry behind the others. No cell is written.
+    /// Errors: memory is refused; the scope is as it was, and the value is gone.
+    /// Cost: that of `search`; for a new entry that of `push`.
+    /// rhai: `Scope::set_or_push`.
     pub fn set_or_push<T: Variant>(&mut self, name: &str, value: T) -> Result<(), AllocError>
         ensures free { is_type T.KIND type_id.String ≡ false → is_some (writable_position (chars name.now) self.old) ≡ true → IsOk result }
         ensures ok { OnOk result (self.new ≡ set_or_pushed (writable_position (chars name.now) self.old) (chars name.now) (T.tree value) self.old) }
@@ -139,8 +151,11 @@ impl Scope {
         self.set_at(place, name, value)
     }
 
-    /// Gives the last entry of a name another value, which isn't painted; where there is none of the name, an entry is added
-    /// behind the others. No cell is written. At the cost of `search`. (`Scope::set_value`, which panics on a constant)
+    /// Gives the last entry of a name another value, which isn't painted; where there is none of the name, it adds an entry
+    /// behind the others. No cell is written.
+    /// Errors: memory is refused; the scope is as it was, and the value is gone.
+    /// Cost: that of `search`; for a new entry that of `push`.
+    /// rhai: `Scope::set_value`, which panics on a constant.
     #[tactic(auto, using(crate::proofs::Found::position_within))]
     pub fn set_value<T: Variant>(&mut self, name: &str, value: T) -> Result<(), AllocError>
         requires { IfSome (last_entry (chars name.now) self.old) (λ e. is_constant_entry e ≡ false) }
@@ -168,25 +183,24 @@ impl Scope {
         }
     }
 
-    /// What the flat copy of the last entry's value of a name has of this type. At the cost of `search` and of the copy.
-    /// (`Scope::get_value`)
-    ///
-    /// # Errors
-    ///
-    /// Where memory is refused, for the copy or for a `String`.
-    pub fn get_value<T: Variant>(&self, name: &str, s: &Store) -> Result<Option<T>, AllocError>
-        ensures unread { option_and_then (λ t. read T.KIND (flat s.now t)) (value_named (chars name.now) self.now) ≡ None → IsOk result }
-        ensures free { IfSome (value_named (chars name.now) self.now) (λ t. TakesNoMemory (flat s.now t)) → is_type T.KIND type_id.String ≡ false → IsOk result }
-        ensures value { IfOk result (λ found. option_map T.tree found ≡ option_and_then (λ t. read T.KIND (flat s.now t)) (value_named (chars name.now) self.now)) }
+    /// Copies what the last entry's value of a name, without its holders, has of this type.
+    /// Errors: memory is refused, for the copy or for a `String`.
+    /// Cost: that of `search`, and that of `Dynamic::flatten_clone`.
+    /// rhai: `Scope::get_value`.
+    pub fn get_value<T: Variant>(&self, name: &str, store: &Store) -> Result<Option<T>, AllocError>
+        ensures unread { option_and_then (λ t. read T.KIND (flat store.now t)) (value_named (chars name.now) self.now) ≡ None → IsOk result }
+        ensures free { IfSome (value_named (chars name.now) self.now) (λ t. TakesNoMemory (flat store.now t)) → is_type T.KIND type_id.String ≡ false → IsOk result }
+        ensures value { IfOk result (λ found. option_map T.tree found ≡ option_and_then (λ t. read T.KIND (flat store.now t)) (value_named (chars name.now) self.now)) }
     {
         match self.get(name) {
-            Some(value) => read_flat(self.alloc, value, s),
+            Some(value) => read_flat(self.alloc, value, store),
             None => Ok(None),
         }
     }
 
-    /// What the own value of the last entry of a name has of this type, by reference: no value has a `String`. At the cost of
-    /// `search`. (`Scope::get_value_ref`, which panics on a shared value)
+    /// Lends what the value itself of the last entry of a name has of this type: no value has a `String`.
+    /// Cost: that of `search`.
+    /// rhai: `Scope::get_value_ref`, which panics on a shared value.
     pub fn get_value_ref<T: Variant>(&self, name: &str) -> Option<&T>
         requires { IfSome (value_named (chars name.now) self.now) (λ t. cell_of t ≡ None) }
         ensures { option_map (λ x. T.tree x.now) result ≡ option_and_then (viewed T.KIND) (value_named (chars name.now) self.now) }
@@ -197,8 +211,10 @@ impl Scope {
         }
     }
 
-    /// The same to write, also of a constant: what is written is then the content of the value, tag and mode staying; of a `Dynamic`
-    /// it is the whole value. (`Scope::get_value_mut`, which panics on a shared value)
+    /// Lends what the value itself of the last entry of a name has of this type, to write, also of a constant: what is
+    /// written is then the content of the value, tag and mode staying; of a `Dynamic` it is the whole value.
+    /// Cost: that of `search`.
+    /// rhai: `Scope::get_value_mut`, which panics on a shared value.
     pub fn get_value_mut<T: Variant>(&mut self, name: &str) -> Option<&mut T>
         requires { IfSome (value_named (chars name.now) self.old) (λ t. cell_of t ≡ None) }
         ensures* writes_back { sem 𝓛 (LendsIf scope_type.the_row T.row self.entry result (λ w. changed_named (written_entry T.KIND (T.tree w)) (chars name.now) self.old) self.old) }
@@ -210,23 +226,22 @@ impl Scope {
         }
     }
 
-    /// Takes the last entry of a name out with its aliases, and answers what its value without its holders has of this type. The
-    /// entry goes also where that is `None`. The time is that of `search`, and the number of entries behind it. (`Scope::remove`)
-    ///
-    /// # Errors
-    ///
-    /// Where memory is refused, for a copy out of a cell or for a `String`; the entry stays then.
+    /// Takes the last entry of a name out with its aliases, and answers what its value without its holders has of this
+    /// type. The entry goes also where that is `None`.
+    /// Errors: memory is refused, for a copy out of a cell or for a `String`; the entry stays then.
+    /// Cost: that of `search`, and the number of entries behind it.
+    /// rhai: `Scope::remove`.
     #[tactic(auto, using(crate::proofs::Found::position_within))]
-    pub fn remove<T: Variant>(&mut self, name: &str, s: &Store) -> Result<Option<T>, AllocError>
+    pub fn remove<T: Variant>(&mut self, name: &str, store: &Store) -> Result<Option<T>, AllocError>
         ensures missing { last_position (chars name.now) self.old ≡ None → IsOk result }
-        ensures found { IfOk result (λ found. option_map T.tree found ≡ option_and_then (λ t. read T.KIND (flattened s.now t)) (value_named (chars name.now) self.old)) }
+        ensures found { IfOk result (λ found. option_map T.tree found ≡ option_and_then (λ t. read T.KIND (flattened store.now t)) (value_named (chars name.now) self.old)) }
         ensures ok { OnOk result (self.new ≡ removed_at (last_position (chars name.now) self.old) self.old) }
         ensures err { OnErr result (self.new ≡ self.old) }
-        ensures unread { option_and_then (λ t. read T.KIND (flattened s.now t)) (value_named (chars name.now) self.old) ≡ None → IsOk result }
+        ensures unread { option_and_then (λ t. read T.KIND (flattened store.now t)) (value_named (chars name.now) self.old) ≡ None → IsOk result }
         ensures own { IfSome (value_named (chars name.now) self.old) (λ t. cell_of t ≡ None) → is_type T.KIND type_id.String ≡ false → IsOk result }
-        ensures free { IfSome (value_named (chars name.now) self.old) (λ t. TakesNoMemory (flattened s.now t)) → is_type T.KIND type_id.String ≡ false → IsOk result }
+        ensures free { IfSome (value_named (chars name.now) self.old) (λ t. TakesNoMemory (flattened store.now t)) → is_type T.KIND type_id.String ≡ false → IsOk result }
     {
         let place = self.search(name);
-        self.take_at(place, s)
+        self.take_at(place, store)
     }
 }

@@ -33,8 +33,10 @@ impl Scope {
         Ok(kept)
     }
 
-    /// The last entry of each name, copied as `copy` does, the newest first; `is_constant` of each name stays. The time is that of
-    /// `search` of each name, and that of the copies; it takes memory for these alone. (`Scope::clone_visible`)
+    /// Copies the last entry of each name, as `copy` does, the newest first; `is_constant` of each name stays.
+    /// Errors: memory is refused.
+    /// Cost: that of `search` of each name, and that of the copies, which alone take memory.
+    /// rhai: `Scope::clone_visible`.
     #[tactic(auto, using(crate::proofs::Kept::constants_kept))]
     pub fn clone_visible(&self) -> Result<Scope, AllocError>
         ensures entries { IfOk result (λ s. s ≡ map copied_entry (visible self.now)) }

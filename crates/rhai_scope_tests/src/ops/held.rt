@@ -9,12 +9,12 @@ use std::alloc::Global;
 const UNLIMITED: Limits = Limits { text: 0, items: 0 };
 
 /// Whether the row of two ints comes to 11 on a holder of 5 and 6.
-fn is_added(alloc: Global, m: &mut Store, x: &mut Dynamic, y: &mut Dynamic) -> bool {
-    if !x.is_int(m) || !y.is_int(m) {
+fn is_added(alloc: Global, store: &mut Store, x: &mut Dynamic, y: &mut Dynamic) -> bool {
+    if !x.is_int(store) || !y.is_int(store) {
         return false;
     }
-    match FnBuiltin::Int(Token::Plus).call(alloc, m, &UNLIMITED, x, y) {
-        Ok(sum) => sum.as_int(m) == Ok(11),
+    match FnBuiltin::Int(Token::Plus).call(alloc, store, &UNLIMITED, x, y) {
+        Ok(sum) => sum.as_int(store) == Ok(11),
         Err(_) => false,
     }
 }
@@ -36,14 +36,14 @@ fn again(alloc: Global, holder: &Dynamic) -> Dynamic {
 }
 
 /// Whether the row of an assignment of ints doubles the int of one cell, and keeps its tag.
-fn is_doubled(alloc: Global, m: &mut Store, x: &mut Dynamic, y: &mut Dynamic) -> bool {
-    if !x.is_int(m) || !y.is_int(m) {
+fn is_doubled(alloc: Global, store: &mut Store, x: &mut Dynamic, y: &mut Dynamic) -> bool {
+    if !x.is_int(store) || !y.is_int(store) {
         return false;
     }
     let row = FnBuiltin::IntAssign(Token::PlusAssign);
-    row.call(alloc, m, &UNLIMITED, x, y).is_ok()
-        && y.as_int(m) == Ok(10)
-        && y.held(m).map(|held| held.tag()) == Some(6)
+    row.call(alloc, store, &UNLIMITED, x, y).is_ok()
+        && y.as_int(store) == Ok(10)
+        && y.held(store).map(|held| held.tag()) == Some(6)
 }
 
 #[test]
@@ -57,15 +57,15 @@ fn both_may_be_holders_of_one_cell(rt: HostRuntime) {
 }
 
 /// Whether the items of an array are appended to it, and unit is left.
-fn is_appended(alloc: Global, m: &mut Store, x: &mut Dynamic, y: &mut Dynamic) -> bool {
-    if !x.is_array(m) || !y.is_array(m) {
+fn is_appended(alloc: Global, store: &mut Store, x: &mut Dynamic, y: &mut Dynamic) -> bool {
+    if !x.is_array(store) || !y.is_array(store) {
         return false;
     }
     FnBuiltin::ArrayAppend
-        .call(alloc, m, &UNLIMITED, x, y)
+        .call(alloc, store, &UNLIMITED, x, y)
         .is_ok()
-        && y.is_unit(m)
-        && x.as_array_ref(m).map(|items| items.len()) == Ok(2)
+        && y.is_unit(store)
+        && x.as_array_ref(store).map(|items| items.len()) == Ok(2)
 }
 
 /// An array of one value; unit where there is no room.
@@ -85,15 +85,15 @@ fn an_array_may_take_its_own_items(rt: HostRuntime) {
 }
 
 /// Whether a holder of an array's own cell is pushed into it, and unit is left.
-fn is_pushed(alloc: Global, m: &mut Store, x: &mut Dynamic, y: &mut Dynamic) -> bool {
-    if !x.is_array(m) {
+fn is_pushed(alloc: Global, store: &mut Store, x: &mut Dynamic, y: &mut Dynamic) -> bool {
+    if !x.is_array(store) {
         return false;
     }
     FnBuiltin::ArrayPush
-        .call(alloc, m, &UNLIMITED, x, y)
+        .call(alloc, store, &UNLIMITED, x, y)
         .is_ok()
-        && y.is_unit(m)
-        && x.as_array_ref(m).map(|items| items.len()) == Ok(2)
+        && y.is_unit(store)
+        && x.as_array_ref(store).map(|items| items.len()) == Ok(2)
 }
 
 #[test]
@@ -105,29 +105,29 @@ fn an_array_may_hold_its_own_holder(rt: HostRuntime) {
 }
 
 /// The int that an operator comes to; `None` where it has no row.
-fn sum(alloc: Global, m: &mut Store, x: &mut Dynamic, y: &mut Dynamic) -> Option<i64> {
-    let answer = operate(Token::Plus, alloc, m, &UNLIMITED, x, y).ok()??;
-    answer.as_int(m).ok()
+fn sum(alloc: Global, store: &mut Store, x: &mut Dynamic, y: &mut Dynamic) -> Option<i64> {
+    let answer = operate(Token::Plus, alloc, store, &UNLIMITED, x, y).ok()??;
+    answer.as_int(store).ok()
 }
 
 /// Whether two ints are added, by an operator and by an assignment, and a holder has no row of either.
-fn are_added(alloc: Global, m: &mut Store, x: &mut Dynamic, holder: &mut Dynamic) -> bool {
-    sum(alloc, m, x, &mut { Dynamic::TWO }) == Some(3)
-        && sum(alloc, m, x, holder).is_none()
+fn are_added(alloc: Global, store: &mut Store, x: &mut Dynamic, holder: &mut Dynamic) -> bool {
+    sum(alloc, store, x, &mut { Dynamic::TWO }) == Some(3)
+        && sum(alloc, store, x, holder).is_none()
         && matches!(
             assign(
                 Token::PlusAssign,
                 alloc,
-                m,
+                store,
                 &UNLIMITED,
                 x,
                 &mut { Dynamic::TWO }
             ),
             Ok(true)
         )
-        && x.as_int(m) == Ok(3)
+        && x.as_int(store) == Ok(3)
         && matches!(
-            assign(Token::PlusAssign, alloc, m, &UNLIMITED, holder, x),
+            assign(Token::PlusAssign, alloc, store, &UNLIMITED, holder, x),
             Ok(false)
         )
 }
@@ -141,15 +141,17 @@ fn callers_look_rows_up(rt: HostRuntime) {
 }
 
 /// Whether a third item is refused by its number, at no place, and all stays.
-fn is_too_many(alloc: Global, m: &mut Store, x: &mut Dynamic, y: &mut Dynamic) -> bool {
+fn is_too_many(alloc: Global, store: &mut Store, x: &mut Dynamic, y: &mut Dynamic) -> bool {
     let limits = Limits { text: 0, items: 1 };
-    let is_refused = match assign(Token::PlusAssign, alloc, m, &limits, x, y) {
+    let is_refused = match assign(Token::PlusAssign, alloc, store, &limits, x, y) {
         Err(EvalAltResult::ErrorDataTooLarge(kind, at)) => kind == SizeKind::Items
             && at == Position::NONE,
         Err(_) => false,
         Ok(_) => false,
     };
-    is_refused && y.as_int(m) == Ok(3) && x.as_array_ref(m).map(|items| items.len()) == Ok(1)
+    is_refused
+        && y.as_int(store) == Ok(3)
+        && x.as_array_ref(store).map(|items| items.len()) == Ok(1)
 }
 
 #[test]

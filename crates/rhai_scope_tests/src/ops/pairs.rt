@@ -170,9 +170,9 @@ fn row(pair: char, letter: char, op: Token) -> Option<FnBuiltin> {
 }
 
 /// Whether each operator has the row of its letter.
-fn has_line(pair: char, x: &Dynamic, y: &Dynamic, s: &Store) -> bool {
+fn has_line(pair: char, x: &Dynamic, y: &Dynamic, store: &Store) -> bool {
     for (op, letter) in OPERATORS.iter().zip(line(pair).chars()) {
-        if get_builtin_binary_op_fn(op, x, y, s) != row(pair, letter, *op) {
+        if get_builtin_binary_op_fn(op, x, y, store) != row(pair, letter, *op) {
             return false;
         }
     }
@@ -180,9 +180,9 @@ fn has_line(pair: char, x: &Dynamic, y: &Dynamic, s: &Store) -> bool {
 }
 
 /// Whether each operator has its row on a value and one of each kind.
-fn has_lines(alloc: Global, x: &Dynamic, pairs: &str, s: &Store) -> bool {
+fn has_lines(alloc: Global, x: &Dynamic, pairs: &str, store: &Store) -> bool {
     for (which, pair) in pairs.chars().enumerate() {
-        if !has_line(pair, x, &kind(alloc, which), s) {
+        if !has_line(pair, x, &kind(alloc, which), store) {
             return false;
         }
     }
@@ -202,8 +202,8 @@ fn each_operator_on_each_pair_of_kinds(rt: HostRuntime) {
 }
 
 /// Whether a value and unit have no row, either first.
-fn has_no_row(x: &Dynamic, s: &Store) -> bool {
-    has_line('-', x, &Dynamic::UNIT, s) && has_line('-', &Dynamic::UNIT, x, s)
+fn has_no_row(x: &Dynamic, store: &Store) -> bool {
+    has_line('-', x, &Dynamic::UNIT, store) && has_line('-', &Dynamic::UNIT, x, store)
 }
 
 /// A holder of its own cell; unit where there is no room.
@@ -233,11 +233,11 @@ fn what_holds_nothing_has_no_row(rt: HostRuntime) {
 }
 
 /// Whether an operator has no row on any pair of kinds.
-fn has_none(alloc: Global, op: Token, s: &Store) -> bool {
+fn has_none(alloc: Global, op: Token, store: &Store) -> bool {
     for x in 0..20 {
         for y in 0..20 {
             let (x, y) = (kind(alloc, x), kind(alloc, y));
-            if get_builtin_binary_op_fn(&op, &x, &y, s).is_some() {
+            if get_builtin_binary_op_fn(&op, &x, &y, store).is_some() {
                 return false;
             }
         }

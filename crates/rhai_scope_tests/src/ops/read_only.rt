@@ -15,30 +15,30 @@ use std::alloc::Global;
 fn evaluate(
     op: Token,
     alloc: Global,
-    s: &Store,
+    store: &Store,
     x: &Dynamic,
     y: &Dynamic,
     pos: Position,
 ) -> Result<Option<Dynamic>, EvalAltResult>
-    ensures none { IfOk result (λ d. IfNone d (row_of op s.now x.now y.now ≡ None)) }
-    ensures some { IfOk result (λ d. IfSome d (λ v. IfSome (row_of op s.now x.now y.now) (λ row. outcome row (record { text = 0; items = 0 }) s.now x.now y.now ≡ answers v))) }
+    ensures none { IfOk result (λ d. IfNone d (row_of op store.now x.now y.now ≡ None)) }
+    ensures some { IfOk result (λ d. IfSome d (λ v. IfSome (row_of op store.now x.now y.now) (λ row. outcome row (record { text = 0; items = 0 }) store.now x.now y.now ≡ answers v))) }
 {
-    let Some(row) = get_builtin_binary_op_fn(&op, x, y, s) else {
+    let Some(row) = get_builtin_binary_op_fn(&op, x, y, store) else {
         return Ok(None);
     };
     rows_suit();
     operators_write_nothing();
     let limits = Limits { text: 0, items: 0 };
-    match row.call_ref(alloc, s, &limits, x, y) {
+    match row.call_ref(alloc, store, &limits, x, y) {
         Ok(answer) => Ok(Some(answer)),
         Err(refused) => Err(refused.with_position(pos)),
     }
 }
 
 /// Whether two values add up to this.
-fn adds_up(alloc: Global, s: &Store, x: &Dynamic, y: &Dynamic, wanted: INT) -> bool {
-    match evaluate(Token::Plus, alloc, s, x, y, Position::NONE) {
-        Ok(Some(sum)) => sum.as_int(s) == Ok(wanted),
+fn adds_up(alloc: Global, store: &Store, x: &Dynamic, y: &Dynamic, wanted: INT) -> bool {
+    match evaluate(Token::Plus, alloc, store, x, y, Position::NONE) {
+        Ok(Some(sum)) => sum.as_int(store) == Ok(wanted),
         _ => false,
     }
 }

@@ -16,38 +16,38 @@ use std::alloc::Global;
 pub(crate) fn operate(
     op: Token,
     alloc: Global,
-    m: &mut Store,
+    store: &mut Store,
     limits: &Limits,
-    x: &mut Dynamic,
-    y: &mut Dynamic,
+    left: &mut Dynamic,
+    right: &mut Dynamic,
 ) -> Result<Option<Dynamic>, EvalAltResult>
-    ensures none { IfOk result (λ d. IfNone d (row_of op m.old x.old y.old ≡ None)) }
-    ensures some { IfOk result (λ d. IfSome d (λ v. IfSome (row_of op m.old x.old y.old) (λ row. outcome row limits.now m.old x.old y.old ≡ answers v))) }
-    ensures first { x.new ≡ x.old }
+    ensures none { IfOk result (λ d. IfNone d (row_of op store.old left.old right.old ≡ None)) }
+    ensures some { IfOk result (λ d. IfSome d (λ v. IfSome (row_of op store.old left.old right.old) (λ row. outcome row limits.now store.old left.old right.old ≡ answers v))) }
+    ensures first { left.new ≡ left.old }
 {
-    let Some(row) = get_builtin_binary_op_fn(&op, x, y, m) else {
+    let Some(row) = get_builtin_binary_op_fn(&op, left, right, store) else {
         return Ok(None);
     };
     rows_suit();
     operators_write_nothing();
-    Ok(Some(row.call(alloc, m, limits, x, y)?))
+    Ok(Some(row.call(alloc, store, limits, left, right)?))
 }
 
 /// An assignment to a value, and whether it is built in.
 pub(crate) fn assign(
     op: Token,
     alloc: Global,
-    m: &mut Store,
+    store: &mut Store,
     limits: &Limits,
-    x: &mut Dynamic,
-    y: &mut Dynamic,
+    left: &mut Dynamic,
+    right: &mut Dynamic,
 ) -> Result<bool, EvalAltResult>
-    ensures { IfOk result (λ d. IfSome (assign_row op x.old y.old) (λ row. x.new ≡ first_left (effect row) (outcome row limits.now m.old x.old y.old) m.old x.old)) }
+    ensures { IfOk result (λ d. IfSome (assign_row op left.old right.old) (λ row. left.new ≡ first_left (effect row) (outcome row limits.now store.old left.old right.old) store.old left.old)) }
 {
-    let Some(row) = get_builtin_op_assignment_fn(&op, x, y) else {
+    let Some(row) = get_builtin_op_assignment_fn(&op, left, right) else {
         return Ok(false);
     };
     rows_suit();
-    row.call(alloc, m, limits, x, y)?;
+    row.call(alloc, store, limits, left, right)?;
     Ok(true)
 }

@@ -8,18 +8,18 @@ use super::*;
 use rhai_value::laws::{mark_is_cleared, marks_stay, sites_are_read};
 
 /// Writes over what a holder's cell has: marked, written, released.
-fn assign(holder: &Dynamic, m: &mut Store, new: Dynamic) -> Result<(), EvalAltResult>
+fn assign(holder: &Dynamic, store: &mut Store, new: Dynamic) -> Result<(), EvalAltResult>
     requires { is_some (cell_of holder.now) ≡ true }
-    ensures ok { OnOk result (m.new ≡ store_with_first new m.old holder.now) }
-    ensures err { OnErr result (m.new ≡ m.old) }
+    ensures ok { OnOk result (store.new ≡ store_with_first new store.old holder.now) }
+    ensures err { OnErr result (store.new ≡ store.old) }
 {
     sites_are_read();
     mark_is_cleared();
-    match Target::marked(holder, m) {
+    match Target::marked(holder, store) {
         Ok(target) => {
             let mut target = target;
-            target.put(m, new);
-            target.release(m);
+            target.put(store, new);
+            target.release(store);
             Ok(())
         }
         Err(race) => Err(race),
@@ -27,14 +27,14 @@ fn assign(holder: &Dynamic, m: &mut Store, new: Dynamic) -> Result<(), EvalAltRe
 }
 
 /// Moves a value into a cell of its own while another cell is marked.
-fn share_meanwhile(holder: &Dynamic, m: &mut Store, value: Dynamic) -> Result<Dynamic, Dynamic>
+fn share_meanwhile(holder: &Dynamic, store: &mut Store, value: Dynamic) -> Result<Dynamic, Dynamic>
     requires { is_some (cell_of holder.now) ≡ true }
 {
     marks_stay();
-    match Target::marked(holder, m) {
+    match Target::marked(holder, store) {
         Ok(target) => {
-            let shared = value.into_shared(m);
-            target.release(m);
+            let shared = value.into_shared(store);
+            target.release(store);
             shared
         }
         Err(_) => Err(value),
@@ -42,22 +42,22 @@ fn share_meanwhile(holder: &Dynamic, m: &mut Store, value: Dynamic) -> Result<Dy
 }
 
 /// Whether a cell is made while another is marked.
-fn is_made_meanwhile(holder: &Dynamic, m: &mut Store) -> bool {
+fn is_made_meanwhile(holder: &Dynamic, store: &mut Store) -> bool {
     if !holder.is_shared() {
         return false;
     }
-    match share_meanwhile(holder, m, Dynamic::TRUE) {
-        Ok(other) => other.is_shared() && other.is_bool(m) && holder.is_int(m),
+    match share_meanwhile(holder, store, Dynamic::TRUE) {
+        Ok(other) => other.is_shared() && other.is_bool(store) && holder.is_int(store),
         Err(_) => false,
     }
 }
 
 /// Whether a holder's cell is written over, and opens again.
-fn is_assigned(holder: &Dynamic, m: &mut Store) -> bool {
+fn is_assigned(holder: &Dynamic, store: &mut Store) -> bool {
     holder.is_shared()
-        && assign(holder, m, Dynamic::TRUE).is_ok()
-        && holder.is_bool(m)
-        && !holder.is_locked(m)
+        && assign(holder, store, Dynamic::TRUE).is_ok()
+        && holder.is_bool(store)
+        && !holder.is_locked(store)
 }
 
 #[test]
@@ -69,11 +69,11 @@ fn a_cell_is_written_through_its_mark(rt: HostRuntime) {
 }
 
 /// Whether a flag is written where an int is held, and nowhere else.
-fn is_flag(flags: &mut Dynamic, unit: &mut Dynamic, m: &mut Store) -> bool {
-    matches!(write_flag(flags, m, &Dynamic::TRUE, 1), Ok(true))
-        && flags.as_int(m) == Ok(6)
-        && matches!(write_flag(unit, m, &Dynamic::TRUE, 1), Ok(false))
-        && unit.is_unit(m)
+fn is_flag(flags: &mut Dynamic, unit: &mut Dynamic, store: &mut Store) -> bool {
+    matches!(write_flag(flags, store, &Dynamic::TRUE, 1), Ok(true))
+        && flags.as_int(store) == Ok(6)
+        && matches!(write_flag(unit, store, &Dynamic::TRUE, 1), Ok(false))
+        && unit.is_unit(store)
 }
 
 #[test]

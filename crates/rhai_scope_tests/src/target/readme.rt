@@ -11,19 +11,19 @@ use rhai_value::{Dynamic, Store};
 /// Writes a flag among those that a variable holds as bits, and answers whether it holds any.
 pub(crate) fn write_flag(
     flags: &mut Dynamic,
-    m: &mut Store,
+    store: &mut Store,
     value: &Dynamic,
     place: u8,
 ) -> Result<bool, EvalAltResult>
     requires { place < 64 }
-    ensures own { IfOk result (λ done. OnTrue done (flags.new ≡ value_changed (bit_change m.old value.now place) (end m.old [] flags.old) flags.old)) }
-    ensures store { IfOk result (λ done. OnTrue done (m.new ≡ store_changed (bit_change m.old value.now place) (end m.old [] flags.old) m.old)) }
-    ensures none { IfOk result (λ done. OnFalse done ((flags.new ≡ flags.old) × (m.new ≡ m.old))) }
-    ensures err { OnErr result ((flags.new ≡ flags.old) × (m.new ≡ m.old)) }
+    ensures own { IfOk result (λ done. OnTrue done (flags.new ≡ value_changed (bit_change store.old value.now place) (end store.old [] flags.old) flags.old)) }
+    ensures store { IfOk result (λ done. OnTrue done (store.new ≡ store_changed (bit_change store.old value.now place) (end store.old [] flags.old) store.old)) }
+    ensures none { IfOk result (λ done. OnFalse done ((flags.new ≡ flags.old) × (store.new ≡ store.old))) }
+    ensures err { OnErr result ((flags.new ≡ flags.old) × (store.new ≡ store.old)) }
 {
-    if !flags.is_int(m) {
+    if !flags.is_int(store) {
         return Ok(false);
     }
-    write_bit(flags, m, value, place, Position::NONE)?;
+    write_bit(flags, store, value, place, Position::NONE)?;
     Ok(true)
 }

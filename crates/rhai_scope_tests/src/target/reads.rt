@@ -15,21 +15,21 @@ use rhai_value::INT;
 fn turn_bit(
     flags: &mut Dynamic,
     alloc: Global,
-    m: &mut Store,
+    store: &mut Store,
     index: INT,
 ) -> Result<bool, EvalAltResult>
-    ensures none { IfOk result (λ done. OnFalse done ((flags.new ≡ flags.old) × (m.new ≡ m.old))) }
-    ensures err { OnErr result ((flags.new ≡ flags.old) × (m.new ≡ m.old)) }
+    ensures none { IfOk result (λ done. OnFalse done ((flags.new ≡ flags.old) × (store.new ≡ store.old))) }
+    ensures err { OnErr result ((flags.new ≡ flags.old) × (store.new ≡ store.old)) }
 {
-    let Ok(part) = ReadPart::bit_at(flags, m, index) else {
+    let Ok(part) = ReadPart::bit_at(flags, store, index) else {
         return Ok(false);
     };
-    let turned = Dynamic::from_bool(part.value.as_bool(m) == Ok(false));
+    let turned = Dynamic::from_bool(part.value.as_bool(store) == Ok(false));
     let part = ReadPart {
         place: part.place,
         value: turned,
     };
-    part.write_back(flags, alloc, m, Position::NONE)?;
+    part.write_back(flags, alloc, store, Position::NONE)?;
     Ok(true)
 }
 
@@ -48,9 +48,9 @@ fn a_bit_is_turned_over(rt: HostRuntime) {
 }
 
 /// Whether the part is there and its working value prints as this.
-fn prints(alloc: Global, part: Result<ReadPart, NoPart>, s: &Store, wanted: &str) -> bool {
+fn prints(alloc: Global, part: Result<ReadPart, NoPart>, store: &Store, wanted: &str) -> bool {
     match part {
-        Ok(part) => match rhai_show::display_text(alloc, &part.value, s) {
+        Ok(part) => match rhai_show::display_text(alloc, &part.value, store) {
             Ok(text) => text.as_str() == wanted,
             Err(_) => false,
         },
@@ -110,12 +110,12 @@ const MIDDLE: Slice = Slice {
 fn replace_middle(
     alloc: Global,
     text: &mut Dynamic,
-    m: &mut Store,
+    store: &mut Store,
     value: Dynamic,
 ) -> Result<Dynamic, EvalAltResult>
-    ensures { OnErr result ((text.new ≡ text.old) × (m.new ≡ m.old)) }
+    ensures { OnErr result ((text.new ≡ text.old) × (store.new ≡ store.old)) }
 {
-    let part = match ReadPart::slice_at(alloc, text, m, MIDDLE) {
+    let part = match ReadPart::slice_at(alloc, text, store, MIDDLE) {
         Ok(part) => part,
         Err(NoPart::Mismatch(found)) => {
             return Err(EvalAltResult::ErrorMismatchDataType("string", found, Position::new(3, 4)));
@@ -127,7 +127,7 @@ fn replace_middle(
         place: part.place,
         value,
     };
-    written.write_back(text, alloc, m, Position::new(3, 4))?;
+    written.write_back(text, alloc, store, Position::new(3, 4))?;
     Ok(part.value)
 }
 
@@ -153,10 +153,10 @@ fn a_slice_is_read_and_replaced(rt: HostRuntime) {
 }
 
 /// Whether that slice of a text reads so.
-fn reads(alloc: Global, text: &Dynamic, s: &Store, slice: Slice, wanted: &str) -> bool
-    requires { is_some (held_part text_of (end s.now [] text.now)) ≡ true }
+fn reads(alloc: Global, text: &Dynamic, store: &Store, slice: Slice, wanted: &str) -> bool
+    requires { is_some (held_part text_of (end store.now [] text.now)) ≡ true }
 {
-    match read_slice(alloc, text, s, slice) {
+    match read_slice(alloc, text, store, slice) {
         Ok(read) => read.as_str() == wanted,
         Err(_) => false,
     }
@@ -197,13 +197,13 @@ fn bits_are_read_also_at_the_top(rt: HostRuntime) {
 }
 
 /// Whether the target of a part has the part's working value, and leaves the source.
-fn is_target(source: &mut Dynamic, m: &mut Store) -> bool {
-    let Ok(part) = ReadPart::char_at(source, m, 0) else {
+fn is_target(source: &mut Dynamic, store: &mut Store) -> bool {
+    let Ok(part) = ReadPart::char_at(source, store, 0) else {
         return false;
     };
     let target = Target::of_part(source, part);
-    let is_first = target.as_ref(m).as_char(m) == Ok('h');
-    target.release(m);
+    let is_first = target.as_ref(store).as_char(store) == Ok('h');
+    target.release(store);
     is_first
 }
 

@@ -1,6 +1,6 @@
 use Rattle.std.proofs.Common.{◌<◌, length, slice_set, ap, ◌∙◌, arith}
 use Rattle.std.proofs.lemmas.List.Edits.{map_over_more}
-use Rattle.rhai_scope.specs.Places.{lowered}
+use Rattle.rhai_scope.specs.NameIndex.{lowered}
 use Rattle.rhai_scope.proofs.place_list.close_up.Goals as goal
 
 pub loop-i-preserved : goal.loop-i-preserved

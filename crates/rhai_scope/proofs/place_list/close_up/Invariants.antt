@@ -1,5 +1,5 @@
 use Rattle.std.proofs.Common.{◌≡◌, ◌++◌, vec_len, map, take, drop}
-use Rattle.rhai_scope.specs.Places.{lowered}
+use Rattle.rhai_scope.specs.NameIndex.{lowered}
 use Rattle.rhai_scope.proofs.place_list.close_up.Given as goal
 
 abbrev pub invariant-loop-i : goal.invariant-loop-i

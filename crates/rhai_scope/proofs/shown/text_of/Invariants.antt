@@ -6,7 +6,7 @@ use Rattle.rhai_scope.proofs.shown.text_of.Given as goal
 abbrev pub invariant-loop-name : goal.invariant-loop-name
 invariant-loop-name l = record {
   within : length l.rest ≤ l.len;
-  told : chars (string_bytes l.out) ++ lines_from l.s (suc (l.len - length l.rest)) l.rest ≡ scope_text l.s l.entries;
+  told : chars (string_bytes l.out) ++ lines_from l.store (suc (l.len - length l.rest)) l.rest ≡ scope_text l.store l.entries;
 }
 
 abbrev pub decreases-loop-name : goal.decreases-loop-name

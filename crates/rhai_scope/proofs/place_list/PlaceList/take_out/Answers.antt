@@ -1,5 +1,5 @@
 use Rattle.std.proofs.Common.{ap, ◌∙◌}
-use Rattle.rhai_scope.specs.Places.{unless_empty}
+use Rattle.rhai_scope.specs.NameIndex.{unless_empty}
 use Rattle.rhai_scope.proofs.PlaceLists.{last_goes, last_stays}
 use Rattle.rhai_scope.proofs.place_list.PlaceList.take_out.Goals as goal
 

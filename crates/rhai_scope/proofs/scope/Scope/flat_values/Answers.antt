@@ -5,5 +5,5 @@ use Rattle.rhai_scope.proofs.scope.Scope.flat_values.Goals as goal
 
 pub returns : goal.returns
 returns c =
-    let items = ap (map (λ x. x.2)) c.iter.ensures ∙ map-map (λ x. x.2) (shown_flat c.args.s.now) c.args.self.now in
+    let items = ap (map (λ x. x.2)) c.iter.ensures ∙ map-map (λ x. x.2) (shown_flat c.args.store.now) c.args.self.now in
     subst (λ xs. IfOk c.values_of.result (λ v. v.items ≡ xs)) items c.values_of.ensures

@@ -2,7 +2,7 @@ use Rattle.std.proofs.Common.{◌+◌, arith}
 use Rattle.std.specs.Str.{chars}
 use Rattle.rhai_scope.proofs.Headed.{so_far, length_so_far, one_more, all, from_none}
 use Rattle.rhai_scope.proofs.Placed.{names_pushed, same_names}
-use Rattle.rhai_scope.proofs.places.Places.push_all.Goals as goal
+use Rattle.rhai_scope.proofs.name_index.NameIndex.push_all.Goals as goal
 
 pub loop-i-init : goal.loop-i-init
 loop-i-init g c = record { within = omega arith; lists = λ ns is x. from_none g.N.Named.name_of ns c.args.names.now c.args.self.now x }

@@ -1,7 +1,7 @@
 //! The places of each name.
 ghost use Rattle.std.specs.Prelude.{◌≡◌, ◌+◌, ◌<◌, ◌^◌, ℕ, [], ◌∷◌, ◌++◌, List, length, map, option_map, option_and_then, None, OnOk, OnErr};
 ghost use Rattle.std.specs.Str.{chars};
-ghost use Rattle.rhai_scope.specs.Places.{listed, last_item, with_place, shortened, front, others, lowered, AllPass, Relists, ListsNames};
+ghost use Rattle.rhai_scope.specs.NameIndex.{listed, last_item, with_place, shortened, front, others, lowered, AllPass, Relists, ListsNames};
 
 use crate::heading::Named;
 use crate::name_filter::NameFilter;
@@ -11,16 +11,16 @@ use std::collections::BTreeMap;
 
 /// For each name the rising list of its places; no list is empty, and each name with a list passes the filter.
 #[derive(Drop)]
-pub(crate) struct Places {
+pub(crate) struct NameIndex {
     pub(crate) lists: BTreeMap<String, PlaceList>,
     pub(crate) filter: NameFilter,
 }
 
-impl Places {
-    pub(crate) fn new(alloc: Global) -> Places
+impl NameIndex {
+    pub(crate) fn new(alloc: Global) -> NameIndex
         ensures { ListsNames result [] }
     {
-        Places {
+        NameIndex {
             lists: BTreeMap::new(alloc),
             filter: NameFilter::new(),
         }

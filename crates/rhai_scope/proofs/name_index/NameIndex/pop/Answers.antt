@@ -1,7 +1,7 @@
 use Rattle.std.proofs.Common.{rules}
-use Rattle.rhai_scope.specs.Places.{front}
+use Rattle.rhai_scope.specs.NameIndex.{front}
 use Rattle.rhai_scope.proofs.Listed.{some_left, none_left}
-use Rattle.rhai_scope.proofs.places.Places.pop.Goals as goal
+use Rattle.rhai_scope.proofs.name_index.NameIndex.pop.Goals as goal
 
 pub returns-then-not-pop-clause-lists : goal.returns-then-not-pop-clause-lists
 returns-then-not-pop-clause-lists c =

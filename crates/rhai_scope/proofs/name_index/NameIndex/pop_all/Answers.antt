@@ -1,9 +1,9 @@
 use Rattle.std.proofs.Common.{◌≡◌, ◌+◌, ◌-◌, ◌≤◌, length, subst, arith}
 use Rattle.std.specs.Str.{chars}
-use Rattle.rhai_scope.specs.Places.{ListsNames}
+use Rattle.rhai_scope.specs.NameIndex.{ListsNames}
 use Rattle.rhai_scope.proofs.Headed.{so_far, one_less, from_all, none}
 use Rattle.rhai_scope.proofs.Placed.{names_popped}
-use Rattle.rhai_scope.proofs.places.Places.pop_all.Goals as goal
+use Rattle.rhai_scope.proofs.name_index.NameIndex.pop_all.Goals as goal
 
 pub loop-i-init : goal.loop-i-init
 loop-i-init g c = record { within = omega arith; lists = λ ns x. from_all g.N.Named.name_of ns c.args.names.now c.args.self.now (length c.args.names.now) (omega arith) x }

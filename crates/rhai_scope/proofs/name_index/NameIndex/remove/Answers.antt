@@ -1,5 +1,5 @@
 use Rattle.rhai_scope.proofs.Placed.{gap_left, gap_gone}
-use Rattle.rhai_scope.proofs.places.Places.remove.Goals as goal
+use Rattle.rhai_scope.proofs.name_index.NameIndex.remove.Goals as goal
 
 pub returns : goal.returns
 returns c = λ ms ns is stood.

@@ -1,7 +1,7 @@
 use Rattle.std.proofs.Common.{ℕ, ◌≤◌, List, ◌++◌, length, map}
-use Rattle.rhai_scope.specs.Places.{ListsNames}
+use Rattle.rhai_scope.specs.NameIndex.{ListsNames}
 use Rattle.rhai_scope.proofs.Headed.{so_far}
-use Rattle.rhai_scope.proofs.places.Places.pop_all.Given as goal
+use Rattle.rhai_scope.proofs.name_index.NameIndex.pop_all.Given as goal
 
 abbrev pub invariant-loop-i : goal.invariant-loop-i
 invariant-loop-i g l = record {

@@ -6,16 +6,16 @@ use Rattle.std.specs.List.{filter}
 use Rattle.std.specs.Str.{IsUtf8, bytes_eq, chars}
 use Rattle.rhai_value.specs.Reach.{trues_from}
 use Rattle.rhai_scope.specs.NameFilter.{passes}
-use Rattle.rhai_scope.specs.declared.places.Places.{Places}
+use Rattle.rhai_scope.specs.declared.name_index.NameIndex.{NameIndex}
 
 -- ---- the list of a name
 
 -- the list that stands at a text, if there is one
-abbrev pub listed : Places → List ℕ → Option (List ℕ)
+abbrev pub listed : NameIndex → List ℕ → Option (List ℕ)
 listed p text = get_by_text p.lists text
 
 -- each text that is listed passes the filter
-abbrev pub AllPass : Places → Type 0
+abbrev pub AllPass : NameIndex → Type 0
 AllPass p = (q : List ℕ) → passes p.filter q ≡ false → listed p q ≡ None
 
 -- the list of this text became what f makes of it, and no other changed
@@ -54,7 +54,7 @@ lowered place p = if nat_lt place p then p - 1 else p
 -- ---- the lists of all names
 
 -- For each text there are exactly the places at which that name stands by `stands`, rising, and no list is empty; and each is pass.
-pub record Lists (p : Places) (stands : List ℕ → List Bool) : Type 0 where
+pub record Lists (p : NameIndex) (stands : List ℕ → List Bool) : Type 0 where
   pub pass : AllPass p
   pub places : (text : List ℕ) → IsUtf8 text → listed p text ≡ unless_empty (trues_from 0 (stands (chars text)))
 
@@ -67,5 +67,5 @@ abbrev pub with_gap : List (List ℕ) → List (List ℕ) → List ℕ → List 
 with_gap ms ns name = are_named ms name ++ false ∷ are_named ns name
 
 -- the places of these names
-abbrev pub ListsNames : Places → List (List ℕ) → Type 0
+abbrev pub ListsNames : NameIndex → List (List ℕ) → Type 0
 ListsNames p ns = Lists p (are_named ns)

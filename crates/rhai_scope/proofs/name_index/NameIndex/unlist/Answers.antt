@@ -1,7 +1,7 @@
 use Rattle.std.proofs.Common.{rules}
-use Rattle.rhai_scope.specs.Places.{others}
+use Rattle.rhai_scope.specs.NameIndex.{others}
 use Rattle.rhai_scope.proofs.Listed.{some_left, none_left}
-use Rattle.rhai_scope.proofs.places.Places.unlist.Goals as goal
+use Rattle.rhai_scope.proofs.name_index.NameIndex.unlist.Goals as goal
 
 pub returns-then-not-take_out-clause-lists : goal.returns-then-not-take_out-clause-lists
 returns-then-not-take_out-clause-lists c =

@@ -24,21 +24,27 @@ pub use search::{contains, index_of};
 pub use sorting::sort;
 use std::alloc::{AllocError, Global};
 
-/// Counts the items. Cost: constant.
+/// Counts the items.
+/// Cost: constant.
+/// rhai: `len`.
 pub fn len(items: &Array) -> usize
     ensures { result ≡ length items.now.items }
 {
     items.len()
 }
 
-/// Answers whether there is no item. Cost: constant.
+/// Answers whether there is no item.
+/// Cost: constant.
+/// rhai: `is_empty`.
 pub fn is_empty(items: &Array) -> bool
     ensures { IsTrue result ↔ (items.now.items ≡ []) }
 {
     items.is_empty()
 }
 
-/// Gives the item at an index, if there is one. Cost: constant.
+/// Gives the item at an index, if there is one.
+/// Cost: constant.
+/// rhai: `get`.
 pub fn get(items: &Array, index: INT) -> Option<&Dynamic>
     ensures { option_copied result ≡ item_at items.now.items index }
 {
@@ -46,7 +52,9 @@ pub fn get(items: &Array, index: INT) -> Option<&Dynamic>
     items.as_slice().get(place)
 }
 
-/// Sets the item at an index, and answers whether there is one. Cost: constant, and the drop of what was there.
+/// Sets the item at an index, and answers whether there is one.
+/// Cost: constant, and the drop of what was there.
+/// rhai: `set`.
 pub fn set(items: &mut Array, index: INT, item: Dynamic) -> bool
     ensures answer { result ≡ is_some (place_of_item (length items.old.items) index) }
     ensures items { items.new.items ≡ with_placed items.old.items (place_of_item (length items.old.items) index) item }
@@ -60,8 +68,10 @@ pub fn set(items: &mut Array, index: INT, item: Dynamic) -> bool
     }
 }
 
-/// Puts an item behind the others. Errors: more items than the limit allows, or memory; the items stay, and the new one is gone.
+/// Puts an item behind the others.
+/// Errors: more items than the limit allows, or memory; the items stay, and the new one is gone.
 /// Cost: constant, but where the array has to grow.
+/// rhai: `push`.
 pub fn push(items: &mut Array, limits: &Limits, item: Dynamic) -> Result<(), EvalAltResult>
     ensures answer { IsLimited size.Items (may_grow_by limits.now.items (length items.old.items) 1) result }
     ensures items { items.new.items ≡ (if is_ok result then items.old.items ++ item ∷ [] else items.old.items) }
@@ -74,8 +84,10 @@ pub fn push(items: &mut Array, limits: &Limits, item: Dynamic) -> Result<(), Eva
     Ok(())
 }
 
-/// Puts all items of another array behind the others. Errors: more items than the limit allows, or memory; both stay as they are.
+/// Puts all items of another array behind the others.
+/// Errors: more items than the limit allows, or memory; both stay as they are.
 /// Cost: the number of items that are moved, and where the array has to grow that of all.
+/// rhai: `append`.
 pub fn append(items: &mut Array, limits: &Limits, more: &mut Array) -> Result<(), EvalAltResult>
     ensures answer { IsLimited size.Items (may_grow_by limits.now.items (length items.old.items) (length more.old.items)) result }
     ensures items { items.new.items ≡ (if is_ok result then items.old.items ++ more.old.items else items.old.items) }
@@ -91,8 +103,10 @@ pub fn append(items: &mut Array, limits: &Limits, more: &mut Array) -> Result<()
     Ok(())
 }
 
-/// Puts an item before the one at an index; past the end behind all, and before the front before all. Errors: as `push`. Cost: the
-/// number of items behind it.
+/// Puts an item before the one at an index; past the end behind all, and before the front before all.
+/// Errors: as `push`.
+/// Cost: the number of items behind it.
+/// rhai: `insert`.
 pub fn insert(
     items: &mut Array,
     limits: &Limits,
@@ -112,14 +126,18 @@ pub fn insert(
     }
 }
 
-/// Takes the last item out, if there is one. Cost: constant.
+/// Takes the last item out, if there is one.
+/// Cost: constant.
+/// rhai: `pop`.
 pub fn pop(items: &mut Array) -> Option<Dynamic>
     ensures { MatchOption result ((items.old.items ≡ []) × (items.new.items ≡ [])) (λ last. items.old.items ≡ items.new.items ++ last ∷ []) }
 {
     items.pop()
 }
 
-/// Takes the first item out, if there is one. Cost: the number of items.
+/// Takes the first item out, if there is one.
+/// Cost: the number of items.
+/// rhai: `shift`.
 pub fn shift(items: &mut Array) -> Option<Dynamic>
     ensures { MatchOption result ((items.old.items ≡ []) × (items.new.items ≡ [])) (λ first. items.old.items ≡ first ∷ items.new.items) }
 {
@@ -129,7 +147,9 @@ pub fn shift(items: &mut Array) -> Option<Dynamic>
     Some(items.remove(0))
 }
 
-/// Takes the item at an index out, if there is one. Cost: the number of items behind it.
+/// Takes the item at an index out, if there is one.
+/// Cost: the number of items behind it.
+/// rhai: `remove`.
 pub fn remove(items: &mut Array, index: INT) -> Option<Dynamic>
     ensures item { result ≡ item_at items.old.items index }
     ensures items { items.new.items ≡ without_placed items.old.items (place_of_item (length items.old.items) index) }
@@ -138,14 +158,18 @@ pub fn remove(items: &mut Array, index: INT) -> Option<Dynamic>
     Some(items.remove(place))
 }
 
-/// Takes all items out. Cost: their drop.
+/// Takes all items out.
+/// Cost: their drop.
+/// rhai: `clear`.
 pub fn clear(items: &mut Array)
     ensures { items.new.items ≡ [] }
 {
     items.clear();
 }
 
-/// Keeps the first so many items, all where there are no more, and none of a negative number. Cost: the drop of the others.
+/// Keeps the first so many items, all where there are no more, and none of a negative number.
+/// Cost: the drop of the others.
+/// rhai: `truncate`.
 pub fn truncate(items: &mut Array, count: INT)
     ensures { items.new.items ≡ first_of items.old.items count }
 {
@@ -153,7 +177,9 @@ pub fn truncate(items: &mut Array, count: INT)
     items.truncate(kept);
 }
 
-/// Keeps the last so many items, all where there are no more, and none of a negative number. Cost: the number of items.
+/// Keeps the last so many items, all where there are no more, and none of a negative number.
+/// Cost: the number of items.
+/// rhai: `chop`.
 pub fn chop(items: &mut Array, count: INT)
     ensures { items.new.items ≡ last_of items.old.items count }
 {
@@ -161,9 +187,11 @@ pub fn chop(items: &mut Array, count: INT)
     drop(items.drain(0..items.len() - kept));
 }
 
-/// Puts all items of another array in the place of so many items from an index on, of as many as there are; an index before the front
-/// means the front, and one past the end the end. Errors: more items than the limit allows, or memory; the items stay, and the new ones
-/// are gone. Cost: the number of the new items, and of those from the index on.
+/// Puts all items of another array in the place of so many items from an index on, of as many as there are; an index before
+/// the front means the front, and one past the end the end.
+/// Errors: more items than the limit allows, or memory; the items stay, and the new ones are gone.
+/// Cost: the number of the new items, and of those from the index on.
+/// rhai: `splice`.
 pub fn splice(
     items: &mut Array,
     limits: &Limits,
@@ -185,15 +213,19 @@ pub fn splice(
     Ok(())
 }
 
-/// Turns the order of the items round. Cost: the number of items.
+/// Turns the order of the items round.
+/// Cost: the number of items.
+/// rhai: `reverse`.
 pub fn reverse(items: &mut Array)
     ensures { items.new.items ≡ reverse items.old.items }
 {
     items.reverse();
 }
 
-/// Cuts the items off from an index on, and gives them. An index past the end cuts nothing off, one before the front all. Errors:
-/// memory; the items stay. Cost: the number of items that are cut off.
+/// Cuts the items off from an index on, and gives them. An index past the end cuts nothing off, one before the front all.
+/// Errors: memory is refused; the items stay.
+/// Cost: the number of items that are cut off.
+/// rhai: `split`.
 pub fn split(items: &mut Array, index: INT) -> Result<Array, AllocError>
     ensures left { OnOk result (items.new.items ≡ before items.old.items index) }
     ensures cut { IfOk result (λ rest. rest.items ≡ after items.old.items index) }

@@ -24,8 +24,10 @@ fn low_byte_of(number: INT) -> u8
     number.rem_euclid(256) as u8
 }
 
-/// Makes a blob of so many times a byte; none, where the number is negative. Errors: more bytes than the limit allows, or memory.
+/// Makes a blob of so many times a byte; none, where the number is negative.
+/// Errors: more bytes than the limit allows, or memory.
 /// Cost: the number of bytes.
+/// rhai: `blob`.
 pub fn blob(alloc: Global, limits: &Limits, count: INT, byte: INT) -> Result<Blob, EvalAltResult>
     ensures answer { IsLimited size.Items (may_grow_by limits.now.items 0 (missing_of 0 count)) result }
     ensures bytes { IfOk result (λ made. made.items ≡ replicate (missing_of 0 count) (low_byte byte)) }
@@ -37,14 +39,18 @@ pub fn blob(alloc: Global, limits: &Limits, count: INT, byte: INT) -> Result<Blo
     Ok(Vec::from_elem(alloc, low_byte_of(byte), count)?)
 }
 
-/// Counts the bytes. Cost: constant.
+/// Counts the bytes.
+/// Cost: constant.
+/// rhai: `len`.
 pub fn len(bytes: &Blob) -> usize
     ensures { result ≡ length bytes.now.items }
 {
     bytes.len()
 }
 
-/// Gives the byte at an index as an int, if there is one. Cost: constant.
+/// Gives the byte at an index as an int, if there is one.
+/// Cost: constant.
+/// rhai: `get`.
 pub fn get(bytes: &Blob, index: INT) -> Option<INT>
     ensures { result ≡ option_map pos (item_at bytes.now.items index) }
 {
@@ -52,7 +58,9 @@ pub fn get(bytes: &Blob, index: INT) -> Option<INT>
     Some(bytes[place] as INT)
 }
 
-/// Sets the byte at an index, and answers whether there is one. Cost: constant.
+/// Sets the byte at an index, and answers whether there is one.
+/// Cost: constant.
+/// rhai: `set`.
 pub fn set(bytes: &mut Blob, index: INT, byte: INT) -> bool
     ensures answer { result ≡ is_some (place_of_item (length bytes.old.items) index) }
     ensures bytes { bytes.new.items ≡ with_placed bytes.old.items (place_of_item (length bytes.old.items) index) (low_byte byte) }
@@ -66,8 +74,10 @@ pub fn set(bytes: &mut Blob, index: INT, byte: INT) -> bool
     }
 }
 
-/// Puts a byte behind the others. Errors: more bytes than the limit allows, or memory; the bytes stay. Cost: constant, but where the
-/// blob has to grow.
+/// Puts a byte behind the others.
+/// Errors: more bytes than the limit allows, or memory; the bytes stay.
+/// Cost: constant, but where the blob has to grow.
+/// rhai: `push`.
 pub fn push(bytes: &mut Blob, limits: &Limits, byte: INT) -> Result<(), EvalAltResult>
     ensures answer { IsLimited size.Items (may_grow_by limits.now.items (length bytes.old.items) 1) result }
     ensures bytes { bytes.new.items ≡ (if is_ok result then bytes.old.items ++ low_byte byte ∷ [] else bytes.old.items) }
@@ -80,8 +90,10 @@ pub fn push(bytes: &mut Blob, limits: &Limits, byte: INT) -> Result<(), EvalAltR
     Ok(())
 }
 
-/// Puts bytes behind the others; of none no memory is wanted. Errors: as `push`. Cost: the number of new bytes, and where the blob has
-/// to grow that of all.
+/// Puts bytes behind the others; of none no memory is wanted.
+/// Errors: as `push`.
+/// Cost: the number of new bytes, and where the blob has to grow that of all.
+/// rhai: `append`.
 pub fn append(bytes: &mut Blob, limits: &Limits, more: &[u8]) -> Result<(), EvalAltResult>
     ensures answer { IsLimited size.Items (may_grow_by limits.now.items (length bytes.old.items) (length more.now)) result }
     ensures bytes { bytes.new.items ≡ (if is_ok result then bytes.old.items ++ more.now else bytes.old.items) }
@@ -96,7 +108,9 @@ pub fn append(bytes: &mut Blob, limits: &Limits, more: &[u8]) -> Result<(), Eval
     Ok(())
 }
 
-/// Takes the last byte out, if there is one. Cost: constant.
+/// Takes the last byte out, if there is one.
+/// Cost: constant.
+/// rhai: `pop`.
 pub fn pop(bytes: &mut Blob) -> Option<INT>
     ensures { MatchOption result ((bytes.old.items ≡ []) × (bytes.new.items ≡ [])) (λ last. (b : _) × (last ≡ pos b) × (bytes.old.items ≡ bytes.new.items ++ b ∷ [])) }
 {
@@ -106,7 +120,9 @@ pub fn pop(bytes: &mut Blob) -> Option<INT>
     }
 }
 
-/// Takes the byte at an index out, if there is one. Cost: the number of bytes behind it.
+/// Takes the byte at an index out, if there is one.
+/// Cost: the number of bytes behind it.
+/// rhai: `remove`.
 pub fn remove(bytes: &mut Blob, index: INT) -> Option<INT>
     ensures byte { result ≡ option_map pos (item_at bytes.old.items index) }
     ensures bytes { bytes.new.items ≡ without_placed bytes.old.items (place_of_item (length bytes.old.items) index) }
@@ -115,15 +131,19 @@ pub fn remove(bytes: &mut Blob, index: INT) -> Option<INT>
     Some(bytes.remove(place) as INT)
 }
 
-/// Turns the order of the bytes round. Cost: the number of bytes.
+/// Turns the order of the bytes round.
+/// Cost: the number of bytes.
+/// rhai: `reverse`.
 pub fn reverse(bytes: &mut Blob)
     ensures { bytes.new.items ≡ reverse bytes.old.items }
 {
     bytes.reverse();
 }
 
-/// Copies so many bytes from an index on, as many as there are; an index before the front means the front. Errors: memory. Cost: the
-/// bytes that are copied.
+/// Copies so many bytes from an index on, as many as there are; an index before the front means the front.
+/// Errors: memory is refused.
+/// Cost: the bytes that are copied.
+/// rhai: `extract`.
 pub fn extract(alloc: Global, bytes: &Blob, index: INT, count: INT) -> Result<Blob, AllocError>
     ensures { IfOk result (λ part. part.items ≡ first_of (after bytes.now.items index) count) }
 {
@@ -132,7 +152,10 @@ pub fn extract(alloc: Global, bytes: &Blob, index: INT, count: INT) -> Result<Bl
     Vec::from_slice(alloc, &bytes.as_slice()[start..start + len])
 }
 
-/// Makes an array of the bytes as ints. Errors: memory. Cost: the number of bytes.
+/// Makes an array of the bytes as ints.
+/// Errors: memory is refused.
+/// Cost: the number of bytes.
+/// rhai: `to_array`.
 pub fn to_array(alloc: Global, bytes: &Blob) -> Result<Array, AllocError>
     ensures { IfOk result (λ items. items.items ≡ map (λ b. fresh (int (pos b))) bytes.now.items) }
 {

@@ -14,17 +14,17 @@ use rhai_value::{Array, Dynamic, InStore, Store};
 /// Puts an item behind those of the array that is held.
 pub(crate) fn push_held(
     array: &mut Dynamic,
-    m: &mut Store,
+    store: &mut Store,
     limits: &Limits,
     item: Dynamic,
 ) -> Result<(), EvalAltResult>
-    ensures { OnOk result ((ts : List Tree) × (held_part array_of (end m.old [] array.old) ≡ Some (trees_of ts))
-        × (array.new ≡ value_after (with_items (ts ++ item ∷ [])) (end m.old [] array.old) array.old)
-        × (m.new ≡ store_after (with_items (ts ++ item ∷ [])) (end m.old [] array.old) m.old)) }
+    ensures { OnOk result ((ts : List Tree) × (held_part array_of (end store.old [] array.old) ≡ Some (trees_of ts))
+        × (array.new ≡ value_after (with_items (ts ++ item ∷ [])) (end store.old [] array.old) array.old)
+        × (store.new ≡ store_after (with_items (ts ++ item ∷ [])) (end store.old [] array.old) store.old)) }
 {
     let mut place = InStore {
         value: array,
-        store: m,
+        store,
     };
     match place.array_mut() {
         Ok(items) => arrays::push(items, limits, item),

@@ -15,7 +15,10 @@ use rhai_value::INT;
 use std::alloc::{AllocError, Global};
 use std::num::ParseIntError;
 
-/// The distance of an int from 0. Errors: `Overflow` exactly of the least int, whose distance is no int. Cost: constant.
+/// Answers the distance of an int from 0.
+/// Errors: `Overflow` exactly of the least int, whose distance is no int.
+/// Cost: constant.
+/// rhai: `abs`.
 pub fn abs(number: INT) -> Result<INT, EvalAltResult>
     ensures ok { IfOk result (λ n. n ≡ pos (unsigned_abs number)) }
     ensures err { IfErr result (λ e. (number ≡ negsuc (2 ^ 63 - 1)) × (e ≡ ErrorArithmetic Overflow no_place)) }
@@ -26,21 +29,28 @@ pub fn abs(number: INT) -> Result<INT, EvalAltResult>
     Ok(number.abs())
 }
 
-/// The lesser of two ints. Cost: constant.
+/// Answers the lesser of two ints.
+/// Cost: constant.
+/// rhai: `min`.
 pub fn min(first: INT, second: INT) -> INT
     ensures { result ≡ ord_min int_cmp first second }
 {
     first.min(second)
 }
 
-/// The greater of two ints. Cost: constant.
+/// Answers the greater of two ints.
+/// Cost: constant.
+/// rhai: `max`.
 pub fn max(first: INT, second: INT) -> INT
     ensures { result ≡ ord_max int_cmp first second }
 {
     first.max(second)
 }
 
-/// Writes an int in decimal. Errors: memory. Cost: its digits.
+/// Writes an int in decimal.
+/// Errors: memory is refused.
+/// Cost: its digits.
+/// rhai: `to_string`.
 pub fn to_string(alloc: Global, number: INT) -> Result<ImmutableString, AllocError>
     ensures { IfOk result (λ text. text ≡ chars (signed_decimal number)) }
 {
@@ -48,8 +58,10 @@ pub fn to_string(alloc: Global, number: INT) -> Result<ImmutableString, AllocErr
     ImmutableString::from_str(alloc, written.as_str())
 }
 
-/// Reads an int in decimal, with or without a sign; white space at both ends doesn't count. Errors: what is wrong with the text. Cost:
-/// the length of the text.
+/// Reads an int in decimal, with or without a sign; white space at both ends doesn't count.
+/// Errors: what is wrong with the text.
+/// Cost: the length of the text.
+/// rhai: `parse_int`.
 pub fn parse_int(text: &str) -> Result<INT, ParseIntError>
     ensures value { ParsesSigned w64 10 (trim text.now) result }
     ensures err { ExplainsSignedError 10 (trim text.now) result }
@@ -66,8 +78,11 @@ pub enum ParseRadixError {
     InvalidText(ParseIntError),
 }
 
-/// Reads an int in a radix from 2 to 36, whose digits above 9 are letters of either case; with or without a sign, and white space at
-/// both ends doesn't count. Errors: another radix, or what is wrong with the text. Cost: the length of the text.
+/// Reads an int in a radix from 2 to 36, whose digits above 9 are letters of either case; with or without a sign, and white
+/// space at both ends doesn't count.
+/// Errors: another radix, or what is wrong with the text.
+/// Cost: the length of the text.
+/// rhai: `parse_int`.
 pub fn parse_int_radix(text: &str, radix: INT) -> Result<INT, ParseRadixError>
     ensures value { IsRadix radix → ParsesSigned w64 (unsigned_abs radix) (trim text.now) result }
     ensures ok { OnOk result (IsRadix radix) }

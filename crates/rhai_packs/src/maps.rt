@@ -13,36 +13,46 @@ ghost use Rattle.rhai_packs.specs.Entries.{IsPartly, filled, mixed};
 use rhai_value::{Array, Dynamic, Map};
 use std::alloc::{AllocError, Global};
 
-/// Counts the entries. Cost: constant.
+/// Counts the entries.
+/// Cost: constant.
+/// rhai: `len`.
 pub fn len(map: &Map) -> usize
     ensures { result ≡ length map.now }
 {
     map.len()
 }
 
-/// Answers whether there is no entry. Cost: constant.
+/// Answers whether there is no entry.
+/// Cost: constant.
+/// rhai: `is_empty`.
 pub fn is_empty(map: &Map) -> bool
     ensures { IsTrue result ↔ (map.now ≡ []) }
 {
     map.is_empty()
 }
 
-/// Answers whether there is such a key. Cost: the logarithm of the number of entries.
+/// Answers whether there is such a key.
+/// Cost: the logarithm of the number of entries.
+/// rhai: `contains`.
 pub fn contains(map: &Map, key: &str) -> bool
     ensures { result ≡ is_some (lookup (is_at (bytes_cmp key.now)) map.now) }
 {
     map.contains_key(key)
 }
 
-/// Gives the value of a key, if there is such a key. Cost: the logarithm of the number of entries.
+/// Gives the value of a key, if there is such a key.
+/// Cost: the logarithm of the number of entries.
+/// rhai: `get`.
 pub fn get<'m>(map: &'m Map, key: &str) -> Option<&'m Dynamic>
     ensures { option_copied result ≡ lookup (is_at (bytes_cmp key.now)) map.now }
 {
     map.get(key)
 }
 
-/// Sets the value of a key. Errors: memory, for a key that is new; the map stays, and the value is gone. Cost: the logarithm of the
-/// number of entries; for a new key its length.
+/// Sets the value of a key.
+/// Errors: memory is refused, for a key that is new; the map stays, and the value is gone.
+/// Cost: the logarithm of the number of entries; for a new key its length.
+/// rhai: `set`.
 pub fn set(map: &mut Map, key: &str, value: Dynamic) -> Result<(), AllocError>
     ensures set { OnOk result (map.new ≡ insert_entry bytes_cmp map.old key.now value) }
     ensures err { OnErr result (map.new ≡ map.old) }
@@ -54,7 +64,9 @@ pub fn set(map: &mut Map, key: &str, value: Dynamic) -> Result<(), AllocError>
     }
 }
 
-/// Takes a key out, and gives its value, if there is such a key. Cost: the logarithm of the number of entries.
+/// Takes a key out, and gives its value, if there is such a key.
+/// Cost: the logarithm of the number of entries.
+/// rhai: `remove`.
 pub fn remove(map: &mut Map, key: &str) -> Option<Dynamic>
     ensures value { result ≡ lookup (is_at (bytes_cmp key.now)) map.old }
     ensures removed { map.new ≡ remove_entry (is_at (bytes_cmp key.now)) map.old }
@@ -62,14 +74,19 @@ pub fn remove(map: &mut Map, key: &str) -> Option<Dynamic>
     map.remove(key)
 }
 
-/// Takes all entries out. Cost: their drop.
+/// Takes all entries out.
+/// Cost: their drop.
+/// rhai: `clear`.
 pub fn clear(map: &mut Map)
     ensures { map.new ≡ [] }
 {
     map.clear();
 }
 
-/// Makes an array of the keys, by rising order. Errors: memory. Cost: the length of the keys.
+/// Makes an array of the keys, by rising order.
+/// Errors: memory is refused.
+/// Cost: the length of the keys.
+/// rhai: `keys`.
 pub fn keys(alloc: Global, map: &Map) -> Result<Array, AllocError>
     ensures { IfOk result (λ keys. keys.items ≡ map_list (λ k. fresh (text (chars k))) (keys_of map.now)) }
 {
@@ -80,7 +97,10 @@ pub fn keys(alloc: Global, map: &Map) -> Result<Array, AllocError>
     Ok(keys)
 }
 
-/// Makes an array of copies of the values, by rising keys. Errors: memory. Cost: the copies.
+/// Makes an array of copies of the values, by rising keys.
+/// Errors: memory is refused.
+/// Cost: the copies.
+/// rhai: `values`.
 pub fn values(alloc: Global, map: &Map) -> Result<Array, AllocError>
     ensures { IfOk result (λ values. values.items ≡ map_list copy (values_of map.now)) }
 {
@@ -91,8 +111,10 @@ pub fn values(alloc: Global, map: &Map) -> Result<Array, AllocError>
     Ok(values)
 }
 
-/// Sets the entries of another map, of which each takes the place of one with its key. Errors: memory, for a key that is new; then the
-/// first entries were set, and the others are gone. Cost: for each entry the logarithm of the number of entries.
+/// Sets the entries of another map, of which each takes the place of one with its key.
+/// Errors: memory is refused, for a key that is new; then the first entries were set, and the others are gone.
+/// Cost: for each entry the logarithm of the number of entries.
+/// rhai: `mixin`.
 #[tactic(auto, using(crate::proofs::Mixed::mixed_more))]
 pub fn mixin(map: &mut Map, other: Map) -> Result<(), AllocError>
     ensures ok { OnOk result (map.new ≡ mixed map.old other) }
@@ -107,8 +129,10 @@ pub fn mixin(map: &mut Map, other: Map) -> Result<(), AllocError>
     Ok(())
 }
 
-/// Sets the entries of another map whose keys aren't there. Errors: memory; then the first entries were set, and the others are gone.
+/// Sets the entries of another map whose keys aren't there.
+/// Errors: memory is refused; then the first entries were set, and the others are gone.
 /// Cost: for each entry the logarithm of the number of entries.
+/// rhai: `fill_with`.
 #[tactic(auto, using(crate::proofs::Mixed::filled_more))]
 pub fn fill_with(map: &mut Map, other: Map) -> Result<(), AllocError>
     ensures ok { OnOk result (map.new ≡ filled map.old other) }

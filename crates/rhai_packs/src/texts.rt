@@ -20,7 +20,9 @@ use rhai_text::{EvalAltResult, ImmutableString, Limits, SizeKind};
 use rhai_value::{Array, Dynamic, INT};
 use std::alloc::{AllocError, Global};
 
-/// Counts the characters. Cost: the length of the text.
+/// Counts the characters.
+/// Cost: the length of the text.
+/// rhai: `len`.
 pub fn len(text: &ImmutableString) -> usize
     ensures { result ≡ length text.now }
 {
@@ -33,36 +35,46 @@ fn count(text: &str) -> usize
     text.chars().count()
 }
 
-/// Answers whether there is no character. Cost: constant.
+/// Answers whether there is no character.
+/// Cost: constant.
+/// rhai: `is_empty`.
 pub fn is_empty(text: &ImmutableString) -> bool
     ensures { IsTrue result ↔ (text.now ≡ []) }
 {
     text.is_empty()
 }
 
-/// Answers whether a part stands in the text. Cost: the length of the text, for a given part.
+/// Answers whether a part stands in the text.
+/// Cost: the length of the text, for a given part.
+/// rhai: `contains`.
 pub fn contains(text: &ImmutableString, part: &str) -> bool
     ensures { IsTrue result ↔ HasPart (encode_utf8_all text.now) part.now }
 {
     text.as_str().contains(part)
 }
 
-/// Answers whether the text begins with a part. Cost: the length of the part.
+/// Answers whether the text begins with a part.
+/// Cost: the length of the part.
+/// rhai: `starts_with`.
 pub fn starts_with(text: &ImmutableString, part: &str) -> bool
     ensures { IsTrue result ↔ ((rest : List ℕ) × (encode_utf8_all text.now ≡ part.now ++ rest)) }
 {
     text.as_str().starts_with(part)
 }
 
-/// Answers whether the text ends with a part. Cost: the length of the part.
+/// Answers whether the text ends with a part.
+/// Cost: the length of the part.
+/// rhai: `ends_with`.
 pub fn ends_with(text: &ImmutableString, part: &str) -> bool
     ensures { IsTrue result ↔ ((front : List ℕ) × (encode_utf8_all text.now ≡ front ++ part.now)) }
 {
     text.as_str().ends_with(part)
 }
 
-/// Copies so many characters from an index on, as many as there are; an index before the front means the front. Errors: memory. Cost:
-/// the length of the text.
+/// Copies so many characters from an index on, as many as there are; an index before the front means the front.
+/// Errors: memory is refused.
+/// Cost: the length of the text.
+/// rhai: `sub_string`.
 pub fn sub_string(
     alloc: Global,
     text: &ImmutableString,
@@ -82,7 +94,10 @@ pub fn sub_string(
     Ok(part)
 }
 
-/// Keeps so many characters from an index on, as `sub_string` copies them. Errors: memory; the text stays. Cost: as `sub_string`.
+/// Keeps so many characters from an index on, as `sub_string` copies them.
+/// Errors: memory is refused; the text stays.
+/// Cost: that of `sub_string`.
+/// rhai: `crop`.
 pub fn crop(
     alloc: Global,
     text: &mut ImmutableString,
@@ -96,8 +111,10 @@ pub fn crop(
     Ok(())
 }
 
-/// Keeps the first so many characters, all where there are no more, and none of a negative number. Errors: memory; the text stays.
+/// Keeps the first so many characters, all where there are no more, and none of a negative number.
+/// Errors: memory is refused; the text stays.
 /// Cost: the length of the text.
+/// rhai: `truncate`.
 pub fn truncate(alloc: Global, text: &mut ImmutableString, count: INT) -> Result<(), AllocError>
     ensures ok { OnOk result (text.new ≡ first_of text.old count) }
     ensures err { OnErr result (text.new ≡ text.old) }
@@ -108,7 +125,10 @@ pub fn truncate(alloc: Global, text: &mut ImmutableString, count: INT) -> Result
     Ok(())
 }
 
-/// Cuts the white space off both ends. Errors: memory; the text stays. Cost: the length of the text.
+/// Cuts the white space off both ends.
+/// Errors: memory is refused; the text stays.
+/// Cost: the length of the text.
+/// rhai: `trim`.
 pub fn trim(alloc: Global, text: &mut ImmutableString) -> Result<(), AllocError>
     ensures ok { OnOk result (text.new ≡ characters_of (trimmed (encode_utf8_all text.old))) }
     ensures err { OnErr result (text.new ≡ text.old) }
@@ -117,8 +137,10 @@ pub fn trim(alloc: Global, text: &mut ImmutableString) -> Result<(), AllocError>
     Ok(())
 }
 
-/// Makes the text in upper case, by Unicode. Errors: more bytes than the limit allows, where it has more than the text, or memory.
+/// Makes the text in upper case, by Unicode.
+/// Errors: more bytes than the limit allows, where it has more than the text, or memory.
 /// Cost: the length of the text.
+/// rhai: `to_upper`.
 pub fn to_upper(
     alloc: Global,
     limits: &Limits,
@@ -131,7 +153,10 @@ pub fn to_upper(
     kept_text(alloc, limits, text, &made)
 }
 
-/// Makes the text in lower case, by Unicode. Errors and cost: as `to_upper`.
+/// Makes the text in lower case, by Unicode.
+/// Errors: as `to_upper`.
+/// Cost: that of `to_upper`.
+/// rhai: `to_lower`.
 pub fn to_lower(
     alloc: Global,
     limits: &Limits,
@@ -161,9 +186,11 @@ fn kept_text(
     Ok(ImmutableString::from_str(alloc, made.as_str())?)
 }
 
-/// Puts a text in the place of each occurrence of a part, which are found from left to right and don't overlap; an empty part stands
-/// before each character and at the end. Errors: more bytes than the limit allows, where there get more, or memory; the text stays.
+/// Puts a text in the place of each occurrence of a part, which are found from left to right and don't overlap; an empty
+/// part stands before each character and at the end.
+/// Errors: more bytes than the limit allows, where there get more, or memory; the text stays.
 /// Cost: the length of the text and of the new one.
+/// rhai: `replace`.
 pub fn replace(
     alloc: Global,
     limits: &Limits,
@@ -186,8 +213,9 @@ pub fn replace(
     }
 }
 
-/// Finds the first occurrence of a part, and counts the characters before it; where the release answers -1, that is `None`. Cost: the
-/// length of the text, for a given part.
+/// Finds the first occurrence of a part, and counts the characters before it; where the release answers -1, that is `None`.
+/// Cost: the length of the text, for a given part.
+/// rhai: `index_of`.
 pub fn index_of(text: &ImmutableString, part: &str) -> Option<usize>
     ensures { IsFoundAt (encode_utf8_all text.now) part.now result }
 {
@@ -202,7 +230,10 @@ fn place_of(text: &str, part: &str) -> Option<usize>
     Some(count(front))
 }
 
-/// Makes an array of the characters. Errors: memory. Cost: the length of the text; four bytes for each character are wanted meanwhile.
+/// Makes an array of the characters.
+/// Errors: memory is refused.
+/// Cost: the length of the text; four bytes for each character are wanted meanwhile.
+/// rhai: `chars`.
 pub fn chars(alloc: Global, text: &ImmutableString) -> Result<Array, AllocError>
     ensures { IfOk result (λ items. items.items ≡ map (λ c. fresh (char c)) text.now) }
 {

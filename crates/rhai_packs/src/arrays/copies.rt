@@ -11,8 +11,10 @@ use rhai_text::{EvalAltResult, Limits, SizeKind};
 use rhai_value::{Array, Dynamic, INT};
 use std::alloc::{AllocError, Global};
 
-/// Copies so many items from an index on, as many as there are; an index before the front means the front. Errors: memory. Cost: the
-/// copies.
+/// Copies so many items from an index on, as many as there are; an index before the front means the front.
+/// Errors: memory is refused.
+/// Cost: the copies.
+/// rhai: `extract`.
 pub fn extract(alloc: Global, items: &Array, index: INT, count: INT) -> Result<Array, AllocError>
     ensures { IfOk result (λ part. part.items ≡ map copy (first_of (after items.now.items index) count)) }
 {
@@ -32,9 +34,11 @@ fn copies(alloc: Global, items: &[Dynamic]) -> Result<Array, AllocError>
     Ok(made)
 }
 
-/// Puts copies of an item behind the others until there are so many; where there are that many, nothing changes, and no memory is
-/// wanted. Errors: more items than the limit allows, or memory; the items stay. Cost: the copies, and where the array has to grow the
-/// number of all items.
+/// Puts copies of an item behind the others until there are so many; where there are that many, nothing changes, and no
+/// memory is wanted.
+/// Errors: more items than the limit allows, or memory; the items stay.
+/// Cost: the copies, and where the array has to grow the number of all items.
+/// rhai: `pad`.
 pub fn pad(
     alloc: Global,
     items: &mut Array,

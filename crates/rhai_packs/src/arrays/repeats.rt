@@ -8,19 +8,16 @@ use rhai_value::{Array, Dynamic, Store};
 use std::alloc::{AllocError, Global};
 use std::mem;
 
-/// Drops each item that is the same as the one before it, as plain values are compared: of a run of items that are the same the first one
-/// stays.
-///
-/// Errors: memory; the items stay.
-///
+/// Drops each item that is the same as the one before it, as plain values are compared: of a run of items that are the same
+/// the first one stays.
+/// Errors: memory is refused; the items stay.
 /// Cost: the hash bytes of each item twice, and a list as long as the array.
-///
 /// rhai: `dedup`.
-pub fn dedup(alloc: Global, items: &mut Array, s: &Store) -> Result<(), AllocError>
-    ensures ok { OnOk result (IsDeduped s.now items.old.items items.new.items) }
+pub fn dedup(alloc: Global, items: &mut Array, store: &Store) -> Result<(), AllocError>
+    ensures ok { OnOk result (IsDeduped store.now items.old.items items.new.items) }
     ensures err { OnErr result (items.new.items ≡ items.old.items) }
 {
-    let repeats = repeats(alloc, items, s)?;
+    let repeats = repeats(alloc, items, store)?;
     let kept = Vec::with_capacity(alloc, items.len())?;
     let all = mem::replace(items, Vec::new(alloc));
     *items = without_flagged(all, &repeats, kept);
@@ -28,32 +25,32 @@ pub fn dedup(alloc: Global, items: &mut Array, s: &Store) -> Result<(), AllocErr
 }
 
 /// Which items are the same as the one before them.
-fn repeats(alloc: Global, items: &[Dynamic], s: &Store) -> Result<Vec<bool>, AllocError>
-    ensures { IfOk result (λ repeats. AreRepeats s.now items.now repeats.items) }
+fn repeats(alloc: Global, items: &[Dynamic], store: &Store) -> Result<Vec<bool>, AllocError>
+    ensures { IfOk result (λ repeats. AreRepeats store.now items.now repeats.items) }
 {
     let mut repeats = Vec::with_capacity(alloc, items.len())?;
     for i in 0..items.len() {
-        repeats.push_reserved(is_repeat(alloc, items, i, s)?);
+        repeats.push_reserved(is_repeat(alloc, items, i, store)?);
     }
     Ok(repeats)
 }
 
 /// Whether an item is the same as the one before it.
-fn is_repeat(alloc: Global, items: &[Dynamic], i: usize, s: &Store) -> Result<bool, AllocError>
+fn is_repeat(alloc: Global, items: &[Dynamic], i: usize, store: &Store) -> Result<bool, AllocError>
     requires { i < length items.now }
-    ensures { IfOk result (λ b. IsTrue b ↔ IsRepeat s.now items.now i) }
+    ensures { IfOk result (λ b. IsTrue b ↔ IsRepeat store.now items.now i) }
 {
     if i == 0 {
         return Ok(false);
     }
-    are_same(alloc, &items[i - 1], &items[i], s)
+    are_same(alloc, &items[i - 1], &items[i], store)
 }
 
 /// Whether two values are the same.
-fn are_same(alloc: Global, x: &Dynamic, y: &Dynamic, s: &Store) -> Result<bool, AllocError>
-    ensures { IfOk result (λ b. IsTrue b ↔ AreSame s.now x.now y.now) }
+fn are_same(alloc: Global, x: &Dynamic, y: &Dynamic, store: &Store) -> Result<bool, AllocError>
+    ensures { IfOk result (λ b. IsTrue b ↔ AreSame store.now x.now y.now) }
 {
-    match same_value(alloc, x, y, s)? {
+    match same_value(alloc, x, y, store)? {
         Some(same) => Ok(same),
         None => Ok(false),
     }

@@ -10,35 +10,39 @@ use rhai_show::{Hashed, hashed};
 use rhai_value::{Array, Dynamic, Store};
 use std::alloc::{AllocError, Global};
 
-/// Answers whether an item is the same as a value. Errors: memory. Cost: the hash bytes of the value, and of the items up to the one
-/// that is found.
+/// Answers whether an item is the same as a value.
+/// Errors: memory is refused.
+/// Cost: the hash bytes of the value, and of the items up to the one that is found.
+/// rhai: `contains`.
 pub fn contains(
     alloc: Global,
     items: &Array,
-    s: &Store,
+    store: &Store,
     wanted: &Dynamic,
 ) -> Result<bool, AllocError>
-    ensures { IfOk result (λ b. (o : _) × IsFirst s.now wanted.now items.now.items o × (b ≡ is_some o)) }
+    ensures { IfOk result (λ b. (o : _) × IsFirst store.now wanted.now items.now.items o × (b ≡ is_some o)) }
 {
-    Ok(index_of(alloc, items, s, wanted)?.is_some())
+    Ok(index_of(alloc, items, store, wanted)?.is_some())
 }
 
-/// Finds the place of the first item that is the same as a value; where the release answers -1, that is `None`. Errors and cost: as
-/// `contains`.
+/// Finds the place of the first item that is the same as a value; where the release answers -1, that is `None`.
+/// Errors: as `contains`.
+/// Cost: that of `contains`.
+/// rhai: `index_of`.
 #[tactic(auto, using(crate::proofs::Sames::same_as_nothing))]
 pub fn index_of(
     alloc: Global,
     items: &Array,
-    s: &Store,
+    store: &Store,
     wanted: &Dynamic,
 ) -> Result<Option<usize>, AllocError>
-    ensures { IfOk result (IsFirst s.now wanted.now items.now.items) }
+    ensures { IfOk result (IsFirst store.now wanted.now items.now.items) }
 {
-    let Some(bytes) = hashed(alloc, wanted, s)? else {
+    let Some(bytes) = hashed(alloc, wanted, store)? else {
         return Ok(None);
     };
     for (index, item) in items.iter().enumerate() {
-        if is_same(alloc, item, s, &bytes)? {
+        if is_same(alloc, item, store, &bytes)? {
             return Ok(Some(index));
         }
     }
@@ -47,11 +51,16 @@ pub fn index_of(
 
 /// Whether a value is the same as the one with these hash bytes.
 #[tactic(auto, using(crate::proofs::Sames::same_where_plain, crate::proofs::Sames::same_as_nothing))]
-fn is_same(alloc: Global, value: &Dynamic, s: &Store, bytes: &Hashed) -> Result<bool, AllocError>
-    ensures { IfOk result (λ b. (y : Tree) → IsHashed s.now y bytes.now → IsTrue b ↔ AreSame s.now value.now y) }
+fn is_same(
+    alloc: Global,
+    value: &Dynamic,
+    store: &Store,
+    bytes: &Hashed,
+) -> Result<bool, AllocError>
+    ensures { IfOk result (λ b. (y : Tree) → IsHashed store.now y bytes.now → IsTrue b ↔ AreSame store.now value.now y) }
 {
     hash_bytes_tell_values_apart();
-    match hashed(alloc, value, s)? {
+    match hashed(alloc, value, store)? {
         Some(own) => Ok(&own == bytes),
         None => Ok(false),
     }

@@ -12,8 +12,11 @@ use rhai_text::ImmutableString;
 use rhai_value::{Array, Dynamic, INT};
 use std::alloc::{AllocError, Global};
 
-/// Makes an array of the two texts before an index and from it on; a negative index counts from the end, and one outside means the
-/// nearer end. Errors: memory. Cost: the length of the text.
+/// Makes an array of the two texts before an index and from it on; a negative index counts from the end, and one outside
+/// means the nearer end.
+/// Errors: memory is refused.
+/// Cost: the length of the text.
+/// rhai: `split`.
 pub fn split_at(alloc: Global, text: &ImmutableString, index: INT) -> Result<Array, AllocError>
     ensures { IfOk result (λ parts. parts.items ≡ fresh (text_leaf (before text.now index)) ∷ fresh (text_leaf (after text.now index)) ∷ []) }
 {
@@ -27,8 +30,11 @@ pub fn split_at(alloc: Global, text: &ImmutableString, index: INT) -> Result<Arr
     Ok(parts)
 }
 
-/// Makes an array of the texts between the occurrences of a separator, which are found from left to right and don't overlap; an empty
-/// separator stands before each character and at the end. Errors: memory. Cost: the length of the text, for a given separator.
+/// Makes an array of the texts between the occurrences of a separator, which are found from left to right and don't
+/// overlap; an empty separator stands before each character and at the end.
+/// Errors: memory is refused.
+/// Cost: the length of the text, for a given separator.
+/// rhai: `split`.
 pub fn split(alloc: Global, text: &ImmutableString, separator: &str) -> Result<Array, AllocError>
     ensures { IfOk result (λ parts. (all : List (List ℕ)) × IsSplit separator.now (encode_utf8_all text.now) all × (parts.items ≡ map (λ t. fresh (text_leaf t)) all)) }
 {
@@ -38,7 +44,10 @@ pub fn split(alloc: Global, text: &ImmutableString, separator: &str) -> Result<A
     split_at_each(alloc, text.as_str(), separator)
 }
 
-/// Makes an array of the texts between the occurrences of a character. Errors: memory. Cost: the length of the text.
+/// Makes an array of the texts between the occurrences of a character.
+/// Errors: memory is refused.
+/// Cost: the length of the text.
+/// rhai: `split`.
 pub fn split_char(
     alloc: Global,
     text: &ImmutableString,

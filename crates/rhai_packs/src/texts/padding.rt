@@ -14,8 +14,11 @@ use rhai_text::{EvalAltResult, ImmutableString, Limits, SizeKind};
 use rhai_value::INT;
 use std::alloc::{AllocError, Global};
 
-/// Puts a character behind the others until there are so many; where there are that many, nothing changes, and no memory is wanted.
-/// Errors: more bytes than the limit allows, or memory; the text stays. Cost: the length of the text and of the new one.
+/// Puts a character behind the others until there are so many; where there are that many, nothing changes, and no memory is
+/// wanted.
+/// Errors: more bytes than the limit allows, or memory; the text stays.
+/// Cost: the length of the text and of the new one.
+/// rhai: `pad`.
 pub fn pad(
     alloc: Global,
     limits: &Limits,
@@ -38,8 +41,11 @@ pub fn pad(
     )
 }
 
-/// Puts a text behind the characters, over and over and cut off at last, until there are so many; where there are that many, or where it
-/// is empty, nothing changes, and no memory is wanted. Errors and cost: as `pad`.
+/// Puts a text behind the characters, over and over and cut off at last, until there are so many; where there are that
+/// many, or where it is empty, nothing changes, and no memory is wanted.
+/// Errors: as `pad`.
+/// Cost: that of `pad`.
+/// rhai: `pad`.
 pub fn pad_with_string(
     alloc: Global,
     limits: &Limits,

@@ -7,7 +7,7 @@ use Rattle.rhai_packs.proofs.arrays.repeats.is_repeat.Goals as goal
 
 pub returns : goal.returns
 returns c =
-    let s = c.args.s.now in
+    let s = c.args.store.now in
     let xs = c.args.items.now in
     let i = c.args.i in
     let x = c.index-items-i.result in

@@ -6,5 +6,5 @@ abbrev pub invariant-loop-i : goal.invariant-loop-i
 invariant-loop-i l = record {
   len : length l.repeats.items ≡ l.i;
   room : length l.items ≤ vec_capacity l.repeats;
-  each : (j : ℕ) → j < l.i → IsTrue (slice_index_or l.repeats.items j false) ↔ IsRepeat l.s l.items j;
+  each : (j : ℕ) → j < l.i → IsTrue (slice_index_or l.repeats.items j false) ↔ IsRepeat l.store l.items j;
 }

@@ -1,5 +1,7 @@
 -- Answers about a value, on two states that are the same up to a renaming.
 use Rattle.std.proofs.Common.{◌≡◌, ℕ, is_some, not, ◌&&◌, [], ◌∷◌, Option, Some, None, refl, ap, subst}
+use Rattle.rhai_show.specs.HashBytes.{plain_bytes}
+use Rattle.std.specs.Option.{option_map_or}
 use Rattle.rhai_value.specs.Tree.{Tree, is_constant}
 use Rattle.rhai_value.specs.Parts.{leaf_unit, leaf_bool, leaf_int, leaf_char, unit_of, bool_of, int_of, char_of}
 use Rattle.rhai_value.specs.End.{End, end, held_part, constant_in, end_type}
@@ -15,9 +17,9 @@ use Rattle.rhai_show.proofs.ForCallers.{same_plain, same_printed}
 use Rattle.rhai_run.specs.declared.command.Question.{Question}
 use Rattle.rhai_run.specs.declared.command.Question.TheVariants as question
 use Rattle.rhai_run.specs.State.{State}
-use Rattle.rhai_run.specs.Ask.{asked, asked_of_held, hash_of}
+use Rattle.rhai_run.specs.Ask.{asked, asked_of_held}
 use Rattle.rhai_run.specs.Outcome.{Outcome, free, growing, given, with_value}
-use Rattle.rhai_run.specs.Reply.{done, truth, number, text_answer, mismatch}
+use Rattle.rhai_run.specs.Reply.{done, truth, number, text_answer, mismatch, bytes, refused, not_hashable}
 use Rattle.rhai_run.specs.Correspondence.{RelatedStates}
 use Rattle.rhai_run.proofs.Outcome.{Matches, alike_same, m_stays, m_given, m_value}
 use Rattle.rhai_run.specs.declared.command.Command.TheVariants as command
@@ -79,7 +81,7 @@ module _ (r : Renaming) (w v : State) (h : RelatedStates r w v) where
   same_debug = same_text_of Debug
 
   pub same_hash : (i : ℕ) → Matches r w v (step w (command.Hash i)) (step v (command.Hash i))
-  same_hash i = m_value r w v h i _ _ (λ t u e. m_stays r w v h _ _ (ap hash_of (same_plain r w.store v.store t u h.one h.cells e)))
+  same_hash i = m_value r w v h i _ _ (λ t u e. m_stays r w v h _ _ (ap (λ o. option_map_or (λ p. bytes (plain_bytes p)) o (refused not_hashable)) (same_plain r w.store v.store t u h.one h.cells e)))
 
 -- the steps of this file
 pub ruleset ask_steps = (same_ask, same_show, same_debug, same_hash)

@@ -25,7 +25,7 @@ use Rattle.rhai_run.specs.Does.{Calls, IsError, not_done_of}
 use Rattle.rhai_run.specs.Operators.{called}
 use Rattle.rhai_run.specs.Places.{source, is_at}
 use Rattle.rhai_run.specs.Slots.{assigned_in, both_assigned, called_in, is_in, slot_of, value_in, HasOperands}
-use Rattle.rhai_run.proofs.Slots.{same_put}
+use Rattle.rhai_run.proofs.InSlots.{same_put}
 use Rattle.rhai_run.proofs.Called.{refusal_of}
 use Rattle.rhai_run.proofs.Moves.{set_own}
 use Rattle.rhai_run.specs.declared.command.Command.TheVariants as command

@@ -1,22 +1,26 @@
 -- Steps that change values, on two states that are the same up to a renaming.
-use Rattle.std.proofs.Common.{ℕ, ℤ, pos, [], ◌++◌, length, slice_set, is_some, refl, ap, length-append}
+use Rattle.std.proofs.Common.{ℕ, ℤ, pos, [], ◌++◌, length, slice_set, is_some, if◌then◌else◌, refl, ap, length-append}
 use Rattle.rhai_value.specs.declared.access_mode.AccessMode.TheVariants.{ReadOnly}
-use Rattle.rhai_value.specs.Tree.{Tree, node, leaf, branch, fields, holder, mode_of}
+use Rattle.rhai_value.specs.Tree.{Tree, node, leaf, branch, fields, holder, mode_of, cell_of}
 use Rattle.rhai_value.specs.Parts.{leaf_int, int_of, with_int}
-use Rattle.rhai_value.specs.Store.{added}
+use Rattle.rhai_value.specs.Store.{added, shared_store, shared_value}
 use Rattle.rhai_value.specs.End.{End, end, held_part, first}
 use Rattle.rhai_value.specs.Types.{type_name}
 use Rattle.rhai_value.specs.Relation.{Renaming, Related, RelatedEnds}
 use Rattle.rhai_value.proofs.ForCallers.{zip_set, zip_weaker, one_pair, paired_more, related_more, one_more, same_added, new_last, Paired, same_end, by_trees, same_paint, same_with_tag, same_shared, same_mode, same_with_int, same_held_leaf, same_end_type, same_value_after, same_store_after, length_store_after, marked_added, marked_store_after, marked_with_first, same_first, same_flattened, same_value_with_first, same_store_with_first, length_with_first}
 use Rattle.rhai_run.specs.State.{State, with_cells}
 use Rattle.rhai_run.specs.Reply.{done, refused, mismatch, fault, data_race}
-use Rattle.rhai_run.specs.Outcome.{growing}
-use Rattle.rhai_run.specs.Change.{shared_at, int_written, nowhere}
+use Rattle.rhai_run.specs.Outcome.{Outcome, free, growing}
+use Rattle.rhai_run.specs.Change.{int_written, nowhere}
 use Rattle.rhai_scope.specs.Relation.{RelatedEntry}
 use Rattle.rhai_run.specs.Correspondence.{RelatedStates}
 use Rattle.rhai_run.proofs.Outcome.{Matches, same_marked, m_either, m_stays, m_given, m_value, m_two, m_cells, m_replaced, m_hand, set_hand, moved_hand}
 use Rattle.rhai_run.specs.declared.command.Command.TheVariants as command
 use Rattle.rhai_run.specs.Step.{step}
+
+-- what `share` does with the value at i
+abbrev share_at : State → ℕ → Tree → Outcome
+share_at w i t = if is_some (cell_of t) then free done w else growing done (with_cells w (shared_store w.store t) (slice_set w.hand i (shared_value w.store t)))
 
 module _ (r : Renaming) (w v : State) (h : RelatedStates r w v) where
   -- one more pair, and new values at a hand position
@@ -47,7 +51,7 @@ module _ (r : Renaming) (w v : State) (h : RelatedStates r w v) where
       }
 
   pub same_share : (i : ℕ) → Matches r w v (step w (command.Share i)) (step v (command.Share i))
-  same_share i = m_value r w v h i _ _ (by_trees r (λ t u. Matches r w v (shared_at w i t) (shared_at v i u))
+  same_share i = m_value r w v h i _ _ (by_trees r (λ t u. Matches r w v (share_at w i t) (share_at v i u))
       (λ l g m. new_cell i (node (leaf l) g m) (node (leaf l) g m) (refl, refl, refl))
       (λ k ts us g m e. new_cell i (node (branch k ts) g m) (node (branch k us) g m) ((refl, e), refl, refl))
       (λ fs hs g m e. new_cell i (node (fields fs) g m) (node (fields hs) g m) (e, refl, refl))

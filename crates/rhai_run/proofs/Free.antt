@@ -1,15 +1,17 @@
 -- Outcomes for which no memory is wanted, and one lemma for each thing that steps are made of.
 use Rattle.std.proofs.Common.{◌≡◌, ℕ, Bool, true, false, cond, nat_eq, List, [], slice_get, Option, Some, None, Result, Ok, Err, refl}
+use Rattle.rhai_run.specs.Change.{nowhere}
+use Rattle.std.specs.Option.{option_map_or}
 use Rattle.rhai_value.specs.Tree.{Tree}
 use Rattle.rhai_value.specs.End.{end, end_name}
 use Rattle.rhai_target.specs.Change.{Change}
 use Rattle.rhai_run.specs.declared.command.Place.{Place}
 use Rattle.rhai_run.specs.declared.pieces.Piece.{Piece}
-use Rattle.rhai_run.specs.Outcome.{Outcome, unless, given, with_value, with_two}
+use Rattle.rhai_run.specs.Outcome.{Outcome, unless, given, with_value, with_two, refuse, growing_if}
 use Rattle.rhai_run.specs.Places.{source, found, with_place_and}
-use Rattle.rhai_run.specs.Reply.{Reason, no_value, same_value}
+use Rattle.rhai_run.specs.Reply.{Reason, no_value, same_value, fault, wrong_type, done}
 use Rattle.rhai_run.specs.State.{State}
-use Rattle.rhai_run.specs.WriteBack.{lack, change, makes_text, changed_or_refused, lacking, written_back, step_write_back}
+use Rattle.rhai_run.specs.WriteBack.{lack, change, makes_text, written_back, step_write_back, wanted, changed_by}
 
 abbrev pub IsFree : Outcome → Type 0
 IsFree o = o.wants ≡ false
@@ -39,11 +41,11 @@ free_found (Err why) w go h = refl
 free_place_and : (w : State) (p : Place) (j : ℕ) (go : Tree → Tree → Outcome) → ((t u : Tree) → IsFree (go t u)) → IsFree (with_place_and w p j go)
 free_place_and w p j go h = free_value w j _ (λ u. free_found (source w.hand w.entries p) w _ (λ t. h t u))
 
-free_lacking : (o : Option Reason) (w : State) (x : Outcome) → IsFree x → IsFree (lacking o w x)
+free_lacking : (o : Option Reason) (w : State) (x : Outcome) → IsFree x → IsFree (option_map_or (λ why. refuse why w) o x)
 free_lacking None w x h = h
 free_lacking (Some why) w x h = refl
 
-free_changed : (w : State) (p : Place) (q : Piece) (c : Change) (t : Tree) (held : List ℕ) → makes_text q ≡ false → IsFree (changed_or_refused w p q c t held)
+free_changed : (w : State) (p : Place) (q : Piece) (c : Change) (t : Tree) (held : List ℕ) → makes_text q ≡ false → IsFree (given c (fault (wrong_type (wanted q) held nowhere)) w (λ f. growing_if (makes_text q) done (changed_by w p (Some f) t)))
 free_changed w p q None t held h = refl
 free_changed w p q (Some f) t held h = h
 

@@ -4,7 +4,7 @@ pub mod Free
 pub mod MarkLists
 pub mod WorkingValues
 pub mod SlotValues
-pub mod Slots
+pub mod InSlots
 pub mod Assigns
 pub mod HandSteps
 pub mod Kept

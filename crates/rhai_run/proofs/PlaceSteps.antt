@@ -1,5 +1,6 @@
 -- What is done at a place, on two states that are the same up to a renaming.
 use Rattle.std.proofs.Common.{◌≡◌, ℕ, Bool, true, false, cond, List, length, Option, Some, None, Result, Ok, Err, refl, ap}
+use Rattle.std.specs.Option.{ok_or}
 use Rattle.std.specs.List.{AllZip}
 use Rattle.rhai_value.specs.declared.store.Cell.{Cell}
 use Rattle.rhai_value.specs.Tree.{Tree}
@@ -13,8 +14,8 @@ use Rattle.rhai_run.specs.declared.command.Place.{Place}
 use Rattle.rhai_run.specs.declared.command.Place.TheVariants as place
 use Rattle.rhai_run.specs.Correspondence.{RelatedStates}
 use Rattle.rhai_run.specs.Outcome.{Outcome, growing_if}
-use Rattle.rhai_run.specs.Places.{value_found, entry_found, source, found, with_place, with_place_and, put_at}
-use Rattle.rhai_run.specs.Reply.{Reason, done, refused, constant_entry}
+use Rattle.rhai_run.specs.Places.{entry_found, source, found, with_place, with_place_and, put_at}
+use Rattle.rhai_run.specs.Reply.{Reason, done, refused, constant_entry, no_value}
 use Rattle.rhai_run.specs.State.{State, with_hand}
 use Rattle.rhai_run.proofs.Outcome.{Matches, no_cell, same_marked, m_stays, m_value, m_cells, set_hand}
 
@@ -26,7 +27,7 @@ SameFound r (Ok t) (Err other) = ⊥
 SameFound r (Err why) (Ok u) = ⊥
 
 module _ (r : Renaming) (w v : State) (h : RelatedStates r w v) where
-  same_value_found : (o p : Option Tree) → Alike (Related r) o p → SameFound r (value_found o) (value_found p)
+  same_value_found : (o p : Option Tree) → Alike (Related r) o p → SameFound r (ok_or o no_value) (ok_or p no_value)
   same_value_found None None e = refl
   same_value_found (Some t) (Some u) e = e
   same_value_found None (Some u) e = absurd e

@@ -1,5 +1,10 @@
 -- What a refusal leaves: the state as it was, no want of memory but where a hash is asked for, and no want of memory as its reason.
 use Rattle.std.proofs.Common.{◌≡◌, ℕ, ℤ, pos, Bool, true, false, not, cond, if◌then◌else◌, nat_eq, nat_le, nat_lt, List, [], ◌∷◌, ◌++◌, length, slice_get, Option, Some, None, is_some, Ok, Err, refl, subst}
+use Rattle.rhai_run.specs.Made.{rows_with}
+use Rattle.rhai_value.specs.Rows.{trees_of, fields_of}
+use Rattle.rhai_run.specs.Change.{nowhere}
+use Rattle.rhai_show.specs.HashBytes.{plain_bytes}
+use Rattle.std.specs.Option.{option_map_or, ok_or}
 use Rattle.std.specs.List.{zip}
 use Rattle.rhai_ops.specs.AssignTable.{assign_row}
 use Rattle.rhai_ops.specs.Outcome as call
@@ -15,7 +20,7 @@ use Rattle.rhai_target.specs.Offset as offset
 use Rattle.rhai_value.specs.End.{End, end, end_name, first, first_cell, flat, flattened, held_part}
 use Rattle.rhai_value.specs.Parts.{unit_of, int_of, bool_of, blob_of, char_of, text_of}
 use Rattle.rhai_value.specs.Store.{content_at}
-use Rattle.rhai_value.specs.Tree.{Tree, cell_of}
+use Rattle.rhai_value.specs.Tree.{Tree, cell_of, made, branch, array, function, fields}
 use Rattle.rhai_value.specs.declared.type_id.TypeId.TheVariants as id
 use Rattle.rhai_variant.specs.Reads.{viewed}
 use Rattle.rhai_run.specs.declared.command.Command.{Command}
@@ -26,18 +31,16 @@ use Rattle.rhai_run.specs.declared.command.Question.{Question}
 use Rattle.rhai_run.specs.declared.command.Question.TheVariants as question
 use Rattle.rhai_run.specs.declared.pieces.Piece.{Piece}
 use Rattle.rhai_run.specs.declared.pieces.Piece.TheVariants as piece
-use Rattle.rhai_run.specs.Ask.{asked, asked_of_held, hash_of}
+use Rattle.rhai_run.specs.Ask.{asked, asked_of_held}
 use Rattle.rhai_run.specs.Entries.{appended_or_nothing, is_there_constant}
 use Rattle.rhai_run.specs.Entries.{read_as}
-use Rattle.rhai_run.specs.Made.{array_tree, map_tree, function_tree}
 use Rattle.rhai_run.specs.Operators.{called}
 use Rattle.rhai_run.specs.Outcome.{Outcome, growing_if, free, growing, refuse, unless, given, with_value, with_two, taken_off, gathered}
-use Rattle.rhai_run.specs.Places.{found, value_found, entry_found, with_place, with_place_and, is_at}
-use Rattle.rhai_run.specs.Reply.{Reply, Reason, done, truth, number, text_answer, nothing, refused, fault, out_of_memory, no_value, same_value, no_entry, empty_scope, constant_entry, shared_entry, no_mark, wrong_source, bit_place, byte_place, no_builtin, not_hashable, mismatch}
-use Rattle.rhai_run.specs.Scope.{or_nothing, bytes_or_refused}
+use Rattle.rhai_run.specs.Places.{found, entry_found, with_place, with_place_and, is_at}
+use Rattle.rhai_run.specs.Reply.{Reply, Reason, done, truth, number, text_answer, nothing, refused, fault, out_of_memory, no_value, same_value, no_entry, empty_scope, constant_entry, shared_entry, no_mark, wrong_source, bit_place, byte_place, no_builtin, not_hashable, mismatch, bytes, wrong_type}
 use Rattle.rhai_run.specs.State.{State, appended, with_hand, with_scope}
 use Rattle.rhai_run.specs.Step.{step}
-use Rattle.rhai_run.specs.WriteBack.{lack, lacking, change, changed_or_refused, no_bit, no_byte, no_text, slice_from, step_write_back}
+use Rattle.rhai_run.specs.WriteBack.{lack, change, no_bit, no_byte, slice_from, step_write_back, wanted, changed_by, makes_text}
 
 -- a reason that isn't want of memory
 abbrev IsNamed : Reason → Type 0
@@ -91,7 +94,7 @@ gathers w n make = takes_off w n (λ before last. growing done (with_hand w (bef
 has_place : (w : State) (p : Place) (go : Tree → Outcome) → ((t : Tree) → Refuses w (go t)) → Refuses w (with_place w p go)
 has_place w (place.Hand i) go h = at (slice_get w.hand i)
   where
-    at : (o : Option Tree) → Refuses w (found (value_found o) w go)
+    at : (o : Option Tree) → Refuses w (found (ok_or o no_value) w go)
     at None = refuses w no_value (λ e. cc)
     at (Some t) = h t
 has_place w (place.Entry name) go h = at (last_entry name w.entries)
@@ -146,21 +149,21 @@ lacks (piece.Byte n) e = byte (held_part blob_of e) n
     byte (Some bs) n = named_if (nat_lt n (length bs)) byte_place (λ e. cc)
 lacks (piece.Character n) e = text (held_part text_of e)
   where
-    text : (o : Option (List ℕ)) → IsNamedIf (no_text o)
+    text : (o : Option (List ℕ)) → IsNamedIf (if is_some o then None else Some wrong_source)
     text None = λ e. cc
     text (Some cs) = tt
 lacks (piece.Characters slice) e = text (held_part text_of e)
   where
-    text : (o : Option (List ℕ)) → IsNamedIf (no_text o)
+    text : (o : Option (List ℕ)) → IsNamedIf (if is_some o then None else Some wrong_source)
     text None = λ e. cc
     text (Some cs) = tt
 
-has_all : (w : State) (o : Option Reason) (x : Outcome) → IsNamedIf o → Refuses w x → Refuses w (lacking o w x)
+has_all : (w : State) (o : Option Reason) (x : Outcome) → IsNamedIf o → Refuses w x → Refuses w (option_map_or (λ why. refuse why w) o x)
 unfolding IsNamedIf
 has_all w None x n h = h
 has_all w (Some r) x n h = refuses w r n
 
-is_changed : (w : State) (p : Place) (q : Piece) (c : Change) (t : Tree) (held : List ℕ) → Refuses w (changed_or_refused w p q c t held)
+is_changed : (w : State) (p : Place) (q : Piece) (c : Change) (t : Tree) (held : List ℕ) → Refuses w (given c (fault (wrong_type (wanted q) held nowhere)) w (λ f. growing_if (makes_text q) done (changed_by w p (Some f) t)))
 is_changed w p q None t held = refuses w _ (λ e. cc)
 is_changed w p q (Some f) t held = is_done w _ _
 
@@ -199,23 +202,23 @@ asks w t question.Char = of_held w char_of (end w.store [] t) _ (λ a. is_text_a
 unhashed : (w : State) → Refuses w (growing (refused not_hashable) w)
 unhashed w why e = let same : not_hashable ≡ why = cc in record { after = refl; named = subst IsNamed same (λ k. cc); unwanted = λ k. cc }
 
-hashes : (w : State) (o : Option Plain) → Refuses w (growing (hash_of o) w)
+hashes : (w : State) (o : Option Plain) → Refuses w (growing (option_map_or (λ p. bytes (plain_bytes p)) o (refused not_hashable)) w)
 hashes w None = unhashed w
 hashes w (Some p) = answers w w true _ (λ why e. cc)
 
-hashes_scope : (w : State) (o : Option (List ℕ)) → Refuses w (growing (bytes_or_refused o) w)
+hashes_scope : (w : State) (o : Option (List ℕ)) → Refuses w (growing (option_map_or bytes o (refused not_hashable)) w)
 hashes_scope w None = unhashed w
 hashes_scope w (Some bs) = answers w w true _ (λ why e. cc)
 
-answers_if_any : {X : Type 0} (w : State) (reply : X → Reply) (o : Option X) → ((x : X) → Answers (reply x)) → Refuses w (free (or_nothing reply o) w)
+answers_if_any : {X : Type 0} (w : State) (reply : X → Reply) (o : Option X) → ((x : X) → Answers (reply x)) → Refuses w (free (option_map_or reply o nothing) w)
 answers_if_any w reply None h = answers w w false nothing (λ why e. cc)
 answers_if_any w reply (Some x) h = answers w w false (reply x) (h x)
 
 pub steps_refuse : (w : State) (c : Command) → Refuses w (step w c)
 steps_refuse w (command.Put literal) = is_done w _ true
-steps_refuse w (command.MakeArray n) = gathers w n array_tree
-steps_refuse w (command.MakeMap keys) = gathers w (length keys) (map_tree keys)
-steps_refuse w (command.MakeFn name n) = gathers w n (function_tree name)
+steps_refuse w (command.MakeArray n) = gathers w n (λ ts. made (branch array (trees_of ts)))
+steps_refuse w (command.MakeMap keys) = gathers w (length keys) (λ ts. made (fields (fields_of (rows_with [] keys ts))))
+steps_refuse w (command.MakeFn name n) = gathers w n (λ ts. made (branch (function name) (trees_of ts)))
 steps_refuse w (command.Copy i) = has_value w i _ (λ t. is_done w _ true)
 steps_refuse w (command.Take i) = has_value w i _ (λ t. is_done w _ true)
 steps_refuse w command.Drop = if_not w (nat_eq (length w.hand) 0) no_value _ (λ e. cc) (is_done w _ false)

@@ -4,7 +4,7 @@ use Rattle.std.proofs.lemmas.Option.{same_Some, slice_get_within}
 use Rattle.rhai_value.specs.Tree.{Tree}
 use Rattle.rhai_scope.specs.Entry.{Entry, with_value as holding}
 use Rattle.rhai_scope.specs.Lookup.{changed_at}
-use Rattle.rhai_run.specs.declared.lent.Places.{Places}
+use Rattle.rhai_run.specs.declared.slots.Slots.{Slots}
 use Rattle.rhai_run.specs.declared.slot.Slot.{Slot}
 use Rattle.rhai_run.specs.declared.slot.Slot.TheVariants as slot
 use Rattle.rhai_run.specs.Lent.{placed_in}
@@ -16,15 +16,15 @@ entry_kept [] k t e = refl
 entry_kept (x ∷ es) zero t e = ap (λ v. holding v x ∷ es) (sym (same_Some x.value t e))
 entry_kept (x ∷ es) (suc k) t e = ap (λ fs. x ∷ fs) (entry_kept es k t e)
 
-pub hand_kept : (h : Places) (q : Slot) (t u : Tree) → value_in h.hand.now.items h.scope.now q ≡ Some t → u ≡ t → (placed_in h q u).hand.now.items ≡ h.hand.now.items
+pub hand_kept : (h : Slots) (q : Slot) (t u : Tree) → value_in h.hand.now.items h.scope.now q ≡ Some t → u ≡ t → (placed_in h q u).hand.now.items ≡ h.hand.now.items
 hand_kept h (slot.Hand i) t u e f = rw f (set_own h.hand.now.items i t e)
 hand_kept h (slot.Entry k) t u e f = refl
 
-pub scope_kept : (h : Places) (q : Slot) (t u : Tree) → value_in h.hand.now.items h.scope.now q ≡ Some t → u ≡ t → (placed_in h q u).scope.now ≡ h.scope.now
+pub scope_kept : (h : Slots) (q : Slot) (t u : Tree) → value_in h.hand.now.items h.scope.now q ≡ Some t → u ≡ t → (placed_in h q u).scope.now ≡ h.scope.now
 scope_kept h (slot.Hand i) t u e f = refl
 scope_kept h (slot.Entry k) t u e f = rw f (entry_kept h.scope.now k t e)
 
-pub placed_length : (h : Places) (q : Slot) (u : Tree) → length (placed_in h q u).hand.now.items ≡ length h.hand.now.items
+pub placed_length : (h : Slots) (q : Slot) (u : Tree) → length (placed_in h q u).hand.now.items ≡ length h.hand.now.items
 placed_length h (slot.Hand i) u = length-set h.hand.now.items i u
 placed_length h (slot.Entry k) u = refl
 

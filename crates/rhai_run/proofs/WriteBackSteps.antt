@@ -1,5 +1,6 @@
 -- Write-backs, on two states that are the same up to a renaming.
-use Rattle.std.proofs.Common.{◌≡◌, ℕ, List, [], Option, Some, None, ap}
+use Rattle.std.proofs.Common.{◌≡◌, ℕ, List, [], Option, Some, None, ap, if◌then◌else◌, is_some}
+use Rattle.std.specs.Option.{option_map_or}
 use Rattle.std.proofs.lemmas.Option.{same_Some}
 use Rattle.rhai_value.specs.Parts.{leaf_int, leaf_blob, leaf_text}
 use Rattle.rhai_value.specs.Relation.{Renaming, Related, RelatedEnds, Respect, Alike}
@@ -14,10 +15,10 @@ use Rattle.rhai_run.specs.declared.pieces.Piece.{Piece}
 use Rattle.rhai_run.specs.declared.pieces.Piece.TheVariants as piece
 use Rattle.rhai_run.specs.Change.{nowhere}
 use Rattle.rhai_run.specs.Correspondence.{RelatedStates}
-use Rattle.rhai_run.specs.Outcome.{Outcome}
-use Rattle.rhai_run.specs.Reply.{Reason, refused, fault, wrong_type}
+use Rattle.rhai_run.specs.Outcome.{Outcome, refuse, given, growing_if}
+use Rattle.rhai_run.specs.Reply.{Reason, refused, fault, wrong_type, wrong_source, done}
 use Rattle.rhai_run.specs.State.{State}
-use Rattle.rhai_run.specs.WriteBack.{no_bit, no_byte, no_text, lack, change, wanted, changed_or_refused, lacking, step_write_back}
+use Rattle.rhai_run.specs.WriteBack.{no_bit, no_byte, lack, change, wanted, step_write_back, changed_by, makes_text}
 use Rattle.rhai_run.proofs.Outcome.{Matches, m_stays}
 use Rattle.rhai_run.proofs.PlaceSteps.{m_place_and, m_put}
 
@@ -26,8 +27,8 @@ module _ (r : Renaming) (w v : State) (h : RelatedStates r w v) where
   same_lack (piece.Bit place) e o k = ap (λ n. no_bit n place) (same_held_leaf r leaf_int e o k)
   same_lack (piece.Field mask shift) e o k = ap (λ n. no_bit n shift) (same_held_leaf r leaf_int e o k)
   same_lack (piece.Byte index) e o k = ap (λ n. no_byte n index) (same_held_leaf r leaf_blob e o k)
-  same_lack (piece.Character index) e o k = ap no_text (same_held_leaf r leaf_text e o k)
-  same_lack (piece.Characters slice) e o k = ap no_text (same_held_leaf r leaf_text e o k)
+  same_lack (piece.Character index) e o k = ap (λ c. if is_some c then None else Some wrong_source) (same_held_leaf r leaf_text e o k)
+  same_lack (piece.Characters slice) e o k = ap (λ c. if is_some c then None else Some wrong_source) (same_held_leaf r leaf_text e o k)
 
   same_change : (p : Piece) (t u x y : Tree) → Related r t u → Related r x y → Alike (Respect r) (change p w.store t x) (change p v.store u y)
   same_change (piece.Bit place) t u x y e d = same_bit_change r w.store v.store x y place h.one h.cells d
@@ -36,14 +37,15 @@ module _ (r : Renaming) (w v : State) (h : RelatedStates r w v) where
   same_change (piece.Character index) t u x y e d = same_char_change r w.store v.store x y index h.one h.cells d
   same_change (piece.Characters slice) t u x y e d = same_slice_change r w.store v.store t u x y slice h.one h.cells e d
 
-  m_lacking : (a b : Option Reason) (o p : Outcome) → a ≡ b → Matches r w v o p → Matches r w v (lacking a w o) (lacking b v p)
+  m_lacking : (a b : Option Reason) (o p : Outcome) → a ≡ b → Matches r w v o p → Matches r w v (option_map_or (λ why. refuse why w) a o) (option_map_or (λ why. refuse why v) b p)
   m_lacking None None o p e m = m
   m_lacking (Some why) (Some other) o p e m = m_stays r w v h (refused why) (refused other) (ap refused (same_Some why other e))
   m_lacking None (Some other) o p e m = cc
   m_lacking (Some why) None o p e m = cc
 
   m_changed : (p : Place) (q : Piece) (c d : Change) (t u : Tree) (held held' : List ℕ) → Alike (Respect r) c d → Related r t u → held ≡ held'
-      → Matches r w v (changed_or_refused w p q c t held) (changed_or_refused v p q d u held')
+      → Matches r w v (given c (fault (wrong_type (wanted q) held nowhere)) w (λ f. growing_if (makes_text q) done (changed_by w p (Some f) t)))
+      (given d (fault (wrong_type (wanted q) held' nowhere)) v (λ f. growing_if (makes_text q) done (changed_by v p (Some f) u)))
   m_changed p q None None t u held held' a e k = m_stays r w v h _ _ (ap (λ x. refused (fault (wrong_type (wanted q) x nowhere))) k)
   m_changed p q (Some f) (Some g) t u held held' a e k =
       let ends = same_end r w.store v.store t u h.one h.cells e in

@@ -39,8 +39,3 @@ asked w t question.Unit = asked_of_held w unit_of (end w.store [] t) (λ u. free
 asked w t question.Int = asked_of_held w int_of (end w.store [] t) (λ n. free (number n) w)
 asked w t question.Bool = asked_of_held w bool_of (end w.store [] t) (λ b. free (truth b) w)
 asked w t question.Char = asked_of_held w char_of (end w.store [] t) (λ c. growing (text_answer (c ∷ [])) w)
-
--- the hash bytes of the value, where it has some; memory is wanted before it is known whether it has
-abbrev pub hash_of : Option Plain → Reply
-hash_of None = refused not_hashable
-hash_of (Some p) = bytes (plain_bytes p)

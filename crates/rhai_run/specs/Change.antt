@@ -10,15 +10,6 @@ use Rattle.rhai_run.specs.State.{State, with_hand, with_cells}
 use Rattle.rhai_run.specs.Reply.{done, number, mismatch}
 use Rattle.rhai_run.specs.Outcome.{Outcome, free, growing, refuse}
 
--- the value goes into a new cell, and a holder of that stands in its place; a holder stays
-abbrev pub shared_at : State → ℕ → Tree → Outcome
-shared_at w i t =
-    if is_some (cell_of t) then free done w else growing done (with_cells w (shared_store w.store t) (slice_set w.hand i (shared_value w.store t)))
-
--- in the place of a holder what is held, without its holders; another value stays
-abbrev pub flattened_at : State → ℕ → Tree → Outcome
-flattened_at w i t = if is_some (cell_of t) then growing done (with_hand w (slice_set w.hand i (flattened w.store t))) else free done w
-
 -- the int n is written where the chain from t, which stands at i, ends; tag and mode stay
 abbrev pub int_written : State → ℕ → ℤ → Tree → End → Outcome
 int_written w i n t e =

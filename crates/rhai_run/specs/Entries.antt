@@ -1,5 +1,6 @@
 -- What steps on entries are made of.
 use Rattle.std.specs.Prelude.{ℕ, Bool, false, not, if◌then◌else◌, List, Option, Some, None, is_some}
+use Rattle.std.specs.Option.{option_map_or}
 use Rattle.rhai_value.specs.declared.type_id.TypeId.{TypeId}
 use Rattle.rhai_value.specs.declared.type_id.TypeId.TheVariants as id
 use Rattle.rhai_value.specs.Tree.{Tree}
@@ -17,13 +18,11 @@ set_at o w name i t = growing_if (not (is_some o)) done (with_scope w (set_or_pu
 
 -- whether an entry is there that is a constant
 abbrev pub is_there_constant : Option Entry → Bool
-is_there_constant None = false
-is_there_constant (Some e) = is_constant_entry e
+is_there_constant o = option_map_or is_constant_entry o false
 
 -- a value at the end of the hand, where there is one
 abbrev pub appended_or_nothing : State → Option Tree → Outcome
-appended_or_nothing w None = free nothing w
-appended_or_nothing w (Some t) = growing done (appended w t)
+appended_or_nothing w o = option_map_or (λ t. growing done (appended w t)) o (free nothing w)
 
 -- what is read of a value as a type, and of the value itself by reference; as the type of what can't be looked into nothing is
 abbrev pub read_as : TypeId → Tree → Option Tree

@@ -20,10 +20,6 @@ literal_tree (literal.Host h) = fresh (host h)
 literal_tree (literal.Range r) = fresh (host (host_kind.ExclusiveRange r))
 literal_tree (literal.RangeEq r) = fresh (host (host_kind.InclusiveRange r))
 
--- the array of these items
-abbrev pub array_tree : List Tree → Tree
-array_tree ts = made (branch array (trees_of ts))
-
 -- the rows once each key was given its value, one after another
 abbrev pub rows_with : Rows → List (List ℕ) → List Tree → Rows
 rows_with rs [] ts = rs
@@ -33,11 +29,3 @@ rows_with rs (k ∷ ks) (t ∷ ts) = rows_with (insert_entry bytes_cmp rs (encod
 -- the rows of the keys alone, each with unit
 abbrev pub rows_of_keys : List (List ℕ) → Rows
 rows_of_keys ks = rows_with [] ks (map (λ k. fresh unit) ks)
-
--- the map of the keys to the values; of equal keys the last value stands
-abbrev pub map_tree : List (List ℕ) → List Tree → Tree
-map_tree ks ts = made (fields (fields_of (rows_with [] ks ts)))
-
--- the function pointer of the name with these curried values
-abbrev pub function_tree : List ℕ → List Tree → Tree
-function_tree f ts = made (branch (function f) (trees_of ts))

@@ -21,10 +21,8 @@ called w after (call.fault f) = refuse (fault (arithmetic f no_place)) w
 called w after (call.too_large k) = refuse (fault (too_large k no_place)) w
 called w after call.unsuited = refuse no_builtin w
 
--- the state once an assignment, that comes to this on the value t at a place, has written there
-abbrev pub assigned_at : State → Place → Effect → Tree → call.Outcome → State
-assigned_at w place how t o = put_at w (store_left how o w.store t) place (first_left how o w.store t)
-
--- the same with what is left of the second operand, u, at its hand position
+-- An assignment comes to this on the value t at a place and the value u at j: what is left of u stands at j, and what is written where the
+-- chain from t ends stands there.
 abbrev pub assigned : State → Place → ℕ → Effect → Tree → Tree → call.Outcome → Outcome
-assigned w place j how t u o = called w (λ d. assigned_at (with_hand w (slice_set w.hand j (second_left how o u))) place how t o) o
+assigned w place j how t u o =
+    called w (λ d. put_at (with_hand w (slice_set w.hand j (second_left how o u))) (store_left how o w.store t) place (first_left how o w.store t)) o

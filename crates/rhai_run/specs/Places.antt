@@ -1,5 +1,6 @@
 -- Places that commands write to: a hand position, or the last entry of a name.
 use Rattle.std.specs.Prelude.{ℕ, Bool, false, nat_eq, if◌then◌else◌, List, slice_get, slice_set, Option, Some, None, Result, Ok, Err}
+use Rattle.std.specs.Option.{ok_or}
 use Rattle.rhai_value.specs.declared.store.Cell.{Cell}
 use Rattle.rhai_value.specs.Tree.{Tree}
 use Rattle.rhai_scope.specs.Entry.{Entry, is_constant_entry, with_value as holding}
@@ -10,17 +11,14 @@ use Rattle.rhai_run.specs.State.{State, with_cells}
 use Rattle.rhai_run.specs.Reply.{Reason, no_value, no_entry, constant_entry}
 use Rattle.rhai_run.specs.Outcome.{Outcome, refuse, with_value}
 
--- the value at a place, or why there is none to write to
-abbrev pub value_found : Option Tree → Result Tree Reason
-value_found None = Err no_value
-value_found (Some t) = Ok t
-
+-- the value of an entry, or why there is none to write to
 abbrev pub entry_found : Option Entry → Result Tree Reason
 entry_found None = Err no_entry
 entry_found (Some e) = if is_constant_entry e then Err constant_entry else Ok e.value
 
+-- the same of a place
 abbrev pub source : List Tree → List Entry → Place → Result Tree Reason
-source hand entries (place.Hand i) = value_found (slice_get hand i)
+source hand entries (place.Hand i) = ok_or (slice_get hand i) no_value
 source hand entries (place.Entry name) = entry_found (last_entry name entries)
 
 -- what is done with it

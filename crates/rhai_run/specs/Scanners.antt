@@ -1,6 +1,7 @@
 -- What the scanners do with a value, and that they add no nodes.
 use Rattle.std.specs.Prelude.{ℕ, zero, suc, ◌+◌, ◌-◌, ◌^◌, ◌≤◌, pos, min, if◌then◌else◌, Option, Some, None, is_some}
 use Rattle.std.proofs.Common.{arith, refl}
+use Rattle.std.specs.Option.{option_map_or}
 use Rattle.rhai_value.specs.Parts.{array_of, with_content, with_int}
 use Rattle.rhai_value.specs.Scan.{Visiting, AddsNoNodes, nodes_kept, nodes_unit}
 use Rattle.rhai_value.specs.Tree.{Tree, node, leaf, branch, fields, holder, array, function, Trees, no_trees, tree_then, nodes, nodes_trees, fresh, unit, cell_of, with_tag}
@@ -14,17 +15,12 @@ first_trees zero ts = no_trees
 first_trees (suc n) no_trees = no_trees
 first_trees (suc n) (tree_then t ts) = tree_then t (first_trees n ts)
 
--- the first n items of an array, tag and mode staying
-abbrev pub with_first_items : ℕ → Option Trees → Tree → Tree
-with_first_items n None t = t
-with_first_items n (Some ts) t = with_content (branch array (first_trees n ts)) t
-
 -- what a scanner makes of one value: another tag; 0 in place of an int; unit in place of a holder; fewer items of an array
 abbrev pub scanned : Scanner → Tree → Tree
 scanned (scanner.Tags g) t = with_tag g t
 scanned scanner.Zero t = with_int (pos 0) t
 scanned scanner.NoShare t = if is_some (cell_of t) then fresh unit else t
-scanned (scanner.Cut n) t = with_first_items n (array_of t) t
+scanned (scanner.Cut n) t = option_map_or (λ ts. with_content (branch array (first_trees n ts)) t) (array_of t) t
 
 -- each visit counts, up to the greatest number of 64 bits
 abbrev pub visited : Visiting Visits

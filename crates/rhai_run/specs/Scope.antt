@@ -10,13 +10,3 @@ use Rattle.rhai_run.specs.Outcome.{Outcome, growing, with_value}
 -- the value, painted with a mode, goes into a new last entry, and unit stands in its place
 abbrev pub moved_into_entry : (Tree → AccessMode) → State → List ℕ → ℕ → Outcome
 moved_into_entry mode w name i = with_value w i (λ t. growing done (with_scope w (pushed (mode t) name t w.entries) (moved_from w.hand i)))
-
--- an answer where there is one
-abbrev pub or_nothing : {X : Type 0} → (X → Reply) → Option X → Reply
-or_nothing reply None = nothing
-or_nothing reply (Some x) = reply x
-
--- hash bytes, or that there are none
-abbrev pub bytes_or_refused : Option (List ℕ) → Reply
-bytes_or_refused None = refused not_hashable
-bytes_or_refused (Some bs) = bytes bs

@@ -1,5 +1,6 @@
 -- What steps that write back one part of a value are made of.
 use Rattle.std.specs.Prelude.{◌≡◌, ℕ, ℤ, Bool, true, false, nat_lt, if◌then◌else◌, List, [], length, codes, Option, Some, None, is_some, Result, Ok, Err}
+use Rattle.std.specs.Option.{option_map_or}
 use Rattle.rhai_value.specs.declared.store.Cell.{Cell}
 use Rattle.rhai_value.specs.Tree.{Tree}
 use Rattle.rhai_value.specs.Parts.{int_of, blob_of, text_of}
@@ -12,7 +13,7 @@ use Rattle.rhai_run.specs.declared.pieces.Piece.{Piece}
 use Rattle.rhai_run.specs.declared.pieces.Piece.TheVariants as piece
 use Rattle.rhai_run.specs.State.{State}
 use Rattle.rhai_run.specs.Reply.{Reason, reason_of, done, wrong_source, bit_place, byte_place, fault, wrong_type}
-use Rattle.rhai_run.specs.Outcome.{Outcome, growing_if, refuse}
+use Rattle.rhai_run.specs.Outcome.{Outcome, given, growing_if, refuse}
 use Rattle.rhai_run.specs.Change.{nowhere}
 use Rattle.rhai_run.specs.Places.{with_place_and, put_at}
 
@@ -20,7 +21,7 @@ use Rattle.rhai_run.specs.Places.{with_place_and, put_at}
 abbrev pub slice_from : ℕ → ℕ → Bool → Piece
 slice_from start end exclusive = piece.Characters (record { start = start; end = end; exclusive = exclusive })
 
--- why what is held has no such bit, byte, or text: another type is held, or the place is past its end
+-- why what is held has no such bit or byte: another type is held, or the place is past its end
 abbrev pub no_bit : Option ℤ → ℕ → Option Reason
 no_bit None place = Some wrong_source
 no_bit (Some n) place = if nat_lt place 64 then None else Some bit_place
@@ -29,17 +30,13 @@ abbrev pub no_byte : Option (List ℕ) → ℕ → Option Reason
 no_byte None index = Some wrong_source
 no_byte (Some bytes) index = if nat_lt index (length bytes) then None else Some byte_place
 
-abbrev pub no_text : Option (List ℕ) → Option Reason
-no_text None = Some wrong_source
-no_text (Some characters) = None
-
 -- why a source, whose chain ends here, lacks a piece
 abbrev pub lack : Piece → End → Option Reason
 lack (piece.Bit place) e = no_bit (held_part int_of e) place
 lack (piece.Field mask shift) e = no_bit (held_part int_of e) shift
 lack (piece.Byte index) e = no_byte (held_part blob_of e) index
-lack (piece.Character index) e = no_text (held_part text_of e)
-lack (piece.Characters slice) e = no_text (held_part text_of e)
+lack (piece.Character index) e = if is_some (held_part text_of e) then None else Some wrong_source
+lack (piece.Characters slice) e = if is_some (held_part text_of e) then None else Some wrong_source
 
 -- what a working value makes of a source, if it is of the type that is wanted
 abbrev pub change : Piece → List Cell → Tree → Tree → Change
@@ -76,20 +73,11 @@ IsWorking p (Err Memory) s u = ((source : Tree) → is_some (change p s source u
 abbrev pub changed_by : State → Place → Change → Tree → State
 changed_by w place c t = put_at w (store_changed c (end w.store [] t) w.store) place (value_changed c (end w.store [] t) t)
 
--- the same, or the refusal of a working value of another type
-abbrev pub changed_or_refused : State → Place → Piece → Change → Tree → List ℕ → Outcome
-changed_or_refused w place p None t held = refuse (fault (wrong_type (wanted p) held nowhere)) w
-changed_or_refused w place p (Some f) t held = growing_if (makes_text p) done (changed_by w place (Some f) t)
-
--- what is done where nothing is lacking
-abbrev pub lacking : Option Reason → State → Outcome → Outcome
-lacking None w o = o
-lacking (Some why) w o = refuse why w
-
--- the working value u is written to a piece of the value t
+-- The working value u is written to a piece of the value t: what is lacking is refused first, and then a value of another type than wanted.
 abbrev pub written_back : State → Place → Piece → Tree → Tree → Outcome
 written_back w place p t u =
-    lacking (lack p (end w.store [] t)) w (changed_or_refused w place p (change p w.store t u) t (end_name (end w.store [] u)))
+    option_map_or (λ why. refuse why w) (lack p (end w.store [] t)) (given (change p w.store t u) (fault (wrong_type (wanted p) (end_name (end w.store [] u)) nowhere)) w
+    (λ f. growing_if (makes_text p) done (changed_by w place (Some f) t)))
 
 abbrev pub step_write_back : State → Place → Piece → ℕ → Outcome
 step_write_back w place p j = with_place_and w place j (λ t u. written_back w place p t u)

@@ -37,7 +37,7 @@ impl WorldState {
     {
         match hashed(self.alloc, self.value(i)?, &self.store)? {
             None => Err(NotDone::Refused(Refusal::NotHashable)),
-            Some(hashed) => Ok(Answer::Bytes(hashed.into_bytes())),
+            Some(hashed) => Ok(Answer::Bytes(hashed.into_bytes(self.alloc)?)),
         }
     }
 

@@ -20,8 +20,10 @@ pub enum StoppedBoth {
     Second(Vec<Answer>, Stopped),
 }
 
-/// Does commands in order on one world, and then on another. Where the worlds corresponded, the answers are equal, and the worlds
-/// correspond at the end. Costs two runs.
+/// Runs commands in order on one world, and then on another. Where the worlds corresponded, the answers are equal, and the
+/// worlds correspond at the end.
+/// Errors: in which run memory was refused, with what was answered until then; both worlds can be run again.
+/// Cost: two runs.
 #[tactic(auto, using(crate::proofs::Runs::ends_alike))]
 pub fn run_both(
     first: &mut World,

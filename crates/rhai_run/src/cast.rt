@@ -30,44 +30,44 @@ fn held_type_of(kind: TypeId) -> TypeId
 }
 
 /// Whether a value is of a type.
-pub(crate) fn is_value_of(value: &Dynamic, s: &Store, kind: TypeId) -> bool
-    ensures { result ≡ is_value_of kind value.now (end s.now [] value.now) }
+pub(crate) fn is_value_of(value: &Dynamic, store: &Store, kind: TypeId) -> bool
+    ensures { result ≡ is_value_of kind value.now (end store.now [] value.now) }
 {
     let wanted = if value.is_shared() {
         kind
     } else {
         held_type_of(kind)
     };
-    kind != TypeId::Shared && value.type_id(s) == wanted
+    kind != TypeId::Shared && value.type_id(store) == wanted
 }
 
 /// Whether a type is that of values which can be cast to this one.
 #[tactic(auto, using(crate::proofs::Casts::castable_other))]
-fn holds_castable(value: &Dynamic, s: &Store, kind: TypeId) -> bool
-    ensures { result ≡ is_castable kind (end s.now [] value.now) }
+fn holds_castable(value: &Dynamic, store: &Store, kind: TypeId) -> bool
+    ensures { result ≡ is_castable kind (end store.now [] value.now) }
 {
-    kind == TypeId::Dynamic || held_type_of(kind) == value.type_id(s)
+    kind == TypeId::Dynamic || held_type_of(kind) == value.type_id(store)
 }
 
 /// Whether a value can be cast to a type.
 #[tactic(auto, using(crate::proofs::Casts::read_by_type))]
-pub(crate) fn can_cast(value: &Dynamic, s: &Store, kind: TypeId) -> bool
-    ensures read { result ≡ is_some (read_as kind (flat s.now value.now)) }
-    ensures castable { IsTrue result → is_castable kind (end s.now [] value.now) ≡ true }
+pub(crate) fn can_cast(value: &Dynamic, store: &Store, kind: TypeId) -> bool
+    ensures read { result ≡ is_some (read_as kind (flat store.now value.now)) }
+    ensures castable { IsTrue result → is_castable kind (end store.now [] value.now) ≡ true }
     ensures known { IsTrue result → is_type kind type_id.Shared ≡ false }
 {
     if kind == TypeId::Shared {
         return false;
     }
-    holds_castable(value, s, kind)
+    holds_castable(value, store, kind)
 }
 
 /// A copy of a value without its holders as a type.
-fn cast_as<T: Variant>(value: &Dynamic, alloc: Global, s: &Store) -> Result<Dynamic, AllocError>
-    requires { is_castable T.KIND (end s.now [] value.now) ≡ true }
-    ensures { IfOk result (λ d. read T.KIND (flat s.now value.now) ≡ Some d) }
+fn cast_as<T: Variant>(value: &Dynamic, alloc: Global, store: &Store) -> Result<Dynamic, AllocError>
+    requires { is_castable T.KIND (end store.now [] value.now) ≡ true }
+    ensures { IfOk result (λ d. read T.KIND (flat store.now value.now) ≡ Some d) }
 {
-    let x = value.clone_cast::<T>(alloc, s)?;
+    let x = value.clone_cast::<T>(alloc, store)?;
     match Dynamic::of(alloc, x) {
         Ok(value) => Ok(value),
         Err(_) => Err(AllocError),
@@ -78,36 +78,36 @@ fn cast_as<T: Variant>(value: &Dynamic, alloc: Global, s: &Store) -> Result<Dyna
 pub(crate) fn cast_to(
     value: &Dynamic,
     alloc: Global,
-    s: &Store,
+    store: &Store,
     kind: TypeId,
 ) -> Result<Dynamic, AllocError>
-    requires castable { is_castable kind (end s.now [] value.now) ≡ true }
+    requires castable { is_castable kind (end store.now [] value.now) ≡ true }
     requires known { is_type kind type_id.Shared ≡ false }
-    ensures { IfOk result (λ d. read kind (flat s.now value.now) ≡ Some d) }
+    ensures { IfOk result (λ d. read kind (flat store.now value.now) ≡ Some d) }
 {
     match kind {
-        TypeId::Unit => cast_as::<()>(value, alloc, s),
-        TypeId::Bool => cast_as::<bool>(value, alloc, s),
-        TypeId::Char => cast_as::<char>(value, alloc, s),
-        TypeId::Int => cast_as::<INT>(value, alloc, s),
-        TypeId::U8 => cast_as::<u8>(value, alloc, s),
-        TypeId::U16 => cast_as::<u16>(value, alloc, s),
-        TypeId::U32 => cast_as::<u32>(value, alloc, s),
-        TypeId::U64 => cast_as::<u64>(value, alloc, s),
-        TypeId::U128 => cast_as::<u128>(value, alloc, s),
-        TypeId::I8 => cast_as::<i8>(value, alloc, s),
-        TypeId::I16 => cast_as::<i16>(value, alloc, s),
-        TypeId::I32 => cast_as::<i32>(value, alloc, s),
-        TypeId::I128 => cast_as::<i128>(value, alloc, s),
-        TypeId::String => cast_as::<String>(value, alloc, s),
-        TypeId::ImmutableString => cast_as::<ImmutableString>(value, alloc, s),
-        TypeId::Array => cast_as::<Array>(value, alloc, s),
-        TypeId::Blob => cast_as::<Blob>(value, alloc, s),
-        TypeId::Map => cast_as::<Map>(value, alloc, s),
-        TypeId::FnPtr => cast_as::<FnPtr>(value, alloc, s),
-        TypeId::ExclusiveRange => cast_as::<ExclusiveRange>(value, alloc, s),
-        TypeId::InclusiveRange => cast_as::<InclusiveRange>(value, alloc, s),
-        TypeId::Dynamic => cast_as::<Dynamic>(value, alloc, s),
+        TypeId::Unit => cast_as::<()>(value, alloc, store),
+        TypeId::Bool => cast_as::<bool>(value, alloc, store),
+        TypeId::Char => cast_as::<char>(value, alloc, store),
+        TypeId::Int => cast_as::<INT>(value, alloc, store),
+        TypeId::U8 => cast_as::<u8>(value, alloc, store),
+        TypeId::U16 => cast_as::<u16>(value, alloc, store),
+        TypeId::U32 => cast_as::<u32>(value, alloc, store),
+        TypeId::U64 => cast_as::<u64>(value, alloc, store),
+        TypeId::U128 => cast_as::<u128>(value, alloc, store),
+        TypeId::I8 => cast_as::<i8>(value, alloc, store),
+        TypeId::I16 => cast_as::<i16>(value, alloc, store),
+        TypeId::I32 => cast_as::<i32>(value, alloc, store),
+        TypeId::I128 => cast_as::<i128>(value, alloc, store),
+        TypeId::String => cast_as::<String>(value, alloc, store),
+        TypeId::ImmutableString => cast_as::<ImmutableString>(value, alloc, store),
+        TypeId::Array => cast_as::<Array>(value, alloc, store),
+        TypeId::Blob => cast_as::<Blob>(value, alloc, store),
+        TypeId::Map => cast_as::<Map>(value, alloc, store),
+        TypeId::FnPtr => cast_as::<FnPtr>(value, alloc, store),
+        TypeId::ExclusiveRange => cast_as::<ExclusiveRange>(value, alloc, store),
+        TypeId::InclusiveRange => cast_as::<InclusiveRange>(value, alloc, store),
+        TypeId::Dynamic => cast_as::<Dynamic>(value, alloc, store),
         // `TypeId` names what is held too, of which this one is the type of what can't be looked into.
         TypeId::Shared => unreachable!(),
     }
@@ -115,10 +115,10 @@ pub(crate) fn cast_to(
 
 /// Whether what a value is without its holders can be read as a type.
 #[tactic(auto, using(crate::proofs::Casts::moved_by_type))]
-pub(crate) fn can_move(value: &Dynamic, s: &Store, kind: TypeId) -> bool
-    ensures { result ≡ is_some (read_as kind (flattened s.now value.now)) }
+pub(crate) fn can_move(value: &Dynamic, store: &Store, kind: TypeId) -> bool
+    ensures { result ≡ is_some (read_as kind (flattened store.now value.now)) }
 {
-    can_cast(value, s, kind)
+    can_cast(value, store, kind)
 }
 
 /// The value with tag 0 and mode ReadWrite, what stands in it being as it was.

@@ -5,10 +5,10 @@ ghost use Rattle.rhai_run.specs.Step.{step};
 
 use crate::answer::{Answer, Refusal};
 use crate::command::Scanner;
-use crate::lent::write_over;
 use crate::not_done::NotDone;
 use crate::place::differ;
 use crate::scanners::Visits;
+use crate::slots::write_over;
 use crate::vectors::replace_at;
 use crate::world_state::WorldState;
 use rhai_text::{EvalAltResult, Position};

@@ -151,9 +151,11 @@ pub enum Command {
     PushConstant(ImmutableString, usize),
     /// Moves the value at the hand position over the value of the last entry of the name, and leaves unit.
     SetEntry(ImmutableString, usize),
-    /// The same; where there is no such entry that may be written, the value goes into a new one.
+    /// Moves the value at the hand position over the value of the last entry of the name, and leaves unit; where there is
+    /// no such entry that may be written, the value goes into a new one.
     SetOrPush(ImmutableString, usize),
-    /// The same; where there is no such entry, the value goes into a new one.
+    /// Moves the value at the hand position over the value of the last entry of the name, and leaves unit; where there is
+    /// no such entry, the value goes into a new one.
     SetValue(ImmutableString, usize),
     /// Drops the last entry.
     Pop,
@@ -196,7 +198,8 @@ pub enum Command {
     /// Takes as many values off the end of the hand as there are names, and adds an entry of each name with its value, which may be
     /// written.
     Extend(Names),
-    /// The same; an entry is a constant where its name is flagged.
+    /// Takes as many values off the end of the hand as there are names, and adds an entry of each name with its value,
+    /// which is a constant where its name is flagged.
     ExtendFlagged(FlaggedNames),
     /// Answers the text of the scope.
     ShowScope,

@@ -24,13 +24,18 @@ use std::alloc::{AllocError, Global};
 
 /// Takes the entry at a position out, and answers its value without its holders; the entry stays where memory is refused.
 #[tactic(auto, using(rhai_scope::proofs::ForCallers::length_changed, rhai_scope::proofs::ForCallers::value_changed, rhai_scope::proofs::ForCallers::taken, rhai_scope::proofs::ForCallers::kept_there))]
-fn take_flat(scope: &mut Scope, k: usize, alloc: Global, s: &Store) -> Result<Dynamic, AllocError>
+fn take_flat(
+    scope: &mut Scope,
+    k: usize,
+    alloc: Global,
+    store: &Store,
+) -> Result<Dynamic, AllocError>
     requires { k < length scope.old }
-    ensures value { IfOk result (λ d. IfSome (option_map (λ e. e.value) (slice_get scope.old k)) (λ t. d ≡ flattened s.now t)) }
+    ensures value { IfOk result (λ d. IfSome (option_map (λ e. e.value) (slice_get scope.old k)) (λ t. d ≡ flattened store.now t)) }
     ensures left { OnOk result (scope.new ≡ remove scope.old k) }
     ensures err { OnErr result (scope.new ≡ scope.old) }
 {
-    scope.at_mut(k).flatten_in_place(alloc, s)?;
+    scope.at_mut(k).flatten_in_place(alloc, store)?;
     Ok(scope.remove_at(k))
 }
 

@@ -11,10 +11,10 @@ ghost use Rattle.rhai_run.specs.Step.{step};
 
 use crate::answer::{Answer, Refusal};
 use crate::command::Place;
-use crate::lent::Places;
 use crate::not_done::NotDone;
 use crate::place::{differ, is_apart};
 use crate::slot::Slot;
+use crate::slots::Slots;
 use crate::vectors::replace_at;
 use crate::world_state::WorldState;
 use rhai_ops::laws::{operators_write_nothing, rows_suit};
@@ -27,26 +27,26 @@ use std::alloc::Global;
 fn answer_of(
     row: FnBuiltin,
     alloc: Global,
-    m: &mut Store,
+    store: &mut Store,
     limits: &Limits,
     x: &mut Dynamic,
     y: &mut Dynamic,
 ) -> Result<Dynamic, EvalAltResult>
-    requires suits { Suits row m.old x.old y.old }
+    requires suits { Suits row store.old x.old y.old }
     requires operator { effect row ≡ operator }
-    ensures result { IsOutcome (MayWant row x.old y.old) result (outcome row limits.now m.old x.old y.old) }
+    ensures result { IsOutcome (MayWant row x.old y.old) result (outcome row limits.now store.old x.old y.old) }
     ensures first { x.new ≡ x.old }
     ensures second { y.new ≡ y.old }
-    ensures store { m.new ≡ m.old }
+    ensures store { store.new ≡ store.old }
 {
-    row.call(alloc, m, limits, x, y)
+    row.call(alloc, store, limits, x, y)
 }
 
 /// Calls a row of an operator on the values at two places, which stay as they are.
 fn call_on(
     row: FnBuiltin,
     alloc: Global,
-    m: &mut Store,
+    store: &mut Store,
     limits: &Limits,
     values: &mut Vec<Dynamic>,
     i: usize,
@@ -54,16 +54,16 @@ fn call_on(
 ) -> Result<Dynamic, EvalAltResult>
     requires within { (i < vec_len values.old) × (j < vec_len values.old) }
     requires apart { nat_eq i j ≡ false }
-    requires suits { Suits row m.old (value_at values.old.items i) (value_at values.old.items j) }
+    requires suits { Suits row store.old (value_at values.old.items i) (value_at values.old.items j) }
     requires operator { effect row ≡ operator }
     ensures result { IsOutcome (MayWant row (value_at values.old.items i) (value_at values.old.items j)) result
-        (outcome row limits.now m.old (value_at values.old.items i) (value_at values.old.items j)) }
+        (outcome row limits.now store.old (value_at values.old.items i) (value_at values.old.items j)) }
     ensures values { values.new.items ≡ values.old.items }
-    ensures store { m.new ≡ m.old }
+    ensures store { store.new ≡ store.old }
 {
     let mut x = replace_at(values, i, Dynamic::UNIT);
     let mut y = replace_at(values, j, Dynamic::UNIT);
-    let result = answer_of(row, alloc, m, limits, &mut x, &mut y);
+    let result = answer_of(row, alloc, store, limits, &mut x, &mut y);
     values[j] = y;
     values[i] = x;
     result
@@ -118,7 +118,7 @@ impl WorldState {
         ensures err { OnErr result ((self.new ≡ self.old) × (y.new ≡ y.old)) }
         ensures len { length self.new.hand ≡ length self.old.hand }
     {
-        let mut places = Places {
+        let mut places = Slots {
             hand: &mut self.hand,
             scope: &mut self.scope,
         };

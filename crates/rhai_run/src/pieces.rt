@@ -1,5 +1,6 @@
 //! Parts of values that are written back.
-ghost use Rattle.std.specs.Prelude.{◌≡◌, [], true, is_some, None, OnOk, OnErr};
+ghost use Rattle.std.specs.Prelude.{◌≡◌, [], true, is_some, Some, None, if◌then◌else◌, OnOk, OnErr};
+ghost use Rattle.rhai_run.specs.Reply.{wrong_source};
 ghost use Rattle.rhai_text.specs.declared.error.EvalAltResult.TheVariants.{ErrorMismatchDataType};
 ghost use Rattle.rhai_text.specs.contracts.position.Position;
 ghost use Rattle.rhai_value.specs.End.{end, held_part};
@@ -7,7 +8,7 @@ ghost use Rattle.rhai_value.specs.Parts.{int_of, blob_of, text_of};
 ghost use Rattle.rhai_target.specs.Change.{value_changed, store_changed};
 ghost use Rattle.rhai_run.specs.declared.answer.Refusal.TheVariants.{Fault};
 ghost use Rattle.rhai_run.specs.declared.not_done.NotDone.TheVariants.{Refused};
-ghost use Rattle.rhai_run.specs.WriteBack.{no_bit, no_byte, no_text, lack, change, makes_text, IsWorking};
+ghost use Rattle.rhai_run.specs.WriteBack.{no_bit, no_byte, lack, change, makes_text, IsWorking};
 ghost use Rattle.rhai_run.specs.Does.{Tests};
 
 use crate::answer::Refusal;
@@ -44,10 +45,10 @@ fn wrong_type(wanted: &'static str, found: &'static str) -> NotDone
 }
 
 /// Whether a source holds an int, and an int has the bit.
-fn has_bit(source: &Dynamic, m: &Store, place: u8) -> Result<(), NotDone>
-    ensures { Tests result (no_bit (held_part int_of (end m.now [] source.now)) place) }
+fn has_bit(source: &Dynamic, store: &Store, place: u8) -> Result<(), NotDone>
+    ensures { Tests result (no_bit (held_part int_of (end store.now [] source.now)) place) }
 {
-    if !source.is_int(m) {
+    if !source.is_int(store) {
         return Err(NotDone::Refused(Refusal::WrongSource));
     }
     if place >= 64 {
@@ -57,10 +58,10 @@ fn has_bit(source: &Dynamic, m: &Store, place: u8) -> Result<(), NotDone>
 }
 
 /// Whether a source holds a blob that has the byte.
-fn has_byte(source: &Dynamic, m: &Store, index: usize) -> Result<(), NotDone>
-    ensures { Tests result (no_byte (held_part blob_of (end m.now [] source.now)) index) }
+fn has_byte(source: &Dynamic, store: &Store, index: usize) -> Result<(), NotDone>
+    ensures { Tests result (no_byte (held_part blob_of (end store.now [] source.now)) index) }
 {
-    match source.held_part::<Blob>(m) {
+    match source.held_part::<Blob>(store) {
         None => Err(NotDone::Refused(Refusal::WrongSource)),
         Some(bytes) if index >= bytes.len() => Err(NotDone::Refused(Refusal::BytePlace)),
         Some(_) => Ok(()),
@@ -68,10 +69,10 @@ fn has_byte(source: &Dynamic, m: &Store, index: usize) -> Result<(), NotDone>
 }
 
 /// Whether a source holds a text.
-fn has_text(source: &Dynamic, m: &Store) -> Result<(), NotDone>
-    ensures { Tests result (no_text (held_part text_of (end m.now [] source.now))) }
+fn has_text(source: &Dynamic, store: &Store) -> Result<(), NotDone>
+    ensures { Tests result (if is_some (held_part text_of (end store.now [] source.now)) then None else Some wrong_source) }
 {
-    if !source.is_string(m) {
+    if !source.is_string(store) {
         return Err(NotDone::Refused(Refusal::WrongSource));
     }
     Ok(())
@@ -79,15 +80,15 @@ fn has_text(source: &Dynamic, m: &Store) -> Result<(), NotDone>
 
 impl Piece {
     /// Whether a source has the piece.
-    pub(crate) fn is_in(self, source: &Dynamic, m: &Store) -> Result<(), NotDone>
-        ensures { Tests result (lack self (end m.now [] source.now)) }
+    pub(crate) fn is_in(self, source: &Dynamic, store: &Store) -> Result<(), NotDone>
+        ensures { Tests result (lack self (end store.now [] source.now)) }
     {
         match self {
-            Piece::Bit(place) => has_bit(source, m, place),
-            Piece::Field(_, shift) => has_bit(source, m, shift),
-            Piece::Byte(index) => has_byte(source, m, index),
-            Piece::Character(_) => has_text(source, m),
-            Piece::Characters(_) => has_text(source, m),
+            Piece::Bit(place) => has_bit(source, store, place),
+            Piece::Field(_, shift) => has_bit(source, store, shift),
+            Piece::Byte(index) => has_byte(source, store, index),
+            Piece::Character(_) => has_text(source, store),
+            Piece::Characters(_) => has_text(source, store),
         }
     }
 
@@ -97,24 +98,24 @@ impl Piece {
         self,
         value: &Dynamic,
         alloc: Global,
-        m: &Store,
+        store: &Store,
     ) -> Result<Dynamic, NotDone>
-        ensures { IsWorking self result m.now value.now }
+        ensures { IsWorking self result store.now value.now }
     {
         match self {
-            Piece::Bit(_) => match value.as_bool(m) {
+            Piece::Bit(_) => match value.as_bool(store) {
                 Ok(is_set) => Ok(Dynamic::from_bool(is_set)),
                 Err(found) => Err(wrong_type("bool", found)),
             },
-            Piece::Field(..) => match value.as_int(m) {
+            Piece::Field(..) => match value.as_int(store) {
                 Ok(bits) => Ok(Dynamic::from_int(bits)),
                 Err(found) => Err(wrong_type("integer", found)),
             },
-            Piece::Byte(_) => match value.as_int(m) {
+            Piece::Byte(_) => match value.as_int(store) {
                 Ok(number) => Ok(Dynamic::from_int(number)),
                 Err(found) => Err(wrong_type("INT", found)),
             },
-            Piece::Character(_) => match value.as_char(m) {
+            Piece::Character(_) => match value.as_char(store) {
                 Ok(character) => Ok(Dynamic::from_char(character)),
                 Err(found) => Err(wrong_type("char", found)),
             },
@@ -130,23 +131,30 @@ impl Piece {
         self,
         source: &mut Dynamic,
         alloc: Global,
-        m: &mut Store,
+        store: &mut Store,
         value: &Dynamic,
     ) -> Result<(), AllocError>
-        requires there { lack self (end m.old [] source.old) ≡ None }
-        requires working { is_some (change self m.old source.old value.now) ≡ true }
-        ensures own { OnOk result (source.new ≡ value_changed (change self m.old source.old value.now) (end m.old [] source.old) source.old) }
-        ensures store { OnOk result (m.new ≡ store_changed (change self m.old source.old value.now) (end m.old [] source.old) m.old) }
-        ensures err { OnErr result ((source.new ≡ source.old) × (m.new ≡ m.old) × (makes_text self ≡ true)) }
+        requires there { lack self (end store.old [] source.old) ≡ None }
+        requires working { is_some (change self store.old source.old value.now) ≡ true }
+        ensures own { OnOk result (source.new ≡ value_changed (change self store.old source.old value.now) (end store.old [] source.old) source.old) }
+        ensures store { OnOk result (store.new ≡ store_changed (change self store.old source.old value.now) (end store.old [] source.old) store.old) }
+        ensures err { OnErr result ((source.new ≡ source.old) × (store.new ≡ store.old) × (makes_text self ≡ true)) }
     {
         let done = match self {
-            Piece::Bit(place) => write_bit(source, m, value, place, Position::NONE),
+            Piece::Bit(place) => write_bit(source, store, value, place, Position::NONE),
             Piece::Field(mask, shift) => {
-                write_field(source, m, value, mask, shift, Position::NONE)
+                write_field(source, store, value, mask, shift, Position::NONE)
             }
-            Piece::Byte(index) => write_byte(source, m, value, index, Position::NONE),
-            Piece::Character(index) => write_char(source, alloc, m, value, index, Position::NONE),
-            Piece::Characters(slice) => return write_slice(source, alloc, m, value, slice),
+            Piece::Byte(index) => write_byte(source, store, value, index, Position::NONE),
+            Piece::Character(index) => write_char(
+                source,
+                alloc,
+                store,
+                value,
+                index,
+                Position::NONE,
+            ),
+            Piece::Characters(slice) => return write_slice(source, alloc, store, value, slice),
         };
         match done {
             Ok(()) => Ok(()),

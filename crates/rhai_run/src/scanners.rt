@@ -1,8 +1,10 @@
 //! What a scan does with each value that it comes to.
 
 ghost use Rattle.std.specs.Prelude.{◌≡◌, pos};
-ghost use Rattle.rhai_value.specs.Parts.{array_of, with_int};
-ghost use Rattle.rhai_run.specs.Scanners.{with_first_items};
+ghost use Rattle.rhai_value.specs.Tree.{branch, array};
+ghost use Rattle.rhai_run.specs.Scanners.{first_trees};
+ghost use Rattle.std.specs.Option.{option_map_or};
+ghost use Rattle.rhai_value.specs.Parts.{array_of, with_int, with_content};
 
 use crate::command::Scanner;
 use rhai_value::{Array, Dynamic, INT, Part, Visitor};
@@ -24,7 +26,7 @@ fn make_zero(value: &mut Dynamic)
 
 #[tactic(auto, using(crate::proofs::Kept::first_kept))]
 fn keep_first(value: &mut Dynamic, len: usize)
-    ensures { value.new ≡ with_first_items len (array_of value.old) value.old }
+    ensures { value.new ≡ option_map_or (λ ts. with_content (branch array (first_trees len ts)) value.old) (array_of value.old) value.old }
 {
     if let Some(items) = Array::own_mut(value) {
         items.truncate(len);

@@ -145,7 +145,7 @@ impl WorldState {
     {
         match self.scope.hashed(&self.store)? {
             None => Err(NotDone::Refused(Refusal::NotHashable)),
-            Some(hashed) => Ok(Answer::Bytes(hashed.into_bytes())),
+            Some(hashed) => Ok(Answer::Bytes(hashed.into_bytes(self.alloc)?)),
         }
     }
 }

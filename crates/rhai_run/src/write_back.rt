@@ -10,10 +10,10 @@ ghost use Rattle.rhai_run.specs.Step.{step};
 
 use crate::answer::Answer;
 use crate::command::Place;
-use crate::lent::Places;
 use crate::not_done::NotDone;
 use crate::pieces::Piece;
 use crate::slot::Slot;
+use crate::slots::Slots;
 use crate::world_state::WorldState;
 use rhai_target::Slice;
 use rhai_value::{Dynamic, INT};
@@ -29,7 +29,7 @@ impl WorldState {
             self.new ≡ changed_in self.old slot (change piece self.old.store t value.now) t)) }
         ensures err { OnErr result ((self.new ≡ self.old) × (makes_text piece ≡ true)) }
     {
-        let mut places = Places {
+        let mut places = Slots {
             hand: &mut self.hand,
             scope: &mut self.scope,
         };
@@ -38,7 +38,7 @@ impl WorldState {
     }
 
     /// Writes the value at a hand position to a piece of the one at a place.
-    #[tactic(auto, using(crate::proofs::Slots::source_is, crate::proofs::Slots::same_change))]
+    #[tactic(auto, using(crate::proofs::InSlots::source_is, crate::proofs::InSlots::same_change))]
     fn write_back(&mut self, place: &Place, piece: Piece, j: usize) -> Result<Answer, NotDone>
         ensures { Does result self.old self.new (step_write_back self.old place.now piece j) }
     {

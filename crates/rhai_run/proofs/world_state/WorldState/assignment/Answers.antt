@@ -6,7 +6,7 @@ use Rattle.rhai_run.specs.StateCode.{state_of}
 use Rattle.rhai_run.specs.Places.{source}
 use Rattle.rhai_run.specs.Slots.{slot_of, value_in}
 use Rattle.rhai_run.proofs.Assigns.{assign_is}
-use Rattle.rhai_run.proofs.Slots.{slot_apart, source_is}
+use Rattle.rhai_run.proofs.InSlots.{slot_apart, source_is}
 use Rattle.rhai_run.proofs.world_state.WorldState.assignment.Goals as goal
 
 pub returns : goal.returns

@@ -18,8 +18,8 @@ returns-then-not-set_int c =
     let t = c.index_mut-target.result.now in
     let stays = c.if-not-set_int.ensures.stays in
     let name = c.type_name-name.result.now in
-    subst (λ v. (refused (mismatch name) ≡ (step v (command.WriteInt c.args.i c.args.value)).reply) × (with_cells w c.set_int.new.m (slice_set w.hand c.args.i c.set_int.new.self) ≡ (step v (command.WriteInt c.args.i c.args.value)).after)) c.self.view_is
-    (int_refused w c.args.i c.args.value t c.set_int.new.self c.set_int.new.m name (slice_get_read w.hand (length w.hand) c.args.i t refl within c.index_mut-target.ensures.value)
+    subst (λ v. (refused (mismatch name) ≡ (step v (command.WriteInt c.args.i c.args.value)).reply) × (with_cells w c.set_int.new.store (slice_set w.hand c.args.i c.set_int.new.self) ≡ (step v (command.WriteInt c.args.i c.args.value)).after)) c.self.view_is
+    (int_refused w c.args.i c.args.value t c.set_int.new.self c.set_int.new.store name (slice_get_read w.hand (length w.hand) c.args.i t refl within c.index_mut-target.ensures.value)
     (sym c.if-not-set_int.ensures.is_int) stays (c.type_name-name.ensures ∙ ap₂ (λ s d. end_name (end s [] d)) stays.1 stays.0))
 
 pub returns : goal.returns
@@ -29,7 +29,7 @@ returns c =
     let t = c.index_mut-target.result.now in
     let e = end w.store [] t in
     let back = to_z-of_z w64 c.args.value c.ranges.value in
-    subst (λ v. (done ≡ (step v (command.WriteInt c.args.i c.args.value)).reply) × (with_cells w c.set_int.new.m (slice_set w.hand c.args.i c.set_int.new.self) ≡ (step v (command.WriteInt c.args.i c.args.value)).after)) c.self.view_is
-    (int_done w c.args.i c.args.value t c.set_int.new.self c.set_int.new.m (slice_get_read w.hand (length w.hand) c.args.i t refl within c.index_mut-target.ensures.value)
+    subst (λ v. (done ≡ (step v (command.WriteInt c.args.i c.args.value)).reply) × (with_cells w c.set_int.new.store (slice_set w.hand c.args.i c.set_int.new.self) ≡ (step v (command.WriteInt c.args.i c.args.value)).after)) c.self.view_is
+    (int_done w c.args.i c.args.value t c.set_int.new.self c.set_int.new.store (slice_get_read w.hand (length w.hand) c.args.i t refl within c.index_mut-target.ensures.value)
     (sym c.if-not-set_int.ensures.is_int)
     (c.set_int.ensures.own ∙ ap (λ z. value_after (with_int z) e t) back, c.set_int.ensures.store ∙ ap (λ z. store_after (with_int z) e w.store) back))

@@ -3,7 +3,7 @@ use Rattle.std.proofs.lemmas.Option.{slice_get_read}
 use Rattle.rhai_run.specs.Lent.{placed_in}
 use Rattle.rhai_run.specs.Slots.{value_in}
 use Rattle.rhai_run.proofs.SlotValues.{hand_within, entry_within}
-use Rattle.rhai_run.proofs.lent.Places.at_mut.Goals as goal
+use Rattle.rhai_run.proofs.slots.Slots.at_mut.Goals as goal
 
 pub returns-in-Hand : goal.returns-in-Hand
 returns-in-Hand c =

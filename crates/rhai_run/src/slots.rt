@@ -24,12 +24,12 @@ pub(crate) fn write_over(value: &mut Dynamic, store: &mut Store, content: Dynami
 
 /// What commands write to: the hand and the scope.
 #[derive(Drop)]
-pub(crate) struct Places<'a> {
+pub(crate) struct Slots<'a> {
     pub(crate) hand: &'a mut Vec<Dynamic>,
     pub(crate) scope: &'a mut Scope,
 }
 
-impl<'a> Places<'a> {
+impl<'a> Slots<'a> {
     /// The value in a slot, to write.
     pub(crate) fn at_mut(&mut self, slot: Slot) -> &mut Dynamic
         requires { is_some (value_in self.old.hand.now.items self.old.scope.now slot) ≡ true }

@@ -1,16 +1,18 @@
 -- How an answered front of the input grows.
-use Rattle.std.proofs.Common.{◌≡◌, ℕ, suc, ◌+◌, ◌<◌, Bool, true, false, cond, ◌==◌, List, [], ◌∷◌, ◌++◌, length, take, drop, get_or, Option, Some, None, All, refl, sym, ap, ◌∙◌, subst, arith, append_assoc, append-nil, add-one}
+use Rattle.std.proofs.Common.{◌≡◌, ℕ, suc, ◌+◌, ◌<◌, Bool, true, false, cond, ◌==◌, List, [], ◌∷◌, ◌++◌, length, take, drop, get_or, Option, Some, None, All, refl, sym, ap, ◌∙◌, subst, arith, append_assoc, append-nil, add-one, take_all}
 use Rattle.std.specs.Io.KnownBytes.{Appends, Keeps}
 use Rattle.std.specs.List.{slice_split, onto_first}
-use Rattle.std.proofs.lemmas.List.Elements.{All-nil, All-push}
+use Rattle.std.proofs.lemmas.List.Elements.{All-nil, All-append, All-from_get_or}
 use Rattle.std.proofs.lemmas.List.Splits.{slice_split_at, slice_split_none}
+use Rattle.std.proofs.lemmas.Bool.{eqb-true}
 use Rattle.std.proofs.lemmas.Bool.Decides.{nat_tests}
-use Rattle.std.proofs.Math.Seq.{take-append_seam, take-suc}
-use Rattle.std.proofs.lemmas.List.{take-append-drop}
+use Rattle.std.proofs.Math.Seq.{split_at, take-append_seam}
+use Rattle.std.proofs.lemmas.List.{append_cancel_left, get_or-take, length-take}
+use Rattle.memchr.specs.Find.{Nowhere, Passes, is_byte}
 use Rattle.rhai_run.specs.State.{State}
 use Rattle.rhai_lines.specs.Output.{lines_of, without_empty_rest, line_answer, line_state, answers_to_lines, state_after_lines, output_from, output_of_first_from}
 use Rattle.rhai_lines.proofs.Prints.{Appends-nil, Appends-more}
-use Rattle.rhai_lines.specs.Fed.{Fed, Feeds, StopsWithin, Completes}
+use Rattle.rhai_lines.specs.Fed.{AnswerAlike, HasNoFeed, Fed, Feeds, StopsWithin, Completes}
 
 -- ---- lines
 
@@ -36,6 +38,25 @@ lines_of-no_feed [] h n = absurd (n refl)
 lines_of-no_feed (b ∷ bs) h n =
     ap without_empty_rest (slice_split_none (λ b. b == 10) (b ∷ bs) h) ∙ ap (λ t. cond t [] ((b ∷ bs) ∷ [])) (not_zero (length bs))
 
+-- ---- the first line feed
+
+none_passes : (t : Bool) → (t ≡ true → ⊥) → t ≡ false
+none_passes true n = absurd (n refl)
+none_passes false n = refl
+
+pub no_feed_before : (bytes : List ℕ) (k : ℕ) → Nowhere (Passes (is_byte 10) bytes) 0 k → HasNoFeed (take k bytes)
+no_feed_before bytes k n =
+    All-from_get_or (λ b. (b == 10) ≡ false) (take k bytes) 0 (λ i l.
+    let below : i < k = search (arith, l, length-take k bytes) in
+    rw (get_or-take k bytes i 0 below) (none_passes (get_or bytes i 0 == 10) (n i (omega arith) below)))
+
+pub no_feed : (bytes : List ℕ) → Nowhere (Passes (is_byte 10) bytes) 0 (length bytes) → HasNoFeed bytes
+no_feed bytes n = subst HasNoFeed (take_all (length bytes) bytes (omega arith)) (no_feed_before bytes (length bytes) n)
+
+pub cut_at : (bytes : List ℕ) (k : ℕ) → k < length bytes → Passes (is_byte 10) bytes k → bytes ≡ take k bytes ++ 10 ∷ drop (k + 1) bytes
+cut_at bytes k l p =
+    split_at bytes k 0 l ∙ ap (λ b. take k bytes ++ b ∷ drop (suc k) bytes) (eqb-true (get_or bytes k 0) 10 p) ∙ ap (λ n. take k bytes ++ 10 ∷ drop n bytes) (sym (add-one k))
+
 -- ---- answers
 
 answers-push : (lines : List (List ℕ)) (w : State) (line : List ℕ) → answers_to_lines w (lines ++ line ∷ []) ≡ answers_to_lines w lines ++ line_answer (state_after_lines w lines) line
@@ -48,6 +69,14 @@ state-push : (lines : List (List ℕ)) (w : State) (line : List ℕ) → state_a
 state-push [] w line = refl
 state-push (l ∷ lines) w line = state-push lines (line_state w l) line
 
+alike_first : {w v : State} → AnswerAlike w v → (line : List ℕ) → line_answer w line ≡ line_answer v line
+alike_first {w} {v} h line = sym (append-nil (line_answer w line)) ∙ h (line ∷ []) ∙ append-nil (line_answer v line)
+
+alike_next : {w v : State} → AnswerAlike w v → (line : List ℕ) → AnswerAlike (line_state w line) (line_state v line)
+alike_next {w} {v} h line lines =
+    append_cancel_left (line_answer w line) (answers_to_lines (line_state w line) lines) (answers_to_lines (line_state v line) lines)
+    (h (line ∷ lines) ∙ ap (λ a. a ++ answers_to_lines (line_state v line) lines) (sym (alike_first h line)))
+
 pub Appends-kept : (old mid new : Option (List ℕ)) (a : List ℕ) → Appends old mid a → Keeps mid new → Appends old new a
 Appends-kept None mid new a h k = tt
 Appends-kept (Some xs) None new a h k = absurd h
@@ -57,23 +86,23 @@ Appends-kept (Some xs) (Some ys) (Some zs) a h k = k ∙ h
 -- ---- Fed
 
 pub fed_start : (input : List ℕ) (w : State) (old : Option (List ℕ)) → Fed input input [] w w old old
-fed_start input w old = record { lines = []; input_is = refl; has_no_feed = All-nil _; state_is = refl; replied = Appends-nil old }
+fed_start input w old = record { lines = []; input_is = refl; has_no_feed = All-nil _; state_is = λ _. refl; replied = Appends-nil old }
 
--- a byte of the line has come
-pub fed_byte : {input rest partial : List ℕ} {start now : State} {old new : Option (List ℕ)} (b : ℕ) → Fed input (b ∷ rest) partial start now old new → (b == 10) ≡ false → Fed input rest (partial ++ b ∷ []) start now old new
-fed_byte {rest} {partial} b h e =
-    record { lines = h.lines; input_is = h.input_is ∙ ap (λ xs. h.lines ++ lines_of xs) (sym (append_assoc partial (b ∷ []) rest)); has_no_feed = All-push (λ b. (b == 10) ≡ false) partial b h.has_no_feed e; state_is = h.state_is; replied = h.replied }
+-- bytes of the line have come
+pub fed_bytes : {input rest partial : List ℕ} {start now : State} {old new : Option (List ℕ)} (bytes : List ℕ) → Fed input (bytes ++ rest) partial start now old new → HasNoFeed bytes → Fed input rest (partial ++ bytes) start now old new
+fed_bytes {rest} {partial} bytes h n =
+    record { lines = h.lines; input_is = h.input_is ∙ ap (λ xs. h.lines ++ lines_of xs) (sym (append_assoc partial bytes rest)); has_no_feed = All-append (λ b. (b == 10) ≡ false) partial bytes h.has_no_feed n; state_is = h.state_is; replied = h.replied }
 
 -- a whole line is answered
 pub fed_line : {input rest partial next : List ℕ} {start now : State} {old mid : Option (List ℕ)} (after : State) (new : Option (List ℕ)) → Fed input rest partial start now old mid → lines_of (partial ++ rest) ≡ partial ∷ lines_of next → after ≡ line_state now partial → Appends mid new (line_answer now partial) → Fed input next [] start after old new
 fed_line {partial} {next} {start} {now} {old} {mid} after new h e s t =
     let replied : answers_to_lines start (h.lines ++ partial ∷ []) ≡ answers_to_lines start h.lines ++ line_answer now partial =
-    answers-push h.lines start partial ∙ ap (λ w. answers_to_lines start h.lines ++ line_answer w partial) (sym h.state_is) in
+    answers-push h.lines start partial ∙ ap (λ a. answers_to_lines start h.lines ++ a) (alike_first h.state_is partial) in
     record {
       lines = h.lines ++ partial ∷ [];
       input_is = h.input_is ∙ ap (λ ls. h.lines ++ ls) e ∙ sym (append_assoc h.lines (partial ∷ []) (lines_of next));
       has_no_feed = All-nil _;
-      state_is = s ∙ ap (λ w. line_state w partial) h.state_is ∙ sym (state-push h.lines start partial);
+      state_is = rw (s, state-push h.lines start partial) (alike_next h.state_is partial);
       replied = subst (Appends old new) (sym replied) (Appends-more old mid new (answers_to_lines start h.lines) (line_answer now partial) h.replied t);
     }
 
@@ -81,6 +110,11 @@ fed_line {partial} {next} {start} {now} {old} {mid} after new h e s t =
 pub fed_kept : {input rest partial : List ℕ} {start now : State} {old mid : Option (List ℕ)} (new : Option (List ℕ)) → Fed input rest partial start now old mid → Keeps mid new → Fed input rest partial start now old new
 fed_kept {start} {old} {mid} new h k =
     record { lines = h.lines; input_is = h.input_is; has_no_feed = h.has_no_feed; state_is = h.state_is; replied = Appends-kept old mid new (answers_to_lines start h.lines) h.replied k }
+
+-- another world goes on
+pub fed_alike : {input rest partial : List ℕ} {start now : State} {old new : Option (List ℕ)} (after : State) → Fed input rest partial start now old new → AnswerAlike now after → Fed input rest partial start after old new
+fed_alike after h k =
+    record { lines = h.lines; input_is = h.input_is; has_no_feed = h.has_no_feed; state_is = λ lines. h.state_is lines ∙ k lines; replied = h.replied }
 
 -- nothing is left
 pub fed_end : {input : List ℕ} {start now : State} {old new : Option (List ℕ)} → Fed input [] [] start now old new → Appends old new (output_from start input)
@@ -93,27 +127,27 @@ fed_first {rest} {partial} {start} {old} {new} h =
 
 -- ---- taking bytes
 
-split_at : (bytes rest : List ℕ) (i : ℕ) → take i bytes ++ (drop i bytes ++ rest) ≡ bytes ++ rest
-split_at bytes rest i = sym (append_assoc (take i bytes) (drop i bytes) rest) ∙ ap (λ xs. xs ++ rest) (take-append-drop i bytes)
+pub feeds_none : {partial : List ℕ} {now : State} {written : Option (List ℕ)} → Feeds [] partial now written partial now written
+feeds_none input rest start old h = h
 
-one_more : (bytes rest : List ℕ) (i : ℕ) → i < length bytes → take (i + 1) bytes ++ rest ≡ take i bytes ++ (get_or bytes i 0 ∷ rest)
-one_more bytes rest i l =
-    ap (λ xs. xs ++ rest) (ap (λ k. take k bytes) (add-one i) ∙ take-suc bytes i 0 l) ∙ append_assoc (take i bytes) (get_or bytes i 0 ∷ []) rest
+-- a line feed ends the line
+pub feeds_line : {partial : List ℕ} {now after : State} {written : Option (List ℕ)} (line : List ℕ) (more : Option (List ℕ)) → HasNoFeed line → after ≡ line_state now (partial ++ line) → Appends written more (line_answer now (partial ++ line)) → Feeds (line ++ 10 ∷ []) partial now written [] after more
+feeds_line {partial} {now} {after} {written} line more n s t input rest start old h =
+    let whole = fed_bytes line (subst (λ xs. Fed input xs partial start now old written) (append_assoc line (10 ∷ []) rest) h) n in
+    fed_line after more whole (lines_of-at_feed (partial ++ line) rest 10 whole.has_no_feed refl) s t
 
-pub feeds_byte : {b : ℕ} {partial next : List ℕ} {now after : State} {written more : Option (List ℕ)} → (b == 10) ≡ false → next ≡ partial ++ b ∷ [] → after ≡ now → more ≡ written → Feeds (b ∷ []) partial now written next after more
-feeds_byte {b} e n a m input rest start old h = rw (n, a, m) (fed_byte b h e)
+-- no line feed is among the bytes
+pub feeds_rest : {partial : List ℕ} {now : State} {written : Option (List ℕ)} (bytes : List ℕ) → HasNoFeed bytes → Feeds bytes partial now written (partial ++ bytes) now written
+feeds_rest bytes n input rest start old h = fed_bytes bytes h n
 
-pub feeds_line : {b : ℕ} {partial next : List ℕ} {now after : State} {written more : Option (List ℕ)} → (b == 10) ≡ true → next ≡ [] → after ≡ line_state now partial → Appends written more (line_answer now partial) → Feeds (b ∷ []) partial now written next after more
-feeds_line {b} {partial} {after} {more} e n s t input rest start old h =
-    rw n (fed_line after more h (lines_of-at_feed partial rest b h.has_no_feed e) s t)
+-- bytes, and then others
+pub feeds_more : (bytes more : List ℕ) {partial next last : List ℕ} {now after final : State} {written written' most : Option (List ℕ)} → Feeds bytes partial now written next after written' → Feeds more next after written' last final most → Feeds (bytes ++ more) partial now written last final most
+feeds_more bytes more {partial} {now} {written} f g input rest start old h =
+    g input rest start old (f input (more ++ rest) start old (subst (λ xs. Fed input xs partial start now old written) (append_assoc bytes more rest) h))
 
-pub feeds_more : (bytes : List ℕ) (i : ℕ) {partial next last : List ℕ} {now after final : State} {written more most : Option (List ℕ)} → i < length bytes → Feeds (take i bytes) partial now written next after more → Feeds (get_or bytes i 0 ∷ []) next after more last final most → Feeds (take (i + 1) bytes) partial now written last final most
-feeds_more bytes i {partial} {now} {written} l f g input rest start old h =
-    g input rest start old (f input (get_or bytes i 0 ∷ rest) start old (subst (λ xs. Fed input xs partial start now old written) (one_more bytes rest i l) h))
-
-pub stops_within : (bytes : List ℕ) (i : ℕ) {partial next : List ℕ} {now after : State} {written more : Option (List ℕ)} (new : Option (List ℕ)) → Feeds (take i bytes) partial now written next after more → new ≡ more → StopsWithin bytes partial now written new
-stops_within bytes i {partial} {now} {written} new f e input rest start old h =
-    let k = fed_first (f input (drop i bytes ++ rest) start old (subst (λ xs. Fed input xs partial start now old written) (sym (split_at bytes rest i)) h)) in
+pub stops_within : (bytes left : List ℕ) {partial next : List ℕ} {now after : State} {written more : Option (List ℕ)} (new : Option (List ℕ)) → Feeds bytes partial now written next after more → new ≡ more → StopsWithin (bytes ++ left) partial now written new
+stops_within bytes left {partial} {now} {written} new f e input rest start old h =
+    let k = fed_first (f input (left ++ rest) start old (subst (λ xs. Fed input xs partial start now old written) (append_assoc bytes left rest) h)) in
     (k.0, subst (λ m. Appends old m (output_of_first_from start k.0 input)) (sym e) k.1)
 
 -- ---- the end of the input

@@ -8,6 +8,7 @@ pub mod WordLists
 pub mod Prints
 pub mod Feeds
 pub mod Reaches
+pub mod Collected
 pub mod Added
 pub mod Spoken
 pub mod SaysBack

@@ -4,8 +4,8 @@ use Rattle.std.specs.Io.KnownBytes.{Appends, Consumes, IsAtEnd, Keeps}
 use Rattle.std.proofs.lemmas.Option.{same_Some}
 use Rattle.rhai_run.specs.State.{State}
 use Rattle.rhai_lines.specs.Output.{output_from, output_of_first_from}
-use Rattle.rhai_lines.specs.Fed.{Fed, Feeds, StopsWithin, Completes, AnswersWhatIsRead}
-use Rattle.rhai_lines.proofs.Feeds.{fed_start, fed_first, fed_kept}
+use Rattle.rhai_lines.specs.Fed.{AnswerAlike, Fed, Feeds, StopsWithin, Completes, AnswersWhatIsRead}
+use Rattle.rhai_lines.proofs.Feeds.{fed_start, fed_first, fed_kept, fed_alike}
 
 -- Where the input is known, what is left of it is known too, and the lines before that are answered.
 abbrev pub Reached : Option (List ℕ) → Option (List ℕ) → List ℕ → State → State → Option (List ℕ) → Option (List ℕ) → Type 0
@@ -35,6 +35,9 @@ reached_kept known left next h k input e = let a = h input e in (a.0, same_left 
 
 pub reached_written : (known left : Option (List ℕ)) {partial : List ℕ} {start now : State} {old written : Option (List ℕ)} (more : Option (List ℕ)) → Reached known left partial start now old written → Keeps written more → Reached known left partial start now old more
 reached_written known left more h k input e = let a = h input e in (a.0, a.1, fed_kept more a.2 k)
+
+pub reached_alike : (known left : Option (List ℕ)) {partial : List ℕ} {start now : State} {old written : Option (List ℕ)} (after : State) → Reached known left partial start now old written → AnswerAlike now after → Reached known left partial start after old written
+reached_alike known left after h k input e = let a = h input e in (a.0, a.1, fed_alike after a.2 k)
 
 pub reached_more : (known left next : Option (List ℕ)) (bytes : List ℕ) {partial others : List ℕ} {start now after : State} {old written more : Option (List ℕ)} → Reached known left partial start now old written → Consumes left next bytes → Feeds bytes partial now written others after more → Reached known next others start after old more
 reached_more known left next bytes {partial} {start} {now} {old} {written} h c f input e =

@@ -4,13 +4,21 @@ use Rattle.std.specs.Io.KnownBytes.{Appends}
 use Rattle.rhai_run.specs.State.{State}
 use Rattle.rhai_lines.specs.Output.{lines_of, answers_to_lines, state_after_lines, output_from, output_of_first_from}
 
--- Of the input, the rest is not read yet, and some first lines have their answers: the world is no longer start but now, and the writer's bytes
--- no longer old but new. The bytes of the partial line are read and have no answer.
+-- no byte of these is a line feed
+abbrev pub HasNoFeed : List ℕ → Type 0
+HasNoFeed bytes = All (λ b. (b == 10) ≡ false) bytes
+
+-- No lines that come tell the two worlds apart.
+abbrev pub AnswerAlike : State → State → Type 0
+AnswerAlike w v = (lines : List (List ℕ)) → answers_to_lines w lines ≡ answers_to_lines v lines
+
+-- Of the input, the rest is not read yet, and some first lines have their answers: the world is no longer start but now, which answers as start
+-- does after these lines, and the writer's bytes are no longer old but new. The bytes of the partial line are read and have no answer.
 pub record Fed (input rest partial : List ℕ) (start now : State) (old new : Option (List ℕ)) : Type 0 where
   pub lines : List (List ℕ)
   pub input_is : lines_of input ≡ lines ++ lines_of (partial ++ rest)
-  pub has_no_feed : All (λ b. (b == 10) ≡ false) partial
-  pub state_is : now ≡ state_after_lines start lines
+  pub has_no_feed : HasNoFeed partial
+  pub state_is : AnswerAlike (state_after_lines start lines) now
   pub replied : Appends old new (answers_to_lines start lines)
 
 -- Taking the bytes leads from a partial line, a world and what is written to others, wherever they stand in the input.

@@ -118,7 +118,9 @@ fn read(alloc: Global, verb: Verb, left: Option<&str>) -> Result<Command, NoComm
     }
 }
 
-/// The command that a line says, or none. It takes memory for names, texts and blobs alone, as they are read, and time for each byte of the line.
+/// Reads the command that a line says; `None` where it says none.
+/// Errors: memory for a name, a text or a blob is refused.
+/// Cost: the length of the line; memory for names, texts and blobs alone.
 pub fn command(alloc: Global, line: &[u8]) -> Result<Option<Command>, AllocError>
     ensures command { IfOk result (λ o. o ≡ command_of line.now) }
     ensures memory { OnErr result (TakesMemory line.now) }

@@ -8,8 +8,10 @@ use crate::commands::add_line;
 use rhai_run::Command;
 use std::alloc::{AllocError, Global};
 
-/// The line that says a command, or none: where a name in it is no word of a line, a text in it has a line feed, or the host's value in it is
-/// a range. Takes memory for the line, or for its words up to the one that there is none of, and time for its bytes.
+/// Writes the line that says a command; `None` where a name in it is no word of a line, a text in it has a line feed, or
+/// the host's value in it is a range.
+/// Errors: memory for the line is refused.
+/// Cost: the length of the line; memory for it, or for its words up to the one that there is none of.
 pub fn line_of(alloc: Global, command: &Command) -> Result<Option<String>, AllocError>
     ensures line { IfOk result (λ o. IsLineOf command.now (option_map string_bytes o)) }
     ensures reads_back { IfOk result (λ o. IfSome o (λ line. command_of (string_bytes line) ≡ Some command.now)) }
@@ -22,8 +24,10 @@ pub fn line_of(alloc: Global, command: &Command) -> Result<Option<String>, Alloc
     }
 }
 
-/// The lines of commands in turn, each with a line feed: a run over them answers what the commands answer. There are none where a command has no line.
-/// Takes memory for the lines, and time for their bytes.
+/// Writes the lines of commands in turn, each with a line feed: a run over them answers what the commands answer. `None`
+/// where a command has no line.
+/// Errors: memory for the lines is refused.
+/// Cost: the length of the lines; memory for them.
 pub fn journal(alloc: Global, commands: &[Command]) -> Result<Option<String>, AllocError>
     ensures lines { IfOk result (λ o. IsJournalOf commands.now (option_map string_bytes o)) }
     ensures none { commands.now ≡ [] → IsOk result }

@@ -1,13 +1,15 @@
 //! A run over lines: each is answered as soon as it is complete.
-ghost use Rattle.std.specs.Prelude.{◌≡◌, ℕ, List, Option, [], ◌∷◌, ◌++◌, take, Some, OnOk, OnErr, IfErr, IfSome};
+ghost use Rattle.std.specs.Prelude.{◌≡◌, ℕ, List, Option, [], ◌∷◌, ◌++◌, take, Some, OnOk, OnErr, IfErr, IfNone, IfSome};
 ghost use Rattle.std.specs.Io.KnownBytes.{Appends};
 ghost use Rattle.rhai_run.specs.State.{State};
 ghost use Rattle.rhai_lines.specs.Output.{line_answer, line_state, output_from, output_of_first_from, new_world, output, output_of_first};
-ghost use Rattle.rhai_lines.specs.Fed.{Feeds, StopsWithin, Completes, AnswersWhatIsRead};
+ghost use Rattle.rhai_lines.specs.Fed.{AnswerAlike, HasNoFeed, Feeds, StopsWithin, Completes, AnswersWhatIsRead};
 ghost use Rattle.rhai_lines.specs.Faults.{IsNoWriteFault, IsReadFault, IsNoReadFault};
 
 use crate::commands::command;
 use crate::print::{write_answer, write_bad_line};
+use memchr::memchr;
+use rhai_run::laws::collecting_is_not_seen;
 use rhai_run::{World, apply};
 use rhai_text::Limits;
 use std::alloc::Global;
@@ -53,6 +55,40 @@ fn answer_line<W: Write>(
     write_answer(&answer, writer).map_err(LinesFault::Write)
 }
 
+/// Cuts the first line off, if a line feed ends one.
+fn cut_line(bytes: &[u8]) -> Option<(&[u8], &[u8])>
+    ensures some { IfSome result (λ p. (bytes.now ≡ p.0.now ++ 10 ∷ p.1.now) × HasNoFeed p.0.now) }
+    ensures none { IfNone result (HasNoFeed bytes.now) }
+{
+    let at = memchr(b'\n', bytes)?;
+    Some((&bytes[..at], &bytes[at + 1..]))
+}
+
+/// Answers a line whose first bytes may have come before.
+fn answer_whole<W: Write>(
+    alloc: Global,
+    world: &mut World,
+    partial: &mut Vec<u8>,
+    line: &[u8],
+    writer: &mut W,
+) -> Result<(), LinesFault>
+    ensures none { OnOk result (partial.new.items ≡ []) }
+    ensures state { OnOk result (world.new ≡ line_state world.old (partial.old.items ++ line.now)) }
+    ensures answer { OnOk result (Appends (W.contents writer.old) (W.contents writer.new) (line_answer world.old (partial.old.items ++ line.now))) }
+    ensures fault { IfErr result (λ e. IsNoWriteFault e → W.contents writer.new ≡ W.contents writer.old) }
+    ensures kind { IfErr result IsNoReadFault }
+{
+    if partial.is_empty() {
+        return answer_line(alloc, world, line, writer);
+    }
+    if partial.extend_from_slice(line).is_err() {
+        return Err(LinesFault::Memory);
+    }
+    answer_line(alloc, world, partial, writer)?;
+    partial.clear();
+    Ok(())
+}
+
 /// Takes bytes of the input: each line that they complete is answered, and what is left is kept for the next ones.
 fn feed<W: Write>(
     alloc: Global,
@@ -65,13 +101,13 @@ fn feed<W: Write>(
     ensures fault { IfErr result (λ e. IsNoWriteFault e → StopsWithin bytes.now partial.old.items world.old (W.contents writer.old) (W.contents writer.new)) }
     ensures kind { IfErr result IsNoReadFault }
 {
-    for byte in bytes {
-        if *byte == b'\n' {
-            answer_line(alloc, world, partial, writer)?;
-            partial.clear();
-        } else if partial.push(*byte).is_err() {
-            return Err(LinesFault::Memory);
-        }
+    let mut left = bytes;
+    while let Some((line, rest)) = cut_line(left) {
+        answer_whole(alloc, world, partial, line, writer)?;
+        left = rest;
+    }
+    if partial.extend_from_slice(left).is_err() {
+        return Err(LinesFault::Memory);
     }
     Ok(())
 }
@@ -92,6 +128,14 @@ fn finish<W: Write>(
     }
     answer_line(alloc, world, partial, writer)?;
     writer.flush().map_err(LinesFault::Write)
+}
+
+/// Gives cells back where it is time to. Where memory is refused for that, the world goes on as it is.
+fn give_back(world: &mut World)
+    ensures { AnswerAlike world.old world.new }
+{
+    collecting_is_not_seen();
+    let _collected = world.collect_if_due();
 }
 
 /// Answers the lines of all that the reader gives.
@@ -123,15 +167,18 @@ fn answer_input<R: Read, W: Write>(
         if bytes.contains(&b'\n') {
             writer.flush().map_err(LinesFault::Write)?;
         }
+        give_back(world);
     }
     Err(LinesFault::Read(io::Error::other("the input has no end")))
 }
 
-/// Reads lines until the end of the input, does on a new world the command that each says, and writes an answer for each: the
-/// README.md has both. Lines end with a line feed; the last one may end with the input.
-///
-/// A line is answered as soon as it is complete, and the writer is flushed before the next read. Memory is taken for the world and for
-/// the longest line. After a `Read` or `Memory` the first lines have their answers, each whole; after a `Write` the writer knows how much it took.
+/// Reads lines until the end of the input, does on a new world the command that each says, and writes an answer for each:
+/// `docs/LINES.md` has both. Lines end with a line feed; the last one may end with the input.
+/// A line is answered as soon as it is complete, and the writer is flushed before the next read.
+/// Errors: after a `Read` or `Memory` the first lines have their answers, each whole; after a `Write` the writer knows how
+/// much it took.
+/// Cost: that of the commands; memory for the world and for the longest line. Cells that nothing reaches are given back after a read, where
+/// it is time to (`World::collect_if_due`).
 pub fn run_lines<R: Read, W: Write>(
     alloc: Global,
     reader: &mut R,

@@ -117,7 +117,9 @@ fn write_reply<W: Write>(answer: &Answer, writer: &mut W) -> io::Result<()>
     }
 }
 
-/// Writes the line of an answer. After an `Err`, which is the writer's, a part of the line may stand.
+/// Writes the line of an answer.
+/// Errors: the writer's; a part of the line may stand.
+/// Cost: the length of the line; no memory.
 pub fn write_answer<W: Write>(answer: &Answer, writer: &mut W) -> io::Result<()>
     ensures { OnOk result (Appends (W.contents writer.old) (W.contents writer.new) (printed (reply_of answer.now) ++ 10 ∷ [])) }
 {
@@ -125,7 +127,8 @@ pub fn write_answer<W: Write>(answer: &Answer, writer: &mut W) -> io::Result<()>
     writer.write_all(b"\n")
 }
 
-/// Writes the line that answers a line without a command. After an `Err`, which is the writer's, a part of it may stand.
+/// Writes the line that answers a line without a command.
+/// Errors: the writer's; a part of the line may stand.
 pub fn write_bad_line<W: Write>(writer: &mut W) -> io::Result<()>
     ensures { OnOk result (Appends (W.contents writer.old) (W.contents writer.new) (codes "refused BadLine" ++ 10 ∷ [])) }
 {

@@ -1,28 +1,27 @@
-use Rattle.std.proofs.Common.{◌∙◌, ap, refl, get_or, eq-eqb, arith}
+use Rattle.std.proofs.Common.{◌∙◌, ◌++◌, ◌∷◌, [], ap, refl, sym, append_assoc}
 use Rattle.std.proofs.lemmas.Result.{err_from_is_err_and}
-use Rattle.rhai_lines.specs.Output.{line_state}
-use Rattle.rhai_lines.proofs.Feeds.{feeds_byte, feeds_line, feeds_more, stops_within}
+use Rattle.rhai_lines.proofs.Feeds.{feeds_line, feeds_more, stops_within}
 use Rattle.rhai_lines.proofs.lines.feed.Goals as goal
-use Rattle.rhai_lines.proofs.lines.feed.Goals.{then-byte-eq10+in_ok-answer_line, else-byte-eq10+else-is_err}
 
-pub returns-in_err-answer_line-clause-fault : goal.returns-in_err-answer_line-clause-fault
-returns-in_err-answer_line-clause-fault g c =
+pub returns-in_err-answer_whole-clause-fault : goal.returns-in_err-answer_whole-clause-fault
+returns-in_err-answer_whole-clause-fault g c =
     let p = err_from_is_err_and c.from_residual.result c.from_residual.ensures.1 in
-    rw (p.1, p.2) (λ k. stops_within c.args.bytes.now c.loop-byte.byte-index (g.W.Write.contents c.answer_line.new.writer) c.loop-byte.invariant (c.in_err-answer_line.ensures.fault k))
+    let i = c.loop-line.invariant in
+    rw (p.1, p.2, i.1) (λ k. stops_within i.0 c.loop-line.left.now (g.W.Write.contents c.answer_whole.new.writer) i.2 (c.in_err-answer_whole.ensures.fault k))
 
 pub returns-then-is_err-clause-fault : goal.returns-then-is_err-clause-fault
-returns-then-is_err-clause-fault g c = λ _. stops_within c.args.bytes.now c.loop-byte.byte-index (g.W.Write.contents c.loop-byte.writer) c.loop-byte.invariant refl
+returns-then-is_err-clause-fault g c =
+    let i = c.loop-line.invariant in
+    rw i.1 (λ _. stops_within i.0 c.loop-line.left.now (g.W.Write.contents c.loop-line.writer) i.2 refl)
 
-pub loop-byte-preserved : goal.loop-byte-preserved
-loop-byte-preserved g c =
-    let before = g.W.Write.contents c.loop-byte.writer in
-    let world = c.loop-byte.world in
-    let byte = get_or c.args.bytes.now c.loop-byte.byte-index 0 in
-    feeds_more c.args.bytes.now c.loop-byte.byte-index c.loop-byte-test.true c.loop-byte.invariant (elim c.if-byte-eq10.branch [
-      | then-byte-eq10+in_ok-answer_line w ↦
-          let line = w.deref.ensures.value in
-          let replied = rw line at w.in_ok-answer_line.ensures.answer in
-          feeds_line (eq-eqb byte 10 w.if-byte-eq10.true) (ap (λ v. v.items) w.partial-is ∙ w.clear.ensures.items) (w.world-is ∙ w.in_ok-answer_line.ensures.state ∙ ap (line_state world) line) (rw w.writer-is replied)
-      | else-byte-eq10+else-is_err w ↦
-          feeds_byte (search (arith, w.if-byte-eq10.false)) (ap (λ v. v.items) w.partial-is ∙ rw w.if-is_err.ensures.negation at w.push.ensures.items) w.world-is (ap g.W.Write.contents w.writer-is)
-    ])
+pub loop-line-preserved : goal.loop-line-preserved
+loop-line-preserved g c =
+    let i = c.loop-line.invariant in
+    let cut = c.in-Some.ensures.some in
+    let line = c.in-Some.line.now in
+    let rest = c.in-Some.rest.now in
+    let done = c.in_ok-answer_whole.ensures in (
+      i.0 ++ (line ++ 10 ∷ []),
+      i.1 ∙ ap (λ left. i.0 ++ left) cut.0 ∙ sym (append_assoc i.0 (line ++ 10 ∷ []) rest ∙ ap (λ left. i.0 ++ left) (append_assoc line (10 ∷ []) rest)),
+      rw done.none (feeds_more i.0 (line ++ 10 ∷ []) i.2 (feeds_line line (g.W.Write.contents c.answer_whole.new.writer) cut.1 done.state done.answer)),
+    )

@@ -21,7 +21,7 @@ pub struct Callees {
 }
 
 impl Callees {
-    /// Nothing is called.
+    /// Makes a table of no callees.
     pub fn new(alloc: Global) -> Callees {
         Callees {
             callees: Vec::new(alloc),
@@ -29,7 +29,9 @@ impl Callees {
         }
     }
 
-    /// The number of what has this name and number of arguments.
+    /// Numbers what has this name and number of arguments, as it was numbered before if it was.
+    /// Errors: memory is refused.
+    /// Cost: the logarithm of the number of names.
     pub fn number(&mut self, name: &str, arguments: usize) -> Result<usize, AllocError> {
         let alloc = *self.callees.allocator();
         let called = Callee {
@@ -52,7 +54,9 @@ impl Callees {
         }
     }
 
-    /// Says which function has this name and number of arguments; `false` where one has them already.
+    /// Names the function that has this name and number of arguments; `false` where one has them already.
+    /// Errors: memory is refused.
+    /// Cost: that of `number`.
     pub fn define(
         &mut self,
         name: &str,
@@ -66,7 +70,7 @@ impl Callees {
         }
     }
 
-    /// What is called, by its numbers.
+    /// Moves out what is called, by its numbers.
     pub fn into_vec(self) -> Vec<Callee> {
         let Callees {
             callees,

@@ -13,7 +13,7 @@ pub struct Cursor {
 }
 
 impl Cursor {
-    /// At the begin of a text.
+    /// Begins at the start of a text.
     pub fn new(chars: Vec<char>) -> Cursor {
         Cursor {
             chars,
@@ -23,22 +23,22 @@ impl Cursor {
         }
     }
 
-    /// The character that comes next.
+    /// Answers the character that comes next.
     pub fn peek(&self) -> Option<char> {
         self.chars.get(self.at).copied()
     }
 
-    /// The character behind the next one.
+    /// Answers the character behind the next one.
     pub fn peek_second(&self) -> Option<char> {
         self.chars.get(self.at.saturating_add(1)).copied()
     }
 
-    /// How many characters are left.
+    /// Counts the characters that are left.
     pub fn left(&self) -> usize {
         self.chars.len().saturating_sub(self.at)
     }
 
-    /// Whether these characters come behind the next one.
+    /// Tells whether these characters come behind the next one.
     pub fn comes_behind(&self, rest: &str) -> bool {
         let mut at = self.at;
         for wanted in rest.chars() {
@@ -50,7 +50,7 @@ impl Cursor {
         true
     }
 
-    /// The line and column of the character that comes next.
+    /// Tells the line and column of the character that comes next.
     pub fn position(&self) -> Position {
         Position {
             line: self.line,

@@ -11,8 +11,11 @@ use std::alloc::Global;
 /// A lexeme of a script.
 #[derive(Drop)]
 pub enum Lexeme {
+    /// An int.
     Int(INT),
+    /// A character in single quotation marks.
     Char(char),
+    /// A text in double quotation marks.
     Text(String),
     /// A word that is no keyword.
     Name(String),
@@ -101,7 +104,9 @@ fn read_sign(cursor: &mut Cursor, next: char) -> Result<Lexeme, SyntaxError> {
     Err(SyntaxError::Fault(SyntaxFault::StrangeCharacter, cursor.position()))
 }
 
-/// Reads the next lexeme, and says where it begins.
+/// Reads the next lexeme, and tells where it begins.
+/// Errors: what is wrong with the lexeme, and where; `OutOfMemory`.
+/// Cost: its length, with the blanks and comments before it.
 pub fn read_lexeme(alloc: Global, cursor: &mut Cursor) -> Result<(Lexeme, Position), SyntaxError> {
     skip_blanks(cursor)?;
     let position = cursor.position();

@@ -8,6 +8,8 @@ use rhai_value::INT;
 use std::alloc::Global;
 
 /// Reads an int, in digits of ten, or behind `0x` and `0b` the bits of one.
+/// Errors: `NumberTooLarge` and `BadNumber`, at its begin.
+/// Cost: its length.
 pub fn read_int(cursor: &mut Cursor) -> Result<INT, SyntaxError> {
     let start = cursor.position();
     match (cursor.peek(), cursor.peek_second()) {
@@ -73,6 +75,8 @@ fn goes_on(cursor: &Cursor) -> bool {
 }
 
 /// Reads a character in single quotation marks.
+/// Errors: what is wrong with it, and where; `OutOfMemory`.
+/// Cost: its length.
 pub fn read_char(alloc: Global, cursor: &mut Cursor) -> Result<char, SyntaxError> {
     let start = cursor.position();
     let text = quoted(alloc, cursor, '\'')?;
@@ -84,6 +88,8 @@ pub fn read_char(alloc: Global, cursor: &mut Cursor) -> Result<char, SyntaxError
 }
 
 /// Reads a text between these quotation marks; two of them in a row are one that is meant.
+/// Errors: what is wrong with it, and where; `OutOfMemory`.
+/// Cost: its length.
 pub fn quoted(alloc: Global, cursor: &mut Cursor, mark: char) -> Result<String, SyntaxError> {
     let start = cursor.position();
     cursor.advance();

@@ -104,7 +104,7 @@ impl FunctionNames {
         Ok(Slot::Captured(number))
     }
 
-    /// How many variables lived at once at most, and where the function outside has the captured ones.
+    /// Moves out how many variables lived at once at most, and where the function outside has the captured ones.
     pub fn into_parts(self) -> (usize, Vec<Slot>)
         ensures { vec_len self.declared ≤ result.0 }
     {
@@ -128,7 +128,7 @@ pub struct Names {
 }
 
 impl Names {
-    /// No variable, in one function.
+    /// Begins with one function that has no variable.
     pub fn new(alloc: Global) -> Names {
         Names {
             function: FunctionNames::new(alloc),
@@ -137,6 +137,7 @@ impl Names {
     }
 
     /// Begins an anonymous function inside of the one that is read.
+    /// Errors: memory is refused.
     pub fn enter(&mut self) -> Result<(), AllocError> {
         let inner = FunctionNames::new(*self.outer.allocator());
         self.outer.push(mem::replace(&mut self.function, inner))?;
@@ -156,19 +157,22 @@ impl Names {
         }
     }
 
-    /// Declares a variable, which hides those of its name, and says its slot.
+    /// Declares a variable, which hides those of its name, and tells its slot.
+    /// Errors: memory is refused.
+    /// Cost: the logarithm of the number of names.
     pub fn declare(&mut self, name: &str) -> Result<usize, AllocError> {
         self.function.declare(name)
     }
 
-    /// How many variables of the function live: the slot that the next one gets.
+    /// Counts the variables of the function that live: the slot that the next one gets.
     pub fn count(&self) -> usize
         ensures { result ≡ vec_len self.now.function.declared }
     {
         self.function.declared.len()
     }
 
-    /// Whether one of the variables from this slot on has the name.
+    /// Tells whether one of the variables from this slot on has the name.
+    /// Cost: the number of these variables.
     pub fn has_since(&self, first: usize, name: &str) -> bool {
         match self.function.newest.get(name) {
             Some(slot) => *slot >= first,
@@ -177,11 +181,15 @@ impl Names {
     }
 
     /// Ends the variables from this slot on.
+    /// Errors: memory is refused.
+    /// Cost: their number, times the logarithm of the number of names.
     pub fn close(&mut self, first: usize) -> Result<(), AllocError> {
         self.function.close(first)
     }
 
-    /// Where the function has the variable of a name, if there is one; one of outside is captured.
+    /// Finds where the function has the variable of a name, if there is one; one of outside is captured.
+    /// Errors: memory is refused.
+    /// Cost: the logarithm of the number of names, for each function around the name.
     pub fn resolve(&mut self, name: &str) -> Result<Option<Slot>, AllocError> {
         let mut slot = self.function.slot(name);
         if slot.is_some() {
@@ -210,7 +218,7 @@ impl Names {
         self.function.loops = self.function.loops.saturating_sub(1);
     }
 
-    /// Whether a loop of the function is around what is read.
+    /// Tells whether a loop of the function is around what is read.
     pub fn is_in_loop(&self) -> bool {
         self.function.loops > 0
     }

@@ -13,7 +13,7 @@ pub const TIGHTEST: u8 = 9;
 /// The level of `**`, whose operators go to the right.
 pub const POWER: u8 = 8;
 
-/// The operator between two operands that a symbol is, with its level: higher ones are tighter.
+/// Finds the operator between two operands that a symbol is, with its level: higher ones are tighter.
 pub fn operator_of(symbol: Symbol) -> Option<(u8, Operator)> {
     match symbol {
         Symbol::And => Some((2, Operator::And)),
@@ -103,7 +103,7 @@ pub enum Assigning {
     By(Assignment),
 }
 
-/// How a symbol assigns.
+/// Tells how a symbol assigns.
 pub fn assigning_of(symbol: Symbol) -> Assigning {
     match symbol {
         Symbol::Operator(Token::Equals) => Assigning::Plainly,

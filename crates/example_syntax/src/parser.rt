@@ -38,8 +38,10 @@ struct Parser {
 }
 
 /// Reads a script.
-///
-/// It takes a time in the length of the text, and no deeper a stack than `MOST_LEVELS` asks for.
+/// Errors: what is wrong, at its line and column; `OutOfMemory`.
+/// Cost: the length of the text times the logarithm of the number of names; memory for its characters and for the trees; a
+/// stack for `MOST_LEVELS` levels.
+/// rhai: `Engine::compile`.
 pub fn parse(alloc: Global, text: &str) -> Result<Program, SyntaxError>
     ensures first { IfOk result (λ program. program.body.first_slot ≡ 0) }
     ensures room { IfOk result (λ program. program.body.end_slot ≤ program.slots) }

@@ -6,22 +6,43 @@ use std::fmt;
 /// A keyword or a sign of the language, or the end of the text.
 #[derive(Clone, Copy, Debug, PartialEq, Eq)]
 pub enum Symbol {
+    /// `break`
     Break,
+    /// `catch`
     Catch,
+    /// `const`
     Const,
+    /// `continue`
     Continue,
+    /// `do`
+    Do,
+    /// `else`
     Else,
+    /// `false`
     False,
+    /// `fn`
     Fn,
+    /// `for`
     For,
+    /// `if`
     If,
+    /// `in`
     In,
+    /// `let`
     Let,
+    /// `loop`
     Loop,
+    /// `return`
     Return,
+    /// `throw`
     Throw,
+    /// `true`
     True,
+    /// `try`
     Try,
+    /// `until`
+    Until,
+    /// `while`
     While,
     /// `(`
     OpenParenthesis,
@@ -58,11 +79,12 @@ pub enum Symbol {
 }
 
 /// The words that the language has. Other words are names, or are reserved.
-static KEYWORDS: [(&str, Symbol); 17] = [
+static KEYWORDS: [(&str, Symbol); 19] = [
     ("break", Symbol::Break),
     ("catch", Symbol::Catch),
     ("const", Symbol::Const),
     ("continue", Symbol::Continue),
+    ("do", Symbol::Do),
     ("else", Symbol::Else),
     ("false", Symbol::False),
     ("fn", Symbol::Fn),
@@ -75,6 +97,7 @@ static KEYWORDS: [(&str, Symbol); 17] = [
     ("throw", Symbol::Throw),
     ("true", Symbol::True),
     ("try", Symbol::Try),
+    ("until", Symbol::Until),
     ("while", Symbol::While),
 ];
 
@@ -155,7 +178,7 @@ pub static SIGNS: [(char, &str, Option<Symbol>); 73] = [
     ('\\', "", None),
 ];
 
-/// The keyword that a word is.
+/// Finds the keyword that a word is.
 pub fn keyword(word: &str) -> Option<Symbol> {
     for (spelling, symbol) in KEYWORDS.iter() {
         if *spelling == word {
@@ -166,7 +189,7 @@ pub fn keyword(word: &str) -> Option<Symbol> {
 }
 
 impl Symbol {
-    /// Whether a statement that begins so ends by itself, without a semicolon.
+    /// Tells whether a statement that begins so ends by itself, without a semicolon.
     pub fn begins_block(self) -> bool {
         matches!(
             self,

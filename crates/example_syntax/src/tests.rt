@@ -117,6 +117,10 @@ fn statements_have_shapes(rt: HostRuntime) {
                 "while true { break 1; continue; }",
                 " (while true( 0..0 break 1 continue))",
             ),
+            (
+                "do { let a; a; } while a; do { continue } until 1 > 2",
+                " true (do a( 0..1 let 0 #0)) false (do (1 `>` 2)( 0..0 continue))",
+            ),
             ("#{a: 1, \"b c\": [],}", " (map a=1 b c=(array))"),
             (
                 "try { throw 1 } catch (e) { e }",
@@ -150,6 +154,20 @@ fn faults_have_places(rt: HostRuntime) {
             ("{ fn f() {} }", SyntaxFault::FunctionInside, 1, 3),
             ("loop { || break }", SyntaxFault::OutsideLoop, 1, 11),
             ("let switch = 1", SyntaxFault::ReservedWord, 1, 5),
+            (
+                "do { } 1",
+                SyntaxFault::Expected(crate::Symbol::Until),
+                1,
+                8,
+            ),
+            (
+                "do {} while a b",
+                SyntaxFault::Expected(crate::Symbol::Semicolon),
+                1,
+                15,
+            ),
+            ("do {} until { break }", SyntaxFault::OutsideLoop, 1, 15),
+            ("1 + until", SyntaxFault::ExpectedExpression, 1, 5),
         ],
     );
 }
@@ -195,6 +213,7 @@ fn nested_texts_are_refused(rt: HostRuntime) -> Result<(), Fail> {
         "while a {",
         "for x in a {",
         "loop {",
+        "do {",
         "try {",
         "a.b(",
         "|| return || ",

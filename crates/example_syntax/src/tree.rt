@@ -56,6 +56,7 @@ pub enum Slot {
 /// Which variable a name means, at the place where it stands.
 #[derive(Drop)]
 pub enum Variable {
+    /// A variable of the frame.
     Known(Slot),
     /// Nothing has the name.
     Unknown(ImmutableString),
@@ -76,15 +77,21 @@ pub struct Block {
 #[cycle(tree)]
 #[derive(Drop)]
 pub enum Expr {
+    /// `()`
     Unit,
+    /// `true` or `false`
     Bool(bool),
+    /// An int.
     Int(INT),
+    /// A character.
     Char(char),
+    /// A text.
     Text(ImmutableString),
     /// `[a, b]`
     Array(Vec<Expr>),
     /// `#{a: b}`; no key stands twice.
     Object(Vec<Field>),
+    /// `x`
     Variable {
         variable: Variable,
         position: Position,
@@ -117,13 +124,18 @@ pub enum Expr {
         captured: Vec<Slot>,
         position: Position,
     },
+    /// `{ a; b }`
     Block(Block),
     /// `if a { } else if b { } else { }`: the arms in their order.
     If {
         arms: Vec<Arm>,
         otherwise: Option<Block>,
     },
+    /// `while a { }`
     While(Box<Arm>),
+    /// `do { } while a`, or `do { } until a`: the body runs first, and again as long as the condition is this.
+    Do(Box<Arm>, bool),
+    /// `loop { }`
     Loop(Block),
     /// `for x in a { }`, or `for (x, i) in a { }`. The position is that of what is gone through.
     For {
@@ -148,8 +160,11 @@ pub enum Expr {
         value: Box<Expr>,
         position: Position,
     },
+    /// `break`, or `break a`
     Break(Option<Box<Expr>>),
+    /// `continue`
     Continue,
+    /// `return`, or `return a`
     Return(Option<Box<Expr>>),
     /// `throw a`: the position is that of the word.
     Throw(Option<Box<Expr>>, Position),

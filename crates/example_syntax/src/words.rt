@@ -1,7 +1,7 @@
 // The words that rhai keeps for itself.
 
 /// The words that are no names, beside the keywords.
-static RESERVED: [&str; 45] = [
+static RESERVED: [&str; 43] = [
     "as",
     "async",
     "await",
@@ -10,7 +10,6 @@ static RESERVED: [&str; 45] = [
     "curry",
     "debug",
     "default",
-    "do",
     "eval",
     "exit",
     "export",
@@ -40,7 +39,6 @@ static RESERVED: [&str; 45] = [
     "this",
     "thread",
     "type_of",
-    "until",
     "use",
     "var",
     "void",
@@ -55,17 +53,17 @@ static FUNCTIONS: [&str; 6] = ["Fn", "curry", "debug", "is_shared", "print", "ty
 /// The reserved words that are called as methods.
 static METHODS: [&str; 4] = ["call", "curry", "is_shared", "type_of"];
 
-/// Whether the word is no name of a variable, a function, a parameter or a property.
+/// Tells whether the word is no name of a variable, a function, a parameter or a property.
 pub fn is_reserved(word: &str) -> bool {
     RESERVED.iter().any(|reserved| *reserved == word)
 }
 
-/// Whether the word may be called as a function.
+/// Tells whether the word may be called as a function.
 pub fn is_callable(word: &str) -> bool {
     !is_reserved(word) || FUNCTIONS.iter().any(|name| *name == word)
 }
 
-/// Whether the word may be called as a method.
+/// Tells whether the word may be called as a method.
 pub fn is_method(word: &str) -> bool {
     !is_reserved(word) || METHODS.iter().any(|name| *name == word)
 }

@@ -57,20 +57,52 @@ impl Parser {
             || self.is_next(Symbol::End)
     }
 
-    /// Reads what consists of blocks.
+    /// Reads what consists of blocks. Errors: the symbol begins nothing of the kind, and no other expression either.
     #[cycle(parse)]
     pub(super) fn construct(&mut self, levels: usize, symbol: Symbol) -> Result<Expr, SyntaxError> {
         match symbol {
-            Symbol::OpenBrace => {
-                let below = self.below(levels)?;
-                Ok(Expr::Block(self.block(below)?))
-            }
+            Symbol::OpenBrace => self.inner_block(levels),
             Symbol::If => self.if_else(levels),
             Symbol::While => self.while_loop(levels),
+            Symbol::Do => self.do_loop(levels),
             Symbol::Loop => self.endless_loop(levels),
             Symbol::For => self.for_loop(levels),
-            _ => Err(self.fault(SyntaxFault::ExpectedExpression)),
+            Symbol::Break
+            | Symbol::Catch
+            | Symbol::Const
+            | Symbol::Continue
+            | Symbol::Else
+            | Symbol::False
+            | Symbol::Fn
+            | Symbol::In
+            | Symbol::Let
+            | Symbol::Return
+            | Symbol::Throw
+            | Symbol::True
+            | Symbol::Try
+            | Symbol::Until
+            | Symbol::OpenParenthesis
+            | Symbol::CloseParenthesis
+            | Symbol::OpenBracket
+            | Symbol::CloseBracket
+            | Symbol::CloseBrace
+            | Symbol::OpenMap
+            | Symbol::Comma
+            | Symbol::Semicolon
+            | Symbol::Colon
+            | Symbol::Dot
+            | Symbol::Not
+            | Symbol::And
+            | Symbol::Or
+            | Symbol::Operator(_)
+            | Symbol::End => Err(self.fault(SyntaxFault::ExpectedExpression)),
         }
+    }
+
+    #[cycle(parse)]
+    fn inner_block(&mut self, levels: usize) -> Result<Expr, SyntaxError> {
+        let below = self.below(levels)?;
+        Ok(Expr::Block(self.block(below)?))
     }
 
     #[cycle(parse)]

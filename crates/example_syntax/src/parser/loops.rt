@@ -32,6 +32,25 @@ impl Parser {
     }
 
     #[cycle(parse)]
+    pub(super) fn do_loop(&mut self, levels: usize) -> Result<Expr, SyntaxError> {
+        self.advance()?;
+        let below = self.below(levels)?;
+        let body = self.loop_body(below)?;
+        let goes_on = self.takes(Symbol::While)?;
+        if !goes_on {
+            self.expect(Symbol::Until)?;
+        }
+        let position = self.position;
+        let condition = self.expression(below, LOOSEST)?;
+        let arm = Arm {
+            condition,
+            position,
+            body,
+        };
+        Ok(Expr::Do(Box::new(self.alloc, arm)?, goes_on))
+    }
+
+    #[cycle(parse)]
     pub(super) fn endless_loop(&mut self, levels: usize) -> Result<Expr, SyntaxError> {
         self.advance()?;
         let below = self.below(levels)?;

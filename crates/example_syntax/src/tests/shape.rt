@@ -79,6 +79,10 @@ fn add(out: &mut String, part: &Expr) -> Result<(), AllocError> {
             add_otherwise(out, otherwise)
         }
         Expr::While(arm) => add_arm(out, "while", arm),
+        Expr::Do(arm, goes_on) => {
+            write!(out, "{goes_on} ")?;
+            add_arm(out, "do", arm)
+        }
         Expr::Loop(block) => add_block(out, "loop", block),
         Expr::For {
             item,

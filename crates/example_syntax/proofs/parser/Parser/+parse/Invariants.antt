@@ -35,6 +35,9 @@ decreases-construct l = 12 * l.levels + 2
 abbrev pub decreases-declaration : goal.decreases-declaration
 decreases-declaration l = 12 * l.levels + 1
 
+abbrev pub decreases-do_loop : goal.decreases-do_loop
+decreases-do_loop l = 12 * l.levels + 0
+
 abbrev pub decreases-endless_loop : goal.decreases-endless_loop
 decreases-endless_loop l = 12 * l.levels + 0
 
@@ -46,6 +49,9 @@ decreases-for_loop l = 12 * l.levels + 1
 
 abbrev pub decreases-if_else : goal.decreases-if_else
 decreases-if_else l = 12 * l.levels + 0
+
+abbrev pub decreases-inner_block : goal.decreases-inner_block
+decreases-inner_block l = 12 * l.levels + 0
 
 abbrev pub decreases-list : goal.decreases-list
 decreases-list l = 12 * l.levels + 7

@@ -2,14 +2,18 @@
 
 use crate::faults::FaultKind;
 use crate::resources::Means;
+use crate::ways::check_ways;
 use rhai_show::{debug_text, display_text};
 use rhai_value::{Dynamic, Store, TypeId};
 
 /// A function on any value.
 #[derive(Clone, Copy)]
 pub enum AnyFunction {
+    /// `type_of()`
     TypeOf,
+    /// `to_string()`
     ToString,
+    /// `to_debug()`
     ToDebug,
 }
 
@@ -27,26 +31,30 @@ pub(crate) fn any_function(name: &str, count: usize) -> Option<AnyFunction> {
 pub(crate) fn ask_any(
     function: AnyFunction,
     means: &Means,
-    s: &Store,
+    store: &Store,
     value: &Dynamic,
 ) -> Result<Dynamic, FaultKind> {
     let alloc = means.alloc;
     match function {
-        AnyFunction::TypeOf => Ok(Dynamic::from_text(alloc, type_name_of(value, s))?),
+        AnyFunction::TypeOf => Ok(Dynamic::from_text(alloc, type_name_of(value, store))?),
         AnyFunction::ToString => {
-            let text = display_text(alloc, value, s)?;
+            check_ways(means, store, value)?;
+            let text = display_text(alloc, value, store)?;
             Ok(Dynamic::from_text(alloc, text.as_str())?)
         }
         AnyFunction::ToDebug => {
-            let text = debug_text(alloc, value, s)?;
+            check_ways(means, store, value)?;
+            let text = debug_text(alloc, value, store)?;
             Ok(Dynamic::from_text(alloc, text.as_str())?)
         }
     }
 }
 
-/// The name of the type that is held, as scripts see it: those of ranges are short.
-pub fn type_name_of(value: &Dynamic, s: &Store) -> &'static str {
-    let held = value.type_id(s);
+/// Names the type that is held, as scripts see it: those of ranges are short.
+/// Cost: that of `Dynamic::held`; no memory.
+/// rhai: `type_of`.
+pub fn type_name_of(value: &Dynamic, store: &Store) -> &'static str {
+    let held = value.type_id(store);
     if held == TypeId::ExclusiveRange {
         "range"
     } else if held == TypeId::InclusiveRange {

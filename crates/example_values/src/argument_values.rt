@@ -15,7 +15,7 @@ pub struct Arguments {
 }
 
 impl Arguments {
-    /// No arguments.
+    /// Answers no arguments.
     pub fn none() -> Arguments {
         Arguments {
             first: Dynamic::UNIT,
@@ -26,42 +26,42 @@ impl Arguments {
 }
 
 /// The int that an argument is.
-pub(crate) fn int(argument: &Dynamic, s: &Store) -> Result<INT, FaultKind> {
-    match argument.as_int(s) {
+pub(crate) fn int(argument: &Dynamic, store: &Store) -> Result<INT, FaultKind> {
+    match argument.as_int(store) {
         Ok(number) => Ok(number),
         Err(found) => Err(mismatch("i64", found)),
     }
 }
 
 /// The text that an argument is.
-pub(crate) fn text<'s>(argument: &'s Dynamic, s: &'s Store) -> Result<&'s str, FaultKind> {
-    match argument.as_immutable_string_ref(s) {
+pub(crate) fn text<'s>(argument: &'s Dynamic, store: &'s Store) -> Result<&'s str, FaultKind> {
+    match argument.as_immutable_string_ref(store) {
         Ok(text) => Ok(text.as_str()),
         Err(found) => Err(mismatch("string", found)),
     }
 }
 
 /// The items of an argument, which is spent.
-pub(crate) fn array(argument: &mut Dynamic, s: &Store) -> Result<Array, FaultKind> {
+pub(crate) fn array(argument: &mut Dynamic, store: &Store) -> Result<Array, FaultKind> {
     match Array::take_out(argument.take()) {
         Ok(items) => Ok(items),
-        Err(other) => Err(mismatch("array", other.type_name(s))),
+        Err(other) => Err(mismatch("array", other.type_name(store))),
     }
 }
 
 /// The map that an argument is, which is spent.
-pub(crate) fn map(argument: &mut Dynamic, s: &Store) -> Result<Map, FaultKind> {
+pub(crate) fn map(argument: &mut Dynamic, store: &Store) -> Result<Map, FaultKind> {
     match Map::take_out(argument.take()) {
         Ok(map) => Ok(map),
-        Err(other) => Err(mismatch("map", other.type_name(s))),
+        Err(other) => Err(mismatch("map", other.type_name(store))),
     }
 }
 
 /// The bytes of an argument, which is spent.
-pub(crate) fn blob(argument: &mut Dynamic, s: &Store) -> Result<Blob, FaultKind> {
+pub(crate) fn blob(argument: &mut Dynamic, store: &Store) -> Result<Blob, FaultKind> {
     match Blob::take_out(argument.take()) {
         Ok(bytes) => Ok(bytes),
-        Err(other) => Err(mismatch("blob", other.type_name(s))),
+        Err(other) => Err(mismatch("blob", other.type_name(store))),
     }
 }
 

@@ -5,6 +5,7 @@ use crate::bounds::{bounds_of, span_of};
 use crate::cost::cost_of;
 use crate::faults::FaultKind;
 use crate::resources::Means;
+use crate::ways::{check_all_ways, check_ways};
 use rhai_packs::arrays;
 use rhai_text::{EvalAltResult, Position, SizeKind};
 use rhai_value::{Array, Dynamic, INT, Store};
@@ -21,31 +22,59 @@ pub enum ArrayFunction {
 /// A function that leaves an array as it is.
 #[derive(Clone, Copy)]
 pub enum ArrayQuestion {
+    /// `len()`
     Len,
+    /// `is_empty()`
     IsEmpty,
+    /// `get(index)`
     Get,
+    /// `extract(index)`
     Extract,
+    /// `extract(index, count)`
     ExtractSome,
+    /// `contains(value)`
     Contains,
+    /// `index_of(value)`
     IndexOf,
 }
 
 /// A function that may change an array.
 #[derive(Clone, Copy)]
 pub enum ArrayChange {
+    /// `set(index, value)`
     Set,
+    /// `push(value)`
     Push,
+    /// `append(array)`
     Append,
+    /// `insert(index, value)`
     Insert,
+    /// `pad(count, value)`
     Pad,
+    /// `pop()`
     Pop,
+    /// `shift()`
     Shift,
+    /// `remove(index)`
     Remove,
+    /// `clear()`
     Clear,
+    /// `truncate(count)`
     Truncate,
+    /// `chop(count)`
     Chop,
+    /// `reverse()`
     Reverse,
+    /// `split(index)`
     Split,
+    /// `splice(range, array)`
+    SpliceRange,
+    /// `splice(index, count, array)`
+    Splice,
+    /// `dedup()`
+    Dedup,
+    /// `sort()`
+    Sort,
 }
 
 /// The function of this name for so many arguments behind the array.
@@ -84,15 +113,34 @@ fn change_of(name: &str, count: usize) -> Option<ArrayChange> {
         (1, "chop") => Some(ArrayChange::Chop),
         (0, "reverse") => Some(ArrayChange::Reverse),
         (1, "split") => Some(ArrayChange::Split),
+        (2, "splice") => Some(ArrayChange::SpliceRange),
+        (3, "splice") => Some(ArrayChange::Splice),
+        (0, "dedup") => Some(ArrayChange::Dedup),
+        (0, "sort") => Some(ArrayChange::Sort),
         _ => None,
     }
 }
 
-/// Answers a question about an array.
+/// Calls a function on an array that leaves it as it is, if it is one.
 pub(crate) fn ask_array(
+    function: Option<ArrayFunction>,
+    means: &Means,
+    store: &Store,
+    items: &Array,
+    arguments: &Arguments,
+) -> Result<Option<Dynamic>, FaultKind> {
+    match function {
+        Some(ArrayFunction::Ask(question)) => {
+            Ok(Some(array_answer(question, means, store, items, arguments)?))
+        }
+        Some(ArrayFunction::Change(_)) | None => Ok(None),
+    }
+}
+
+fn array_answer(
     question: ArrayQuestion,
     means: &Means,
-    s: &Store,
+    store: &Store,
     items: &Array,
     arguments: &Arguments,
 ) -> Result<Dynamic, FaultKind> {
@@ -100,23 +148,38 @@ pub(crate) fn ask_array(
     match question {
         ArrayQuestion::Len => Ok(count(arrays::len(items))),
         ArrayQuestion::IsEmpty => Ok(Dynamic::from_bool(arrays::is_empty(items))),
-        ArrayQuestion::Get => item_at(means, s, items, int(first, s)?),
-        ArrayQuestion::Extract => extract_from(means, s, items, first),
+        ArrayQuestion::Get => item_at(means, store, items, int(first, store)?),
+        ArrayQuestion::Extract => extract_from(means, store, items, first),
         ArrayQuestion::ExtractSome => {
-            extracted(means, items, int(first, s)?, int(&arguments.second, s)?)
+            extracted(
+                means,
+                items,
+                int(first, store)?,
+                int(&arguments.second, store)?,
+            )
         }
-        ArrayQuestion::Contains => {
-            Ok(Dynamic::from_bool(arrays::contains(means.alloc, items, s, first)?))
-        }
-        ArrayQuestion::IndexOf => {
-            Ok(place_or_none(arrays::index_of(means.alloc, items, s, first)?))
-        }
+        ArrayQuestion::Contains => Ok(Dynamic::from_bool(place_of(
+            means, store, items, first,
+        )?.is_some())),
+        ArrayQuestion::IndexOf => Ok(place_or_none(place_of(means, store, items, first)?)),
     }
 }
 
-fn item_at(means: &Means, s: &Store, items: &Array, index: INT) -> Result<Dynamic, FaultKind> {
+/// Where the first item stands that is the same as a value.
+fn place_of(
+    means: &Means,
+    store: &Store,
+    items: &Array,
+    wanted: &Dynamic,
+) -> Result<Option<usize>, FaultKind> {
+    check_ways(means, store, wanted)?;
+    check_all_ways(means, store, items.as_slice())?;
+    Ok(arrays::index_of(means.alloc, items, store, wanted)?)
+}
+
+fn item_at(means: &Means, store: &Store, items: &Array, index: INT) -> Result<Dynamic, FaultKind> {
     match arrays::get(items, index) {
-        Some(item) => Ok(item.flatten_clone(means.alloc, s)?),
+        Some(item) => Ok(item.flatten_clone(means.alloc, store)?),
         None => Ok(Dynamic::UNIT),
     }
 }
@@ -124,16 +187,16 @@ fn item_at(means: &Means, s: &Store, items: &Array, index: INT) -> Result<Dynami
 /// The items from an index on, or those of a range.
 fn extract_from(
     means: &Means,
-    s: &Store,
+    store: &Store,
     items: &Array,
     from: &Dynamic,
 ) -> Result<Dynamic, FaultKind> {
-    match bounds_of(from, s) {
+    match bounds_of(from, store) {
         Some(bounds) => {
             let (start, length) = span_of(bounds, items.len())?;
             extracted(means, items, start, length)
         }
-        None => extracted(means, items, int(from, s)?, INT::MAX),
+        None => extracted(means, items, int(from, store)?, INT::MAX),
     }
 }
 
@@ -146,7 +209,7 @@ fn extracted(means: &Means, items: &Array, start: INT, length: INT) -> Result<Dy
 pub(crate) fn change_array(
     change: ArrayChange,
     means: &Means,
-    s: &Store,
+    store: &Store,
     items: &mut Array,
     arguments: &mut Arguments,
 ) -> Result<Dynamic, FaultKind> {
@@ -154,35 +217,59 @@ pub(crate) fn change_array(
     let first = &mut arguments.first;
     match change {
         ArrayChange::Set => {
-            arrays::set(items, int(first, s)?, arguments.second.take());
+            arrays::set(items, int(first, store)?, arguments.second.take());
         }
         ArrayChange::Push => arrays::push(items, limits, first.take())?,
-        ArrayChange::Append => arrays::append(items, limits, &mut array(first, s)?)?,
+        ArrayChange::Append => arrays::append(items, limits, &mut array(first, store)?)?,
         ArrayChange::Insert => {
-            arrays::insert(items, limits, int(first, s)?, arguments.second.take())?;
+            arrays::insert(items, limits, int(first, store)?, arguments.second.take())?;
         }
-        ArrayChange::Pad => {
-            may_repeat(means, items.len(), int(first, s)?, &arguments.second)?;
-            arrays::pad(
-                means.alloc,
-                items,
-                limits,
-                int(first, s)?,
-                &arguments.second,
-            )?;
-        }
+        ArrayChange::Pad => pad(means, items, int(first, store)?, &arguments.second)?,
         ArrayChange::Pop => return Ok(or_unit(arrays::pop(items))),
         ArrayChange::Shift => return Ok(or_unit(arrays::shift(items))),
-        ArrayChange::Remove => return Ok(or_unit(arrays::remove(items, int(first, s)?))),
+        ArrayChange::Remove => return Ok(or_unit(arrays::remove(items, int(first, store)?))),
         ArrayChange::Clear => arrays::clear(items),
-        ArrayChange::Truncate => arrays::truncate(items, int(first, s)?),
-        ArrayChange::Chop => arrays::chop(items, int(first, s)?),
+        ArrayChange::Truncate => arrays::truncate(items, int(first, store)?),
+        ArrayChange::Chop => arrays::chop(items, int(first, store)?),
         ArrayChange::Reverse => arrays::reverse(items),
         ArrayChange::Split => {
-            return Ok(Dynamic::from_array(arrays::split(items, int(first, s)?)?));
+            return Ok(Dynamic::from_array(arrays::split(items, int(first, store)?)?));
         }
+        ArrayChange::SpliceRange | ArrayChange::Splice => splice(means, store, items, arguments)?,
+        ArrayChange::Dedup => {
+            check_all_ways(means, store, items.as_slice())?;
+            arrays::dedup(means.alloc, items, store)?;
+        }
+        ArrayChange::Sort => arrays::sort(items, store)?,
     }
     Ok(Dynamic::UNIT)
+}
+
+/// Puts the items of the last argument in the place of those from an index on, or of those of a range.
+fn splice(
+    means: &Means,
+    store: &Store,
+    items: &mut Array,
+    arguments: &mut Arguments,
+) -> Result<(), FaultKind> {
+    let (start, length, mut last) = match bounds_of(&arguments.first, store) {
+        Some(bounds) => {
+            let (start, length) = span_of(bounds, items.len())?;
+            (start, length, arguments.second.take())
+        }
+        None => (
+            int(&arguments.first, store)?,
+            int(&arguments.second, store)?,
+            arguments.third.take(),
+        ),
+    };
+    let more = array(&mut last, store)?;
+    Ok(arrays::splice(items, &means.limits, start, length, more)?)
+}
+
+fn pad(means: &Means, items: &mut Array, count: INT, item: &Dynamic) -> Result<(), FaultKind> {
+    may_repeat(means, items.len(), count, item)?;
+    Ok(arrays::pad(means.alloc, items, &means.limits, count, item)?)
 }
 
 /// Whether so many copies of a value behind others are let through: what stands in them counts, too.

@@ -21,29 +21,30 @@ pub struct Assignment {
     pub plain: Token,
 }
 
-/// Assigns what an operator makes of what is held at a place and a value. The built-in assignments come first; where they have no row,
-/// the place gets what the operator answers.
-///
+/// Assigns what an operator makes of what is held at a place and a value. The built-in assignments come first; where they
+/// have no row, the place gets what the operator answers.
 /// Errors: those of the operator; place and store are then as they were, where the place is no holder.
+/// Cost: that of the row, or of `binary`.
+/// rhai: an assignment by an operator.
 #[inline(always)]
 pub fn assign(
     op: Assignment,
     means: &Means,
-    m: &mut Store,
+    store: &mut Store,
     place: &mut Dynamic,
     value: &mut Dynamic,
 ) -> Result<(), FaultKind>
-    ensures built_in { OnOk result (IfSome (assign_row op.whole place.old value.old) (λ row. place.new ≡ first_left (effect row) (outcome row means.now.limits m.old place.old value.old) m.old place.old)) }
+    ensures built_in { OnOk result (IfSome (assign_row op.whole place.old value.old) (λ row. place.new ≡ first_left (effect row) (outcome row means.now.limits store.old place.old value.old) store.old place.old)) }
 {
     match get_builtin_op_assignment_fn(&op.whole, place, value) {
         Some(row) => {
             rows_suit();
-            match row.call(means.alloc, m, &means.limits, place, value) {
+            match row.call(means.alloc, store, &means.limits, place, value) {
                 Ok(_) => Ok(()),
                 Err(error) => Err(FaultKind::Layer(error)),
             }
         }
-        None => assign_answer(op, means, m, place, value),
+        None => assign_answer(op, means, store, place, value),
     }
 }
 
@@ -52,11 +53,14 @@ pub fn assign(
 fn assign_answer(
     op: Assignment,
     means: &Means,
-    m: &mut Store,
+    store: &mut Store,
     place: &mut Dynamic,
     value: &mut Dynamic,
 ) -> Result<(), FaultKind> {
-    let done = place.with_held(m, |held, m| assign_held(op, means, m, held, value));
+    let done = place.with_held(
+        store,
+        |held, store| assign_held(op, means, store, held, value),
+    );
     match done {
         Ok(done) => done,
         Err(_) => Err(in_use()),
@@ -67,16 +71,16 @@ fn assign_answer(
 fn assign_held(
     op: Assignment,
     means: &Means,
-    m: &mut Store,
+    store: &mut Store,
     held: &mut Dynamic,
     value: &mut Dynamic,
 ) -> Result<(), FaultKind> {
     if let Some(row) = get_builtin_op_assignment_fn(&op.whole, held, value) {
         rows_suit();
-        row.call(means.alloc, m, &means.limits, held, value)?;
+        row.call(means.alloc, store, &means.limits, held, value)?;
         return Ok(());
     }
-    let answer = binary(op.plain, means, m, held, value)?;
+    let answer = binary(op.plain, means, store, held, value)?;
     *held = answer;
     Ok(())
 }

@@ -6,6 +6,7 @@ ghost use Rattle.rhai_ops.specs.Table.{row_of};
 
 use crate::faults::{FaultKind, in_use};
 use crate::resources::Means;
+use crate::ways::check_ways;
 use rhai_ops::get_builtin_binary_op_fn;
 use rhai_ops::laws::{operators_write_nothing, rows_suit};
 use rhai_packs::maps;
@@ -13,31 +14,32 @@ use rhai_show::{display_text, same_value};
 use rhai_text::{EvalAltResult, ImmutableString, Position, SizeKind, Token};
 use rhai_value::{Array, Dynamic, Map, Store};
 
-/// Gives what an operator makes of two values, which are only read. The built-in operators come first. Where they have no row, a text
-/// takes the printed form of any value behind or before it, arrays and maps are joined, and values are compared without tags, modes and
-/// holders.
-///
+/// Answers what an operator makes of two values, which are only read. The built-in operators come first. Where they have no
+/// row, a text takes the printed form of any value behind or before it, arrays and maps are joined, and values are compared
+/// without tags, modes and holders.
 /// Errors: those of the built-in operators, `NoOperator` where nothing is meant, and a size past its limit.
+/// Cost: that of the row; of the others the length of both operands, with all that they hold.
+/// rhai: a binary operator, built in or of the packages.
 #[inline(always)]
 pub fn binary(
     op: Token,
     means: &Means,
-    s: &Store,
+    store: &Store,
     x: &Dynamic,
     y: &Dynamic,
 ) -> Result<Dynamic, FaultKind>
-    ensures built_in { IfOk result (λ d. IfSome (row_of op s.now x.now y.now) (λ row. outcome row means.now.limits s.now x.now y.now ≡ answers d)) }
+    ensures built_in { IfOk result (λ d. IfSome (row_of op store.now x.now y.now) (λ row. outcome row means.now.limits store.now x.now y.now ≡ answers d)) }
 {
-    match get_builtin_binary_op_fn(&op, x, y, s) {
+    match get_builtin_binary_op_fn(&op, x, y, store) {
         Some(row) => {
             rows_suit();
             operators_write_nothing();
-            match row.call_ref(means.alloc, s, &means.limits, x, y) {
+            match row.call_ref(means.alloc, store, &means.limits, x, y) {
                 Ok(value) => Ok(value),
                 Err(error) => Err(FaultKind::Layer(error)),
             }
         }
-        None => held_binary(op, means, s, x, y),
+        None => held_binary(op, means, store, x, y),
     }
 }
 
@@ -46,56 +48,60 @@ pub fn binary(
 fn held_binary(
     op: Token,
     means: &Means,
-    s: &Store,
+    store: &Store,
     x: &Dynamic,
     y: &Dynamic,
 ) -> Result<Dynamic, FaultKind> {
-    let (Some(x), Some(y)) = (x.held(s), y.held(s)) else {
+    let (Some(x), Some(y)) = (x.held(store), y.held(store)) else {
         return Err(in_use());
     };
-    if let Some(row) = get_builtin_binary_op_fn(&op, x, y, s) {
+    if let Some(row) = get_builtin_binary_op_fn(&op, x, y, store) {
         rows_suit();
         operators_write_nothing();
-        return Ok(row.call_ref(means.alloc, s, &means.limits, x, y)?);
+        return Ok(row.call_ref(means.alloc, store, &means.limits, x, y)?);
     }
     if op == Token::EqualsTo {
-        return Ok(Dynamic::from_bool(is_same(means, s, x, y)?));
+        return Ok(Dynamic::from_bool(is_same(means, store, x, y)?));
     }
     if op == Token::NotEqualsTo {
-        return Ok(Dynamic::from_bool(!is_same(means, s, x, y)?));
+        return Ok(Dynamic::from_bool(!is_same(means, store, x, y)?));
     }
     if op == Token::Plus {
-        if let Some(answer) = joined(means, s, x, y)? {
+        if let Some(answer) = joined(means, store, x, y)? {
             return Ok(answer);
         }
     }
-    Err(FaultKind::NoOperator(op, x.type_name(s), y.type_name(s)))
+    Err(FaultKind::NoOperator(op, x.type_name(store), y.type_name(store)))
 }
 
 /// Whether two values are equal without tags, modes and holders; what isn't anything without them equals nothing.
-fn is_same(means: &Means, s: &Store, x: &Dynamic, y: &Dynamic) -> Result<bool, FaultKind> {
-    Ok(same_value(means.alloc, x, y, s)?.unwrap_or(false))
+fn is_same(means: &Means, store: &Store, x: &Dynamic, y: &Dynamic) -> Result<bool, FaultKind> {
+    check_ways(means, store, x)?;
+    check_ways(means, store, y)?;
+    Ok(same_value(means.alloc, x, y, store)?.unwrap_or(false))
 }
 
 /// A value behind another, where one of them is a text or both are arrays or both are maps.
 fn joined(
     means: &Means,
-    s: &Store,
+    store: &Store,
     x: &Dynamic,
     y: &Dynamic,
 ) -> Result<Option<Dynamic>, FaultKind> {
-    if let Ok(first) = x.as_immutable_string_ref(s) {
-        let second = display_text(means.alloc, y, s)?;
+    if let Ok(first) = x.as_immutable_string_ref(store) {
+        check_ways(means, store, y)?;
+        let second = display_text(means.alloc, y, store)?;
         return Ok(Some(join_texts(means, first.as_str(), second.as_str())?));
     }
-    if let Ok(second) = y.as_immutable_string_ref(s) {
-        let first = display_text(means.alloc, x, s)?;
+    if let Ok(second) = y.as_immutable_string_ref(store) {
+        check_ways(means, store, x)?;
+        let first = display_text(means.alloc, x, store)?;
         return Ok(Some(join_texts(means, first.as_str(), second.as_str())?));
     }
-    if let (Ok(first), Ok(second)) = (x.as_array_ref(s), y.as_array_ref(s)) {
+    if let (Ok(first), Ok(second)) = (x.as_array_ref(store), y.as_array_ref(store)) {
         return Ok(Some(join_arrays(means, first, second)?));
     }
-    if let (Ok(first), Ok(second)) = (x.as_map_ref(s), y.as_map_ref(s)) {
+    if let (Ok(first), Ok(second)) = (x.as_map_ref(store), y.as_map_ref(store)) {
         return Ok(Some(join_maps(means, first, second)?));
     }
     Ok(None)

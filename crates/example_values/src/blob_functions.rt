@@ -19,21 +19,32 @@ pub enum BlobFunction {
 /// A function that leaves a blob as it is.
 #[derive(Clone, Copy)]
 pub enum BlobQuestion {
+    /// `len()`
     Len,
+    /// `get(index)`
     Get,
+    /// `extract(index)`
     Extract,
+    /// `extract(index, count)`
     ExtractSome,
+    /// `to_array()`
     ToArray,
 }
 
 /// A function that may change a blob.
 #[derive(Clone, Copy)]
 pub enum BlobChange {
+    /// `set(index, byte)`
     Set,
+    /// `push(byte)`
     Push,
+    /// `append(blob)`
     Append,
+    /// `pop()`
     Pop,
+    /// `remove(index)`
     Remove,
+    /// `reverse()`
     Reverse,
 }
 
@@ -55,27 +66,47 @@ pub(crate) fn blob_function(name: &str, count: usize) -> Option<BlobFunction> {
     }
 }
 
-/// Answers a question about a blob.
+/// Calls a function on a blob that leaves it as it is, if it is one.
 pub(crate) fn ask_blob(
+    function: Option<BlobFunction>,
+    means: &Means,
+    store: &Store,
+    bytes: &Blob,
+    arguments: &Arguments,
+) -> Result<Option<Dynamic>, FaultKind> {
+    match function {
+        Some(BlobFunction::Ask(question)) => {
+            Ok(Some(blob_answer(question, means, store, bytes, arguments)?))
+        }
+        Some(BlobFunction::Change(_)) | None => Ok(None),
+    }
+}
+
+fn blob_answer(
     question: BlobQuestion,
     means: &Means,
-    s: &Store,
+    store: &Store,
     bytes: &Blob,
     arguments: &Arguments,
 ) -> Result<Dynamic, FaultKind> {
     let first = &arguments.first;
     match question {
         BlobQuestion::Len => Ok(count(blobs::len(bytes))),
-        BlobQuestion::Get => Ok(byte_or_unit(blobs::get(bytes, int(first, s)?))),
-        BlobQuestion::Extract => match bounds_of(first, s) {
+        BlobQuestion::Get => Ok(byte_or_unit(blobs::get(bytes, int(first, store)?))),
+        BlobQuestion::Extract => match bounds_of(first, store) {
             Some(bounds) => {
                 let (start, length) = span_of(bounds, bytes.len())?;
                 extracted(means, bytes, start, length)
             }
-            None => extracted(means, bytes, int(first, s)?, INT::MAX),
+            None => extracted(means, bytes, int(first, store)?, INT::MAX),
         },
         BlobQuestion::ExtractSome => {
-            extracted(means, bytes, int(first, s)?, int(&arguments.second, s)?)
+            extracted(
+                means,
+                bytes,
+                int(first, store)?,
+                int(&arguments.second, store)?,
+            )
         }
         BlobQuestion::ToArray => Ok(Dynamic::from_array(blobs::to_array(means.alloc, bytes)?)),
     }
@@ -98,7 +129,7 @@ fn byte_or_unit(byte: Option<INT>) -> Dynamic {
 pub(crate) fn change_blob(
     change: BlobChange,
     means: &Means,
-    s: &Store,
+    store: &Store,
     bytes: &mut Blob,
     arguments: &mut Arguments,
 ) -> Result<Dynamic, FaultKind> {
@@ -106,12 +137,12 @@ pub(crate) fn change_blob(
     let first = &mut arguments.first;
     match change {
         BlobChange::Set => {
-            blobs::set(bytes, int(first, s)?, int(&arguments.second, s)?);
+            blobs::set(bytes, int(first, store)?, int(&arguments.second, store)?);
         }
-        BlobChange::Push => blobs::push(bytes, limits, int(first, s)?)?,
-        BlobChange::Append => blobs::append(bytes, limits, blob(first, s)?.as_slice())?,
+        BlobChange::Push => blobs::push(bytes, limits, int(first, store)?)?,
+        BlobChange::Append => blobs::append(bytes, limits, blob(first, store)?.as_slice())?,
         BlobChange::Pop => return Ok(byte_or_unit(blobs::pop(bytes))),
-        BlobChange::Remove => return Ok(byte_or_unit(blobs::remove(bytes, int(first, s)?))),
+        BlobChange::Remove => return Ok(byte_or_unit(blobs::remove(bytes, int(first, store)?))),
         BlobChange::Reverse => blobs::reverse(bytes),
     }
     Ok(Dynamic::UNIT)

@@ -14,15 +14,15 @@ pub(crate) struct Bounds {
 }
 
 /// The ends of a range, if the value is one.
-pub(crate) fn bounds_of(value: &Dynamic, s: &Store) -> Option<Bounds> {
-    if let Ok(range) = value.as_part::<ExclusiveRange>(s) {
+pub(crate) fn bounds_of(value: &Dynamic, store: &Store) -> Option<Bounds> {
+    if let Ok(range) = value.as_part::<ExclusiveRange>(store) {
         return Some(Bounds {
             start: range.start,
             end: range.end,
             is_inclusive: false,
         });
     }
-    if let Ok(range) = value.as_part::<InclusiveRange>(s) {
+    if let Ok(range) = value.as_part::<InclusiveRange>(store) {
         return Some(Bounds {
             start: range.start,
             end: range.end,
@@ -33,7 +33,6 @@ pub(crate) fn bounds_of(value: &Dynamic, s: &Store) -> Option<Bounds> {
 }
 
 /// The place of a range in a list of so many items. Negative ends count from the end of the list; the end is cut to the list.
-///
 /// Errors: a start before the front or past the end.
 pub(crate) fn slice_of(bounds: Bounds, count: usize) -> Result<Slice, FaultKind> {
     let distance = bounds.start.unsigned_abs() as usize;
@@ -82,7 +81,6 @@ pub(crate) struct Bits {
 }
 
 /// The bits of a range.
-///
 /// Errors: an end that is no bit of 0 to 63; the end that is left out may be 64.
 pub(crate) fn bits_of(bounds: Bounds) -> Result<Bits, FaultKind> {
     let most = if bounds.is_inclusive { 63 } else { 64 };

@@ -3,9 +3,9 @@
 use rhai_value::{Dynamic, Union};
 use std::alloc::{AllocError, Global};
 
-/// How many values stand in one, at any depth; a text and a blob count one for each 64 bytes. Cells aren't entered.
-///
-/// Errors: memory.
+/// Counts the values that stand in one, at any depth; a text and a blob count one for each 64 bytes. Cells aren't entered.
+/// Errors: memory for the list of those under way is refused.
+/// Cost: the number of values.
 pub fn cost_of(alloc: Global, value: &Dynamic) -> Result<u64, AllocError> {
     if !has_parts(value) {
         return Ok(own_cost(value));
@@ -24,7 +24,7 @@ pub fn cost_of(alloc: Global, value: &Dynamic) -> Result<u64, AllocError> {
 }
 
 /// Whether other values stand in a value.
-fn has_parts(value: &Dynamic) -> bool {
+pub(crate) fn has_parts(value: &Dynamic) -> bool {
     matches!(
         value.parts(),
         Union::Array(_, _, _) | Union::Map(_, _, _) | Union::FnPtr(_, _, _)
@@ -32,7 +32,7 @@ fn has_parts(value: &Dynamic) -> bool {
 }
 
 /// How many values stand right in a value, or how many times 64 bytes.
-fn own_cost(value: &Dynamic) -> u64 {
+pub(crate) fn own_cost(value: &Dynamic) -> u64 {
     let count = match value.parts() {
         Union::Array(_, _, items) => items.len(),
         Union::Map(_, _, map) => map.len(),
@@ -49,8 +49,11 @@ fn own_cost(value: &Dynamic) -> u64 {
     count as u64
 }
 
-/// Adds those of the values in a value that take room of their own.
-fn push_parts<'v>(value: &'v Dynamic, left: &mut Vec<&'v Dynamic>) -> Result<(), AllocError> {
+/// Adds those of the values in a value that take room of their own, and those that are shared.
+pub(crate) fn push_parts<'v>(
+    value: &'v Dynamic,
+    left: &mut Vec<&'v Dynamic>,
+) -> Result<(), AllocError> {
     if let Union::Array(_, _, items) = value.parts() {
         for item in items.iter() {
             push_costly(item, left)?;
@@ -70,7 +73,7 @@ fn push_parts<'v>(value: &'v Dynamic, left: &mut Vec<&'v Dynamic>) -> Result<(),
 }
 
 fn push_costly<'v>(value: &'v Dynamic, left: &mut Vec<&'v Dynamic>) -> Result<(), AllocError> {
-    if has_parts(value) || own_cost(value) > 0 {
+    if has_parts(value) || value.is_shared() || own_cost(value) > 0 {
         left.push(value)?;
     }
     Ok(())

@@ -38,6 +38,8 @@ pub enum FaultKind {
     Constant,
     /// A text is no number.
     NoNumber,
+    /// The radix is below 2 or above 36.
+    NoRadix,
     /// The script threw this value.
     Thrown(Dynamic),
     /// The script took more operations than it may.
@@ -47,7 +49,7 @@ pub enum FaultKind {
 }
 
 impl FaultKind {
-    /// The fault of this kind at a place.
+    /// Makes the fault of this kind at a place.
     pub fn at(self, position: Position) -> Fault
         ensures kind { result.kind ≡ self }
         ensures position { result.position ≡ position }
@@ -58,7 +60,7 @@ impl FaultKind {
         }
     }
 
-    /// Whether a script may catch it. Limits and want of memory stop the script.
+    /// Tells whether a script may catch it. Limits and want of memory stop the script.
     pub fn is_catchable(&self) -> bool {
         match self {
             FaultKind::Layer(error) => is_error_catchable(error),
@@ -71,13 +73,16 @@ impl FaultKind {
             | FaultKind::TooFar
             | FaultKind::Constant
             | FaultKind::NoNumber
+            | FaultKind::NoRadix
             | FaultKind::Thrown(_) => true,
             FaultKind::TooManyOperations | FaultKind::TooManyCalls => false,
         }
     }
 
     /// Tells what went wrong, without the place.
-    pub fn message(&self, alloc: Global, s: &Store) -> Result<String, AllocError> {
+    /// Errors: memory for the text is refused.
+    /// Cost: the length of the text.
+    pub fn message(&self, alloc: Global, store: &Store) -> Result<String, AllocError> {
         match self {
             FaultKind::Layer(error) => format!(in alloc; "{error}"),
             FaultKind::UnknownName(name) => {
@@ -98,11 +103,12 @@ impl FaultKind {
             FaultKind::OutOfRange(index, count) => {
                 format!(in alloc; "index {index} out of range of {count}")
             }
-            FaultKind::Thrown(value) => display_text(alloc, value, s),
+            FaultKind::Thrown(value) => display_text(alloc, value, store),
             FaultKind::NoKey => String::from_str(alloc, "no such key"),
             FaultKind::TooFar => String::from_str(alloc, "too many steps to a place"),
             FaultKind::Constant => String::from_str(alloc, "a constant can't be changed"),
             FaultKind::NoNumber => String::from_str(alloc, "the text is no number"),
+            FaultKind::NoRadix => String::from_str(alloc, "a radix is from 2 to 36"),
             FaultKind::TooManyOperations => String::from_str(alloc, "too many operations"),
             FaultKind::TooManyCalls => String::from_str(alloc, "too many calls within each other"),
         }
@@ -155,7 +161,7 @@ fn symbol_of(op: Token) -> &'static str {
     }
 }
 
-/// The fault of a value whose type isn't the wanted one.
+/// Makes the fault of a value whose type isn't the wanted one.
 pub fn mismatch(wanted: &'static str, found: &'static str) -> FaultKind {
     FaultKind::Layer(EvalAltResult::ErrorMismatchDataType(wanted, found, Position::NONE))
 }

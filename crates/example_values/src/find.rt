@@ -22,16 +22,16 @@ pub enum Found<'s> {
 /// Finds what a key leads to.
 pub(crate) fn find<'s>(
     means: &Means,
-    s: &'s Store,
+    store: &'s Store,
     source: &'s Dynamic,
     key: &Key<'_>,
 ) -> Result<Found<'s>, FaultKind> {
-    let Some(held) = source.held(s) else {
+    let Some(held) = source.held(store) else {
         return Err(in_use());
     };
     match held.parts() {
-        Union::Array(_, _, items) => find_item(items, s, key),
-        Union::Map(_, _, map) => find_value(map, s, key),
+        Union::Array(_, _, items) => find_item(items, store, key),
+        Union::Map(_, _, map) => find_value(map, store, key),
         Union::Str(_, _, _)
         | Union::Blob(_, _, _)
         | Union::Int(_, _, _)
@@ -40,23 +40,23 @@ pub(crate) fn find<'s>(
         | Union::Char(_, _, _)
         | Union::FnPtr(_, _, _)
         | Union::Variant(_, _, _)
-        | Union::Shared(_, _, _) => match part_at(means, s, held, key) {
+        | Union::Shared(_, _, _) => match part_at(means, store, held, key) {
             Ok(part) => Ok(Found::Made(part.value)),
             Err(fault) => Err(fault),
         },
     }
 }
 
-fn find_item<'s>(items: &'s Array, s: &Store, key: &Key<'_>) -> Result<Found<'s>, FaultKind> {
-    let index = index_in(key, s, "array")?;
+fn find_item<'s>(items: &'s Array, store: &Store, key: &Key<'_>) -> Result<Found<'s>, FaultKind> {
+    let index = index_in(key, store, "array")?;
     match arrays::get(items, index) {
         Some(item) => Ok(Found::Item(item)),
         None => Err(FaultKind::OutOfRange(index, items.len())),
     }
 }
 
-fn find_value<'s>(map: &'s Map, s: &Store, key: &Key<'_>) -> Result<Found<'s>, FaultKind> {
-    let name = name_in(key, s)?;
+fn find_value<'s>(map: &'s Map, store: &Store, key: &Key<'_>) -> Result<Found<'s>, FaultKind> {
+    let name = name_in(key, store)?;
     match map.get(name) {
         Some(value) => Ok(Found::Item(value)),
         None => Ok(Found::Made(Dynamic::UNIT)),
@@ -64,41 +64,40 @@ fn find_value<'s>(map: &'s Map, s: &Store, key: &Key<'_>) -> Result<Found<'s>, F
 }
 
 /// Reads a part of a text, a blob or an int.
-///
 /// Errors: another type, and a place that isn't there.
 pub(crate) fn part_at(
     means: &Means,
-    s: &Store,
+    store: &Store,
     source: &Dynamic,
     key: &Key<'_>,
 ) -> Result<ReadPart, FaultKind>
-    ensures { IfOk result (λ p. HasPlace s.now source.now p.place) }
+    ensures { IfOk result (λ p. HasPlace store.now source.now p.place) }
 {
     let Key::Index(index) = key else {
-        return Err(FaultKind::NoParts(source.type_name(s)));
+        return Err(FaultKind::NoParts(source.type_name(store)));
     };
-    if source.is_string(s) {
-        return text_part(means, s, source, index);
+    if source.is_string(store) {
+        return text_part(means, store, source, index);
     }
-    if source.is_int(s) {
-        return int_part(s, source, index);
+    if source.is_int(store) {
+        return int_part(store, source, index);
     }
-    if source.is_blob(s) {
-        return blob_part(s, source, index);
+    if source.is_blob(store) {
+        return blob_part(store, source, index);
     }
-    Err(FaultKind::NoParts(source.type_name(s)))
+    Err(FaultKind::NoParts(source.type_name(store)))
 }
 
-fn int_of(index: &Dynamic, s: &Store) -> Result<INT, FaultKind> {
-    match index.as_int(s) {
+fn int_of(index: &Dynamic, store: &Store) -> Result<INT, FaultKind> {
+    match index.as_int(store) {
         Ok(index) => Ok(index),
         Err(found) => Err(mismatch("i64", found)),
     }
 }
 
 /// How many characters the held text has.
-fn characters_in(source: &Dynamic, s: &Store) -> usize {
-    match source.as_immutable_string_ref(s) {
+fn characters_in(source: &Dynamic, store: &Store) -> usize {
+    match source.as_immutable_string_ref(store) {
         Ok(text) => text.as_str().chars().count(),
         Err(_) => 0,
     }
@@ -106,56 +105,56 @@ fn characters_in(source: &Dynamic, s: &Store) -> usize {
 
 fn text_part(
     means: &Means,
-    s: &Store,
+    store: &Store,
     source: &Dynamic,
     index: &Dynamic,
 ) -> Result<ReadPart, FaultKind>
-    ensures { IfOk result (λ p. HasPlace s.now source.now p.place) }
+    ensures { IfOk result (λ p. HasPlace store.now source.now p.place) }
 {
-    if let Some(bounds) = bounds_of(index, s) {
-        let slice = slice_of(bounds, characters_in(source, s))?;
-        return match ReadPart::slice_at(means.alloc, source, s, slice) {
+    if let Some(bounds) = bounds_of(index, store) {
+        let slice = slice_of(bounds, characters_in(source, store))?;
+        return match ReadPart::slice_at(means.alloc, source, store, slice) {
             Ok(part) => Ok(part),
             Err(missing) => Err(fault_of(missing, 0, 0)),
         };
     }
-    let index = int_of(index, s)?;
-    match ReadPart::char_at(source, s, index) {
+    let index = int_of(index, store)?;
+    match ReadPart::char_at(source, store, index) {
         Ok(part) => Ok(part),
-        Err(missing) => Err(fault_of(missing, index, characters_in(source, s))),
+        Err(missing) => Err(fault_of(missing, index, characters_in(source, store))),
     }
 }
 
-fn int_part(s: &Store, source: &Dynamic, index: &Dynamic) -> Result<ReadPart, FaultKind>
-    ensures { IfOk result (λ p. HasPlace s.now source.now p.place) }
+fn int_part(store: &Store, source: &Dynamic, index: &Dynamic) -> Result<ReadPart, FaultKind>
+    ensures { IfOk result (λ p. HasPlace store.now source.now p.place) }
 {
-    if let Some(bounds) = bounds_of(index, s) {
+    if let Some(bounds) = bounds_of(index, store) {
         let bits = bits_of(bounds)?;
-        return match ReadPart::field_at(source, s, bits.mask, bits.shift) {
+        return match ReadPart::field_at(source, store, bits.mask, bits.shift) {
             Ok(part) => Ok(part),
             Err(missing) => Err(fault_of(missing, 0, 64)),
         };
     }
-    let index = int_of(index, s)?;
-    match ReadPart::bit_at(source, s, index) {
+    let index = int_of(index, store)?;
+    match ReadPart::bit_at(source, store, index) {
         Ok(part) => Ok(part),
         Err(missing) => Err(fault_of(missing, index, 64)),
     }
 }
 
-fn blob_part(s: &Store, source: &Dynamic, index: &Dynamic) -> Result<ReadPart, FaultKind>
-    ensures { IfOk result (λ p. HasPlace s.now source.now p.place) }
+fn blob_part(store: &Store, source: &Dynamic, index: &Dynamic) -> Result<ReadPart, FaultKind>
+    ensures { IfOk result (λ p. HasPlace store.now source.now p.place) }
 {
-    let index = int_of(index, s)?;
-    match ReadPart::byte_at(source, s, index) {
+    let index = int_of(index, store)?;
+    match ReadPart::byte_at(source, store, index) {
         Ok(part) => Ok(part),
-        Err(missing) => Err(fault_of(missing, index, bytes_in(source, s))),
+        Err(missing) => Err(fault_of(missing, index, bytes_in(source, store))),
     }
 }
 
 /// How many bytes the held blob has.
-fn bytes_in(source: &Dynamic, s: &Store) -> usize {
-    match source.as_blob_ref(s) {
+fn bytes_in(source: &Dynamic, store: &Store) -> usize {
+    match source.as_blob_ref(store) {
         Ok(bytes) => bytes.len(),
         Err(_) => 0,
     }

@@ -9,9 +9,13 @@ use rhai_value::{Dynamic, INT, Store};
 /// A function on an int.
 #[derive(Clone, Copy)]
 pub enum IntFunction {
+    /// `abs()`
     Abs,
+    /// `min(other)`
     Min,
+    /// `max(other)`
     Max,
+    /// `blob(byte)`
     Blob,
 }
 
@@ -26,24 +30,37 @@ pub(crate) fn int_function(name: &str, count: usize) -> Option<IntFunction> {
     }
 }
 
-/// Answers a question about an int.
+/// Calls a function on an int, if there is one.
 pub(crate) fn ask_int(
+    function: Option<IntFunction>,
+    means: &Means,
+    store: &Store,
+    number: INT,
+    arguments: &Arguments,
+) -> Result<Option<Dynamic>, FaultKind> {
+    match function {
+        Some(function) => Ok(Some(int_answer(function, means, store, number, arguments)?)),
+        None => Ok(None),
+    }
+}
+
+fn int_answer(
     function: IntFunction,
     means: &Means,
-    s: &Store,
+    store: &Store,
     number: INT,
     arguments: &Arguments,
 ) -> Result<Dynamic, FaultKind> {
     let first = &arguments.first;
     match function {
         IntFunction::Abs => Ok(Dynamic::from_int(ints::abs(number)?)),
-        IntFunction::Min => Ok(Dynamic::from_int(ints::min(number, int(first, s)?))),
-        IntFunction::Max => Ok(Dynamic::from_int(ints::max(number, int(first, s)?))),
+        IntFunction::Min => Ok(Dynamic::from_int(ints::min(number, int(first, store)?))),
+        IntFunction::Max => Ok(Dynamic::from_int(ints::max(number, int(first, store)?))),
         IntFunction::Blob => Ok(Dynamic::from_blob(blobs::blob(
             means.alloc,
             &means.limits,
             number,
-            int(first, s)?,
+            int(first, store)?,
         )?)),
     }
 }

@@ -14,22 +14,26 @@ pub enum Key<'k> {
 }
 
 /// The int in brackets. Errors: another type stands there, or a name of a property leads on from a value of this type, which has none.
-pub(crate) fn index_in(key: &Key<'_>, s: &Store, found: &'static str) -> Result<INT, FaultKind> {
+pub(crate) fn index_in(
+    key: &Key<'_>,
+    store: &Store,
+    found: &'static str,
+) -> Result<INT, FaultKind> {
     match key {
-        Key::Index(index) => match index.as_int(s) {
+        Key::Index(index) => match index.as_int(store) {
             Ok(index) => Ok(index),
-            Err(_) => Err(mismatch("i64", type_name_of(index, s))),
+            Err(_) => Err(mismatch("i64", type_name_of(index, store))),
         },
         Key::Name(_) => Err(FaultKind::NoParts(found)),
     }
 }
 
 /// The text in brackets, or the name. Errors: another type stands there.
-pub(crate) fn name_in<'k>(key: &Key<'k>, s: &'k Store) -> Result<&'k str, FaultKind> {
+pub(crate) fn name_in<'k>(key: &Key<'k>, store: &'k Store) -> Result<&'k str, FaultKind> {
     match *key {
-        Key::Index(index) => match index.as_immutable_string_ref(s) {
+        Key::Index(index) => match index.as_immutable_string_ref(store) {
             Ok(text) => Ok(text.as_str()),
-            Err(_) => Err(mismatch("string", type_name_of(index, s))),
+            Err(_) => Err(mismatch("string", type_name_of(index, store))),
         },
         Key::Name(name) => Ok(name),
     }

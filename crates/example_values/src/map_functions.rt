@@ -18,21 +18,32 @@ pub enum MapFunction {
 /// A function that leaves a map as it is.
 #[derive(Clone, Copy)]
 pub enum MapQuestion {
+    /// `len()`
     Len,
+    /// `is_empty()`
     IsEmpty,
+    /// `contains(key)`
     Contains,
+    /// `get(key)`
     Get,
+    /// `keys()`
     Keys,
+    /// `values()`
     Values,
 }
 
 /// A function that may change a map.
 #[derive(Clone, Copy)]
 pub enum MapChange {
+    /// `set(key, value)`
     Set,
+    /// `remove(key)`
     Remove,
+    /// `clear()`
     Clear,
+    /// `mixin(map)`
     MixIn,
+    /// `fill_with(map)`
     FillWith,
 }
 
@@ -54,11 +65,26 @@ pub(crate) fn map_function(name: &str, count: usize) -> Option<MapFunction> {
     }
 }
 
-/// Answers a question about a map.
+/// Calls a function on a map that leaves it as it is, if it is one.
 pub(crate) fn ask_map(
+    function: Option<MapFunction>,
+    means: &Means,
+    store: &Store,
+    entries: &Map,
+    arguments: &Arguments,
+) -> Result<Option<Dynamic>, FaultKind> {
+    match function {
+        Some(MapFunction::Ask(question)) => {
+            Ok(Some(map_answer(question, means, store, entries, arguments)?))
+        }
+        Some(MapFunction::Change(_)) | None => Ok(None),
+    }
+}
+
+fn map_answer(
     question: MapQuestion,
     means: &Means,
-    s: &Store,
+    store: &Store,
     entries: &Map,
     arguments: &Arguments,
 ) -> Result<Dynamic, FaultKind> {
@@ -67,10 +93,10 @@ pub(crate) fn ask_map(
         MapQuestion::Len => Ok(count(maps::len(entries))),
         MapQuestion::IsEmpty => Ok(Dynamic::from_bool(maps::is_empty(entries))),
         MapQuestion::Contains => {
-            Ok(Dynamic::from_bool(maps::contains(entries, text(first, s)?)))
+            Ok(Dynamic::from_bool(maps::contains(entries, text(first, store)?)))
         }
-        MapQuestion::Get => match maps::get(entries, text(first, s)?) {
-            Some(value) => Ok(value.flatten_clone(means.alloc, s)?),
+        MapQuestion::Get => match maps::get(entries, text(first, store)?) {
+            Some(value) => Ok(value.flatten_clone(means.alloc, store)?),
             None => Ok(Dynamic::UNIT),
         },
         MapQuestion::Keys => Ok(Dynamic::from_array(maps::keys(means.alloc, entries)?)),
@@ -81,18 +107,22 @@ pub(crate) fn ask_map(
 /// Changes a map, and answers what the change gives.
 pub(crate) fn change_map(
     change: MapChange,
-    s: &Store,
+    store: &Store,
     entries: &mut Map,
     arguments: &mut Arguments,
 ) -> Result<Dynamic, FaultKind> {
     match change {
-        MapChange::Set => maps::set(entries, text(&arguments.first, s)?, arguments.second.take())?,
+        MapChange::Set => maps::set(
+            entries,
+            text(&arguments.first, store)?,
+            arguments.second.take(),
+        )?,
         MapChange::Remove => {
-            return Ok(or_unit(maps::remove(entries, text(&arguments.first, s)?)));
+            return Ok(or_unit(maps::remove(entries, text(&arguments.first, store)?)));
         }
         MapChange::Clear => maps::clear(entries),
-        MapChange::MixIn => maps::mixin(entries, map(&mut arguments.first, s)?)?,
-        MapChange::FillWith => maps::fill_with(entries, map(&mut arguments.first, s)?)?,
+        MapChange::MixIn => maps::mixin(entries, map(&mut arguments.first, store)?)?,
+        MapChange::FillWith => maps::fill_with(entries, map(&mut arguments.first, store)?)?,
     }
     Ok(Dynamic::UNIT)
 }

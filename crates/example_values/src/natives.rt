@@ -22,7 +22,8 @@ pub struct Native {
     pub any: Option<AnyFunction>,
 }
 
-/// The functions of this name for so many arguments behind the receiver.
+/// Finds the functions of this name for so many arguments behind the receiver.
+/// Cost: constant; no memory.
 pub fn native_of(name: &str, arguments: usize) -> Native {
     Native {
         array: array_function(name, arguments),
@@ -35,9 +36,10 @@ pub fn native_of(name: &str, arguments: usize) -> Native {
 }
 
 impl Native {
-    /// Whether it may change a receiver that holds what this value does.
-    pub fn changes(&self, receiver: &Dynamic, s: &Store) -> bool {
-        let Some(held) = receiver.held(s) else {
+    /// Tells whether it may change a receiver that holds what this value does.
+    /// Cost: that of `Dynamic::held`; no memory.
+    pub fn changes(&self, receiver: &Dynamic, store: &Store) -> bool {
+        let Some(held) = receiver.held(store) else {
             return false;
         };
         match held.parts() {
@@ -56,20 +58,20 @@ impl Native {
     }
 
     /// Calls the function that leaves its receiver as it is, if the type of the receiver has one.
-    ///
     /// Errors: an argument of another type, and what the function refuses.
+    /// Cost: that of the function.
     pub fn ask(
         &self,
         means: &Means,
-        s: &Store,
+        store: &Store,
         receiver: &Dynamic,
         arguments: &Arguments,
     ) -> Result<Option<Dynamic>, FaultKind> {
-        if let Some(answer) = self.ask_held(means, s, receiver, arguments)? {
+        if let Some(answer) = self.ask_held(means, store, receiver, arguments)? {
             return Ok(Some(answer));
         }
         match self.any {
-            Some(function) => Ok(Some(ask_any(function, means, s, receiver)?)),
+            Some(function) => Ok(Some(ask_any(function, means, store, receiver)?)),
             None => Ok(None),
         }
     }
@@ -77,44 +79,19 @@ impl Native {
     fn ask_held(
         &self,
         means: &Means,
-        s: &Store,
+        store: &Store,
         receiver: &Dynamic,
         arguments: &Arguments,
     ) -> Result<Option<Dynamic>, FaultKind> {
-        let Some(held) = receiver.held(s) else {
+        let Some(held) = receiver.held(store) else {
             return Ok(None);
         };
         match held.parts() {
-            Union::Array(_, _, items) => {
-                let Some(ArrayFunction::Ask(question)) = self.array else {
-                    return Ok(None);
-                };
-                Ok(Some(ask_array(question, means, s, items, arguments)?))
-            }
-            Union::Map(_, _, map) => {
-                let Some(MapFunction::Ask(question)) = self.map else {
-                    return Ok(None);
-                };
-                Ok(Some(ask_map(question, means, s, map, arguments)?))
-            }
-            Union::Str(_, _, text) => {
-                let Some(TextFunction::Ask(question)) = self.text else {
-                    return Ok(None);
-                };
-                Ok(Some(ask_text(question, means, s, text, arguments)?))
-            }
-            Union::Blob(_, _, bytes) => {
-                let Some(BlobFunction::Ask(question)) = self.blob else {
-                    return Ok(None);
-                };
-                Ok(Some(ask_blob(question, means, s, bytes, arguments)?))
-            }
-            Union::Int(_, _, number) => {
-                let Some(function) = self.int else {
-                    return Ok(None);
-                };
-                Ok(Some(ask_int(function, means, s, *number, arguments)?))
-            }
+            Union::Array(_, _, items) => ask_array(self.array, means, store, items, arguments),
+            Union::Map(_, _, map) => ask_map(self.map, means, store, map, arguments),
+            Union::Str(_, _, text) => ask_text(self.text, means, store, text, arguments),
+            Union::Blob(_, _, bytes) => ask_blob(self.blob, means, store, bytes, arguments),
+            Union::Int(_, _, number) => ask_int(self.int, means, store, *number, arguments),
             Union::Unit(_, _, _)
             | Union::Bool(_, _, _)
             | Union::Char(_, _, _)
@@ -125,12 +102,12 @@ impl Native {
     }
 
     /// Calls the function that may change its receiver, which is no holder, if the type of the receiver has one.
-    ///
     /// Errors: an argument of another type, and what the function refuses.
+    /// Cost: that of the function.
     pub fn change(
         &self,
         means: &Means,
-        s: &Store,
+        store: &Store,
         receiver: &mut Dynamic,
         arguments: &mut Arguments,
     ) -> Result<Option<Dynamic>, FaultKind> {
@@ -139,25 +116,25 @@ impl Native {
                 let Some(ArrayFunction::Change(change)) = self.array else {
                     return Ok(None);
                 };
-                Ok(Some(change_array(change, means, s, items, arguments)?))
+                Ok(Some(change_array(change, means, store, items, arguments)?))
             }
             Union::Map(_, _, map) => {
                 let Some(MapFunction::Change(change)) = self.map else {
                     return Ok(None);
                 };
-                Ok(Some(change_map(change, s, map, arguments)?))
+                Ok(Some(change_map(change, store, map, arguments)?))
             }
             Union::Str(_, _, text) => {
                 let Some(TextFunction::Change(change)) = self.text else {
                     return Ok(None);
                 };
-                Ok(Some(change_text(change, means, s, text, arguments)?))
+                Ok(Some(change_text(change, means, store, text, arguments)?))
             }
             Union::Blob(_, _, bytes) => {
                 let Some(BlobFunction::Change(change)) = self.blob else {
                     return Ok(None);
                 };
-                Ok(Some(change_blob(change, means, s, bytes, arguments)?))
+                Ok(Some(change_blob(change, means, store, bytes, arguments)?))
             }
             Union::Int(_, _, _)
             | Union::Unit(_, _, _)

@@ -15,21 +15,22 @@ pub struct PlaceFault {
     pub kind: FaultKind,
 }
 
-/// Finds what the keys lead to from a value: what stands there, or a value that is made. A key that a map lacks leads to unit.
-///
+/// Finds what the keys lead to from a value: what stands there, or a value that is made. A key that a map lacks leads to
+/// unit.
 /// Errors: the first key that leads nowhere, and why.
+/// Cost: that of `Dynamic::held` and of a look-up for each key.
 pub fn look<'s>(
     means: &Means,
-    s: &'s Store,
+    store: &'s Store,
     source: &'s Dynamic,
     keys: &[Key<'_>],
 ) -> Result<Found<'s>, PlaceFault> {
     let mut place = source;
     for (step, key) in keys.iter().enumerate() {
-        match find(means, s, place, key) {
+        match find(means, store, place, key) {
             Ok(Found::Item(item)) => place = item,
             Ok(Found::Made(value)) => {
-                return match read_on(means, s, value, keys, step) {
+                return match read_on(means, store, value, keys, step) {
                     Ok(value) => Ok(Found::Made(value)),
                     Err(fault) => Err(fault),
                 };
@@ -41,16 +42,17 @@ pub fn look<'s>(
 }
 
 /// Reads what the keys lead to from a value, as `look` finds it: a copy that is no holder.
-///
 /// Errors: the first key that leads nowhere, and why.
+/// Cost: that of `look`, and the copy.
+/// rhai: an expression with indices and properties.
 pub fn read(
     means: &Means,
-    s: &Store,
+    store: &Store,
     source: &Dynamic,
     keys: &[Key<'_>],
 ) -> Result<Dynamic, PlaceFault> {
-    match look(means, s, source, keys) {
-        Ok(Found::Item(item)) => match item.flatten_clone(means.alloc, s) {
+    match look(means, store, source, keys) {
+        Ok(Found::Item(item)) => match item.flatten_clone(means.alloc, store) {
             Ok(value) => Ok(value),
             Err(error) => Err(PlaceFault {
                 step: 0,
@@ -65,7 +67,7 @@ pub fn read(
 /// Reads on from a value that was made for the key of this number.
 fn read_on(
     means: &Means,
-    s: &Store,
+    store: &Store,
     made: Dynamic,
     keys: &[Key<'_>],
     gone: usize,
@@ -73,7 +75,7 @@ fn read_on(
     let mut value = made;
     for (step, key) in keys.iter().enumerate() {
         if step > gone {
-            value = match read_part(means, s, &value, key) {
+            value = match read_part(means, store, &value, key) {
                 Ok(part) => part,
                 Err(kind) => return Err(PlaceFault { step, kind }),
             };
@@ -85,12 +87,12 @@ fn read_on(
 /// Reads one part of a value.
 fn read_part(
     means: &Means,
-    s: &Store,
+    store: &Store,
     source: &Dynamic,
     key: &Key<'_>,
 ) -> Result<Dynamic, FaultKind> {
-    match find(means, s, source, key)? {
-        Found::Item(item) => Ok(item.flatten_clone(means.alloc, s)?),
+    match find(means, store, source, key)? {
+        Found::Item(item) => Ok(item.flatten_clone(means.alloc, store)?),
         Found::Made(value) => Ok(value),
     }
 }

@@ -3,6 +3,7 @@
 use crate::argument_values::{Arguments, count, int, place_or_none, text};
 use crate::faults::FaultKind;
 use crate::resources::Means;
+use rhai_packs::ints::ParseRadixError;
 use rhai_packs::{ints, texts};
 use rhai_text::ImmutableString;
 use rhai_value::{Dynamic, FnPtr, INT, Store};
@@ -19,29 +20,53 @@ pub enum TextFunction {
 /// A function that leaves a text as it is.
 #[derive(Clone, Copy)]
 pub enum TextQuestion {
+    /// `len()`
     Len,
+    /// `is_empty()`
     IsEmpty,
+    /// `contains(part)`
     Contains,
+    /// `starts_with(part)`
     StartsWith,
+    /// `ends_with(part)`
     EndsWith,
+    /// `index_of(part)`
     IndexOf,
+    /// `sub_string(index)`
     SubString,
+    /// `sub_string(index, count)`
     SubStringSome,
+    /// `to_upper()`
     ToUpper,
+    /// `to_lower()`
     ToLower,
+    /// `chars()`
     Chars,
+    /// `parse_int()`
     ParseInt,
+    /// `parse_int(radix)`
+    ParseIntRadix,
+    /// `split(index)`, `split(separator)`
+    Split,
+    /// `Fn()`
     Function,
 }
 
 /// A function that may put another text in the place of one.
 #[derive(Clone, Copy)]
 pub enum TextChange {
+    /// `crop(index)`
     Crop,
+    /// `crop(index, count)`
     CropSome,
+    /// `truncate(count)`
     Truncate,
+    /// `trim()`
     Trim,
+    /// `replace(part, text)`
     Replace,
+    /// `pad(count, character)`, `pad(count, text)`
+    Pad,
 }
 
 /// The function of this name for so many arguments behind the text.
@@ -66,6 +91,8 @@ fn question_of(name: &str, count: usize) -> Option<TextQuestion> {
         (0, "to_lower") => Some(TextQuestion::ToLower),
         (0, "chars") => Some(TextQuestion::Chars),
         (0, "parse_int") => Some(TextQuestion::ParseInt),
+        (1, "parse_int") => Some(TextQuestion::ParseIntRadix),
+        (1, "split") => Some(TextQuestion::Split),
         (0, "Fn") => Some(TextQuestion::Function),
         _ => None,
     }
@@ -78,15 +105,31 @@ fn change_of(name: &str, count: usize) -> Option<TextChange> {
         (1, "truncate") => Some(TextChange::Truncate),
         (0, "trim") => Some(TextChange::Trim),
         (2, "replace") => Some(TextChange::Replace),
+        (2, "pad") => Some(TextChange::Pad),
         _ => None,
     }
 }
 
-/// Answers a question about a text.
+/// Calls a function on a text that leaves it as it is, if it is one.
 pub(crate) fn ask_text(
+    function: Option<TextFunction>,
+    means: &Means,
+    store: &Store,
+    held: &ImmutableString,
+    arguments: &Arguments,
+) -> Result<Option<Dynamic>, FaultKind> {
+    match function {
+        Some(TextFunction::Ask(question)) => {
+            Ok(Some(text_answer(question, means, store, held, arguments)?))
+        }
+        Some(TextFunction::Change(_)) | None => Ok(None),
+    }
+}
+
+fn text_answer(
     question: TextQuestion,
     means: &Means,
-    s: &Store,
+    store: &Store,
     held: &ImmutableString,
     arguments: &Arguments,
 ) -> Result<Dynamic, FaultKind> {
@@ -94,15 +137,26 @@ pub(crate) fn ask_text(
     match question {
         TextQuestion::Len => Ok(count(texts::len(held))),
         TextQuestion::IsEmpty => Ok(Dynamic::from_bool(texts::is_empty(held))),
-        TextQuestion::Contains => Ok(Dynamic::from_bool(texts::contains(held, text(first, s)?))),
+        TextQuestion::Contains => Ok(Dynamic::from_bool(texts::contains(
+            held,
+            text(first, store)?,
+        ))),
         TextQuestion::StartsWith => {
-            Ok(Dynamic::from_bool(texts::starts_with(held, text(first, s)?)))
+            Ok(Dynamic::from_bool(texts::starts_with(held, text(first, store)?)))
         }
-        TextQuestion::EndsWith => Ok(Dynamic::from_bool(texts::ends_with(held, text(first, s)?))),
-        TextQuestion::IndexOf => Ok(place_or_none(texts::index_of(held, text(first, s)?))),
-        TextQuestion::SubString => sub_string(means, held, int(first, s)?, INT::MAX),
+        TextQuestion::EndsWith => Ok(Dynamic::from_bool(texts::ends_with(
+            held,
+            text(first, store)?,
+        ))),
+        TextQuestion::IndexOf => Ok(place_or_none(texts::index_of(held, text(first, store)?))),
+        TextQuestion::SubString => sub_string(means, held, int(first, store)?, INT::MAX),
         TextQuestion::SubStringSome => {
-            sub_string(means, held, int(first, s)?, int(&arguments.second, s)?)
+            sub_string(
+                means,
+                held,
+                int(first, store)?,
+                int(&arguments.second, store)?,
+            )
         }
         TextQuestion::ToUpper => {
             Ok(Dynamic::from(texts::to_upper(means.alloc, &means.limits, held)?))
@@ -111,15 +165,39 @@ pub(crate) fn ask_text(
             Ok(Dynamic::from(texts::to_lower(means.alloc, &means.limits, held)?))
         }
         TextQuestion::Chars => Ok(Dynamic::from_array(texts::chars(means.alloc, held)?)),
-        TextQuestion::ParseInt => match ints::parse_int(held.as_str()) {
-            Ok(number) => Ok(Dynamic::from_int(number)),
-            Err(_) => Err(FaultKind::NoNumber),
-        },
+        TextQuestion::ParseInt => parse_int(held, 10),
+        TextQuestion::ParseIntRadix => parse_int(held, int(first, store)?),
+        TextQuestion::Split => split(means, store, held, first),
         TextQuestion::Function => {
             let name = held.copy(means.alloc)?;
             Ok(Dynamic::from(FnPtr::new(name, Vec::new(means.alloc))))
         }
     }
+}
+
+fn parse_int(held: &ImmutableString, radix: INT) -> Result<Dynamic, FaultKind> {
+    match ints::parse_int_radix(held.as_str(), radix) {
+        Ok(number) => Ok(Dynamic::from_int(number)),
+        Err(ParseRadixError::InvalidRadix) => Err(FaultKind::NoRadix),
+        Err(ParseRadixError::InvalidText(_)) => Err(FaultKind::NoNumber),
+    }
+}
+
+/// The parts of a text before and from an index on, or between the occurrences of a character or of a text.
+fn split(
+    means: &Means,
+    store: &Store,
+    held: &ImmutableString,
+    at: &Dynamic,
+) -> Result<Dynamic, FaultKind> {
+    let parts = if let Ok(index) = at.as_int(store) {
+        texts::split_at(means.alloc, held, index)?
+    } else if let Ok(separator) = at.as_char(store) {
+        texts::split_char(means.alloc, held, separator)?
+    } else {
+        texts::split(means.alloc, held, text(at, store)?)?
+    };
+    Ok(Dynamic::from_array(parts))
 }
 
 fn sub_string(
@@ -135,30 +213,47 @@ fn sub_string(
 pub(crate) fn change_text(
     change: TextChange,
     means: &Means,
-    s: &Store,
+    store: &Store,
     held: &mut ImmutableString,
     arguments: &Arguments,
 ) -> Result<Dynamic, FaultKind> {
     let first = &arguments.first;
     match change {
-        TextChange::Crop => texts::crop(means.alloc, held, int(first, s)?, INT::MAX)?,
+        TextChange::Crop => texts::crop(means.alloc, held, int(first, store)?, INT::MAX)?,
         TextChange::CropSome => {
             texts::crop(
                 means.alloc,
                 held,
-                int(first, s)?,
-                int(&arguments.second, s)?,
+                int(first, store)?,
+                int(&arguments.second, store)?,
             )?;
         }
-        TextChange::Truncate => texts::truncate(means.alloc, held, int(first, s)?)?,
+        TextChange::Truncate => texts::truncate(means.alloc, held, int(first, store)?)?,
         TextChange::Trim => texts::trim(means.alloc, held)?,
         TextChange::Replace => texts::replace(
             means.alloc,
             &means.limits,
             held,
-            text(first, s)?,
-            text(&arguments.second, s)?,
+            text(first, store)?,
+            text(&arguments.second, store)?,
         )?,
+        TextChange::Pad => pad(means, store, held, int(first, store)?, &arguments.second)?,
     }
     Ok(Dynamic::UNIT)
+}
+
+/// Puts a character or a text behind a text, over and over, until it has so many characters.
+fn pad(
+    means: &Means,
+    store: &Store,
+    held: &mut ImmutableString,
+    length: INT,
+    padding: &Dynamic,
+) -> Result<(), FaultKind> {
+    let Means { alloc, limits } = means;
+    match padding.as_char(store) {
+        Ok(character) => texts::pad(*alloc, limits, held, length, character)?,
+        Err(_) => texts::pad_with_string(*alloc, limits, held, length, text(padding, store)?)?,
+    }
+    Ok(())
 }

@@ -15,16 +15,16 @@ pub enum UnaryOperator {
     Keep,
 }
 
-/// Gives what an operator makes of a value, which is only read.
-///
+/// Answers what an operator makes of a value, which is only read.
 /// Errors: another type, and `Overflow` of the least int's negative. No other comes.
-pub fn unary(op: UnaryOperator, s: &Store, value: &Dynamic) -> Result<Dynamic, FaultKind> {
+/// Cost: that of `Dynamic::held`; no memory.
+pub fn unary(op: UnaryOperator, store: &Store, value: &Dynamic) -> Result<Dynamic, FaultKind> {
     match op {
-        UnaryOperator::Not => match value.as_bool(s) {
+        UnaryOperator::Not => match value.as_bool(store) {
             Ok(answer) => Ok(Dynamic::from_bool(!answer)),
             Err(found) => Err(mismatch("bool", found)),
         },
-        UnaryOperator::Negate => match value.as_int(s) {
+        UnaryOperator::Negate => match value.as_int(store) {
             Ok(number) => match number.checked_neg() {
                 Some(negative) => Ok(Dynamic::from_int(negative)),
                 None => Err(FaultKind::Layer(EvalAltResult::ErrorArithmetic(
@@ -34,7 +34,7 @@ pub fn unary(op: UnaryOperator, s: &Store, value: &Dynamic) -> Result<Dynamic, F
             },
             Err(found) => Err(mismatch("i64", found)),
         },
-        UnaryOperator::Keep => match value.as_int(s) {
+        UnaryOperator::Keep => match value.as_int(store) {
             Ok(number) => Ok(Dynamic::from_int(number)),
             Err(found) => Err(mismatch("i64", found)),
         },

@@ -23,23 +23,27 @@ pub enum Change {
     Assign(Assignment, Dynamic),
 }
 
-/// Writes at the place to which the keys lead from a value. The last key may lead to a part of a text, a blob or an int, or to a key that
-/// a map lacks, which is then made; those before it lead from arrays and maps to what stands in them.
-///
+/// Writes at the place to which the keys lead from a value. The last key may lead to a part of a text, a blob or an int, or
+/// to a key that a map lacks, which is then made; those before it lead from arrays and maps to what stands in them.
 /// Errors: the key that leads nowhere, and why, or what the last part refuses; what was there stays then.
+/// Cost: that of `Dynamic::with_place`, and of the change.
+/// rhai: an assignment to a chain of indices and properties.
 pub fn write(
     means: &Means,
-    m: &mut Store,
+    store: &mut Store,
     root: &mut Dynamic,
     keys: &[Key<'_>],
     change: Change,
 ) -> Result<(), PlaceFault> {
     let Some((last, front)) = keys.split_last() else {
-        return write_whole(means, m, root, change);
+        return write_whole(means, store, root, change);
     };
     let at = front.len();
     if front.is_empty() {
-        let done = root.with_held(m, |held, m| write_part(means, m, held, last, change));
+        let done = root.with_held(
+            store,
+            |held, store| write_part(means, store, held, last, change),
+        );
         return match done {
             Ok(done) => done_at(done, at),
             Err(_) => Err(PlaceFault {
@@ -48,31 +52,31 @@ pub fn write(
             }),
         };
     }
-    let steps = steps_of(means, m, front)?;
-    let done = root.with_place(m, steps.as_slice(), |held, m| {
-        write_part(means, m, held, last, change)
+    let steps = steps_of(means, store, front)?;
+    let done = root.with_place(store, steps.as_slice(), |held, store| {
+        write_part(means, store, held, last, change)
     });
     match done {
         Ok(done) => done_at(done, at),
-        Err(error) => Err(fault_on_way(error, front, m)),
+        Err(error) => Err(fault_on_way(error, front, store)),
     }
 }
 
-/// Calls a function that may change its receiver at the place to which the keys lead, through arrays and maps; `None` where the type of
-/// what stands there has no such function.
-///
+/// Calls a function that may change its receiver at the place to which the keys lead, through arrays and maps; `None` where
+/// the type of what stands there has no such function.
 /// Errors: the key that leads nowhere, and why, or what the function refuses.
+/// Cost: that of `Dynamic::with_place`, and of the function.
 pub fn change_at(
     means: &Means,
-    m: &mut Store,
+    store: &mut Store,
     root: &mut Dynamic,
     keys: &[Key<'_>],
     native: Native,
     arguments: &mut Arguments,
 ) -> Result<Option<Dynamic>, PlaceFault> {
-    let steps = steps_of(means, m, keys)?;
-    let done = root.with_place(m, steps.as_slice(), |held, m| {
-        native.change(means, m, held, arguments)
+    let steps = steps_of(means, store, keys)?;
+    let done = root.with_place(store, steps.as_slice(), |held, store| {
+        native.change(means, store, held, arguments)
     });
     match done {
         Ok(Ok(answer)) => Ok(answer),
@@ -80,7 +84,7 @@ pub fn change_at(
             step: keys.len(),
             kind,
         }),
-        Err(error) => Err(fault_on_way(error, keys, m)),
+        Err(error) => Err(fault_on_way(error, keys, store)),
     }
 }
 
@@ -95,28 +99,28 @@ fn done_at(done: Result<(), FaultKind>, step: usize) -> Result<(), PlaceFault> {
 /// Writes at a value itself.
 fn write_whole(
     means: &Means,
-    m: &mut Store,
+    store: &mut Store,
     root: &mut Dynamic,
     change: Change,
 ) -> Result<(), PlaceFault> {
-    done_at(write_item(means, m, root, change), 0)
+    done_at(write_item(means, store, root, change), 0)
 }
 
 /// Writes at an item, or what it holds.
 fn write_item(
     means: &Means,
-    m: &mut Store,
+    store: &mut Store,
     item: &mut Dynamic,
     change: Change,
 ) -> Result<(), FaultKind> {
     match change {
-        Change::Set(value) => set_item(m, item, value),
-        Change::Assign(op, mut value) => assign(op, means, m, item, &mut value),
+        Change::Set(value) => set_item(store, item, value),
+        Change::Assign(op, mut value) => assign(op, means, store, item, &mut value),
     }
 }
 
-fn set_item(m: &mut Store, item: &mut Dynamic, value: Dynamic) -> Result<(), FaultKind> {
-    match item.held_mut(m) {
+fn set_item(store: &mut Store, item: &mut Dynamic, value: Dynamic) -> Result<(), FaultKind> {
+    match item.held_mut(store) {
         Some(held) => {
             *held = value;
             Ok(())
@@ -126,10 +130,14 @@ fn set_item(m: &mut Store, item: &mut Dynamic, value: Dynamic) -> Result<(), Fau
 }
 
 /// The keys as steps. Errors: one that leads to no item and no key.
-fn steps_of<'k>(means: &Means, s: &Store, keys: &[Key<'k>]) -> Result<Vec<Step<'k>>, PlaceFault> {
+fn steps_of<'k>(
+    means: &Means,
+    store: &Store,
+    keys: &[Key<'k>],
+) -> Result<Vec<Step<'k>>, PlaceFault> {
     let mut steps = Vec::new(means.alloc);
     for (step, key) in keys.iter().enumerate() {
-        let kind = match step_of(key, s) {
+        let kind = match step_of(key, store) {
             Ok(down) => match steps.push(down) {
                 Ok(()) => continue,
                 Err(refused) => FaultKind::from(refused),
@@ -142,7 +150,7 @@ fn steps_of<'k>(means: &Means, s: &Store, keys: &[Key<'k>]) -> Result<Vec<Step<'
 }
 
 /// A key as a step, by the value that the key itself is.
-fn step_of<'k>(key: &Key<'k>, s: &Store) -> Result<Step<'k>, FaultKind> {
+fn step_of<'k>(key: &Key<'k>, store: &Store) -> Result<Step<'k>, FaultKind> {
     match *key {
         Key::Name(name) => Ok(Step::Key(name)),
         Key::Index(index) => {
@@ -151,19 +159,19 @@ fn step_of<'k>(key: &Key<'k>, s: &Store) -> Result<Step<'k>, FaultKind> {
             }
             match ImmutableString::own(index) {
                 Some(text) => Ok(Step::Key(text.as_str())),
-                None => Err(mismatch("i64", index.type_name(s))),
+                None => Err(mismatch("i64", index.type_name(store))),
             }
         }
     }
 }
 
 /// The fault of a step that isn't gone.
-fn fault_on_way(error: PlaceError, keys: &[Key<'_>], s: &Store) -> PlaceFault {
+fn fault_on_way(error: PlaceError, keys: &[Key<'_>], store: &Store) -> PlaceFault {
     let kind = match error.kind {
         PlaceErrorKind::Barred | PlaceErrorKind::Lost => in_use(),
         PlaceErrorKind::OtherType(found) => FaultKind::NoParts(found.name()),
         PlaceErrorKind::NoItem(count) => FaultKind::OutOfRange(
-            number_at(keys, error.step, s),
+            number_at(keys, error.step, store),
             count,
         ),
         PlaceErrorKind::NoKey => FaultKind::NoKey,
@@ -176,9 +184,9 @@ fn fault_on_way(error: PlaceError, keys: &[Key<'_>], s: &Store) -> PlaceFault {
 }
 
 /// The int that the key of this number is.
-fn number_at(keys: &[Key<'_>], step: usize, s: &Store) -> INT {
+fn number_at(keys: &[Key<'_>], step: usize, store: &Store) -> INT {
     match keys.get(step) {
-        Some(Key::Index(index)) => index.as_int(s).unwrap_or(0),
+        Some(Key::Index(index)) => index.as_int(store).unwrap_or(0),
         Some(Key::Name(_)) | None => 0,
     }
 }
@@ -186,40 +194,40 @@ fn number_at(keys: &[Key<'_>], step: usize, s: &Store) -> INT {
 /// Writes at what one key leads to from a value that is no holder.
 fn write_part(
     means: &Means,
-    m: &mut Store,
+    store: &mut Store,
     source: &mut Dynamic,
     key: &Key<'_>,
     change: Change,
 ) -> Result<(), FaultKind> {
     if let Some(items) = Array::own_mut(source) {
-        return write_in_array(means, m, items, key, change);
+        return write_in_array(means, store, items, key, change);
     }
     if let Some(map) = Map::own_mut(source) {
-        return write_in_map(means, m, map, key, change);
+        return write_in_map(means, store, map, key, change);
     }
-    let part = part_at(means, m, source, key)?;
+    let part = part_at(means, store, source, key)?;
     let value = match change {
         Change::Set(value) => value,
-        Change::Assign(op, value) => binary(op.plain, means, m, &part.value, &value)?,
+        Change::Assign(op, value) => binary(op.plain, means, store, &part.value, &value)?,
     };
     let part = ReadPart {
         place: part.place,
         value,
     };
-    Ok(part.write_back(source, means.alloc, m, Position::NONE)?)
+    Ok(part.write_back(source, means.alloc, store, Position::NONE)?)
 }
 
 fn write_in_array(
     means: &Means,
-    m: &mut Store,
+    store: &mut Store,
     items: &mut Array,
     key: &Key<'_>,
     change: Change,
 ) -> Result<(), FaultKind> {
-    let index = index_in(key, m, "array")?;
+    let index = index_in(key, store, "array")?;
     let count = items.len();
     match item_mut(items, index) {
-        Some(item) => write_item(means, m, item, change),
+        Some(item) => write_item(means, store, item, change),
         None => Err(FaultKind::OutOfRange(index, count)),
     }
 }
@@ -232,34 +240,34 @@ fn item_mut(items: &mut Array, index: INT) -> Option<&mut Dynamic> {
 
 fn write_in_map(
     means: &Means,
-    m: &mut Store,
+    store: &mut Store,
     map: &mut Map,
     key: &Key<'_>,
     change: Change,
 ) -> Result<(), FaultKind> {
     match *key {
-        Key::Name(name) => write_at_name(means, m, map, name, change),
+        Key::Name(name) => write_at_name(means, store, map, name, change),
         Key::Index(index) => {
-            let name = match index.as_immutable_string_ref(m) {
+            let name = match index.as_immutable_string_ref(store) {
                 Ok(text) => text.copy(means.alloc)?,
                 Err(found) => return Err(mismatch("string", found)),
             };
-            write_at_name(means, m, map, name.as_str(), change)
+            write_at_name(means, store, map, name.as_str(), change)
         }
     }
 }
 
 fn write_at_name(
     means: &Means,
-    m: &mut Store,
+    store: &mut Store,
     map: &mut Map,
     name: &str,
     change: Change,
 ) -> Result<(), FaultKind> {
     if let Some(value) = map.get_mut(name) {
-        return write_item(means, m, value, change);
+        return write_item(means, store, value, change);
     }
     let mut made = Dynamic::UNIT;
-    write_item(means, m, &mut made, change)?;
+    write_item(means, store, &mut made, change)?;
     Ok(maps::set(map, name, made)?)
 }

@@ -1,0 +1,58 @@
+//! Writes in place.
+ghost use Rattle.std.specs.Prelude.{◌≡◌, true, false};
+ghost use Rattle.rhai_value.specs.Tree.{fresh, int};
+
+use crate::ints::int_answer;
+use rhai_target::calc_index;
+use rhai_text::Token;
+use rhai_value::{AccessMode, Dynamic, INT, Union};
+
+/// Writes an int over a value that is neither a holder nor a constant, and answers whether it did. An int is written in place.
+/// Cost: constant, and the drop of what was there; no memory.
+#[inline(always)]
+pub fn put_int(place: &mut Dynamic, number: INT) -> bool
+    ensures written { result ≡ true → place.new ≡ fresh (int number) }
+    ensures stays { result ≡ false → place.new ≡ place.old }
+{
+    if let Union::Int(0, AccessMode::ReadWrite, held) = place.parts_mut() {
+        *held = number;
+        return true;
+    }
+    if place.is_shared() || place.access_mode() == AccessMode::ReadOnly {
+        return false;
+    }
+    *place = Dynamic::from_int(number);
+    true
+}
+
+/// Writes what an operator makes of an int that is no constant and another one over the first, and answers whether it did: it does
+/// where `int_answer` has an answer.
+/// Cost: constant; no memory.
+#[inline(always)]
+pub fn change_int(op: Token, place: &mut Dynamic, number: INT) -> bool
+    ensures stays { result ≡ false → place.new ≡ place.old }
+{
+    let Union::Int(0, AccessMode::ReadWrite, held) = place.parts() else {
+        return false;
+    };
+    match int_answer(op, *held, number) {
+        Some(answer) => put_int(place, answer),
+        None => false,
+    }
+}
+
+/// Lends an item to write, where the value itself is an array and no constant, and the item no holder. A negative index counts from
+/// the end.
+/// Cost: constant; no memory.
+#[inline(always)]
+pub fn item_to_write(array: &mut Dynamic, index: INT) -> Option<&mut Dynamic> {
+    let Union::Array(_, AccessMode::ReadWrite, items) = array.parts_mut() else {
+        return None;
+    };
+    let place = calc_index(items.len(), index, true)?;
+    let item = items.get_mut(place)?;
+    if item.is_shared() {
+        return None;
+    }
+    Some(item)
+}

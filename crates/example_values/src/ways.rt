@@ -1,0 +1,106 @@
+//! Values that are reached on many ways.
+ghost use Rattle.std.specs.Prelude.{◌≡◌, ◌+◌, ◌<◌, true, length, is_some, IfOk, IfSome, IfNone};
+ghost use Rattle.rhai_value.specs.Tree.{cell_of};
+
+use crate::cost::{has_parts, own_cost, push_parts};
+use crate::faults::FaultKind;
+use crate::resources::Means;
+use rhai_text::{EvalAltResult, Position, SizeKind};
+use rhai_value::{Dynamic, Path, Store};
+use std::alloc::AllocError;
+use std::mem;
+
+/// Refuses a value to print or to compare which more would be gone through in cells than an array may have items. A cell is
+/// gone through on each way that leads to it, so what takes little room may be reached very often.
+/// Errors: `ErrorDataTooLarge`, at no place; memory is refused.
+/// Cost: what is gone through, as far as it is let through; memory for lists of what is left, one for each open cell.
+pub fn check_ways(means: &Means, store: &Store, value: &Dynamic) -> Result<(), FaultKind> {
+    let mut first = Vec::new(means.alloc);
+    if leads_on(value) {
+        first.push(value)?;
+    }
+    go_through(means, store, first)
+}
+
+/// Refuses values that are gone through together, as `check_ways` does one.
+/// Errors: `ErrorDataTooLarge`, at no place; memory is refused.
+/// Cost: that of `check_ways`.
+pub fn check_all_ways(means: &Means, store: &Store, values: &[Dynamic]) -> Result<(), FaultKind> {
+    let mut first = Vec::new(means.alloc);
+    for value in values {
+        if leads_on(value) {
+            first.push(value)?;
+        }
+    }
+    go_through(means, store, first)
+}
+
+fn leads_on(value: &Dynamic) -> bool {
+    has_parts(value) || value.is_shared()
+}
+
+fn go_through<'v>(
+    means: &Means,
+    store: &'v Store,
+    first: Vec<&'v Dynamic>,
+) -> Result<(), FaultKind> {
+    let mut level = first;
+    let mut outer = Vec::new(means.alloc);
+    let mut path = Path::new(means.alloc);
+    let mut gone = 0u64;
+    for _ in 0..u64::MAX {
+        let Some(value) = level.pop() else {
+            let Some(up) = outer.pop() else {
+                break;
+            };
+            close(&mut path);
+            level = up;
+            continue;
+        };
+        if !value.is_shared() {
+            push_parts(value, &mut level)?;
+        } else if let Some(content) = open(&mut path, store, value)? {
+            let mut inner = Vec::new(means.alloc);
+            inner.push(content)?;
+            outer.push(mem::replace(&mut level, inner))?;
+        }
+        if !outer.is_empty() {
+            gone = gone.saturating_add(own_cost(value)).saturating_add(1);
+            check_count(means, gone)?;
+        }
+    }
+    Ok(())
+}
+
+/// Opens the cell of a holder, unless it is open or can't be read.
+fn open<'s>(
+    path: &mut Path,
+    store: &'s Store,
+    value: &Dynamic,
+) -> Result<Option<&'s Dynamic>, AllocError>
+    requires { is_some (cell_of value.now) ≡ true }
+    ensures opened { IfOk result (λ o. IfSome o (λ _. length path.new ≡ length path.old + 1)) }
+    ensures stays { IfOk result (λ o. IfNone o (length path.new ≡ length path.old)) }
+{
+    path.enter(store, value)
+}
+
+/// Closes the cell that was opened last.
+fn close(path: &mut Path)
+    requires { 0 < length path.old }
+    ensures { length path.new + 1 ≡ length path.old }
+{
+    path.leave();
+}
+
+/// Refuses so many values, if they are more than an array may have items.
+fn check_count(means: &Means, count: u64) -> Result<(), FaultKind> {
+    let most = means.limits.items as u64;
+    if most != 0 && count > most {
+        return Err(FaultKind::Layer(EvalAltResult::ErrorDataTooLarge(
+            SizeKind::Items,
+            Position::NONE,
+        )));
+    }
+    Ok(())
+}

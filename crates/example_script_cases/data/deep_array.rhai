@@ -1,5 +1,5 @@
 let a = [];
-for i in 0..5000 { a = [a]; }
+for i in 0..20000 { a = [a]; }
 let text = "" + a;
 print(text.len());
 a = ();

@@ -1,0 +1,25 @@
+//! What a handle has.
+
+use rhai_run::{Answer, World};
+use rhai_text::ImmutableString;
+
+/// A world, with what its host's calls share. It may be let go: the world is closed then.
+pub struct Kept {
+    /// The world.
+    pub world: World,
+    /// The names that the host has handed over, each at its number; none where a number was given back.
+    pub names: Vec<Option<ImmutableString>>,
+    /// The last answer that had a text, bytes or a reason.
+    pub answer: Answer,
+}
+
+impl Drop for Kept {
+    fn drop(self) {
+        let Kept {
+            world,
+            names: _,
+            answer: _,
+        } = self;
+        world.close();
+    }
+}

@@ -1,0 +1,73 @@
+//! The handle by which a host in C or Rust keeps a world.
+#![tactic(auto)]
+
+pub mod address;
+pub mod kept;
+mod loose;
+
+ghost use Rattle.std.specs.Prelude.{◌≡◌};
+ghost use Rattle.rhai_handle.specs.Owned.{has};
+
+use crate::address::Held;
+pub use crate::kept::Kept;
+use std::alloc::Global;
+use std::mem::replace;
+
+/// A world with what goes with it, or nothing: an open handle, or a closed one. Memory that is all zero is a closed one.
+///
+/// The host gives it room, and looks at no field of it. An open one that is let go is a leak.
+#[repr(C)]
+#[derive(Drop)]
+pub struct Handle {
+    is_open: bool,
+    held: Held,
+    ghost agrees: { is_open ≡ has held.value },
+}
+
+impl Handle {
+    ghost use Rattle.std.specs.Prelude.{◌≡◌, Some, None, option_map, true, false};
+    ghost use Rattle.rhai_handle.specs.Content.{content};
+
+    /// Makes a closed handle.
+    #[inline(always)]
+    pub fn closed(alloc: Global) -> Handle
+        ensures { content result ≡ None }
+    {
+        Handle {
+            is_open: false,
+            held: Held::none(alloc),
+        }
+    }
+
+    /// Tells whether a world is there.
+    #[inline(always)]
+    pub fn is_open(&self) -> bool
+        ensures { result ≡ has (content self.now) }
+    {
+        self.is_open
+    }
+
+    /// Takes out what is kept, and leaves the handle closed.
+    #[inline(always)]
+    pub fn take(&mut self, alloc: Global) -> Option<Box<Kept>>
+        ensures kept { option_map (λ b. b.value) result ≡ content self.old }
+        ensures closed { content self.new ≡ None }
+    {
+        if !self.is_open {
+            return None;
+        }
+        let Handle { is_open: _, held } = replace(self, Handle::closed(alloc));
+        Some(held.into_box())
+    }
+
+    /// Opens the handle with this. What an open one had is a leak.
+    #[inline(always)]
+    pub fn put(&mut self, kept: Box<Kept>)
+        ensures { content self.new ≡ Some kept.value }
+    {
+        *self = Handle {
+            is_open: true,
+            held: Held::of_box(kept),
+        };
+    }
+}

@@ -1,0 +1,2 @@
+mod BytesAsText
+mod Taken

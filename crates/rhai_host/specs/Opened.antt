@@ -1,0 +1,106 @@
+-- Calls that open, close and look at a world, and keep names.
+use Rattle.std.specs.Prelude.{◌≡◌, ◌≢◌, ℕ, zero, suc, ◌+◌, Bool, true, false, List, [], ◌∷◌, ◌++◌, length, take, drop, slice_set, string_bytes, nat_eq, if◌then◌else◌, Option, None, Some}
+use Rattle.rhai_text.specs.declared.error.EvalAltResult.{EvalAltResult}
+use Rattle.rhai_text.specs.declared.error.EvalAltResult.TheVariants as error
+use Rattle.rhai_text.specs.declared.limits.Limits.{Limits}
+use Rattle.rhai_handle.specs.declared.kept.Kept.{Kept}
+use Rattle.rhai_run.specs.KeptWorld.{Collects}
+use Rattle.rhai_run.specs.State.{empty_state}
+use Rattle.rhai_run.specs.Reply.{reply_of, done}
+use Rattle.rhai_run.specs.declared.answer.Answer.{Answer}
+use Rattle.rhai_run.specs.declared.answer.Answer.TheVariants as answer
+use Rattle.rhai_run.specs.declared.answer.Refusal.{Refusal}
+use Rattle.rhai_run.specs.declared.answer.Refusal.TheVariants as refusal
+use Rattle.rhai_host.specs.Calls.{InWorld, Unchanged}
+use Rattle.rhai_host.specs.Names.{names_of, name_at}
+use Rattle.rhai_host.specs.Numbers.{text_of}
+
+-- a new world, no name and the answer that all is done; or memory was refused, and the handle is as it was
+abbrev pub Opens : ℕ → Option Kept → Option Kept → Limits → Type 0
+Opens zero old new limits = InWorld new (λ l. (l.world ≡ empty_state limits) × (names_of l ≡ []) × (reply_of l.answer ≡ done))
+Opens (suc zero) old new limits = new ≡ old
+Opens (suc (suc n)) old new limits = ⊥
+
+-- the name got the next number; or memory was refused, or the bytes are no text, and nothing has changed
+abbrev pub IsNamed : ℕ → Kept → Kept → Option (List ℕ) → ℕ → Type 0
+IsNamed status k l None number = (status ≡ 3) × Unchanged k l
+IsNamed zero k l (Some name) number = (number ≡ length (names_of k)) × (names_of l ≡ names_of k ++ Some name ∷ []) × (l.world ≡ k.world) × (l.answer ≡ k.answer)
+IsNamed (suc zero) k l (Some name) number = Unchanged k l
+IsNamed (suc (suc n)) k l (Some name) number = ⊥
+
+abbrev pub Names : ℕ → Option Kept → Option Kept → List ℕ → ℕ → Type 0
+Names status None new bytes number = (status ≡ 2) × (new ≡ None)
+Names status (Some k) new bytes number = InWorld new (λ l. IsNamed status k l (text_of bytes) number)
+
+-- the names without one of them; the last number is free again
+abbrev pub given_up : List (Option (List ℕ)) → ℕ → List (Option (List ℕ))
+given_up names number = if nat_eq (number + 1) (length names) then take number names else slice_set names number None
+
+abbrev pub IsGivenUp : ℕ → Kept → Kept → ℕ → Option (List ℕ) → Type 0
+IsGivenUp status k l number None = (status ≡ 3) × Unchanged k l
+IsGivenUp status k l number (Some name) = (status ≡ 0) × (names_of l ≡ given_up (names_of k) number) × (l.world ≡ k.world) × (l.answer ≡ k.answer)
+
+-- the number names nothing any more; or it did name nothing, and nothing has changed
+abbrev pub GivesUp : ℕ → Option Kept → Option Kept → ℕ → Type 0
+GivesUp status None new number = (status ≡ 2) × (new ≡ None)
+GivesUp status (Some k) new number = InWorld new (λ l. IsGivenUp status k l number (name_at k number))
+
+abbrev pub fault_text : EvalAltResult → Bool → List ℕ
+fault_text (error.ErrorMismatchDataType wanted found at) false = wanted.now
+fault_text (error.ErrorMismatchDataType wanted found at) true = found.now
+fault_text (error.ErrorDataRace at) second = []
+fault_text (error.ErrorArithmetic why at) second = []
+fault_text (error.ErrorDataTooLarge what at) second = []
+fault_text (error.ErrorMemory e) second = []
+
+abbrev pub refusal_text : Refusal → Bool → List ℕ
+refusal_text (refusal.Mismatch name) false = name.now
+refusal_text (refusal.Mismatch name) true = []
+refusal_text (refusal.Fault e) second = fault_text e second
+refusal_text refusal.NoValue second = []
+refusal_text refusal.SameValue second = []
+refusal_text refusal.NoEntry second = []
+refusal_text refusal.EmptyScope second = []
+refusal_text refusal.ConstantEntry second = []
+refusal_text refusal.SharedEntry second = []
+refusal_text refusal.NoMark second = []
+refusal_text refusal.WrongSource second = []
+refusal_text refusal.BitPlace second = []
+refusal_text refusal.BytePlace second = []
+refusal_text refusal.NoBuiltin second = []
+refusal_text refusal.NotHashable second = []
+
+-- the bytes of an answer: a text, bytes, or the name of a type; or those of a second name
+abbrev pub answer_bytes : Answer → Bool → List ℕ
+answer_bytes (answer.Text t) false = string_bytes t
+answer_bytes (answer.Text t) true = []
+answer_bytes (answer.Bytes b) false = b.items
+answer_bytes (answer.Bytes b) true = []
+answer_bytes (answer.Refused why) second = refusal_text why second
+answer_bytes answer.Done second = []
+answer_bytes (answer.Bool b) second = []
+answer_bytes (answer.Int n) second = []
+answer_bytes (answer.Pair m n) second = []
+answer_bytes answer.Nothing second = []
+
+abbrev pub kept_bytes : Option Kept → Bool → List ℕ
+kept_bytes None second = []
+kept_bytes (Some k) second = answer_bytes k.answer second
+
+-- as many as fit are written over the first ones
+abbrev pub copied_into : List ℕ → List ℕ → List ℕ
+copied_into bytes room = take (length room) bytes ++ drop (length bytes) room
+
+abbrev pub hand_len : Option Kept → ℕ
+hand_len None = 0
+hand_len (Some k) = length k.world.hand
+
+-- cells that nothing reaches are gone; or memory was refused, which is wanted only where there is a cell, and nothing has changed
+abbrev pub IsCollected : ℕ → Kept → Kept → Type 0
+IsCollected zero k l = Collects k.world l.world × (names_of l ≡ names_of k) × (l.answer ≡ k.answer)
+IsCollected (suc zero) k l = (k.world.store ≢ []) × Unchanged k l
+IsCollected (suc (suc n)) k l = ⊥
+
+abbrev pub CollectsKept : ℕ → Option Kept → Option Kept → Type 0
+CollectsKept status None new = (status ≡ 2) × (new ≡ None)
+CollectsKept status (Some k) new = InWorld new (λ l. IsCollected status k l)

@@ -1,0 +1,223 @@
+//! What values are, and how they print.
+ghost use Rattle.rhai_handle.specs.Content.{content};
+ghost use Rattle.rhai_run.specs.declared.command.Command.TheVariants as command;
+ghost use Rattle.rhai_run.specs.declared.command.Question.TheVariants as question;
+ghost use Rattle.rhai_host.specs.Calls.{Performs};
+
+use crate::perform::perform;
+use crate::told::Told;
+use rhai_handle::Handle;
+use rhai_run::{Command, Question};
+use std::alloc::Global;
+
+/// Answers the tag of the value at the hand position.
+#[unsafe(no_mangle)]
+pub extern "C" fn rhai_host_tag(
+    alloc: Global,
+    handle: &mut Handle,
+    i: usize,
+    told: &mut Told,
+) -> u32
+    ensures { Performs result (content handle.old) (content handle.new) told.new (command.Ask i question.Tag) }
+{
+    perform(alloc, handle, Command::Ask(i, Question::Tag), told)
+}
+
+/// Answers whether the value at the hand position is of one of the host's types.
+#[unsafe(no_mangle)]
+pub extern "C" fn rhai_host_is_variant(
+    alloc: Global,
+    handle: &mut Handle,
+    i: usize,
+    told: &mut Told,
+) -> u32
+    ensures { Performs result (content handle.old) (content handle.new) told.new (command.Ask i question.Variant) }
+{
+    perform(alloc, handle, Command::Ask(i, Question::Variant), told)
+}
+
+/// Answers whether the value at the hand position is a holder.
+#[unsafe(no_mangle)]
+pub extern "C" fn rhai_host_is_shared(
+    alloc: Global,
+    handle: &mut Handle,
+    i: usize,
+    told: &mut Told,
+) -> u32
+    ensures { Performs result (content handle.old) (content handle.new) told.new (command.Ask i question.Shared) }
+{
+    perform(alloc, handle, Command::Ask(i, Question::Shared), told)
+}
+
+/// Answers whether the first content of the value at the hand position is a constant.
+#[unsafe(no_mangle)]
+pub extern "C" fn rhai_host_is_read_only(
+    alloc: Global,
+    handle: &mut Handle,
+    i: usize,
+    told: &mut Told,
+) -> u32
+    ensures { Performs result (content handle.old) (content handle.new) told.new (command.Ask i question.ReadOnly) }
+{
+    perform(alloc, handle, Command::Ask(i, Question::ReadOnly), told)
+}
+
+/// Answers whether the value at the hand position is, or has inside, a holder of a marked cell.
+#[unsafe(no_mangle)]
+pub extern "C" fn rhai_host_is_locked(
+    alloc: Global,
+    handle: &mut Handle,
+    i: usize,
+    told: &mut Told,
+) -> u32
+    ensures { Performs result (content handle.old) (content handle.new) told.new (command.Ask i question.Locked) }
+{
+    perform(alloc, handle, Command::Ask(i, Question::Locked), told)
+}
+
+/// Answers the name of the type that is held at the hand position.
+#[unsafe(no_mangle)]
+pub extern "C" fn rhai_host_type_name(
+    alloc: Global,
+    handle: &mut Handle,
+    i: usize,
+    told: &mut Told,
+) -> u32
+    ensures { Performs result (content handle.old) (content handle.new) told.new (command.Ask i question.TypeName) }
+{
+    perform(alloc, handle, Command::Ask(i, Question::TypeName), told)
+}
+
+/// Answers whether the value at the hand position can be hashed.
+#[unsafe(no_mangle)]
+pub extern "C" fn rhai_host_is_hashable(
+    alloc: Global,
+    handle: &mut Handle,
+    i: usize,
+    told: &mut Told,
+) -> u32
+    ensures { Performs result (content handle.old) (content handle.new) told.new (command.Ask i question.Hashable) }
+{
+    perform(alloc, handle, Command::Ask(i, Question::Hashable), told)
+}
+
+/// Is done where unit is held at the hand position.
+#[unsafe(no_mangle)]
+pub extern "C" fn rhai_host_as_unit(
+    alloc: Global,
+    handle: &mut Handle,
+    i: usize,
+    told: &mut Told,
+) -> u32
+    ensures { Performs result (content handle.old) (content handle.new) told.new (command.Ask i question.Unit) }
+{
+    perform(alloc, handle, Command::Ask(i, Question::Unit), told)
+}
+
+/// Answers the int that is held at the hand position.
+#[unsafe(no_mangle)]
+pub extern "C" fn rhai_host_as_int(
+    alloc: Global,
+    handle: &mut Handle,
+    i: usize,
+    told: &mut Told,
+) -> u32
+    ensures { Performs result (content handle.old) (content handle.new) told.new (command.Ask i question.Int) }
+{
+    perform(alloc, handle, Command::Ask(i, Question::Int), told)
+}
+
+/// Answers the boolean that is held at the hand position.
+#[unsafe(no_mangle)]
+pub extern "C" fn rhai_host_as_bool(
+    alloc: Global,
+    handle: &mut Handle,
+    i: usize,
+    told: &mut Told,
+) -> u32
+    ensures { Performs result (content handle.old) (content handle.new) told.new (command.Ask i question.Bool) }
+{
+    perform(alloc, handle, Command::Ask(i, Question::Bool), told)
+}
+
+/// Answers the character that is held at the hand position, as a text.
+#[unsafe(no_mangle)]
+pub extern "C" fn rhai_host_as_char(
+    alloc: Global,
+    handle: &mut Handle,
+    i: usize,
+    told: &mut Told,
+) -> u32
+    ensures { Performs result (content handle.old) (content handle.new) told.new (command.Ask i question.Char) }
+{
+    perform(alloc, handle, Command::Ask(i, Question::Char), told)
+}
+
+/// Answers the text of the value at the hand position, as it is displayed.
+#[unsafe(no_mangle)]
+pub extern "C" fn rhai_host_show(
+    alloc: Global,
+    handle: &mut Handle,
+    i: usize,
+    told: &mut Told,
+) -> u32
+    ensures { Performs result (content handle.old) (content handle.new) told.new (command.Show i) }
+{
+    perform(alloc, handle, Command::Show(i), told)
+}
+
+/// Answers the text of the value at the hand position, as it is debugged.
+#[unsafe(no_mangle)]
+pub extern "C" fn rhai_host_debug(
+    alloc: Global,
+    handle: &mut Handle,
+    i: usize,
+    told: &mut Told,
+) -> u32
+    ensures { Performs result (content handle.old) (content handle.new) told.new (command.Debug i) }
+{
+    perform(alloc, handle, Command::Debug(i), told)
+}
+
+/// Answers the hash bytes of the value at the hand position.
+#[unsafe(no_mangle)]
+pub extern "C" fn rhai_host_hash(
+    alloc: Global,
+    handle: &mut Handle,
+    i: usize,
+    told: &mut Told,
+) -> u32
+    ensures { Performs result (content handle.old) (content handle.new) told.new (command.Hash i) }
+{
+    perform(alloc, handle, Command::Hash(i), told)
+}
+
+/// Answers where a slice of a list of this length starts and how many items it has, for a start and a number of items.
+#[unsafe(no_mangle)]
+pub extern "C" fn rhai_host_offset(
+    alloc: Global,
+    handle: &mut Handle,
+    length: usize,
+    start: i64,
+    count: i64,
+    told: &mut Told,
+) -> u32
+    ensures { Performs result (content handle.old) (content handle.new) told.new (command.Offset length start count) }
+{
+    perform(alloc, handle, Command::Offset(length, start, count), told)
+}
+
+/// Answers the place of an item of a list of this length, or nothing; with the flag a negative index counts from the end.
+#[unsafe(no_mangle)]
+pub extern "C" fn rhai_host_index(
+    alloc: Global,
+    handle: &mut Handle,
+    length: usize,
+    index: i64,
+    from_end: bool,
+    told: &mut Told,
+) -> u32
+    ensures { Performs result (content handle.old) (content handle.new) told.new (command.Index length index from_end) }
+{
+    perform(alloc, handle, Command::Index(length, index, from_end), told)
+}

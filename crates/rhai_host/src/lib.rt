@@ -1,0 +1,19 @@
+//! A world for a host in C or Rust.
+#![tactic(auto)]
+
+pub mod asks;
+pub mod hand;
+pub mod lines;
+pub mod lists;
+pub mod literals;
+pub mod marks;
+pub mod named;
+pub mod names;
+mod numbers;
+pub mod opening;
+mod perform;
+pub mod placed;
+pub mod scope;
+pub mod texts;
+pub mod told;
+pub mod typed;

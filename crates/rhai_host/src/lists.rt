@@ -1,0 +1,207 @@
+//! Commands with a list of names, and with a text besides a name.
+ghost use Rattle.std.specs.Prelude.{◌≡◌, IfOk, option_map, slice_get};
+ghost use Rattle.rhai_handle.specs.Content.{content};
+ghost use Rattle.rhai_run.specs.declared.command.Command.TheVariants as command;
+ghost use Rattle.rhai_host.specs.Calls.{DoesOneMade, PerformsIf, PerformsMade};
+ghost use Rattle.rhai_host.specs.Lists.{flagged_at, names_at};
+ghost use Rattle.rhai_host.specs.Names.{joined, name_at, names_of};
+ghost use Rattle.rhai_host.specs.Numbers.{text_of, where_there};
+
+use crate::names::{lend, perform_lent};
+use crate::perform::{CLOSED, NO_COMMAND, NO_ROOM, no_command, no_room, perform_made};
+use crate::texts::text_of;
+use crate::told::Told;
+use rhai_handle::{Handle, Kept};
+use rhai_run::{Command, FlaggedNames, Names};
+use rhai_text::ImmutableString;
+use std::alloc::{AllocError, Global};
+
+fn name_of(names: &[Option<ImmutableString>], number: usize) -> Option<&ImmutableString>
+    ensures { option_map (λ n. n.now) result ≡ joined (slice_get names.now number) }
+{
+    if number < names.len() {
+        names[number].as_ref()
+    } else {
+        None
+    }
+}
+
+/// The names of the numbers, where each has one.
+fn listed(
+    alloc: Global,
+    names: &[Option<ImmutableString>],
+    numbers: &[usize],
+) -> Result<Option<Vec<ImmutableString>>, AllocError>
+    ensures { IfOk result (λ o. option_map (λ v. v.items) o ≡ names_at names.now numbers.now) }
+{
+    let mut found = Vec::new(alloc);
+    let mut left = numbers;
+    while let [number, rest @ ..] = left {
+        let Some(name) = name_of(names, *number) else {
+            return Ok(None);
+        };
+        found.push(name.copy(alloc)?)?;
+        left = rest;
+    }
+    Ok(Some(found))
+}
+
+/// The same with a flag to each.
+fn flagged(
+    alloc: Global,
+    names: &[Option<ImmutableString>],
+    numbers: &[usize],
+    flags: &[bool],
+) -> Result<Option<Vec<(ImmutableString, bool)>>, AllocError>
+    ensures { IfOk result (λ o. option_map (λ v. v.items) o ≡ flagged_at names.now numbers.now flags.now) }
+{
+    let mut found = Vec::new(alloc);
+    let mut left = numbers;
+    let mut flags_left = flags;
+    while let [number, rest @ ..] = left {
+        let [flag, more @ ..] = flags_left else {
+            return Ok(None);
+        };
+        let Some(name) = name_of(names, *number) else {
+            return Ok(None);
+        };
+        found.push((name.copy(alloc)?, *flag))?;
+        left = rest;
+        flags_left = more;
+    }
+    Ok(Some(found))
+}
+
+fn made_map(alloc: Global, kept: &mut Kept, keys: &[usize], told: &mut Told) -> u32
+    ensures { DoesOneMade result kept.old kept.new told.new (option_map (λ ks. command.MakeMap ks) (names_at (names_of kept.old) keys.now)) }
+{
+    match listed(alloc, &kept.names, keys) {
+        Ok(Some(keys)) => perform_made(kept, Command::MakeMap(Names::new(keys)), told),
+        Ok(None) => NO_COMMAND,
+        Err(_) => NO_ROOM,
+    }
+}
+
+/// Takes as many values off the end of the hand as there are keys, and appends the map of these to those in order; of equal keys the last value stands.
+#[unsafe(no_mangle)]
+pub extern "C" fn rhai_host_make_map(
+    alloc: Global,
+    handle: &mut Handle,
+    keys: &[usize],
+    told: &mut Told,
+) -> u32
+    ensures { PerformsMade result (content handle.old) (content handle.new) told.new (λ k. option_map (λ ks. command.MakeMap ks) (names_at (names_of k) keys.now)) }
+{
+    let Some(mut kept) = handle.take(alloc) else {
+        return CLOSED;
+    };
+    let status = made_map(alloc, &mut kept, keys, told);
+    handle.put(kept);
+    status
+}
+
+fn extended(alloc: Global, kept: &mut Kept, names: &[usize], told: &mut Told) -> u32
+    ensures { DoesOneMade result kept.old kept.new told.new (option_map (λ ns. command.Extend ns) (names_at (names_of kept.old) names.now)) }
+{
+    match listed(alloc, &kept.names, names) {
+        Ok(Some(names)) => perform_made(kept, Command::Extend(Names::new(names)), told),
+        Ok(None) => NO_COMMAND,
+        Err(_) => NO_ROOM,
+    }
+}
+
+/// Takes as many values off the end of the hand as there are names, and adds an entry of each name with its value, which may be written.
+#[unsafe(no_mangle)]
+pub extern "C" fn rhai_host_extend(
+    alloc: Global,
+    handle: &mut Handle,
+    names: &[usize],
+    told: &mut Told,
+) -> u32
+    ensures { PerformsMade result (content handle.old) (content handle.new) told.new (λ k. option_map (λ ns. command.Extend ns) (names_at (names_of k) names.now)) }
+{
+    let Some(mut kept) = handle.take(alloc) else {
+        return CLOSED;
+    };
+    let status = extended(alloc, &mut kept, names, told);
+    handle.put(kept);
+    status
+}
+
+fn extended_flagged(
+    alloc: Global,
+    kept: &mut Kept,
+    names: &[usize],
+    constants: &[bool],
+    told: &mut Told,
+) -> u32
+    ensures { DoesOneMade result kept.old kept.new told.new (option_map (λ ns. command.ExtendFlagged ns) (flagged_at (names_of kept.old) names.now constants.now)) }
+{
+    match flagged(alloc, &kept.names, names, constants) {
+        Ok(Some(names)) => perform_made(
+            kept,
+            Command::ExtendFlagged(FlaggedNames::new(names)),
+            told,
+        ),
+        Ok(None) => NO_COMMAND,
+        Err(_) => NO_ROOM,
+    }
+}
+
+/// Takes as many values off the end of the hand as there are names, and adds an entry of each name with its value, which is a constant where its flag says so.
+#[unsafe(no_mangle)]
+pub extern "C" fn rhai_host_extend_flagged(
+    alloc: Global,
+    handle: &mut Handle,
+    names: &[usize],
+    constants: &[bool],
+    told: &mut Told,
+) -> u32
+    ensures { PerformsMade result (content handle.old) (content handle.new) told.new (λ k. option_map (λ ns. command.ExtendFlagged ns) (flagged_at (names_of k) names.now constants.now)) }
+{
+    let Some(mut kept) = handle.take(alloc) else {
+        return CLOSED;
+    };
+    let status = extended_flagged(alloc, &mut kept, names, constants, told);
+    handle.put(kept);
+    status
+}
+
+fn aliased(
+    alloc: Global,
+    handle: &mut Handle,
+    name: usize,
+    alias: ImmutableString,
+    told: &mut Told,
+) -> u32
+    ensures { PerformsIf result (content handle.old) (content handle.new) told.new (λ k. option_map (λ n. command.SetAlias n alias) (name_at k name)) }
+{
+    match lend(alloc, handle, name) {
+        Ok(lent) => perform_lent(
+            handle,
+            lent.kept,
+            name,
+            Command::SetAlias(lent.name, alias),
+            told,
+        ),
+        Err(status) => status,
+    }
+}
+
+/// Gives the last entry of the name the alias, if it hasn't got it; an empty alias means the name.
+#[unsafe(no_mangle)]
+pub extern "C" fn rhai_host_set_alias(
+    alloc: Global,
+    handle: &mut Handle,
+    name: usize,
+    alias: &[u8],
+    told: &mut Told,
+) -> u32
+    ensures { PerformsMade result (content handle.old) (content handle.new) told.new (λ k. where_there (text_of alias.now) (λ a. option_map (λ n. command.SetAlias n a) (name_at k name))) }
+{
+    match text_of(alloc, alias) {
+        Ok(Some(alias)) => aliased(alloc, handle, name, alias, told),
+        Ok(None) => no_command(handle),
+        Err(_) => no_room(handle),
+    }
+}

@@ -1,0 +1,50 @@
+//! Marked cells.
+ghost use Rattle.rhai_handle.specs.Content.{content};
+ghost use Rattle.rhai_run.specs.declared.command.Command.TheVariants as command;
+ghost use Rattle.rhai_host.specs.Calls.{Performs};
+
+use crate::perform::perform;
+use crate::told::Told;
+use rhai_handle::Handle;
+use rhai_run::Command;
+use std::alloc::Global;
+
+/// Takes the mark at this position out of the list, and frees its cell; later marks close up.
+#[unsafe(no_mangle)]
+pub extern "C" fn rhai_host_unmark(
+    alloc: Global,
+    handle: &mut Handle,
+    mark: usize,
+    told: &mut Told,
+) -> u32
+    ensures { Performs result (content handle.old) (content handle.new) told.new (command.Unmark mark) }
+{
+    perform(alloc, handle, Command::Unmark(mark), told)
+}
+
+/// Moves the value at the hand position into the cell of the mark at this position, and leaves unit.
+#[unsafe(no_mangle)]
+pub extern "C" fn rhai_host_write_marked(
+    alloc: Global,
+    handle: &mut Handle,
+    mark: usize,
+    i: usize,
+    told: &mut Told,
+) -> u32
+    ensures { Performs result (content handle.old) (content handle.new) told.new (command.WriteMarked mark i) }
+{
+    perform(alloc, handle, Command::WriteMarked(mark, i), told)
+}
+
+/// Appends a copy of what is in the cell of the mark at this position.
+#[unsafe(no_mangle)]
+pub extern "C" fn rhai_host_read_marked(
+    alloc: Global,
+    handle: &mut Handle,
+    mark: usize,
+    told: &mut Told,
+) -> u32
+    ensures { Performs result (content handle.old) (content handle.new) told.new (command.ReadMarked mark) }
+{
+    perform(alloc, handle, Command::ReadMarked(mark), told)
+}

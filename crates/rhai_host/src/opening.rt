@@ -1,0 +1,274 @@
+//! Worlds are opened, closed and looked at, and names are kept.
+ghost use Rattle.std.specs.Prelude.{◌≡◌, [], ◌∷◌, ◌++◌, None, Some, true, false, length};
+ghost use Rattle.rhai_handle.specs.Content.{content};
+ghost use Rattle.rhai_handle.specs.Owned.{has};
+ghost use Rattle.rhai_host.specs.Opened.{CollectsKept, GivesUp, IsCollected, IsGivenUp, IsNamed, Names, Opens, answer_bytes, copied_into, fault_text, hand_len, kept_bytes, refusal_text};
+ghost use Rattle.rhai_host.specs.Names.{name_at};
+ghost use Rattle.rhai_host.specs.Numbers.{text_of};
+
+use crate::perform::{CLOSED, DONE, NO_COMMAND, OUT_OF_MEMORY};
+use crate::texts::text_of;
+use rhai_handle::{Handle, Kept};
+use rhai_run::{Answer, Refusal, World};
+use rhai_text::{EvalAltResult, ImmutableString, Limits};
+use std::alloc::Global;
+use std::cmp::min;
+
+/// Opens a world with these limits, 0 being none, and closes the one that was open before.
+#[unsafe(no_mangle)]
+pub extern "C" fn rhai_host_new(
+    alloc: Global,
+    handle: &mut Handle,
+    text: usize,
+    items: usize,
+) -> u32
+    ensures { Opens result (content handle.old) (content handle.new) (record { text = text; items = items }) }
+{
+    let kept = Kept {
+        world: World::new(alloc, Limits { text, items }),
+        names: Vec::new(alloc),
+        answer: Answer::Done,
+    };
+    match Box::new(alloc, kept) {
+        Ok(kept) => {
+            rhai_host_close(alloc, handle);
+            handle.put(kept);
+            DONE
+        }
+        Err(_) => OUT_OF_MEMORY,
+    }
+}
+
+/// Closes the world, if one is open.
+#[unsafe(no_mangle)]
+pub extern "C" fn rhai_host_close(alloc: Global, handle: &mut Handle)
+    ensures { content handle.new ≡ None }
+{
+    drop(handle.take(alloc));
+}
+
+/// Tells whether a world is open.
+#[unsafe(no_mangle)]
+pub extern "C" fn rhai_host_is_open(handle: &Handle) -> bool
+    ensures { result ≡ has (content handle.now) }
+{
+    handle.is_open()
+}
+
+fn pushed(names: &mut Vec<Option<ImmutableString>>, name: ImmutableString) -> bool
+    ensures ok { result ≡ true → names.new.items ≡ names.old.items ++ Some name ∷ [] }
+    ensures err { result ≡ false → names.new.items ≡ names.old.items }
+{
+    names.push(Some(name)).is_ok()
+}
+
+fn kept_name(kept: &mut Kept, name: ImmutableString, number: &mut usize) -> u32
+    ensures { IsNamed result kept.old kept.new (Some name) number.new }
+{
+    let next = kept.names.len();
+    if pushed(&mut kept.names, name) {
+        *number = next;
+        return DONE;
+    }
+    OUT_OF_MEMORY
+}
+
+#[inline(always)]
+fn named(alloc: Global, kept: &mut Kept, text: &[u8], number: &mut usize) -> u32
+    ensures { IsNamed result kept.old kept.new (text_of text.now) number.new }
+{
+    match text_of(alloc, text) {
+        Ok(Some(name)) => kept_name(kept, name, number),
+        Ok(None) => NO_COMMAND,
+        Err(_) => OUT_OF_MEMORY,
+    }
+}
+
+/// Gives a name a number, by which commands name it.
+#[unsafe(no_mangle)]
+pub extern "C" fn rhai_host_name(
+    alloc: Global,
+    handle: &mut Handle,
+    text: &[u8],
+    number: &mut usize,
+) -> u32
+    ensures { Names result (content handle.old) (content handle.new) text.now number.new }
+{
+    let Some(mut kept) = handle.take(alloc) else {
+        return CLOSED;
+    };
+    let status = named(alloc, &mut kept, text, number);
+    handle.put(kept);
+    status
+}
+
+/// Tells how many values are in the hand, 0 where no world is open.
+#[unsafe(no_mangle)]
+pub extern "C" fn rhai_host_hand_len(alloc: Global, handle: &mut Handle) -> usize
+    ensures count { result ≡ hand_len (content handle.old) }
+    ensures stays { content handle.new ≡ content handle.old }
+{
+    let Some(kept) = handle.take(alloc) else {
+        return 0;
+    };
+    let count = kept.world.hand().len();
+    handle.put(kept);
+    count
+}
+
+fn fault_text(fault: &EvalAltResult, second: bool) -> &[u8]
+    ensures { result.now ≡ fault_text fault.now second }
+{
+    match fault {
+        EvalAltResult::ErrorMismatchDataType(wanted, found, _) => {
+            if second {
+                found.as_bytes()
+            } else {
+                wanted.as_bytes()
+            }
+        }
+        EvalAltResult::ErrorDataRace(_)
+        | EvalAltResult::ErrorArithmetic(_, _)
+        | EvalAltResult::ErrorDataTooLarge(_, _)
+        | EvalAltResult::ErrorMemory(_) => &[],
+    }
+}
+
+fn refusal_text(why: &Refusal, second: bool) -> &[u8]
+    ensures { result.now ≡ refusal_text why.now second }
+{
+    match why {
+        Refusal::Mismatch(name) => { if second { &[] } else { name.as_bytes() } }
+        Refusal::Fault(fault) => fault_text(fault, second),
+        Refusal::NoValue
+        | Refusal::SameValue
+        | Refusal::NoEntry
+        | Refusal::EmptyScope
+        | Refusal::ConstantEntry
+        | Refusal::SharedEntry
+        | Refusal::NoMark
+        | Refusal::WrongSource
+        | Refusal::BitPlace
+        | Refusal::BytePlace
+        | Refusal::NoBuiltin
+        | Refusal::NotHashable => &[],
+    }
+}
+
+fn first_bytes(answer: &Answer) -> &[u8]
+    ensures { result.now ≡ answer_bytes answer.now false }
+{
+    match answer {
+        Answer::Text(text) => text.as_bytes(),
+        Answer::Bytes(bytes) => bytes,
+        Answer::Refused(why) => refusal_text(why, false),
+        Answer::Done | Answer::Bool(_) | Answer::Int(_) | Answer::Pair(_, _) | Answer::Nothing => {
+            &[]
+        }
+    }
+}
+
+fn second_bytes(answer: &Answer) -> &[u8]
+    ensures { result.now ≡ answer_bytes answer.now true }
+{
+    match answer {
+        Answer::Refused(why) => refusal_text(why, true),
+        Answer::Text(_)
+        | Answer::Bytes(_)
+        | Answer::Done
+        | Answer::Bool(_)
+        | Answer::Int(_)
+        | Answer::Pair(_, _)
+        | Answer::Nothing => &[],
+    }
+}
+
+fn answer_bytes(answer: &Answer, second: bool) -> &[u8]
+    ensures { result.now ≡ answer_bytes answer.now second }
+{
+    if second {
+        second_bytes(answer)
+    } else {
+        first_bytes(answer)
+    }
+}
+
+fn copy_into(bytes: &[u8], room: &mut [u8])
+    ensures { room.new ≡ copied_into bytes.now room.old }
+{
+    let count = min(bytes.len(), room.len());
+    room[..count].copy_from_slice(&bytes[..count]);
+}
+
+/// Copies the bytes of the last answer, or those of its second name, as far as there is room; answers how many it has.
+#[unsafe(no_mangle)]
+pub extern "C" fn rhai_host_answer(
+    alloc: Global,
+    handle: &mut Handle,
+    second: bool,
+    room: &mut [u8],
+) -> usize
+    ensures count { result ≡ length (kept_bytes (content handle.old) second) }
+    ensures bytes { room.new ≡ copied_into (kept_bytes (content handle.old) second) room.old }
+    ensures stays { content handle.new ≡ content handle.old }
+{
+    let Some(kept) = handle.take(alloc) else {
+        return 0;
+    };
+    let bytes = answer_bytes(&kept.answer, second);
+    let count = bytes.len();
+    copy_into(bytes, room);
+    handle.put(kept);
+    count
+}
+
+fn given_up(kept: &mut Kept, number: usize) -> u32
+    ensures { IsGivenUp result kept.old kept.new number (name_at kept.old number) }
+{
+    match kept.names.get(number) {
+        Some(Some(_)) => {}
+        Some(None) | None => return NO_COMMAND,
+    }
+    if number + 1 == kept.names.len() {
+        kept.names.truncate(number);
+    } else {
+        kept.names[number] = None;
+    }
+    DONE
+}
+
+/// Takes a number back from a name. The last number is given out again.
+#[unsafe(no_mangle)]
+pub extern "C" fn rhai_host_forget_name(alloc: Global, handle: &mut Handle, number: usize) -> u32
+    ensures { GivesUp result (content handle.old) (content handle.new) number }
+{
+    let Some(mut kept) = handle.take(alloc) else {
+        return CLOSED;
+    };
+    let status = given_up(&mut kept, number);
+    handle.put(kept);
+    status
+}
+
+#[inline(always)]
+fn collected(kept: &mut Kept) -> u32
+    ensures { IsCollected result kept.old kept.new }
+{
+    match kept.world.collect() {
+        Ok(()) => DONE,
+        Err(_) => OUT_OF_MEMORY,
+    }
+}
+
+/// Gives back each cell that nothing reaches.
+#[unsafe(no_mangle)]
+pub extern "C" fn rhai_host_collect(alloc: Global, handle: &mut Handle) -> u32
+    ensures { CollectsKept result (content handle.old) (content handle.new) }
+{
+    let Some(mut kept) = handle.take(alloc) else {
+        return CLOSED;
+    };
+    let status = collected(&mut kept);
+    handle.put(kept);
+    status
+}

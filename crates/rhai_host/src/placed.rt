@@ -1,0 +1,157 @@
+//! Commands on a place: a hand position, or the last entry of the name of a number.
+ghost use Rattle.std.specs.Prelude.{option_map};
+ghost use Rattle.rhai_handle.specs.Content.{content};
+ghost use Rattle.rhai_run.specs.declared.command.Command.TheVariants as command;
+ghost use Rattle.rhai_host.specs.Calls.{PerformsIf};
+ghost use Rattle.rhai_host.specs.Names.{place_at};
+
+use crate::names::{lend_place, perform_lent};
+use crate::told::Told;
+use rhai_handle::Handle;
+use rhai_run::Command;
+use std::alloc::Global;
+
+/// Marks the cell of the holder at the place: from then on it is read and written by the mark alone. The mark goes to the end of the list of marks.
+#[unsafe(no_mangle)]
+pub extern "C" fn rhai_host_mark(
+    alloc: Global,
+    handle: &mut Handle,
+    is_entry: bool,
+    at: usize,
+    told: &mut Told,
+) -> u32
+    ensures { PerformsIf result (content handle.old) (content handle.new) told.new (λ k. option_map (λ p. command.Mark p) (place_at k is_entry at)) }
+{
+    match lend_place(alloc, handle, is_entry, at) {
+        Ok(lent) => perform_lent(handle, lent.kept, at, Command::Mark(lent.place), told),
+        Err(status) => status,
+    }
+}
+
+/// Writes the boolean at the hand position to this bit of the int at the place.
+#[unsafe(no_mangle)]
+pub extern "C" fn rhai_host_write_bit(
+    alloc: Global,
+    handle: &mut Handle,
+    is_entry: bool,
+    at: usize,
+    bit: u8,
+    j: usize,
+    told: &mut Told,
+) -> u32
+    ensures { PerformsIf result (content handle.old) (content handle.new) told.new (λ k. option_map (λ p. command.WriteBit p bit j) (place_at k is_entry at)) }
+{
+    match lend_place(alloc, handle, is_entry, at) {
+        Ok(lent) => perform_lent(
+            handle,
+            lent.kept,
+            at,
+            Command::WriteBit(lent.place, bit, j),
+            told,
+        ),
+        Err(status) => status,
+    }
+}
+
+/// Writes the int at the hand position, shifted left, to the bits of the mask in the int at the place.
+#[unsafe(no_mangle)]
+pub extern "C" fn rhai_host_write_field(
+    alloc: Global,
+    handle: &mut Handle,
+    is_entry: bool,
+    at: usize,
+    mask: i64,
+    shift: u8,
+    j: usize,
+    told: &mut Told,
+) -> u32
+    ensures { PerformsIf result (content handle.old) (content handle.new) told.new (λ k. option_map (λ p. command.WriteField p mask shift j) (place_at k is_entry at)) }
+{
+    match lend_place(alloc, handle, is_entry, at) {
+        Ok(lent) => perform_lent(
+            handle,
+            lent.kept,
+            at,
+            Command::WriteField(lent.place, mask, shift, j),
+            told,
+        ),
+        Err(status) => status,
+    }
+}
+
+/// Writes the int at the hand position to the byte of this index of the blob at the place.
+#[unsafe(no_mangle)]
+pub extern "C" fn rhai_host_write_byte(
+    alloc: Global,
+    handle: &mut Handle,
+    is_entry: bool,
+    at: usize,
+    index: usize,
+    j: usize,
+    told: &mut Told,
+) -> u32
+    ensures { PerformsIf result (content handle.old) (content handle.new) told.new (λ k. option_map (λ p. command.WriteByte p index j) (place_at k is_entry at)) }
+{
+    match lend_place(alloc, handle, is_entry, at) {
+        Ok(lent) => perform_lent(
+            handle,
+            lent.kept,
+            at,
+            Command::WriteByte(lent.place, index, j),
+            told,
+        ),
+        Err(status) => status,
+    }
+}
+
+/// Writes the character at the hand position over the one of this index of the text at the place.
+#[unsafe(no_mangle)]
+pub extern "C" fn rhai_host_write_char(
+    alloc: Global,
+    handle: &mut Handle,
+    is_entry: bool,
+    at: usize,
+    index: usize,
+    j: usize,
+    told: &mut Told,
+) -> u32
+    ensures { PerformsIf result (content handle.old) (content handle.new) told.new (λ k. option_map (λ p. command.WriteChar p index j) (place_at k is_entry at)) }
+{
+    match lend_place(alloc, handle, is_entry, at) {
+        Ok(lent) => perform_lent(
+            handle,
+            lent.kept,
+            at,
+            Command::WriteChar(lent.place, index, j),
+            told,
+        ),
+        Err(status) => status,
+    }
+}
+
+/// Writes what the value at the hand position prints as over the characters from the first index on, up to the second one, which is replaced too unless the slice is exclusive.
+#[unsafe(no_mangle)]
+pub extern "C" fn rhai_host_write_slice(
+    alloc: Global,
+    handle: &mut Handle,
+    is_entry: bool,
+    at: usize,
+    start: usize,
+    end: usize,
+    exclusive: bool,
+    j: usize,
+    told: &mut Told,
+) -> u32
+    ensures { PerformsIf result (content handle.old) (content handle.new) told.new (λ k. option_map (λ p. command.WriteSlice p start end exclusive j) (place_at k is_entry at)) }
+{
+    match lend_place(alloc, handle, is_entry, at) {
+        Ok(lent) => perform_lent(
+            handle,
+            lent.kept,
+            at,
+            Command::WriteSlice(lent.place, start, end, exclusive, j),
+            told,
+        ),
+        Err(status) => status,
+    }
+}

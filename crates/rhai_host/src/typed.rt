@@ -1,0 +1,225 @@
+//! Commands with a type or an operator, which are told by their numbers.
+ghost use Rattle.std.specs.Prelude.{option_map};
+ghost use Rattle.rhai_handle.specs.Content.{content};
+ghost use Rattle.rhai_run.specs.declared.command.Command.TheVariants as command;
+ghost use Rattle.rhai_run.specs.declared.command.Question.TheVariants as question;
+ghost use Rattle.rhai_host.specs.Calls.{PerformsIf};
+ghost use Rattle.rhai_host.specs.Names.{name_at, place_at};
+ghost use Rattle.rhai_host.specs.Numbers.{operator_of, type_of, where_there};
+
+use crate::names::{lend, lend_place, perform_lent};
+use crate::numbers::{operator_of, type_of};
+use crate::perform::{no_command, perform};
+use crate::told::Told;
+use rhai_handle::Handle;
+use rhai_run::{Command, Question};
+use rhai_text::Token;
+use rhai_value::TypeId;
+use std::alloc::Global;
+
+/// Appends what the value at the hand position is as this type, copied without its holders.
+#[unsafe(no_mangle)]
+pub extern "C" fn rhai_host_cast(
+    alloc: Global,
+    handle: &mut Handle,
+    i: usize,
+    kind: u32,
+    told: &mut Told,
+) -> u32
+    ensures { PerformsIf result (content handle.old) (content handle.new) told.new (λ _. option_map (λ t. command.Cast i t) (type_of kind)) }
+{
+    match type_of(kind) {
+        Some(kind) => perform(alloc, handle, Command::Cast(i, kind), told),
+        None => no_command(handle),
+    }
+}
+
+/// Answers whether this is the type that is held at the hand position.
+#[unsafe(no_mangle)]
+pub extern "C" fn rhai_host_is_held(
+    alloc: Global,
+    handle: &mut Handle,
+    i: usize,
+    kind: u32,
+    told: &mut Told,
+) -> u32
+    ensures { PerformsIf result (content handle.old) (content handle.new) told.new (λ _. option_map (λ t. command.Ask i (question.Held t)) (type_of kind)) }
+{
+    match type_of(kind) {
+        Some(kind) => perform(alloc, handle, Command::Ask(i, Question::Held(kind)), told),
+        None => no_command(handle),
+    }
+}
+
+/// Answers whether the value at the hand position is of this type: by its constructor, or for a holder by the held type.
+#[unsafe(no_mangle)]
+pub extern "C" fn rhai_host_is_type(
+    alloc: Global,
+    handle: &mut Handle,
+    i: usize,
+    kind: u32,
+    told: &mut Told,
+) -> u32
+    ensures { PerformsIf result (content handle.old) (content handle.new) told.new (λ _. option_map (λ t. command.Ask i (question.Is t)) (type_of kind)) }
+{
+    match type_of(kind) {
+        Some(kind) => perform(alloc, handle, Command::Ask(i, Question::Is(kind)), told),
+        None => no_command(handle),
+    }
+}
+
+/// Appends what the operator answers on the values at the two hand positions.
+#[unsafe(no_mangle)]
+pub extern "C" fn rhai_host_binary(
+    alloc: Global,
+    handle: &mut Handle,
+    operator: u32,
+    i: usize,
+    j: usize,
+    told: &mut Told,
+) -> u32
+    ensures { PerformsIf result (content handle.old) (content handle.new) told.new (λ _. option_map (λ op. command.Binary op i j) (operator_of operator)) }
+{
+    match operator_of(operator) {
+        Some(operator) => perform(alloc, handle, Command::Binary(operator, i, j), told),
+        None => no_command(handle),
+    }
+}
+
+fn assign(
+    alloc: Global,
+    handle: &mut Handle,
+    operator: Token,
+    is_entry: bool,
+    at: usize,
+    j: usize,
+    told: &mut Told,
+) -> u32
+    ensures { PerformsIf result (content handle.old) (content handle.new) told.new (λ k. option_map (λ p. command.Assign operator p j) (place_at k is_entry at)) }
+{
+    match lend_place(alloc, handle, is_entry, at) {
+        Ok(lent) => perform_lent(
+            handle,
+            lent.kept,
+            at,
+            Command::Assign(operator, lent.place, j),
+            told,
+        ),
+        Err(status) => status,
+    }
+}
+
+/// Calls the assignment of the operator on the value at the place and the one at the hand position.
+#[unsafe(no_mangle)]
+pub extern "C" fn rhai_host_assign(
+    alloc: Global,
+    handle: &mut Handle,
+    operator: u32,
+    is_entry: bool,
+    at: usize,
+    j: usize,
+    told: &mut Told,
+) -> u32
+    ensures { PerformsIf result (content handle.old) (content handle.new) told.new (λ k. where_there (operator_of operator) (λ op. option_map (λ p. command.Assign op p j) (place_at k is_entry at))) }
+{
+    match operator_of(operator) {
+        Some(operator) => assign(alloc, handle, operator, is_entry, at, j, told),
+        None => no_command(handle),
+    }
+}
+
+fn get_value(alloc: Global, handle: &mut Handle, name: usize, kind: TypeId, told: &mut Told) -> u32
+    ensures { PerformsIf result (content handle.old) (content handle.new) told.new (λ k. option_map (λ n. command.GetValue n kind) (name_at k name)) }
+{
+    match lend(alloc, handle, name) {
+        Ok(lent) => perform_lent(
+            handle,
+            lent.kept,
+            name,
+            Command::GetValue(lent.name, kind),
+            told,
+        ),
+        Err(status) => status,
+    }
+}
+
+/// Appends what the value of the last entry of the name is as this type, copied without its holders; or answers nothing.
+#[unsafe(no_mangle)]
+pub extern "C" fn rhai_host_get_value(
+    alloc: Global,
+    handle: &mut Handle,
+    name: usize,
+    kind: u32,
+    told: &mut Told,
+) -> u32
+    ensures { PerformsIf result (content handle.old) (content handle.new) told.new (λ k. where_there (type_of kind) (λ t. option_map (λ n. command.GetValue n t) (name_at k name))) }
+{
+    match type_of(kind) {
+        Some(kind) => get_value(alloc, handle, name, kind, told),
+        None => no_command(handle),
+    }
+}
+
+fn get_ref(alloc: Global, handle: &mut Handle, name: usize, kind: TypeId, told: &mut Told) -> u32
+    ensures { PerformsIf result (content handle.old) (content handle.new) told.new (λ k. option_map (λ n. command.GetRef n kind) (name_at k name)) }
+{
+    match lend(alloc, handle, name) {
+        Ok(lent) => perform_lent(
+            handle,
+            lent.kept,
+            name,
+            Command::GetRef(lent.name, kind),
+            told,
+        ),
+        Err(status) => status,
+    }
+}
+
+/// Appends a copy of what the last entry of the name itself is as this type, by reference; or answers nothing.
+#[unsafe(no_mangle)]
+pub extern "C" fn rhai_host_get_ref(
+    alloc: Global,
+    handle: &mut Handle,
+    name: usize,
+    kind: u32,
+    told: &mut Told,
+) -> u32
+    ensures { PerformsIf result (content handle.old) (content handle.new) told.new (λ k. where_there (type_of kind) (λ t. option_map (λ n. command.GetRef n t) (name_at k name))) }
+{
+    match type_of(kind) {
+        Some(kind) => get_ref(alloc, handle, name, kind, told),
+        None => no_command(handle),
+    }
+}
+
+fn remove(alloc: Global, handle: &mut Handle, name: usize, kind: TypeId, told: &mut Told) -> u32
+    ensures { PerformsIf result (content handle.old) (content handle.new) told.new (λ k. option_map (λ n. command.Remove n kind) (name_at k name)) }
+{
+    match lend(alloc, handle, name) {
+        Ok(lent) => perform_lent(
+            handle,
+            lent.kept,
+            name,
+            Command::Remove(lent.name, kind),
+            told,
+        ),
+        Err(status) => status,
+    }
+}
+
+/// Takes the last entry of the name out, and appends what its value is as this type, without its holders; or answers nothing.
+#[unsafe(no_mangle)]
+pub extern "C" fn rhai_host_remove(
+    alloc: Global,
+    handle: &mut Handle,
+    name: usize,
+    kind: u32,
+    told: &mut Told,
+) -> u32
+    ensures { PerformsIf result (content handle.old) (content handle.new) told.new (λ k. where_there (type_of kind) (λ t. option_map (λ n. command.Remove n t) (name_at k name))) }
+{
+    match type_of(kind) {
+        Some(kind) => remove(alloc, handle, name, kind, told),
+        None => no_command(handle),
+    }
+}

@@ -1,0 +1,158 @@
+//! Answers, refusals and errors.
+use crate::sys::Told;
+use std::fmt;
+
+/// The answer to a command.
+#[derive(Clone, Debug, PartialEq, Eq)]
+pub enum Answer {
+    /// It is done.
+    Done,
+    /// Yes or no.
+    Bool(bool),
+    /// A number.
+    Int(i128),
+    /// A text.
+    Text(String),
+    /// Bytes.
+    Bytes(Vec<u8>),
+    /// Two numbers.
+    Pair(usize, usize),
+    /// There is nothing to answer.
+    Nothing,
+}
+
+/// Why an arithmetic operation has no answer.
+#[derive(Clone, Copy, Debug, PartialEq, Eq)]
+pub enum ArithmeticFault {
+    /// The exact answer does not fit.
+    Overflow,
+    /// The divisor is 0.
+    DivisionByZero,
+    /// The exponent is below 0.
+    NegativePower,
+    /// The exponent is above 4294967295.
+    PowerTooLarge,
+}
+
+/// Which limit a value would grow past.
+#[derive(Clone, Copy, Debug, PartialEq, Eq)]
+pub enum SizeKind {
+    /// The bytes of a text.
+    Text,
+    /// The items of an array, or the bytes of a blob.
+    Items,
+}
+
+/// Why a command was refused. A refused command changes nothing.
+#[derive(Clone, Debug, PartialEq, Eq)]
+pub enum Refusal {
+    /// No value stands at a hand position, or too few stand in the hand.
+    NoValue,
+    /// Two hand positions that must differ are the same.
+    SameValue,
+    /// The scope has no entry of the name.
+    NoEntry,
+    /// The scope has no entry at all.
+    EmptyScope,
+    /// The last entry of the name is a constant.
+    ConstantEntry,
+    /// The last entry of the name is a holder.
+    SharedEntry,
+    /// The list of marks has no such position.
+    NoMark,
+    /// The value at the place is no holder, or holds another type than the command writes to.
+    WrongSource,
+    /// No int has this bit.
+    BitPlace,
+    /// The blob has no such byte.
+    BytePlace,
+    /// The operator isn't built in for the two values.
+    NoBuiltin,
+    /// The value has no hash bytes.
+    NotHashable,
+    /// Another type is held; this is its name.
+    Mismatch(String),
+    /// A value has the wrong type: the name of the type that is wanted, and of the one that is there.
+    WrongType(String, String),
+    /// A shared value is in use.
+    DataRace,
+    /// An arithmetic operation has no answer.
+    Arithmetic(ArithmeticFault),
+    /// A value would grow past its limit.
+    TooLarge(SizeKind),
+}
+
+/// Why a command has no answer. The world is as it was before.
+#[derive(Clone, Debug, PartialEq, Eq)]
+pub enum Error {
+    /// The command was refused.
+    Refused(Refusal),
+    /// Memory was wanted and refused.
+    OutOfMemory,
+    /// No world is open.
+    Closed,
+    /// What was handed over says no command: a line that says none, a text that is none, or a name of another world.
+    NoCommand,
+    /// The library answered what it doesn't promise.
+    Unexpected,
+}
+
+impl fmt::Display for Refusal {
+    fn fmt(&self, f: &mut fmt::Formatter<'_>) -> fmt::Result {
+        match self {
+            Refusal::NoValue => f.write_str("no such value in the hand"),
+            Refusal::SameValue => f.write_str("the two values are the same"),
+            Refusal::NoEntry => f.write_str("no entry of the name"),
+            Refusal::EmptyScope => f.write_str("no entry in the scope"),
+            Refusal::ConstantEntry => f.write_str("the entry is a constant"),
+            Refusal::SharedEntry => f.write_str("the entry is a holder"),
+            Refusal::NoMark => f.write_str("no such mark"),
+            Refusal::WrongSource => f.write_str("the place has another type"),
+            Refusal::BitPlace => f.write_str("no int has this bit"),
+            Refusal::BytePlace => f.write_str("the blob has no such byte"),
+            Refusal::NoBuiltin => f.write_str("no built-in operator for the values"),
+            Refusal::NotHashable => f.write_str("the value has no hash bytes"),
+            Refusal::Mismatch(held) => write!(f, "the type that is held is {held}"),
+            Refusal::WrongType(wanted, found) => write!(f, "{wanted} is wanted, and {found} is there"),
+            Refusal::DataRace => f.write_str("a shared value is in use"),
+            Refusal::Arithmetic(ArithmeticFault::Overflow) => f.write_str("the number does not fit"),
+            Refusal::Arithmetic(ArithmeticFault::DivisionByZero) => f.write_str("the divisor is 0"),
+            Refusal::Arithmetic(ArithmeticFault::NegativePower) => f.write_str("the exponent is below 0"),
+            Refusal::Arithmetic(ArithmeticFault::PowerTooLarge) => f.write_str("the exponent is too large"),
+            Refusal::TooLarge(SizeKind::Text) => f.write_str("the text is too long"),
+            Refusal::TooLarge(SizeKind::Items) => f.write_str("too many items"),
+        }
+    }
+}
+
+impl fmt::Display for Error {
+    fn fmt(&self, f: &mut fmt::Formatter<'_>) -> fmt::Result {
+        match self {
+            Error::Refused(why) => write!(f, "refused: {why}"),
+            Error::OutOfMemory => f.write_str("out of memory"),
+            Error::Closed => f.write_str("no world is open"),
+            Error::NoCommand => f.write_str("no command"),
+            Error::Unexpected => f.write_str("an answer that isn't promised"),
+        }
+    }
+}
+
+impl std::error::Error for Refusal {}
+
+impl std::error::Error for Error {
+    fn source(&self) -> Option<&(dyn std::error::Error + 'static)> {
+        match self {
+            Error::Refused(why) => Some(why),
+            Error::OutOfMemory | Error::Closed | Error::NoCommand | Error::Unexpected => None,
+        }
+    }
+}
+
+/// The number whose two's complement has these two words.
+pub(crate) fn wide(told: &Told) -> i128 {
+    (u128::from(told.low) | u128::from(told.high) << 64) as i128
+}
+
+pub(crate) fn size(word: u64) -> Result<usize, Error> {
+    usize::try_from(word).map_err(|_| Error::Unexpected)
+}

@@ -1,0 +1,210 @@
+//! Each command, as a method of a world and as a value for lists.
+use crate::answer::{Answer, Error};
+use crate::kinds::{Name, Operator, Place, Type};
+use crate::sys;
+use crate::world::World;
+
+macro_rules! commands {
+    ($($(#[$doc:meta])* $variant:ident $method:ident($($argument:ident: $type:ty => ($($passed:expr),+)),*) $kind:ident -> $result:ty;)*) => {
+        /// A command, as a value. The method of a like name says what it does.
+        #[derive(Clone, Copy, Debug, PartialEq, Eq)]
+        pub enum Command {
+            $($(#[$doc])* #[allow(missing_docs)] $variant { $($argument: $type),* },)*
+        }
+
+        impl World {
+            $($(#[$doc])*
+            #[inline]
+            pub fn $method(&mut self, $($argument: $type),*) -> Result<$result, Error> {
+                let told = self.call(|handle, told| sys::$method(handle, $($($passed,)+)* told))?;
+                self.$kind(told)
+            })*
+
+            /// Does a command.
+            #[inline]
+            pub fn apply(&mut self, command: Command) -> Result<Answer, Error> {
+                let told = match command {
+                    $(Command::$variant { $($argument),* } => self.call(|handle, told| sys::$method(handle, $($($passed,)+)* told)),)*
+                }?;
+                self.answer(told)
+            }
+        }
+    };
+}
+
+commands! {
+    /// Appends the unit value.
+    PutUnit put_unit() done -> ();
+    /// Appends a boolean.
+    PutBool put_bool(truth: bool => (truth)) done -> ();
+    /// Appends an int.
+    PutInt put_int(n: i64 => (n)) done -> ();
+    /// Appends the range from one int to another, without the end.
+    PutRange put_range(start: i64 => (start), end: i64 => (end)) done -> ();
+    /// Appends the range from one int to another, with the end.
+    PutRangeWithEnd put_range_with_end(start: i64 => (start), end: i64 => (end)) done -> ();
+    /// Appends a `u8` of the host's.
+    PutU8 put_u8(n: u8 => (n)) done -> ();
+    /// Appends a `u16` of the host's.
+    PutU16 put_u16(n: u16 => (n)) done -> ();
+    /// Appends a `u32` of the host's.
+    PutU32 put_u32(n: u32 => (n)) done -> ();
+    /// Appends a `u64` of the host's.
+    PutU64 put_u64(n: u64 => (n)) done -> ();
+    /// Appends an `i8` of the host's.
+    PutI8 put_i8(n: i8 => (n)) done -> ();
+    /// Appends an `i16` of the host's.
+    PutI16 put_i16(n: i16 => (n)) done -> ();
+    /// Appends an `i32` of the host's.
+    PutI32 put_i32(n: i32 => (n)) done -> ();
+    /// Takes this many values off the end of the hand, and appends the array of them in order.
+    MakeArray make_array(count: usize => (count)) done -> ();
+    /// Appends a copy of the value at the hand position.
+    Copy copy(i: usize => (i)) done -> ();
+    /// Appends a copy of the value at the hand position without its holders.
+    FlattenClone flatten_clone(i: usize => (i)) done -> ();
+    /// Moves the value at the hand position to the end, and leaves unit.
+    Take take(i: usize => (i)) done -> ();
+    /// Drops the last value.
+    Drop drop() done -> ();
+    /// Moves the value at the hand position into a new cell, and leaves a holder of it; a holder stays.
+    Share share(i: usize => (i)) done -> ();
+    /// Puts in the place of a holder at the hand position what is held, without its holders.
+    Flatten flatten(i: usize => (i)) done -> ();
+    /// Makes the value at the hand position a constant.
+    MakeReadOnly make_read_only(i: usize => (i)) done -> ();
+    /// Sets the tag of the value at the hand position.
+    SetTag set_tag(i: usize => (i), tag: i32 => (tag)) done -> ();
+    /// Writes over the int that is held at the hand position.
+    WriteInt write_int(i: usize => (i), n: i64 => (n)) done -> ();
+    /// Writes the value at the second hand position over the first content of the one at the first, and leaves unit at the second.
+    Write write(i: usize => (i), j: usize => (j)) done -> ();
+    /// Sets the tag of each value that a scan of the one at the hand position comes to, and answers how many these are.
+    ScanTags scan_tags(i: usize => (i), tag: i32 => (tag)) count -> usize;
+    /// Makes each int 0 that a scan of the value at the hand position comes to, and answers how many values it came to.
+    ScanZero scan_zero(i: usize => (i)) count -> usize;
+    /// Makes each holder unit that a scan of the value at the hand position comes to, and answers how many values it came to.
+    ScanNoShare scan_no_share(i: usize => (i)) count -> usize;
+    /// Keeps this many items of each array that a scan of the value at the hand position comes to, and answers how many values it came to.
+    ScanCut scan_cut(i: usize => (i), count: usize => (count)) count -> usize;
+    /// Answers the tag of the value at the hand position.
+    Tag tag(i: usize => (i)) int -> i64;
+    /// Answers whether the value at the hand position is of one of the host's types.
+    IsVariant is_variant(i: usize => (i)) truth -> bool;
+    /// Answers whether the value at the hand position is a holder.
+    IsShared is_shared(i: usize => (i)) truth -> bool;
+    /// Answers whether the first content of the value at the hand position is a constant.
+    IsReadOnly is_read_only(i: usize => (i)) truth -> bool;
+    /// Answers whether the value at the hand position is, or has inside, a holder of a marked cell.
+    IsLocked is_locked(i: usize => (i)) truth -> bool;
+    /// Answers the name of the type that is held at the hand position.
+    TypeName type_name(i: usize => (i)) text -> String;
+    /// Answers whether the value at the hand position can be hashed.
+    IsHashable is_hashable(i: usize => (i)) truth -> bool;
+    /// Is done where unit is held at the hand position.
+    AsUnit as_unit(i: usize => (i)) done -> ();
+    /// Answers the int that is held at the hand position.
+    AsInt as_int(i: usize => (i)) int -> i64;
+    /// Answers the boolean that is held at the hand position.
+    AsBool as_bool(i: usize => (i)) truth -> bool;
+    /// Answers the character that is held at the hand position, as a text.
+    AsChar as_char(i: usize => (i)) text -> String;
+    /// Answers the text of the value at the hand position, as it is displayed.
+    Show show(i: usize => (i)) text -> String;
+    /// Answers the text of the value at the hand position, as it is debugged.
+    Debug debug(i: usize => (i)) text -> String;
+    /// Answers the hash bytes of the value at the hand position.
+    Hash hash(i: usize => (i)) bytes -> Vec<u8>;
+    /// Answers where a slice of a list of this length starts and how many items it has, for a start and a number of items.
+    Offset offset(length: usize => (length), start: i64 => (start), count: i64 => (count)) pair -> (usize, usize);
+    /// Answers the place of an item of a list of this length, or nothing; with the flag a negative index counts from the end.
+    Index index(length: usize => (length), index: i64 => (index), from_end: bool => (from_end)) count_if_any -> Option<usize>;
+    /// Drops the last entry.
+    Pop pop() done -> ();
+    /// Keeps as many entries as the number says, the first ones.
+    Rewind rewind(count: usize => (count)) done -> ();
+    /// Drops all entries.
+    Clear clear() done -> ();
+    /// Answers how many entries there are.
+    Len len() count -> usize;
+    /// Answers whether there is no entry.
+    IsEmpty is_empty() truth -> bool;
+    /// Keeps copies of the last entries of each name, the newest first.
+    KeepVisible keep_visible() done -> ();
+    /// Keeps copies of all entries.
+    CopyScope copy_scope() done -> ();
+    /// Appends copies of the values of all entries, without their holders.
+    Entries entries() done -> ();
+    /// Answers the names of the entries, the newest first, each with a line feed, and with `const ` before that of a constant.
+    Names names() text -> String;
+    /// Answers the text of the scope.
+    ShowScope show_scope() text -> String;
+    /// Answers the hash bytes of the scope.
+    HashScope hash_scope() bytes -> Vec<u8>;
+    /// Takes the mark at this position out of the list, and frees its cell; later marks close up.
+    Unmark unmark(mark: usize => (mark)) done -> ();
+    /// Moves the value at the hand position into the cell of the mark at this position, and leaves unit.
+    WriteMarked write_marked(mark: usize => (mark), i: usize => (i)) done -> ();
+    /// Appends a copy of what is in the cell of the mark at this position.
+    ReadMarked read_marked(mark: usize => (mark)) done -> ();
+    /// Takes this many values off the end of the hand, and appends the function pointer of the name with these curried in order.
+    MakeFn make_fn(name: Name => (name.0), count: usize => (count)) done -> ();
+    /// Moves the value at the hand position into a new entry of the name that may be written, and leaves unit.
+    Push push(name: Name => (name.0), i: usize => (i)) done -> ();
+    /// Moves the value at the hand position into a new entry of the name, which is a constant where the value is, and leaves unit.
+    PushDynamic push_dynamic(name: Name => (name.0), i: usize => (i)) done -> ();
+    /// Moves the value at the hand position into a new entry of the name that is a constant, and leaves unit.
+    PushConstant push_constant(name: Name => (name.0), i: usize => (i)) done -> ();
+    /// Moves the value at the hand position over the value of the last entry of the name, and leaves unit.
+    SetEntry set_entry(name: Name => (name.0), i: usize => (i)) done -> ();
+    /// Moves the value at the hand position over the value of the last entry of the name, or into a new one where none may be written.
+    SetOrPush set_or_push(name: Name => (name.0), i: usize => (i)) done -> ();
+    /// Moves the value at the hand position over the value of the last entry of the name, or into a new one where none is there.
+    SetValue set_value(name: Name => (name.0), i: usize => (i)) done -> ();
+    /// Answers whether an entry has the name.
+    Contains contains(name: Name => (name.0)) truth -> bool;
+    /// Answers the position of the last entry of the name, counted from 0, or nothing.
+    Search search(name: Name => (name.0)) count_if_any -> Option<usize>;
+    /// Answers whether the last entry of the name is a constant, or nothing.
+    IsConstant is_constant(name: Name => (name.0)) truth_if_any -> Option<bool>;
+    /// Appends a copy of the value of the last entry of the name.
+    Get get(name: Name => (name.0)) done -> ();
+    /// Writes over the int that the last entry of the name itself is; false where there is none.
+    SetRef set_ref(name: Name => (name.0), value: i64 => (value)) done_if_any -> bool;
+    /// Answers the aliases of the last entry of the name, each with a line feed.
+    Aliases aliases(name: Name => (name.0)) text -> String;
+    /// Marks the cell of the holder at the place: from then on it is read and written by the mark alone. The mark goes to the end of the list of marks.
+    Mark mark(place: Place => (place.is_entry(), place.at())) done -> ();
+    /// Writes the boolean at the hand position to this bit of the int at the place.
+    WriteBit write_bit(place: Place => (place.is_entry(), place.at()), bit: u8 => (bit), j: usize => (j)) done -> ();
+    /// Writes the int at the hand position, shifted left, to the bits of the mask in the int at the place.
+    WriteField write_field(place: Place => (place.is_entry(), place.at()), mask: i64 => (mask), shift: u8 => (shift), j: usize => (j)) done -> ();
+    /// Writes the int at the hand position to the byte of this index of the blob at the place.
+    WriteByte write_byte(place: Place => (place.is_entry(), place.at()), index: usize => (index), j: usize => (j)) done -> ();
+    /// Writes the character at the hand position over the one of this index of the text at the place.
+    WriteChar write_char(place: Place => (place.is_entry(), place.at()), index: usize => (index), j: usize => (j)) done -> ();
+    /// Writes what the value at the hand position prints as over the characters from the first index on, up to the second one, which is replaced too unless the slice is exclusive.
+    WriteSlice write_slice(place: Place => (place.is_entry(), place.at()), start: usize => (start), end: usize => (end), exclusive: bool => (exclusive), j: usize => (j)) done -> ();
+    /// Appends what the value at the hand position is as this type, copied without its holders.
+    Cast cast(i: usize => (i), kind: Type => (kind as u32)) done -> ();
+    /// Answers whether this is the type that is held at the hand position.
+    IsHeld is_held(i: usize => (i), kind: Type => (kind as u32)) truth -> bool;
+    /// Answers whether the value at the hand position is of this type: by its constructor, or for a holder by the held type.
+    IsType is_type(i: usize => (i), kind: Type => (kind as u32)) truth -> bool;
+    /// Appends what the operator answers on the values at the two hand positions.
+    Binary binary(operator: Operator => (operator as u32), i: usize => (i), j: usize => (j)) done -> ();
+    /// Calls the assignment of the operator on the value at the place and the one at the hand position.
+    Assign assign(operator: Operator => (operator as u32), place: Place => (place.is_entry(), place.at()), j: usize => (j)) done -> ();
+    /// Appends what the value of the last entry of the name is as this type, copied without its holders; false where it is none.
+    GetValue get_value(name: Name => (name.0), kind: Type => (kind as u32)) done_if_any -> bool;
+    /// Appends a copy of what the last entry of the name itself is as this type, by reference; false where it is none.
+    GetRef get_ref(name: Name => (name.0), kind: Type => (kind as u32)) done_if_any -> bool;
+    /// Takes the last entry of the name out, and appends what its value is as this type, without its holders; false where it is none.
+    Remove remove(name: Name => (name.0), kind: Type => (kind as u32)) done_if_any -> bool;
+    /// Appends a character.
+    PutChar put_char(character: char => (character as u32)) done -> ();
+    /// Appends a `u128` of the host's.
+    PutU128 put_u128(n: u128 => (n as u64, (n >> 64) as u64)) done -> ();
+    /// Appends an `i128` of the host's.
+    PutI128 put_i128(n: i128 => (n as u64, (n >> 64) as u64)) done -> ();
+}

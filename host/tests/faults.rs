@@ -1,0 +1,110 @@
+//! Each request for memory refused in turn, and all from one on.
+#![cfg(feature = "faults")]
+use rhai_world::{refuse, Answer, Command, Error, Limits, Name, Operator, Place, Type, World};
+
+fn script(x: Name) -> Vec<Command> {
+    vec![
+        Command::PutInt { n: 1 },
+        Command::Share { i: 0 },
+        Command::Copy { i: 0 },
+        Command::PutI128 { n: i128::MIN },
+        Command::Push { name: x, i: 1 },
+        Command::Get { name: x },
+        Command::Contains { name: x },
+        Command::Assign { operator: Operator::PlusAssign, place: Place::Entry(x), j: 0 },
+        Command::GetValue { name: x, kind: Type::Int },
+        Command::MakeArray { count: 3 },
+        Command::FlattenClone { i: 0 },
+        Command::Show { i: 0 },
+        Command::Debug { i: 1 },
+        Command::Hash { i: 0 },
+        Command::Mark { place: Place::Hand(0) },
+        Command::ReadMarked { mark: 0 },
+        Command::Unmark { mark: 0 },
+        Command::Names {},
+        Command::ShowScope {},
+        Command::CopyScope {},
+        Command::KeepVisible {},
+        Command::Entries {},
+        Command::Cast { i: 0, kind: Type::Int },
+        Command::TypeName { i: 0 },
+        Command::AsInt { i: 99 },
+        Command::MakeFn { name: x, count: 0 },
+        Command::Remove { name: x, kind: Type::Int },
+        Command::Pop {},
+    ]
+}
+
+fn world() -> Result<(World, Name), Error> {
+    let mut world = World::new(Limits::default())?;
+    let x = world.name("a name that is longer than twenty-four bytes")?;
+    Ok((world, x))
+}
+
+/// The answers, each asked for again in the same world where memory was refused, and how often that was.
+fn answers(world: &mut World, x: Name) -> (Vec<Result<Answer, Error>>, usize) {
+    let mut refused = 0;
+    let answers = script(x)
+        .into_iter()
+        .map(|command| {
+            let answer = world.apply(command);
+            if answer != Err(Error::OutOfMemory) {
+                return answer;
+            }
+            refused += 1;
+            world.apply(command)
+        })
+        .collect();
+    (answers, refused)
+}
+
+#[test]
+fn each_request_in_turn() {
+    let ((expected, refused), asked) = refuse(u64::MAX, false, || {
+        let (mut world, x) = world().unwrap();
+        answers(&mut world, x)
+    });
+    assert_eq!(refused, 0);
+    assert!(asked > 10, "{asked}");
+    for nth in 0..asked {
+        let ((found, refused), _) = refuse(nth, false, || {
+            let (mut world, x) = match world() {
+                Ok(it) => it,
+                Err(error) => {
+                    assert_eq!(error, Error::OutOfMemory);
+                    world().unwrap()
+                }
+            };
+            answers(&mut world, x)
+        });
+        assert!(refused <= 1);
+        assert_eq!(found, expected, "request {nth}");
+    }
+}
+
+#[test]
+fn all_requests_from_one_on() {
+    let (_, asked) = refuse(u64::MAX, false, || {
+        let (mut world, x) = world().unwrap();
+        answers(&mut world, x)
+    });
+    let free = |world: &mut World, x: Name| {
+        assert_eq!(world.apply(Command::Rewind { count: usize::MAX }), Ok(Answer::Done));
+        assert!(world.apply(Command::Contains { name: x }).is_ok());
+        assert!(world.apply(Command::Len {}).is_ok());
+    };
+    for nth in 0..asked {
+        let (world, _) = refuse(nth, true, || {
+            let Ok((mut world, x)) = world() else { return None };
+            for command in script(x) {
+                let _ = world.apply(command);
+                free(&mut world, x);
+            }
+            Some((world, x))
+        });
+        if let Some((mut world, x)) = world {
+            world.put_int(1).unwrap();
+            free(&mut world, x);
+        }
+    }
+}

@@ -1,0 +1,10 @@
+def run():
+    x = 0
+    i = 0
+    while i < 3000000:
+        x += i % 7
+        i += 1
+    print(x)
+
+
+run()

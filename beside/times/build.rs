@@ -1,0 +1,15 @@
+//! Links the port's workloads: BESIDE_BENCH is the folder of libbeside_bench.a, which rt lib makes; RATTLE_KIT that of the toolchain's kit,
+//! whose doors to malloc are linked unless memory is counted.
+
+fn main() {
+    println!("cargo:rerun-if-env-changed=BESIDE_BENCH");
+    let folder = std::env::var("BESIDE_BENCH").expect("BESIDE_BENCH");
+    println!("cargo:rerun-if-changed={folder}/libbeside_bench.a");
+    println!("cargo:rustc-link-search=native={folder}");
+    println!("cargo:rustc-link-lib=static=beside_bench");
+    if std::env::var_os("CARGO_FEATURE_COUNTS").is_none() {
+        let kit = std::env::var("RATTLE_KIT").expect("RATTLE_KIT");
+        println!("cargo:rustc-link-search=native={kit}/c");
+        println!("cargo:rustc-link-lib=static=libc_c");
+    }
+}

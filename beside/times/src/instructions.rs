@@ -1,0 +1,39 @@
+//! Instructions of workloads, as valgrind counts them.
+
+use crate::rows::{Row, Taken};
+use crate::{by_port, by_release};
+use std::process::Command;
+
+/// How long the rounds that are counted would take, in nanoseconds.
+const COUNTED: f64 = 200_000.0;
+
+/// The sides, by their names among the arguments of this program.
+pub const SIDES: [(&str, fn(u32, usize) -> u64); 2] = [("port", by_port), ("release", by_release)];
+
+/// Runs a workload for valgrind: what `counted` starts this program for.
+pub fn run_one(side: &str, which: u32, rounds: usize) {
+    let workload = SIDES.iter().find(|(name, _)| *name == side).expect("a side").1;
+    std::hint::black_box(workload(which, rounds));
+}
+
+/// All instructions of so many rounds, and of what stands around them.
+fn counted(side: &str, which: u32, rounds: usize) -> Option<f64> {
+    let program = std::env::current_exe().ok()?;
+    let mut valgrind = Command::new("valgrind");
+    valgrind.args(["--tool=callgrind", "--callgrind-out-file=/dev/null"]).arg(program);
+    let output = valgrind.args(["one", side, &which.to_string(), &rounds.to_string()]).output().ok()?;
+    let said = String::from_utf8_lossy(&output.stderr).into_owned();
+    said.lines().find_map(|line| line.split("Collected :").nth(1)).and_then(|count| count.trim().parse().ok())
+}
+
+/// Instructions an operation, by the port and by the release; nothing where valgrind isn't there.
+#[must_use]
+pub fn of(row: &Row, taken: &Taken) -> Option<[f64; 2]> {
+    let mut of_sides = [0.0; 2];
+    for ((at, (side, _)), nanoseconds) in SIDES.iter().enumerate().zip([taken.port, taken.release]) {
+        let rounds = (COUNTED / nanoseconds / row.operations as f64).ceil() as usize;
+        let more = counted(side, row.which, 2 * rounds)? - counted(side, row.which, rounds)?;
+        of_sides[at] = more / rounds as f64 / row.operations as f64;
+    }
+    Some(of_sides)
+}

@@ -1,0 +1,73 @@
+//! The same workloads over rhai's own values, the released files, and over the port's, a static library.
+//!
+//! A workload takes a number of rounds and answers a checksum; each is the mirror of a function of `crates/beside_bench/src`.
+
+pub mod child;
+#[cfg(feature = "counts")]
+mod counting;
+pub mod instructions;
+pub mod machine;
+pub mod page;
+pub mod rows;
+pub mod workloads;
+
+#[cfg(feature = "counts")]
+pub use counting::counted;
+
+mod door {
+    // SAFETY: these are the exports of crates/beside_bench, by the same types; they take no pointers, and end the process nowhere.
+    unsafe extern "C" {
+        pub safe fn rattle_workload(which: u32, n: usize) -> u64;
+        pub safe fn rattle_size(which: u32) -> usize;
+        pub safe fn rattle_apply(kind: u32, n: usize) -> u64;
+        pub safe fn rattle_run(kind: u32, n: usize) -> u64;
+    }
+}
+
+/// A workload by the port.
+#[must_use]
+pub fn by_port(which: u32, n: usize) -> u64 {
+    match which {
+        0..=999 => door::rattle_workload(which, n),
+        1000..=1099 => door::rattle_apply(which - 1000, n),
+        _ => door::rattle_run(which - 1100, n),
+    }
+}
+
+/// The same over the released files.
+#[must_use]
+pub fn by_release(which: u32, n: usize) -> u64 {
+    match which {
+        0..=999 => workloads::workload(which, n),
+        1000..=1099 => machine::apply_all(which - 1000, n),
+        _ => machine::run_all(which - 1100, n),
+    }
+}
+
+/// The sizes of a type, by the port and by the release.
+#[must_use]
+pub fn sizes(which: u32) -> (usize, usize) {
+    (door::rattle_size(which), workloads::size(which))
+}
+
+#[repr(C)]
+struct Spec {
+    seconds: i64,
+    nanoseconds: i64,
+}
+
+unsafe extern "C" {
+    fn clock_gettime(clock: i32, time: *mut Spec) -> i32;
+}
+
+/// The clock of this thread's processor time.
+const THREAD_CPUTIME: i32 = 3;
+
+/// The processor time of this thread in nanoseconds: other work on the machine doesn't count as ours.
+#[must_use]
+pub fn now() -> u64 {
+    let mut time = Spec { seconds: 0, nanoseconds: 0 };
+    // SAFETY: the call writes one `timespec`, which on 64 bits is two numbers of 64 bits.
+    unsafe { clock_gettime(THREAD_CPUTIME, &mut time) };
+    time.seconds as u64 * 1_000_000_000 + time.nanoseconds as u64
+}

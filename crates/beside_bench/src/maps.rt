@@ -1,0 +1,97 @@
+//! Maps.
+
+use crate::given::{keys, map_of};
+use rhai_value::{Dynamic, Store};
+use std::alloc::{AllocError, Global};
+
+pub(crate) fn insert(alloc: Global, n: usize, count: u32) -> Result<u64, AllocError> {
+    let keys = keys(alloc, count)?;
+    let mut sum = 0_u64;
+    for _ in 0..n {
+        sum = sum.wrapping_add(map_of(alloc, &keys)?.len() as u64);
+    }
+    Ok(sum)
+}
+
+pub(crate) fn get(alloc: Global, n: usize, count: u32) -> Result<u64, AllocError> {
+    let store = Store::new(alloc);
+    let keys = keys(alloc, count)?;
+    let map = map_of(alloc, &keys)?;
+    let mut sum = 0_u64;
+    for _ in 0..n {
+        for key in &keys {
+            if let Some(value) = map.get(key.as_str()) {
+                if let Ok(int) = value.as_int(&store) {
+                    sum = sum.rotate_left(1) ^ int.cast_unsigned();
+                }
+            }
+        }
+    }
+    Ok(sum)
+}
+
+pub(crate) fn get_through(alloc: Global, n: usize, count: u32) -> Result<u64, AllocError> {
+    let store = Store::new(alloc);
+    let keys = keys(alloc, count)?;
+    let value = Dynamic::from_map(map_of(alloc, &keys)?);
+    let mut sum = 0_u64;
+    for _ in 0..n {
+        for key in &keys {
+            if let Ok(map) = value.as_map_ref(&store) {
+                if let Some(value) = map.get(key.as_str()) {
+                    if let Ok(int) = value.as_int(&store) {
+                        sum = sum.rotate_left(1) ^ int.cast_unsigned();
+                    }
+                }
+            }
+        }
+    }
+    Ok(sum)
+}
+
+pub(crate) fn remove_insert(alloc: Global, n: usize, count: u32) -> Result<u64, AllocError> {
+    let keys = keys(alloc, count)?;
+    let mut map = map_of(alloc, &keys)?;
+    for _ in 0..n {
+        for key in &keys {
+            if let Some(value) = map.remove(key.as_str()) {
+                let key = String::from_str(alloc, key.as_str())?;
+                match map.insert(key, value) {
+                    Ok(_) => {}
+                    Err(_) => return Err(AllocError),
+                }
+            }
+        }
+    }
+    Ok(map.len() as u64)
+}
+
+pub(crate) fn iterate(alloc: Global, n: usize, count: u32) -> Result<u64, AllocError> {
+    let store = Store::new(alloc);
+    let keys = keys(alloc, count)?;
+    let map = map_of(alloc, &keys)?;
+    let mut sum = 0_u64;
+    for _ in 0..n {
+        for (key, value) in map.iter() {
+            if let Ok(int) = value.as_int(&store) {
+                sum = sum.rotate_left(1) ^ int.cast_unsigned();
+                sum = sum.wrapping_add(key.len() as u64);
+            }
+        }
+    }
+    Ok(sum)
+}
+
+pub(crate) fn copy(alloc: Global, n: usize, count: u32) -> Result<u64, AllocError> {
+    let store = Store::new(alloc);
+    let keys = keys(alloc, count)?;
+    let value = Dynamic::from_map(map_of(alloc, &keys)?);
+    let mut sum = 0_u64;
+    for _ in 0..n {
+        let copy = value.copy(alloc)?;
+        if let Ok(map) = copy.as_map_ref(&store) {
+            sum = sum.wrapping_add(map.len() as u64);
+        }
+    }
+    Ok(sum)
+}

@@ -11,7 +11,7 @@ fn main() {
     println!("cargo:rerun-if-changed={}", library.display());
     if !library.exists() {
         eprintln!("no {}", library.display());
-        eprintln!("run `rt lib` in crates/rhai_host, or set RHAI_HOST_LIB to the folder of librhai_host.a");
+        eprintln!("run `tools/static_library rhai_host`, or `rt lib` in crates/rhai_host, or set RHAI_HOST_LIB to the folder of librhai_host.a");
         std::process::exit(1);
     }
     println!("cargo:rustc-link-search=native={}", folder.display());

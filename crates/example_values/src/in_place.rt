@@ -1,6 +1,8 @@
 //! Writes in place.
-ghost use Rattle.std.specs.Prelude.{◌≡◌, true, false};
+ghost use Rattle.std.specs.Prelude.{◌≡◌, true, false, IfOk, IfSome};
+ghost use Rattle.rhai_value.specs.Parts.{int_of};
 ghost use Rattle.rhai_value.specs.Tree.{fresh, int};
+ghost use Rattle.rhai_ops.specs.Numbers as numbers;
 
 use crate::ints::int_answer;
 use rhai_target::calc_index;
@@ -30,6 +32,7 @@ pub fn put_int(place: &mut Dynamic, number: INT) -> bool
 /// Cost: constant; no memory.
 #[inline(always)]
 pub fn change_int(op: Token, place: &mut Dynamic, number: INT) -> bool
+    ensures written { result ≡ true → IfSome (int_of place.old) (λ x. IfSome (numbers.number op x number) (λ r. IfOk r (λ n. place.new ≡ fresh (int n)))) }
     ensures stays { result ≡ false → place.new ≡ place.old }
 {
     let Union::Int(0, AccessMode::ReadWrite, held) = place.parts() else {

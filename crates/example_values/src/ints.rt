@@ -52,7 +52,7 @@ pub fn int_answer(op: Token, x: INT, y: INT) -> Option<INT>
 /// Cost: constant; no memory.
 #[inline(always)]
 pub fn int_order(op: Token, x: INT, y: INT) -> Option<bool>
-    ensures { IfSome result (λ b. numbers.compared op (int_cmp x y) ≡ Some b) }
+    ensures { result ≡ numbers.compared op (int_cmp x y) }
 {
     match op {
         Token::EqualsTo => Some(x == y),

@@ -13,9 +13,11 @@ use Rattle.rhai_run.specs.declared.answer.Refusal.{Refusal}
 use Rattle.rhai_run.specs.declared.answer.Refusal.TheVariants as refusal
 use Rattle.rhai_host.specs.declared.told.Told.{Told}
 
+-- what is told: the kind of the answer, the number of the reason, and two words
 abbrev pub in_numbers : ℕ → ℕ → ℕ → ℕ → Told
 in_numbers kind reason low high = record { kind = kind; reason = reason; low = low; high = high }
 
+-- a truth as a number
 abbrev pub bit : Bool → ℕ
 bit false = 0
 bit true = 1
@@ -27,12 +29,14 @@ low_word n = cast_unsigned w128 n % 2 ^ 64
 abbrev pub high_word : ℤ → ℕ
 high_word n = cast_unsigned w128 n / 2 ^ 64
 
+-- the numbers of the faults of a calculation
 abbrev pub arithmetic_number : ArithmeticFault → ℕ
 arithmetic_number arithmetic.Overflow = 0
 arithmetic_number arithmetic.DivisionByZero = 1
 arithmetic_number arithmetic.NegativePower = 2
 arithmetic_number arithmetic.PowerTooLarge = 3
 
+-- the numbers of the sizes that have a limit
 abbrev pub size_number : SizeKind → ℕ
 size_number size.Text = 0
 size_number size.Items = 1

@@ -51,6 +51,7 @@ PerformsIf status (Some k) new told says = InWorld new (λ l. DoesOneIf status k
 abbrev pub DoesOneMade : ℕ → Kept → Kept → Told → Option Command → Type 0
 DoesOneMade status k l told o = ((status ≡ 4) × Unchanged k l) ⊎ DoesOneIf status k l told o
 
+-- a call that says such a command, by what is kept
 abbrev pub PerformsMade : ℕ → Option Kept → Option Kept → Told → (Kept → Option Command) → Type 0
 PerformsMade status None new told says = (status ≡ 2) × (new ≡ None)
 PerformsMade status (Some k) new told says = InWorld new (λ l. DoesOneMade status k l told (says k))

@@ -24,6 +24,7 @@ abbrev pub place_at : Kept → Bool → ℕ → Option Place
 place_at k false at = Some (place.Hand at)
 place_at k true at = option_map (λ name. place.Entry name) (name_at k at)
 
+-- the name of an entry
 abbrev pub place_name : Place → Option (List ℕ)
 place_name (place.Hand i) = None
 place_name (place.Entry name) = Some name

@@ -12,6 +12,7 @@ abbrev pub types : List TypeId
 types = id.Unit ∷ id.Bool ∷ id.Char ∷ id.Int ∷ id.U8 ∷ id.U16 ∷ id.U32 ∷ id.U64 ∷ id.U128 ∷ id.I8 ∷ id.I16 ∷ id.I32 ∷ id.I128 ∷ id.String
     ∷ id.ImmutableString ∷ id.Array ∷ id.Blob ∷ id.Map ∷ id.FnPtr ∷ id.ExclusiveRange ∷ id.InclusiveRange ∷ id.Dynamic ∷ id.Shared ∷ []
 
+-- the type of a number, if it has one
 abbrev pub type_of : ℕ → Option TypeId
 type_of number = slice_get types number
 
@@ -22,6 +23,7 @@ operators = op.Plus ∷ op.Minus ∷ op.Multiply ∷ op.Divide ∷ op.Modulo ∷
     ∷ op.Equals ∷ op.PlusAssign ∷ op.MinusAssign ∷ op.MultiplyAssign ∷ op.DivideAssign ∷ op.ModuloAssign ∷ op.PowerOfAssign ∷ op.RightShiftAssign
     ∷ op.LeftShiftAssign ∷ op.AndAssign ∷ op.OrAssign ∷ op.XOrAssign ∷ []
 
+-- the operator of a number, if it has one
 abbrev pub operator_of : ℕ → Option Token
 operator_of number = slice_get operators number
 

@@ -45,6 +45,7 @@ abbrev pub GivesUp : ℕ → Option Kept → Option Kept → ℕ → Type 0
 GivesUp status None new number = (status ≡ 2) × (new ≡ None)
 GivesUp status (Some k) new number = InWorld new (λ l. IsGivenUp status k l number (name_at k number))
 
+-- the names of types in an error, the wanted one and then the one that was found
 abbrev pub fault_text : EvalAltResult → Bool → List ℕ
 fault_text (error.ErrorMismatchDataType wanted found at) false = wanted.now
 fault_text (error.ErrorMismatchDataType wanted found at) true = found.now
@@ -53,6 +54,7 @@ fault_text (error.ErrorArithmetic why at) second = []
 fault_text (error.ErrorDataTooLarge what at) second = []
 fault_text (error.ErrorMemory e) second = []
 
+-- the names of types in a refusal
 abbrev pub refusal_text : Refusal → Bool → List ℕ
 refusal_text (refusal.Mismatch name) false = name.now
 refusal_text (refusal.Mismatch name) true = []
@@ -83,6 +85,7 @@ answer_bytes (answer.Int n) second = []
 answer_bytes (answer.Pair m n) second = []
 answer_bytes answer.Nothing second = []
 
+-- the same of the last answer in a handle; none where no world is open
 abbrev pub kept_bytes : Option Kept → Bool → List ℕ
 kept_bytes None second = []
 kept_bytes (Some k) second = answer_bytes k.answer second
@@ -91,6 +94,7 @@ kept_bytes (Some k) second = answer_bytes k.answer second
 abbrev pub copied_into : List ℕ → List ℕ → List ℕ
 copied_into bytes room = take (length room) bytes ++ drop (length bytes) room
 
+-- how many values the hand has; 0 where no world is open
 abbrev pub hand_len : Option Kept → ℕ
 hand_len None = 0
 hand_len (Some k) = length k.world.hand

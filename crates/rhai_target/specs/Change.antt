@@ -76,7 +76,7 @@ end_changed change s t = end (store_changed change (end s [] t) s) [] (value_cha
 -- script; want of memory may stand in the place of one that is made alone, and only where memory may be wanted.
 abbrev pub IsAnswer : Bool → Change → List ℕ → List ℕ → Position → Result (Unit {0}) EvalAltResult → Type 0
 IsAnswer may_want change wanted found place (Ok x) = is_some change ≡ true
-IsAnswer may_want change wanted found place (Err (ErrorMismatchDataType w f p)) = (change ≡ None) × (w.now ≡ wanted) × (f.now ≡ found) × (p ≡ place)
+IsAnswer may_want change wanted found place (Err (ErrorMismatchDataType w f p)) = (change ≡ None) × (w ≡ wanted) × (f ≡ found) × (p ≡ place)
 IsAnswer may_want change wanted found place (Err (ErrorMemory e)) = (may_want ≡ true) × (is_some change ≡ true)
 IsAnswer may_want change wanted found place (Err (ErrorDataRace p)) = ⊥
 IsAnswer may_want change wanted found place (Err (ErrorArithmetic fault p)) = ⊥

@@ -83,9 +83,7 @@ impl<'a> Target<'a> {
             let (mask, shift) = (*mask, *shift);
             let bits = match value.as_int(store) {
                 Ok(bits) => bits,
-                Err(found) => return Err(EvalAltResult::ErrorMismatchDataType(
-                    "integer", found, pos,
-                )),
+                Err(found) => return Err(EvalAltResult::mismatch("integer", found, pos)),
             };
             if let Target::BitField { source, .. } = self {
                 put_field(source, store, mask, shift, bits);

@@ -31,7 +31,7 @@ pub fn write_bit(
 {
     let is_set = match value.as_bool(store) {
         Ok(is_set) => is_set,
-        Err(found) => return Err(EvalAltResult::ErrorMismatchDataType("bool", found, pos)),
+        Err(found) => return Err(EvalAltResult::mismatch("bool", found, pos)),
     };
     let mut place = InStore {
         value: source,
@@ -63,7 +63,7 @@ pub fn write_field(
 {
     let bits = match value.as_int(store) {
         Ok(bits) => bits,
-        Err(found) => return Err(EvalAltResult::ErrorMismatchDataType("integer", found, pos)),
+        Err(found) => return Err(EvalAltResult::mismatch("integer", found, pos)),
     };
     put_field(source, store, mask, shift, bits);
     Ok(())
@@ -105,7 +105,7 @@ pub fn write_byte(
 {
     let number = match value.as_int(store) {
         Ok(number) => number,
-        Err(found) => return Err(EvalAltResult::ErrorMismatchDataType("INT", found, pos)),
+        Err(found) => return Err(EvalAltResult::mismatch("INT", found, pos)),
     };
     let byte = number.rem_euclid(256) as u8;
     let mut place = InStore {
@@ -139,7 +139,7 @@ pub fn write_char(
 {
     let character = match value.as_char(store) {
         Ok(character) => character,
-        Err(found) => return Err(EvalAltResult::ErrorMismatchDataType("char", found, pos)),
+        Err(found) => return Err(EvalAltResult::mismatch("char", found, pos)),
     };
     let mut place = InStore {
         value: source,

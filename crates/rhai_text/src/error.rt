@@ -1,9 +1,10 @@
 // What goes wrong when a script is evaluated.
 ghost use Rattle.std.specs.Prelude.{◌≡◌};
 ghost use Rattle.rhai_text.specs.Error.{at_place, place_of};
-ghost use Rattle.rhai_text.specs.declared.error.EvalAltResult.TheVariants.{ErrorMemory};
+ghost use Rattle.rhai_text.specs.declared.error.EvalAltResult.TheVariants.{ErrorMemory, ErrorMismatchDataType};
 
 use crate::position::Position;
+use crate::type_name::TypeName;
 use std::alloc::AllocError;
 use thiserror::Error;
 
@@ -12,8 +13,8 @@ use thiserror::Error;
 #[derive(Debug, Drop, Error)]
 pub enum EvalAltResult {
     /// A value has the wrong type: the name of the type that is wanted, and of the one that is there.
-    #[error("data type mismatch: expected {0}, found {1}")]
-    ErrorMismatchDataType(&'static str, &'static str, Position),
+    #[error("data type mismatch: expected {}, found {}", .0.as_str(), .1.as_str())]
+    ErrorMismatchDataType(TypeName, TypeName, Position),
     /// A shared value is in use.
     #[error("data race")]
     ErrorDataRace(Position),
@@ -51,6 +52,14 @@ pub enum SizeKind {
 }
 
 impl EvalAltResult {
+    /// Makes the error of a value of the wrong type from the names of the type that is wanted and of the one that is there.
+    /// Cost: constant; no memory.
+    pub fn mismatch(wanted: &'static str, found: &'static str, pos: Position) -> EvalAltResult
+        ensures { result ≡ ErrorMismatchDataType wanted.now found.now pos }
+    {
+        EvalAltResult::ErrorMismatchDataType(TypeName::new(wanted), TypeName::new(found), pos)
+    }
+
     /// Puts this place of the script into the error; want of memory has no place, and stays as it is.
     pub fn with_position(self, pos: Position) -> EvalAltResult
         ensures { result ≡ at_place pos self }

@@ -11,6 +11,7 @@ mod position;
 mod quote;
 mod text_bytes;
 mod token;
+mod type_name;
 
 pub use error::{ArithmeticFault, EvalAltResult, SizeKind};
 pub use immutable_string::ImmutableString;
@@ -18,3 +19,4 @@ pub use limits::Limits;
 pub use position::Position;
 pub use quote::{quoted_char_into, quoted_text_into};
 pub use token::Token;
+pub use type_name::TypeName;

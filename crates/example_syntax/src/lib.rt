@@ -10,8 +10,6 @@ mod names;
 mod operators;
 mod parser;
 mod symbol;
-#[cfg(test)]
-mod tests;
 mod tree;
 mod words;
 

@@ -8,7 +8,7 @@ use Rattle.rhai_packs.specs.Sizes.{no_place}
 
 -- the error names the type that is wanted, and the one that is held
 abbrev pub IsMismatch : TypeId → List ℕ → EvalAltResult → Type 0
-IsMismatch wanted held (ErrorMismatchDataType w h p) = (w.now ≡ type_name wanted) × (h.now ≡ held) × (p ≡ no_place)
+IsMismatch wanted held (ErrorMismatchDataType w h p) = (w ≡ type_name wanted) × (h ≡ held) × (p ≡ no_place)
 IsMismatch wanted held (ErrorDataTooLarge k p) = ⊥
 IsMismatch wanted held (ErrorMemory e) = ⊥
 IsMismatch wanted held (ErrorDataRace p) = ⊥

@@ -9,5 +9,5 @@ use rhai_value::Part;
 pub fn mismatch<T: Part>(found: &'static str) -> EvalAltResult
     ensures { IsMismatch T.KIND found.now result }
 {
-    EvalAltResult::ErrorMismatchDataType(T::KIND.name(), found, Position::NONE)
+    EvalAltResult::mismatch(T::KIND.name(), found, Position::NONE)
 }

@@ -3,13 +3,11 @@
 
 pub mod arrays;
 pub mod blobs;
-mod callers;
 mod held;
 pub mod ints;
 pub mod maps;
 mod places;
 mod sizes;
-mod tests;
 pub mod texts;
 
 pub use held::mismatch;

@@ -6,6 +6,8 @@ mod alloc_failures;
 #[cfg(test)]
 mod cast;
 #[cfg(test)]
+mod packs;
+#[cfg(test)]
 mod show;
 #[cfg(test)]
 mod text;

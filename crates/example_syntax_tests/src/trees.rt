@@ -1,4 +1,4 @@
-use crate::{SyntaxError, SyntaxFault, parse};
+use example_syntax::{Symbol, SyntaxError, SyntaxFault, parse};
 use std::alloc::{AllocError, Global};
 use std::process::Abort;
 use std::test::Fail;
@@ -143,7 +143,7 @@ fn faults_have_places(rt: HostRuntime) {
         &[
             ("let", SyntaxFault::ExpectedName, 1, 4),
             ("1 +\n  ;", SyntaxFault::ExpectedExpression, 2, 3),
-            ("1 2", SyntaxFault::Expected(crate::Symbol::Semicolon), 1, 3),
+            ("1 2", SyntaxFault::Expected(Symbol::Semicolon), 1, 3),
             ("é", SyntaxFault::StrangeCharacter, 1, 1),
             ("\"é\" `", SyntaxFault::ReservedSign, 1, 5),
             ("9223372036854775808", SyntaxFault::NumberTooLarge, 1, 1),
@@ -154,15 +154,10 @@ fn faults_have_places(rt: HostRuntime) {
             ("{ fn f() {} }", SyntaxFault::FunctionInside, 1, 3),
             ("loop { || break }", SyntaxFault::OutsideLoop, 1, 11),
             ("let switch = 1", SyntaxFault::ReservedWord, 1, 5),
-            (
-                "do { } 1",
-                SyntaxFault::Expected(crate::Symbol::Until),
-                1,
-                8,
-            ),
+            ("do { } 1", SyntaxFault::Expected(Symbol::Until), 1, 8),
             (
                 "do {} while a b",
-                SyntaxFault::Expected(crate::Symbol::Semicolon),
+                SyntaxFault::Expected(Symbol::Semicolon),
                 1,
                 15,
             ),

@@ -1,8 +1,9 @@
 // The shape of a tree, as a text.
 
-use crate::symbol::Symbol;
-use crate::tree::{Arm, Block, Expr, Field, Operator, Slot, Step, Term, UnaryOperator, Variable};
-use crate::{SyntaxError, parse};
+use example_syntax::{
+    Arm, Block, Expr, Field, Operator, Slot, Step, Symbol, SyntaxError, Term, UnaryOperator,
+    Variable, parse,
+};
 use rhai_text::Token;
 use std::alloc::{AllocError, Global};
 

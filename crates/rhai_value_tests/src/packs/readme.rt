@@ -6,8 +6,7 @@ ghost use Rattle.rhai_value.specs.Parts.{array_of};
 ghost use Rattle.rhai_value.specs.Rows.{trees_of};
 ghost use Rattle.rhai_value.specs.Tree.{Tree};
 
-use crate::arrays;
-use crate::held::mismatch;
+use rhai_packs::{arrays, mismatch};
 use rhai_text::{EvalAltResult, Limits};
 use rhai_value::{Array, Dynamic, InStore, Store};
 

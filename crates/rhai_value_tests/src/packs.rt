@@ -1,12 +1,24 @@
 //! That calls succeed while memory is there, and what they make of worked values.
-use crate::callers::push_held;
-use crate::{arrays, blobs, ints, maps, texts};
+mod readme;
+
+use readme::push_held;
+use rhai_packs::{arrays, blobs, ints, maps, texts};
 use rhai_show::display_text;
 use rhai_text::{EvalAltResult, ImmutableString, Limits};
 use rhai_value::{Array, Dynamic, INT, Map, Store};
 use std::alloc::{AllocError, Global};
 
 const LIMITS: Limits = Limits { text: 8, items: 4 };
+
+/// Whether a call is refused for the type of a value, by these names of the type that is wanted and of the one that is there.
+fn is_mismatch(done: Result<(), EvalAltResult>, wanted: &str, found: &str) -> bool {
+    match done {
+        Err(EvalAltResult::ErrorMismatchDataType(w, f, _)) => {
+            w.as_str() == wanted && f.as_str() == found
+        }
+        _ => false,
+    }
+}
 
 /// An array of these ints.
 fn array_of(alloc: Global, numbers: &[INT]) -> Result<Array, AllocError> {
@@ -98,10 +110,7 @@ fn arrays_are_sorted(alloc: Global) -> Result<bool, EvalAltResult> {
     arrays::sort(&mut ints, &store)?;
     let mut mixed = array_of(alloc, &[1, 2])?;
     let set = arrays::set(&mut mixed, 1, Dynamic::TRUE);
-    let named = matches!(
-        arrays::sort(&mut mixed, &store),
-        Err(EvalAltResult::ErrorMismatchDataType("i64", "bool", _))
-    );
+    let named = is_mismatch(arrays::sort(&mut mixed, &store), "i64", "bool");
     Ok(set && named && prints(alloc, ints, "[-1, 2, 3]")?)
 }
 
@@ -123,9 +132,10 @@ fn an_array_is_pushed_to(alloc: Global) -> Result<bool, EvalAltResult> {
     let mut array = Dynamic::from_array(array_of(alloc, &[1])?);
     let mut number = Dynamic::ONE;
     push_held(&mut array, &mut store, &LIMITS, Dynamic::ONE)?;
-    let refused = matches!(
+    let refused = is_mismatch(
         push_held(&mut number, &mut store, &LIMITS, Dynamic::ONE),
-        Err(EvalAltResult::ErrorMismatchDataType("array", "i64", _))
+        "array",
+        "i64",
     );
     Ok(refused && display_text(alloc, &array, &store)?.as_str() == "[1, 1]")
 }

@@ -39,10 +39,8 @@ pub fn assign(
     match get_builtin_op_assignment_fn(&op.whole, place, value) {
         Some(row) => {
             rows_suit();
-            match row.call(means.alloc, store, &means.limits, place, value) {
-                Ok(_) => Ok(()),
-                Err(error) => Err(FaultKind::Layer(error)),
-            }
+            row.call(means.alloc, store, &means.limits, place, value)?;
+            Ok(())
         }
         None => assign_answer(op, means, store, place, value),
     }

@@ -163,7 +163,7 @@ fn symbol_of(op: Token) -> &'static str {
 
 /// Makes the fault of a value whose type isn't the wanted one.
 pub fn mismatch(wanted: &'static str, found: &'static str) -> FaultKind {
-    FaultKind::Layer(EvalAltResult::ErrorMismatchDataType(wanted, found, Position::NONE))
+    FaultKind::Layer(EvalAltResult::mismatch(wanted, found, Position::NONE))
 }
 
 /// The fault of a value that is in use.

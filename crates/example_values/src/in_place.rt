@@ -1,10 +1,10 @@
 //! Writes in place.
-ghost use Rattle.std.specs.Prelude.{◌≡◌, true, false, IfOk, IfSome};
+ghost use Rattle.std.specs.Prelude.{◌≡◌, ◌&&◌, true, false, not, IfOk, IfSome, Some, Ok, ℤ, is_some};
 ghost use Rattle.rhai_value.specs.Parts.{int_of};
-ghost use Rattle.rhai_value.specs.Tree.{fresh, int};
+ghost use Rattle.rhai_value.specs.Tree.{cell_of, fresh, int, is_constant, mode_of};
 ghost use Rattle.rhai_ops.specs.Numbers as numbers;
 
-use crate::ints::int_answer;
+use rhai_ops::int_answer;
 use rhai_target::calc_index;
 use rhai_text::Token;
 use rhai_value::{AccessMode, Dynamic, INT, Union};
@@ -13,6 +13,7 @@ use rhai_value::{AccessMode, Dynamic, INT, Union};
 /// Cost: constant, and the drop of what was there; no memory.
 #[inline(always)]
 pub fn put_int(place: &mut Dynamic, number: INT) -> bool
+    ensures done { result ≡ not (is_some (cell_of place.old)) && not (is_constant (mode_of place.old)) }
     ensures written { result ≡ true → place.new ≡ fresh (int number) }
     ensures stays { result ≡ false → place.new ≡ place.old }
 {
@@ -28,10 +29,11 @@ pub fn put_int(place: &mut Dynamic, number: INT) -> bool
 }
 
 /// Writes what an operator makes of an int that is no constant and another one over the first, and answers whether it did: it does
-/// where `int_answer` has an answer.
+/// where there is an answer.
 /// Cost: constant; no memory.
 #[inline(always)]
 pub fn change_int(op: Token, place: &mut Dynamic, number: INT) -> bool
+    ensures done { (x n : ℤ) → place.old ≡ fresh (int x) → numbers.number op x number ≡ Some (Ok n) → result ≡ true }
     ensures written { result ≡ true → IfSome (int_of place.old) (λ x. IfSome (numbers.number op x number) (λ r. IfOk r (λ n. place.new ≡ fresh (int n)))) }
     ensures stays { result ≡ false → place.new ≡ place.old }
 {
@@ -39,8 +41,8 @@ pub fn change_int(op: Token, place: &mut Dynamic, number: INT) -> bool
         return false;
     };
     match int_answer(op, *held, number) {
-        Some(answer) => put_int(place, answer),
-        None => false,
+        Some(Ok(answer)) => put_int(place, answer),
+        Some(Err(_)) | None => false,
     }
 }
 

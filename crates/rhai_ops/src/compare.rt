@@ -5,8 +5,9 @@ ghost use Rattle.rhai_ops.specs.Numbers as specs;
 use rhai_text::Token;
 use std::cmp::Ordering;
 
-/// Whether the comparison holds of contents in this order; nothing of another operator.
-pub(crate) fn compared(op: Token, order: Ordering) -> Option<bool>
+/// Tells whether a comparison holds of two contents that stand in this order; nothing of another operator.
+/// Cost: constant; no memory.
+pub fn compared(op: Token, order: Ordering) -> Option<bool>
     ensures { result ≡ specs.compared op order }
 {
     match op {

@@ -41,7 +41,7 @@ pub(crate) fn answer_numbers(op: Token, i: INT, j: INT) -> Result<Dynamic, EvalA
     requires { IsTrue (is_number op) }
     ensures { IsOutcome ⊥ result (number_answer (specs.number op i j)) }
 {
-    match number(op, i, j).unwrap() {
+    match int_answer(op, i, j).unwrap() {
         Ok(n) => Ok(Dynamic::from_int(n)),
         Err(fault) => Err(EvalAltResult::ErrorArithmetic(fault, Position::NONE)),
     }
@@ -116,7 +116,7 @@ fn write_number(op: Token, held: &mut INT, y: INT) -> Result<Dynamic, EvalAltRes
     ensures ok { OnOk result (number_answer (specs.number op held.old y) ≡ answers (fresh (int held.new))) }
     ensures err { OnErr result (held.new ≡ held.old) }
 {
-    match number(op, *held, y).unwrap() {
+    match int_answer(op, *held, y).unwrap() {
         Ok(n) => {
             *held = n;
             Ok(Dynamic::UNIT)
@@ -125,9 +125,12 @@ fn write_number(op: Token, held: &mut INT, y: INT) -> Result<Dynamic, EvalAltRes
     }
 }
 
-/// The number that the operator answers, or why there is none; nothing of an operator that makes none.
+/// Answers what an operator makes of two ints; nothing of an operator that makes no int of them.
+/// Errors: why there is no int.
+/// Cost: constant; no memory.
+/// rhai: what the function of `get_builtin_binary_op_fn` answers on two ints.
 #[inline(always)]
-fn number(op: Token, x: INT, y: INT) -> Option<Result<INT, ArithmeticFault>>
+pub fn int_answer(op: Token, x: INT, y: INT) -> Option<Result<INT, ArithmeticFault>>
     ensures { result ≡ specs.number op x y }
 {
     match op {

@@ -23,5 +23,7 @@ mod write;
 
 pub use assign_lookup::get_builtin_op_assignment_fn;
 pub use builtin::FnBuiltin;
+pub use compare::compared;
+pub use ints::int_answer;
 pub use lookup::get_builtin_binary_op_fn;
 pub use order::compare_values;

@@ -87,6 +87,7 @@ impl<'a> IntoIterator for &'a Scope {
 }
 
 /// A value's flat copy. Most values are no holders, and these are copied without a look at the store.
+#[inline(always)]
 #[tactic(auto, using(crate::proofs::FlatItems::flat_own))]
 fn flat_copy(alloc: Global, store: &Store, value: &Dynamic) -> Result<Dynamic, AllocError>
     ensures value { IfOk result (λ d. d ≡ flat store.now value.now) }
@@ -99,6 +100,7 @@ fn flat_copy(alloc: Global, store: &Store, value: &Dynamic) -> Result<Dynamic, A
     }
 }
 
+#[inline(always)]
 fn flat_item<'a>(
     alloc: Global,
     store: &Store,
@@ -130,6 +132,7 @@ impl<'a> Iterator for Iter<'a> {
 
     ghost remaining = { item_count flat_left };
 
+    #[inline(always)]
     fn next(&mut self) -> Option<Result<(&'a str, bool, Dynamic), AllocError>> {
         match self.rest.next() {
             Some((name, value, _)) => Some(flat_item(self.alloc, self.store, name, value)),

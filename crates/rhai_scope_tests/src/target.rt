@@ -83,7 +83,7 @@ fn is_bytes(value: &Dynamic, wanted: &[u8]) -> bool {
 fn is_refused(done: Result<(), EvalAltResult>, wanted: &str, found: &str) -> bool {
     match done {
         Err(EvalAltResult::ErrorMismatchDataType(w, f, pos)) => {
-            w == wanted && f == found && pos == Position::new(3, 4)
+            w.as_str() == wanted && f.as_str() == found && pos == Position::new(3, 4)
         }
         _ => false,
     }

@@ -66,7 +66,7 @@ fn a_refusal_is_put_at_a_place(rt: HostRuntime) {
         place,
     );
     assert!(rt;
-        match refused {
+        match &refused {
             Err(refused) => refused.position() == place
                 && matches!(
                     refused,

@@ -118,7 +118,7 @@ fn replace_middle(
     let part = match ReadPart::slice_at(alloc, text, store, MIDDLE) {
         Ok(part) => part,
         Err(NoPart::Mismatch(found)) => {
-            return Err(EvalAltResult::ErrorMismatchDataType("string", found, Position::new(3, 4)));
+            return Err(EvalAltResult::mismatch("string", found, Position::new(3, 4)));
         }
         Err(NoPart::Memory(refused)) => return Err(EvalAltResult::ErrorMemory(refused)),
         Err(NoPart::OutOfRange) => unreachable!(),
@@ -145,10 +145,8 @@ fn a_slice_is_read_and_replaced(rt: HostRuntime) {
         }
     );
     assert!(rt; is_text(&text, "h42lo"));
-    let refused = match replace_middle(alloc, &mut { Dynamic::ONE }, &mut store, Dynamic::ONE) {
-        Ok(_) => Ok(()),
-        Err(e) => Err(e),
-    };
+    let refused = replace_middle(alloc, &mut { Dynamic::ONE }, &mut store, Dynamic::ONE);
+    let refused = refused.map(|_| ());
     assert!(rt; is_refused(refused, "string", "i64"));
 }
 

@@ -1,12 +1,12 @@
 //! Commands over one world.
 
-use rhai_run::{Answer, Command, Literal, Question, World, apply, run};
-use rhai_text::{ImmutableString, Limits};
+use rhai_run::{Answer, Command, Literal, Place, Question, World, apply, run};
+use rhai_text::{ImmutableString, Limits, Token};
 use std::alloc::{AllocError, Global};
 
 /// A list of commands, which leaves the hand as it was.
 fn commands(alloc: Global, kind: u32) -> Result<Vec<Command>, AllocError> {
-    let mut commands = Vec::with_capacity(alloc, 1536)?;
+    let mut commands = Vec::with_capacity(alloc, 1792)?;
     for i in 0..256 {
         match kind {
             0 => {
@@ -30,10 +30,19 @@ fn commands(alloc: Global, kind: u32) -> Result<Vec<Command>, AllocError> {
                 commands.push(Command::Drop)?;
                 commands.push(Command::Drop)?;
             }
-            _ => {
+            3 => {
                 commands.push(Command::Show(0))?;
                 commands.push(Command::Put(Literal::Int(i)))?;
                 commands.push(Command::Show(2))?;
+                commands.push(Command::Drop)?;
+            }
+            _ => {
+                commands.push(Command::Put(Literal::Int(i)))?;
+                commands.push(Command::Put(Literal::Int(3)))?;
+                commands.push(Command::Binary(Token::Plus, 2, 3))?;
+                commands.push(Command::Assign(Token::PlusAssign, Place::Hand(4), 3))?;
+                commands.push(Command::Drop)?;
+                commands.push(Command::Drop)?;
                 commands.push(Command::Drop)?;
             }
         }
@@ -46,8 +55,8 @@ fn told(answer: &Answer) -> u64 {
         Answer::Done => 1,
         Answer::Bool(truth) => u64::from(*truth),
         Answer::Int(_) => 2,
-        Answer::Text(text) => text.len() as u64,
-        Answer::Bytes(bytes) => bytes.len() as u64,
+        Answer::Text(text) => text.as_str().len() as u64,
+        Answer::Bytes(bytes) => bytes.as_slice().len() as u64,
         Answer::Pair(first, second) => (*first as u64).wrapping_add(*second as u64),
         Answer::Nothing => 3,
         Answer::Refused(_) => 1000,

@@ -95,7 +95,7 @@ impl Answers {
     pub fn say_fault(&mut self, error: &EvalAltResult) -> Result<(), AllocError> {
         match error {
             EvalAltResult::ErrorMismatchDataType(wanted, found, pos) => {
-                self.say_mismatch(wanted, found, *pos)
+                self.say_mismatch(wanted.as_str(), found.as_str(), *pos)
             }
             EvalAltResult::ErrorDataRace(_) => self.say("fault", "ErrorDataRace"),
             EvalAltResult::ErrorArithmetic(ArithmeticFault::Overflow, _) => {

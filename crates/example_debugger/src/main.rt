@@ -16,7 +16,7 @@ fn show_value(rt: &(impl Print + AllocGlobal), world: &mut World, at: usize) -> 
     );
     let state = if is_locked { " (closed by a mark)" } else { "" };
     if let Answer::Text(text) = text {
-        println!(rt; "  hand {at}: {text}{state}")?;
+        println!(rt; "  hand {at}: {}{state}", text.as_str())?;
     }
     Ok(())
 }
@@ -24,7 +24,7 @@ fn show_value(rt: &(impl Print + AllocGlobal), world: &mut World, at: usize) -> 
 /// Prints the entries of the scope.
 fn show_scope(rt: &(impl Print + AllocGlobal), world: &mut World) -> Result<()> {
     if let Answer::Text(text) = apply(world, &Command::ShowScope)? {
-        for line in text.lines() {
+        for line in text.as_str().lines() {
             println!(rt; "  scope: {line}")?;
         }
     }

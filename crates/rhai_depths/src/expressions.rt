@@ -99,7 +99,7 @@ fn evaluated(alloc: Global, world: &mut World, expr: &Expr) -> Result<String, Al
     let values = world.hand().len();
     let entries = world.scope().len();
     if let Answer::Text(text) = apply(world, &Command::Debug(0))? {
-        format!(in alloc; "{text} in {values}, {entries}")
+        format!(in alloc; "{} in {values}, {entries}", text.as_str())
     } else {
         format!(in alloc; "no text")
     }

@@ -1,31 +1,31 @@
 -- The call of an assignment's row.
-use Rattle.std.proofs.Common.{◌<◌, length, length-set, IsSomeAnd, ◌≡◌, ℕ, zero, suc, false, List, [], ◌∷◌, slice_get, slice_set, Some, Result, Ok, Err, IfSome, OnOk, OnErr, refl, sym, ap, ◌∙◌, subst, arith}
+use Rattle.std.proofs.Common.{◌<◌, length, length-set, IsSomeAnd, IsTrue, ◌≡◌, ℕ, zero, suc, false, List, [], ◌∷◌, slice_get, slice_set, Some, Result, Ok, Err, IfSome, OnOk, OnErr, refl, sym, ap, ◌∙◌, subst, arith}
 use Rattle.std.proofs.lemmas.Bool.Decides.{nat_tests}
 use Rattle.std.proofs.lemmas.List.{set-set}
 use Rattle.std.proofs.lemmas.Option.{same_Some, slice_get_within}
 use Rattle.rhai_text.specs.declared.error.EvalAltResult.{EvalAltResult}
 use Rattle.rhai_text.specs.declared.token.Token.{Token}
-use Rattle.rhai_value.specs.End.{first}
-use Rattle.rhai_value.specs.Tree.{Tree}
+use Rattle.rhai_value.specs.End.{end, first, store_after, value_after}
+use Rattle.rhai_value.specs.Tree.{Tree, fresh, unit}
 use Rattle.rhai_value.proofs.ForCallers.{get_set_other}
 use Rattle.rhai_scope.specs.Entry.{Entry}
 use Rattle.rhai_ops.specs.AssignTable.{assign_row}
 use Rattle.rhai_ops.specs.Outcome as call
 use Rattle.rhai_ops.specs.Outcome.{IsOutcome}
 use Rattle.rhai_ops.specs.Results.{MayWant, Suits, outcome}
-use Rattle.rhai_ops.specs.Effects.{Effect, operator, assignment, effect, answered, first_left, second_left, store_left}
+use Rattle.rhai_ops.specs.Effects.{Effect, operator, assignment, stays, taken, effect, answered, first_left, rewritten, second_left, store_left, writes}
 use Rattle.rhai_ops.specs.declared.builtin.FnBuiltin.{FnBuiltin}
 use Rattle.rhai_run.specs.declared.command.Place.{Place}
 use Rattle.rhai_run.specs.declared.slot.Slot.{Slot}
 use Rattle.rhai_run.specs.declared.slot.Slot.TheVariants as slot
 use Rattle.rhai_run.specs.State.{State, with_hand}
-use Rattle.rhai_run.specs.Reply.{done}
+use Rattle.rhai_run.specs.declared.answer.Answer.TheVariants.{Done}
 use Rattle.rhai_run.specs.Outcome.{growing}
 use Rattle.rhai_run.specs.Does.{Calls, IsError, not_done_of}
-use Rattle.rhai_run.specs.Operators.{called}
-use Rattle.rhai_run.specs.Places.{source, is_at}
-use Rattle.rhai_run.specs.Slots.{assigned_in, both_assigned, called_in, is_in, slot_of, value_in, HasOperands}
-use Rattle.rhai_run.proofs.InSlots.{same_put}
+use Rattle.rhai_run.specs.Operators.{assigned, called}
+use Rattle.rhai_run.specs.Places.{is_at}
+use Rattle.rhai_run.specs.Slots.{assigned_in, both_assigned, called_in, is_in, slot_of, source, value_in, HasOperands}
+use Rattle.rhai_run.proofs.InSlots.{placed_is, same_put}
 use Rattle.rhai_run.proofs.Called.{refusal_of}
 use Rattle.rhai_run.proofs.Moves.{set_own}
 use Rattle.rhai_run.specs.declared.command.Command.TheVariants as command
@@ -51,21 +51,29 @@ put_back w (slot.Hand i) j how t d y o e = ap (λ ts. record w { store = store_l
 put_back w (slot.Entry k) j how t d y o e = ap (λ ts. (record (assigned_in w (slot.Entry k) how t o) { hand = ts })) (set-set w.hand j d y)
 
 -- what a call that is done comes to
-answered_value : (w : State) (how : Effect) (after : State) (d : Tree) (o : call.Outcome) → answered how o ≡ call.answers d → called w (λ _. after) o ≡ growing done after
+answered_value : (w : State) (how : Effect) (after : State) (d : Tree) (o : call.Outcome) → answered how o ≡ call.answers d → called w (λ _. after) o ≡ growing Done after
 answered_value w operator after d o e = ap (called w (λ _. after)) e
 answered_value w (assignment q) after d (call.answers t) e = refl
 answered_value w (assignment q) after d (call.fault f) e = cc
 answered_value w (assignment q) after d (call.too_large k2) e = cc
 answered_value w (assignment q) after d call.unsuited e = cc
 
+-- a row that writes does the same in the slot of a place
+same_assigned : (w : State) (p : Place) (q : Slot) (j : ℕ) (how : Effect) (t u : Tree) (o : call.Outcome) → slot_of w.entries p ≡ Some q → IsTrue (writes how) → assigned w p j how t u o ≡ both_assigned w q j how t u o
+same_assigned w p q j operator t u o is h = cc
+same_assigned w p q j (assignment stays) t u (call.answers d) is h =
+    ap (growing Done) (same_put (with_hand w (slice_set w.hand j u)) (store_after (rewritten d) (end w.store [] t) w.store) p q (value_after (rewritten d) (end w.store [] t) t) is)
+same_assigned w p q j (assignment taken) t u (call.answers d) is h =
+    ap (growing Done) (same_put (with_hand w (slice_set w.hand j (fresh unit))) (store_after (rewritten d) (end w.store [] t) w.store) p q (value_after (rewritten d) (end w.store [] t) t) is)
+same_assigned w p q j (assignment s) t u (call.fault f) is h = refl
+same_assigned w p q j (assignment s) t u (call.too_large k) is h = refl
+same_assigned w p q j (assignment s) t u call.unsuited is h = refl
+
 -- the step of a row that was looked up
 pub assign_is : (w : State) (op : Token) (p : Place) (q : Slot) (j : ℕ) (t u x : Tree) (row : FnBuiltin) → slice_get w.hand j ≡ Some u → is_at p j ≡ false → slot_of w.entries p ≡ Some q
-    → source w.hand w.entries p ≡ Ok t → value_in w.hand w.entries q ≡ Some t → first w.store t ≡ Some x → assign_row op x u ≡ Some row → step w (command.Assign op p j) ≡ called_in w q j row
-assign_is w op p q j t u x row b c is d v e f =
-    let how = effect row in
-    let o = outcome row w.limits w.store t u in
-    let z = with_hand w (slice_set w.hand j (second_left how o u)) in
-    rw (b, c, d, v, e, f) (ap (λ y. called w (λ _. y) o) (same_put z (store_left how o w.store t) p q (first_left how o w.store t) is))
+    → source w.hand w.entries p ≡ Ok t → value_in w.hand w.entries q ≡ Some t → first w.store t ≡ Some x → assign_row op x u ≡ Some row → IsTrue (writes (effect row)) → step w (command.Assign op p j) ≡ called_in w q j row
+assign_is w op p q j t u x row b c is d v e f h =
+    rw (b, v) (placed_is w p t _ d ∙ rw (c, e, f) (same_assigned w p q j (effect row) t u (outcome row w.limits w.store t u) is h))
 
 -- the call, the second operand being moved out of the hand meanwhile
 pub assign_called : (w v : State) (p : Slot) (j : ℕ) (row : FnBuiltin) (t u d y : Tree) (ts : List Tree) (r : Result Tree EvalAltResult)
@@ -98,7 +106,7 @@ assign_called w v p j row t u d y ts r apart at other moved result written secon
         sym (of_found (λ x. assigned_in (with_hand w ts) p (effect row) x (outcome row w.limits w.store x u) ≡ v) k) ∙ ap (λ us. assigned_in (with_hand w us) p (effect row) t o) moved in
         let what : y ≡ second_left (effect row) o u = of_found (λ x. y ≡ second_left (effect row) (outcome row w.limits w.store x u) u) l in
         is ∙ answered_value w (effect row) _ a o (of_found (λ x. IsOutcome (MayWant row x u) (Ok a) (answered (effect row) (outcome row w.limits w.store x u))) h)
-        ∙ ap (growing done) (sym (ap (λ z. with_hand z (slice_set z.hand j y)) left ∙ put_back w p j (effect row) t d y o apart ∙ ap (λ z. assigned_in (with_hand w (slice_set w.hand j z)) p (effect row) t o) what))
+        ∙ ap (growing Done) (sym (ap (λ z. with_hand z (slice_set z.hand j y)) left ∙ put_back w p j (effect row) t d y o apart ∙ ap (λ z. assigned_in (with_hand w (slice_set w.hand j z)) p (effect row) t o) what))
     by (Err e) h k l m =
         let back : with_hand v (slice_set v.hand j y) ≡ w =
         ap (λ z. with_hand z (slice_set z.hand j y)) m.0 ∙ ap (λ us. with_hand w (slice_set us j y)) moved ∙ ap (with_hand w) (set-set w.hand j d y ∙ ap (slice_set w.hand j) m.1 ∙ set_own w.hand j u other) in

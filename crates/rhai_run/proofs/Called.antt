@@ -17,7 +17,7 @@ use Rattle.rhai_ops.specs.Effects.{Effect, operator, assignment, effect, answere
 use Rattle.rhai_ops.specs.declared.builtin.FnBuiltin.{FnBuiltin}
 use Rattle.rhai_run.specs.declared.not_done.NotDone.{NotDone}
 use Rattle.rhai_run.specs.State.{State, appended}
-use Rattle.rhai_run.specs.Reply.{done}
+use Rattle.rhai_run.specs.declared.answer.Answer.TheVariants.{Done}
 use Rattle.rhai_run.specs.Outcome.{growing}
 use Rattle.rhai_run.specs.Does.{Gives, IsError, not_done_of}
 use Rattle.rhai_run.specs.Operators.{value_at, called}
@@ -59,7 +59,7 @@ pub binary_is : (w : State) (op : Token) (i j : ℕ) (x y : Tree) (row : FnBuilt
     → step w (command.Binary op i j) ≡ called w (appended w) (outcome row w.limits w.store x y)
 binary_is w op i j x y row ex ey e f = rw (ex, ey, e, f) refl
 
-pub gives_value : (MayWant : Type 0) (w : State) (d : Tree) (o : call.Outcome) → IsOutcome MayWant (Ok d) o → called w (appended w) o ≡ growing done (appended w d)
+pub gives_value : (MayWant : Type 0) (w : State) (d : Tree) (o : call.Outcome) → IsOutcome MayWant (Ok d) o → called w (appended w) o ≡ growing Done (appended w d)
 gives_value M w d o h = ap (called w (appended w)) h
 
 -- what a call that is not done comes to
@@ -97,7 +97,7 @@ module _ (w v : State) (op : Token) (i j : ℕ) (x y : Tree) (row : FnBuiltin) (
       let b : value_at v.hand j ≡ y = ap (λ (z : State). value_at z.hand j) view ∙ sym (first_of w.hand j y ey) in
       subst (λ z. of_operands result z x y) view (rw (a, b) at h)
 
-  pub called_value : (d : Tree) → of_operands (Ok d) v (value_at v.hand i) (value_at v.hand j) → step w (command.Binary op i j) ≡ growing done (appended w d)
+  pub called_value : (d : Tree) → of_operands (Ok d) v (value_at v.hand i) (value_at v.hand j) → step w (command.Binary op i j) ≡ growing Done (appended w d)
   called_value d h = binary_is w op i j x y row ex ey differ found ∙ gives_value (MayWant row x y) w d (outcome row w.limits w.store x y) (seen (Ok d) h)
 
   pub called_refusal : (e : EvalAltResult) (why : NotDone) (r : Result Tree NotDone) → of_operands (Err e) v (value_at v.hand i) (value_at v.hand j) → r ≡ Err why → why ≡ not_done_of e → Gives r w (step w (command.Binary op i j))

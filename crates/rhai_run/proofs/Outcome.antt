@@ -3,15 +3,20 @@ use Rattle.std.proofs.Common.{◌≡◌, ℕ, ◌+◌, ◌-◌, Bool, true, fals
 use Rattle.std.proofs.lemmas.Option.{same_Some}
 use Rattle.std.specs.List.{AllZip}
 use Rattle.rhai_value.specs.declared.store.Cell.{Cell}
+use Rattle.rhai_value.specs.End.{End, end_type, held_part}
 use Rattle.rhai_value.specs.Tree.{Tree, unit, fresh}
+use Rattle.rhai_value.specs.Types.{type_name}
 use Rattle.rhai_value.specs.Store.{is_marked_at}
 use Rattle.rhai_value.specs.Relation.{Renaming, Related, RelatedCells, Alike}
 use Rattle.rhai_value.proofs.ForCallers.{zip_get, zip_append, zip_set, zip_take, zip_drop, zip_length}
 use Rattle.rhai_scope.specs.Entry.{Entry}
 use Rattle.rhai_run.specs.Fits.{MarksAre}
 use Rattle.rhai_run.specs.State.{State, with_hand, with_entries, with_scope, with_cells, appended, moved_from, last_values, values_before}
-use Rattle.rhai_run.specs.Reply.{Reply, done, refused, Reason, no_value, same_value}
-use Rattle.rhai_run.specs.Outcome.{Outcome, growing_if, unless, given, with_value, with_two, replaced, gathered, taken_off}
+use Rattle.rhai_run.specs.declared.answer.Answer.{Answer}
+use Rattle.rhai_run.specs.declared.answer.Refusal.{Refusal}
+use Rattle.rhai_run.specs.declared.answer.Answer.TheVariants.{Done, Refused}
+use Rattle.rhai_run.specs.declared.answer.Refusal.TheVariants.{Mismatch, NoValue, SameValue}
+use Rattle.rhai_run.specs.Outcome.{Outcome, growing_if, unless, given, of_held, with_value, with_two, replaced, gathered, taken_off}
 use Rattle.rhai_scope.specs.Relation.{RelatedEntry}
 use Rattle.rhai_run.specs.Correspondence.{RelatedStates, grown}
 
@@ -45,11 +50,11 @@ alike_same (Some a) None e = cc
 
 module _ (r : Renaming) (w v : State) (h : RelatedStates r w v) where
   -- no cell is made
-  pub no_cell : {c d : Bool} (x y : State) (a b : Reply) → a ≡ b → length x.store ≡ length w.store → length y.store ≡ length v.store → RelatedStates r x y → Keeps w x → Matches r w v (growing_if c a x) (growing_if d b y)
+  pub no_cell : {c d : Bool} (x y : State) (a b : Answer) → a ≡ b → length x.store ≡ length w.store → length y.store ≡ length v.store → RelatedStates r x y → Keeps w x → Matches r w v (growing_if c a x) (growing_if d b y)
   no_cell x y a b e f g s k = record { reply = e; made = 0; first = omega arith; second = omega arith; after = subst (λ q. RelatedStates q x y) (sym (append-nil r)) s; keeps = k }
 
   -- nothing changes
-  pub m_stays : {c d : Bool} (a b : Reply) → a ≡ b → Matches r w v (growing_if c a w) (growing_if d b v)
+  pub m_stays : {c d : Bool} (a b : Answer) → a ≡ b → Matches r w v (growing_if c a w) (growing_if d b v)
   m_stays a b e = no_cell w v a b e refl refl h (λ k. k)
 
   -- two ways, by a test that has the same answer in both states
@@ -59,40 +64,47 @@ module _ (r : Renaming) (w v : State) (h : RelatedStates r w v) where
   m_either true false e m n = cc
   m_either false true e m n = cc
 
-  pub m_unless : (why : Reason) (b d : Bool) (o p : Outcome) → b ≡ d → Matches r w v o p → Matches r w v (unless b why w o) (unless d why v p)
-  m_unless why b d o p e k = m_either b d e (m_stays (refused why) (refused why) refl) k
+  pub m_unless : (why : Refusal) (b d : Bool) (o p : Outcome) → b ≡ d → Matches r w v o p → Matches r w v (unless b why w o) (unless d why v p)
+  m_unless why b d o p e k = m_either b d e (m_stays (Refused why) (Refused why) refl) k
 
   -- something that is there in both states
-  pub m_there : {X : Type 0} (R : X → X → Type 0) (why : Reason) (o p : Option X) (f g : X → Outcome) → Alike R o p → ((t u : X) → o ≡ Some t → R t u → Matches r w v (f t) (g u)) → Matches r w v (given o why w f) (given p why v g)
-  m_there R why None None f g a k = m_stays (refused why) (refused why) refl
+  pub m_there : {X : Type 0} (R : X → X → Type 0) (why : Refusal) (o p : Option X) (f g : X → Outcome) → Alike R o p → ((t u : X) → o ≡ Some t → R t u → Matches r w v (f t) (g u)) → Matches r w v (given o why w f) (given p why v g)
+  m_there R why None None f g a k = m_stays (Refused why) (Refused why) refl
   m_there R why (Some t) (Some u) f g a k = k t u refl a
   m_there R why None (Some u) f g a k = absurd a
   m_there R why (Some t) None f g a k = absurd a
 
-  pub m_given : {X : Type 0} (R : X → X → Type 0) (why : Reason) (o p : Option X) (f g : X → Outcome) → Alike R o p → ((t u : X) → R t u → Matches r w v (f t) (g u)) → Matches r w v (given o why w f) (given p why v g)
+  pub m_given : {X : Type 0} (R : X → X → Type 0) (why : Refusal) (o p : Option X) (f g : X → Outcome) → Alike R o p → ((t u : X) → R t u → Matches r w v (f t) (g u)) → Matches r w v (given o why w f) (given p why v g)
   m_given R why o p f g a k = m_there R why o p f g a (λ t u _ e. k t u e)
 
+  -- a part of what is held at two ends that hold the same of it
+  pub m_of_held : {A : Type 0} (part : Tree → Option A) (e f : End) (go other : A → Outcome) → held_part part e ≡ held_part part f → end_type e ≡ end_type f
+      → ((a : A) → Matches r w v (go a) (other a)) → Matches r w v (of_held w part e go) (of_held v part f other)
+  m_of_held part e f go other k kind m =
+      subst (λ n. Matches r w v (of_held w part e go) (given (held_part part f) (Mismatch (type_name n)) v other)) kind
+      (m_given (λ a b. a ≡ b) _ _ _ _ _ (alike_same _ _ k) (λ a b same. subst (λ x. Matches r w v (go a) (other x)) same (m a)))
+
   pub m_value : (i : ℕ) (f g : Tree → Outcome) → ((t u : Tree) → Related r t u → Matches r w v (f t) (g u)) → Matches r w v (with_value w i f) (with_value v i g)
-  m_value i f g k = m_given (Related r) no_value (slice_get w.hand i) (slice_get v.hand i) f g (zip_get (Related r) w.hand v.hand i h.hand) k
+  m_value i f g k = m_given (Related r) NoValue (slice_get w.hand i) (slice_get v.hand i) f g (zip_get (Related r) w.hand v.hand i h.hand) k
 
   pub m_two : (i j : ℕ) (f g : Tree → Tree → Outcome) → ((t u x y : Tree) → Related r t u → Related r x y → Matches r w v (f t x) (g u y)) → Matches r w v (with_two w i j f) (with_two v i j g)
-  m_two i j f g k = m_value i _ _ (λ t u e. m_value j _ _ (λ x y d. m_unless same_value (nat_eq i j) (nat_eq i j) _ _ refl (k t u x y e d)))
+  m_two i j f g k = m_value i _ _ (λ t u e. m_value j _ _ (λ x y d. m_unless SameValue (nat_eq i j) (nat_eq i j) _ _ refl (k t u x y e d)))
 
   -- another hand, other entries
-  pub m_hand : {c d : Bool} (ts us : List Tree) → AllZip (Related r) ts us → Matches r w v (growing_if c done (with_hand w ts)) (growing_if d done (with_hand v us))
-  m_hand ts us e = no_cell _ _ done done refl refl refl (record { one = h.one; cells = h.cells; entries = h.entries; marks = h.marks; hand = e; limits = h.limits }) (λ k. k)
+  pub m_hand : {c d : Bool} (ts us : List Tree) → AllZip (Related r) ts us → Matches r w v (growing_if c Done (with_hand w ts)) (growing_if d Done (with_hand v us))
+  m_hand ts us e = no_cell _ _ Done Done refl refl refl (record { one = h.one; cells = h.cells; entries = h.entries; marks = h.marks; hand = e; limits = h.limits }) (λ k. k)
 
-  pub m_entries : {c d : Bool} (es fs : List Entry) → AllZip (RelatedEntry r) es fs → Matches r w v (growing_if c done (with_entries w es)) (growing_if d done (with_entries v fs))
-  m_entries es fs e = no_cell _ _ done done refl refl refl (record { one = h.one; cells = h.cells; entries = e; marks = h.marks; hand = h.hand; limits = h.limits }) (λ k. k)
+  pub m_entries : {c d : Bool} (es fs : List Entry) → AllZip (RelatedEntry r) es fs → Matches r w v (growing_if c Done (with_entries w es)) (growing_if d Done (with_entries v fs))
+  m_entries es fs e = no_cell _ _ Done Done refl refl refl (record { one = h.one; cells = h.cells; entries = e; marks = h.marks; hand = h.hand; limits = h.limits }) (λ k. k)
 
-  pub m_scope : {c d : Bool} (es fs : List Entry) (ts us : List Tree) → AllZip (RelatedEntry r) es fs → AllZip (Related r) ts us → Matches r w v (growing_if c done (with_scope w es ts)) (growing_if d done (with_scope v fs us))
-  m_scope es fs ts us e d = no_cell _ _ done done refl refl refl (record { one = h.one; cells = h.cells; entries = e; marks = h.marks; hand = d; limits = h.limits }) (λ k. k)
+  pub m_scope : {c d : Bool} (es fs : List Entry) (ts us : List Tree) → AllZip (RelatedEntry r) es fs → AllZip (Related r) ts us → Matches r w v (growing_if c Done (with_scope w es ts)) (growing_if d Done (with_scope v fs us))
+  m_scope es fs ts us e d = no_cell _ _ Done Done refl refl refl (record { one = h.one; cells = h.cells; entries = e; marks = h.marks; hand = d; limits = h.limits }) (λ k. k)
 
   -- another store of as many cells and the same marks, and another hand
   pub m_cells : {a b : Bool} (s z : List Cell) (ts us : List Tree) → length s ≡ length w.store → length z ≡ length v.store → ((c : ℕ) → is_marked_at s c ≡ is_marked_at w.store c) → RelatedCells r s z → AllZip (Related r) ts us
-      → Matches r w v (growing_if a done (with_cells w s ts)) (growing_if b done (with_cells v z us))
+      → Matches r w v (growing_if a Done (with_cells w s ts)) (growing_if b Done (with_cells v z us))
   m_cells s z ts us f g m c e =
-      no_cell _ _ done done refl f g (record { one = h.one; cells = c; entries = h.entries; marks = h.marks; hand = e; limits = h.limits }) (same_marked w.store s w.marks m)
+      no_cell _ _ Done Done refl f g (record { one = h.one; cells = c; entries = h.entries; marks = h.marks; hand = e; limits = h.limits }) (same_marked w.store s w.marks m)
 
   -- hands after a value was put into a place, moved from it, or put at the end
   pub set_hand : (i : ℕ) (t u : Tree) → Related r t u → AllZip (Related r) (slice_set w.hand i t) (slice_set v.hand i u)
@@ -101,7 +113,7 @@ module _ (r : Renaming) (w v : State) (h : RelatedStates r w v) where
   pub moved_hand : (i : ℕ) → AllZip (Related r) (moved_from w.hand i) (moved_from v.hand i)
   moved_hand i = set_hand i (fresh unit) (fresh unit) (refl, refl, refl)
 
-  pub m_appended : {c d : Bool} (t u : Tree) → Related r t u → Matches r w v (growing_if c done (appended w t)) (growing_if d done (appended v u))
+  pub m_appended : {c d : Bool} (t u : Tree) → Related r t u → Matches r w v (growing_if c Done (appended w t)) (growing_if d Done (appended v u))
   m_appended t u e = m_hand _ _ (zip_append (Related r) w.hand (t ∷ []) v.hand (u ∷ []) h.hand (e, tt))
 
   pub m_replaced : (i : ℕ) (f g : Tree → Tree) → ((t u : Tree) → Related r t u → Related r (f t) (g u)) → Matches r w v (replaced w i f) (replaced v i g)
@@ -115,7 +127,7 @@ module _ (r : Renaming) (w v : State) (h : RelatedStates r w v) where
       subst (λ m. AllZip (Related r) (last_values n w.hand) (drop (m - n) v.hand)) long (zip_drop (Related r) (length w.hand - n) w.hand v.hand h.hand) in
       let before : AllZip (Related r) (values_before n w.hand) (values_before n v.hand) =
       subst (λ m. AllZip (Related r) (values_before n w.hand) (take (m - n) v.hand)) long (zip_take (Related r) (length w.hand - n) w.hand v.hand h.hand) in
-      m_either (nat_le n (length w.hand)) (nat_le n (length v.hand)) (ap (nat_le n) long) (k _ _ _ _ before last) (m_stays (refused no_value) (refused no_value) refl)
+      m_either (nat_le n (length w.hand)) (nat_le n (length v.hand)) (ap (nat_le n) long) (k _ _ _ _ before last) (m_stays (Refused NoValue) (Refused NoValue) refl)
 
   pub m_gathered : (n : ℕ) (make : List Tree → Tree) → ((ts us : List Tree) → AllZip (Related r) ts us → Related r (make ts) (make us)) → Matches r w v (gathered w n make) (gathered v n make)
   m_gathered n make k = m_taken_off n _ _ (λ ts us xs ys before last. m_hand {c = true} {d = true} _ _ (zip_append (Related r) ts (make xs ∷ []) us (make ys ∷ []) before (k xs ys last, tt)))

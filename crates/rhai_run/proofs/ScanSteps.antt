@@ -8,7 +8,7 @@ use Rattle.rhai_value.proofs.ForCallers.{by_trees, same_shared, same_visits, sam
 use Rattle.rhai_run.specs.declared.command.Scanner.{Scanner}
 use Rattle.rhai_run.specs.declared.command.Scanner.TheVariants as scanner
 use Rattle.rhai_run.specs.Correspondence.{RelatedStates}
-use Rattle.rhai_run.specs.Reply.{number}
+use Rattle.rhai_run.specs.declared.answer.Answer.TheVariants as answer
 use Rattle.rhai_run.specs.Scanners.{first_trees, scanned, visited, unvisited}
 use Rattle.rhai_run.specs.State.{State}
 use Rattle.rhai_run.proofs.Outcome.{Matches, no_cell, m_value, set_hand}
@@ -53,7 +53,7 @@ module _ (r : Renaming) (w v : State) (h : RelatedStates r w v) where
   same_scan_step i k =
       m_value r w v h i _ _ (λ t u e.
       let o = same_visits r visited (scanners_same r) (unvisited k) t u e in
-      no_cell r w v h _ _ _ _ (ap (λ x. number (pos x.visits)) o.0) refl refl
+      no_cell r w v h _ _ _ _ (ap (λ x. answer.Int (pos x.visits)) o.0) refl refl
       (record { one = h.one; cells = h.cells; entries = h.entries; marks = h.marks; hand = set_hand r w v h i _ _ o.1; limits = h.limits })
       (λ m. m))
 

@@ -8,18 +8,19 @@ use Rattle.rhai_text.specs.declared.error.EvalAltResult.TheVariants as error
 use Rattle.rhai_value.specs.Tree.{Tree}
 use Rattle.rhai_run.specs.declared.answer.Refusal.TheVariants.{Fault}
 use Rattle.rhai_run.specs.State.{State, appended}
-use Rattle.rhai_run.specs.Reply.{Reason, done, refused, reason_of, reply_of}
+use Rattle.rhai_run.specs.declared.answer.Refusal.{Refusal}
+use Rattle.rhai_run.specs.declared.answer.Answer.TheVariants as answer
 use Rattle.rhai_run.specs.Outcome.{Outcome, growing, refuse}
 use Rattle.rhai_run.specs.Entries.{appended_or_nothing}
 
 -- Not done: that is the refusal, and nothing has changed; or memory was refused where it may be wanted.
 abbrev pub IsError : NotDone → State → Outcome → Type 0
-IsError (Refused why) w o = o ≡ refuse (reason_of why) w
+IsError (Refused why) w o = o ≡ refuse why w
 IsError Memory w o = o.wants ≡ true
 
 -- A value is made, and the outcome is that it stands at the end of the hand; or it isn't.
 abbrev pub Gives : Result Tree NotDone → State → Outcome → Type 0
-Gives (Ok t) w o = o ≡ growing done (appended w t)
+Gives (Ok t) w o = o ≡ growing answer.Done (appended w t)
 Gives (Err e) w o = IsError e w o
 
 -- The same where a value may be found: the outcome is that it stands at the end of the hand, if there is one.
@@ -28,14 +29,14 @@ GivesIfAny (Ok o) w x = x ≡ appended_or_nothing w o
 GivesIfAny (Err e) w x = IsError e w x
 
 -- a test that refuses for this reason, if there is one, and takes no memory
-abbrev pub Tests : {X : Type 0} → Result X NotDone → Option Reason → Type 0
+abbrev pub Tests : {X : Type 0} → Result X NotDone → Option Refusal → Type 0
 Tests (Ok x) o = o ≡ None
-Tests (Err (Refused why)) o = o ≡ Some (reason_of why)
+Tests (Err (Refused why)) o = o ≡ Some why
 Tests (Err Memory) o = ⊥
 
 -- the refusal of something that isn't there
-abbrev pub IsRefusal : {X : Type 0} → NotDone → Result X Reason → Type 0
-IsRefusal (Refused why) o = o ≡ Err (reason_of why)
+abbrev pub IsRefusal : {X : Type 0} → NotDone → Result X Refusal → Type 0
+IsRefusal (Refused why) o = o ≡ Err why
 IsRefusal Memory o = ⊥
 
 -- the error of a call as why a command isn't done
@@ -48,11 +49,11 @@ not_done_of (error.ErrorMemory e) = Memory
 
 -- A call is done, and this is the outcome; or its error is that of the outcome, and nothing has changed.
 abbrev pub Calls : Result Tree EvalAltResult → State → State → Outcome → Type 0
-Calls (Ok t) w v o = o ≡ growing done v
+Calls (Ok t) w v o = o ≡ growing answer.Done v
 Calls (Err e) w v o = IsError (not_done_of e) w o × (v ≡ w)
 
 -- The answer or the refusal is that of the outcome, and so is the state; or memory was refused where it may be wanted, and nothing has changed.
 abbrev pub Does : Result Answer NotDone → State → State → Outcome → Type 0
-Does (Ok a) old new o = (reply_of a ≡ o.reply) × (new ≡ o.after)
-Does (Err (Refused why)) old new o = (refused (reason_of why) ≡ o.reply) × (new ≡ o.after)
+Does (Ok a) old new o = (a ≡ o.reply) × (new ≡ o.after)
+Does (Err (Refused why)) old new o = (answer.Refused why ≡ o.reply) × (new ≡ o.after)
 Does (Err Memory) old new o = (o.wants ≡ true) × (new ≡ old)

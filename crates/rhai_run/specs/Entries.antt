@@ -1,20 +1,25 @@
 -- What steps on entries are made of.
-use Rattle.std.specs.Prelude.{ℕ, Bool, false, not, if◌then◌else◌, List, Option, Some, None, is_some}
+use Rattle.std.specs.Prelude.{ℕ, Bool, false, not, if◌then◌else◌, List, Option, None, is_some}
 use Rattle.std.specs.Option.{option_map_or}
+use Rattle.rhai_value.specs.declared.access_mode.AccessMode.{AccessMode}
 use Rattle.rhai_value.specs.declared.type_id.TypeId.{TypeId}
 use Rattle.rhai_value.specs.declared.type_id.TypeId.TheVariants as id
 use Rattle.rhai_value.specs.Tree.{Tree}
 use Rattle.rhai_value.specs.Types.{is_type}
 use Rattle.rhai_variant.specs.Reads.{read, viewed}
-use Rattle.rhai_scope.specs.Entry.{Entry, is_constant_entry}
+use Rattle.rhai_scope.specs.Entry.{Entry, is_constant_entry, pushed}
 use Rattle.rhai_scope.specs.Typed.{set_or_pushed}
 use Rattle.rhai_run.specs.State.{State, with_scope, appended, moved_from}
-use Rattle.rhai_run.specs.Reply.{done, nothing}
-use Rattle.rhai_run.specs.Outcome.{Outcome, growing_if, free, growing}
+use Rattle.rhai_run.specs.declared.answer.Answer.TheVariants.{Done, Nothing}
+use Rattle.rhai_run.specs.Outcome.{Outcome, growing_if, free, growing, with_value}
+
+-- the value at i, painted with a mode, goes into a new last entry, and unit stands in its place
+abbrev pub moved_into_entry : (Tree → AccessMode) → State → List ℕ → ℕ → Outcome
+moved_into_entry mode w name i = with_value w i (λ t. growing Done (with_scope w (pushed (mode t) name t w.entries) (moved_from w.hand i)))
 
 -- the value goes into the entry at this position, or, where there is none, into a new one, for which memory is wanted
 abbrev pub set_at : Option ℕ → State → List ℕ → ℕ → Tree → Outcome
-set_at o w name i t = growing_if (not (is_some o)) done (with_scope w (set_or_pushed o name t w.entries) (moved_from w.hand i))
+set_at o w name i t = growing_if (not (is_some o)) Done (with_scope w (set_or_pushed o name t w.entries) (moved_from w.hand i))
 
 -- whether an entry is there that is a constant
 abbrev pub is_there_constant : Option Entry → Bool
@@ -22,7 +27,7 @@ is_there_constant o = option_map_or is_constant_entry o false
 
 -- a value at the end of the hand, where there is one
 abbrev pub appended_or_nothing : State → Option Tree → Outcome
-appended_or_nothing w o = option_map_or (λ t. growing done (appended w t)) o (free nothing w)
+appended_or_nothing w o = option_map_or (λ t. growing Done (appended w t)) o (free Nothing w)
 
 -- what is read of a value as a type, and of the value itself by reference; as the type of what can't be looked into nothing is
 abbrev pub read_as : TypeId → Tree → Option Tree

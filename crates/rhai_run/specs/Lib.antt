@@ -6,15 +6,12 @@ pub use Rattle.rhai_value.specs.Relation
 pub use Rattle.rhai_show.specs.Text
 pub mod State
 pub mod StateCode
-pub mod Reply
 pub mod Outcome
 pub mod Made
-pub mod Change
 pub mod Places
 pub mod Lent
 pub mod WriteBack
 pub mod Scanners
-pub mod Scope
 pub mod Entries
 pub mod Ask
 pub mod Step

@@ -3,8 +3,8 @@ use Rattle.std.specs.Prelude.{ℕ, List, [], ◌∷◌, map}
 use Rattle.std.specs.BTreeMap.{insert_entry}
 use Rattle.std.specs.Str.{encode_utf8_all}
 use Rattle.rhai_value.specs.declared.host.Host.TheVariants as host_kind
-use Rattle.rhai_value.specs.Tree.{Tree, made, fresh, unit, bool, int, char, text, blob, host, branch, array, fields, function}
-use Rattle.rhai_value.specs.Rows.{Rows, bytes_cmp, trees_of, fields_of}
+use Rattle.rhai_value.specs.Tree.{Tree, fresh, unit, bool, int, char, text, blob, host}
+use Rattle.rhai_value.specs.Rows.{Rows, bytes_cmp}
 use Rattle.rhai_run.specs.declared.command.Literal.{Literal}
 use Rattle.rhai_run.specs.declared.command.Literal.TheVariants as literal
 

@@ -1,33 +1,20 @@
--- Places that commands write to: a hand position, or the last entry of a name.
-use Rattle.std.specs.Prelude.{ℕ, Bool, false, nat_eq, if◌then◌else◌, List, slice_get, slice_set, Option, Some, None, Result, Ok, Err}
-use Rattle.std.specs.Option.{ok_or}
+-- What is done at places: at a hand position, or at the last entry of a name.
+use Rattle.std.specs.Prelude.{ℕ, Bool, false, nat_eq, List, [], slice_set}
 use Rattle.rhai_value.specs.declared.store.Cell.{Cell}
+use Rattle.rhai_value.specs.End.{end, store_after, value_after}
 use Rattle.rhai_value.specs.Tree.{Tree}
-use Rattle.rhai_scope.specs.Entry.{Entry, is_constant_entry, with_value as holding}
+use Rattle.rhai_scope.specs.Entry.{is_constant_entry, with_value as holding}
 use Rattle.rhai_scope.specs.Lookup.{last_entry, changed_named}
+use Rattle.rhai_run.specs.declared.answer.Refusal.TheVariants.{NoEntry, ConstantEntry}
 use Rattle.rhai_run.specs.declared.command.Place.{Place}
 use Rattle.rhai_run.specs.declared.command.Place.TheVariants as place
 use Rattle.rhai_run.specs.State.{State, with_cells}
-use Rattle.rhai_run.specs.Reply.{Reason, no_value, no_entry, constant_entry}
-use Rattle.rhai_run.specs.Outcome.{Outcome, refuse, with_value}
+use Rattle.rhai_run.specs.Outcome.{Outcome, given, unless, with_value}
 
--- the value of an entry, or why there is none to write to
-abbrev pub entry_found : Option Entry → Result Tree Reason
-entry_found None = Err no_entry
-entry_found (Some e) = if is_constant_entry e then Err constant_entry else Ok e.value
-
--- the same of a place
-abbrev pub source : List Tree → List Entry → Place → Result Tree Reason
-source hand entries (place.Hand i) = ok_or (slice_get hand i) no_value
-source hand entries (place.Entry name) = entry_found (last_entry name entries)
-
--- what is done with it
-abbrev pub found : Result Tree Reason → State → (Tree → Outcome) → Outcome
-found (Ok t) w go = go t
-found (Err why) w go = refuse why w
-
+-- what is done with the value at a place, where it may be written: that of an entry is there, and no constant
 abbrev pub with_place : State → Place → (Tree → Outcome) → Outcome
-with_place w place go = found (source w.hand w.entries place) w go
+with_place w (place.Hand i) go = with_value w i go
+with_place w (place.Entry name) go = given (last_entry name w.entries) NoEntry w (λ e. unless (is_constant_entry e) ConstantEntry w (go e.value))
 
 -- the value at a place and the one at a hand position; that a hand position has no value is said before anything of an entry
 abbrev pub with_place_and : State → Place → ℕ → (Tree → Tree → Outcome) → Outcome
@@ -42,3 +29,7 @@ is_at (place.Entry name) j = false
 abbrev pub put_at : State → List Cell → Place → Tree → State
 put_at w s (place.Hand i) t = with_cells w s (slice_set w.hand i t)
 put_at w s (place.Entry name) t = record w { store = s; entries = changed_named (holding t) name w.entries }
+
+-- the state once f was applied to what is held where the chain from t ends, the value at a place
+abbrev pub changed_by : State → Place → (Tree → Tree) → Tree → State
+changed_by w place f t = put_at w (store_after f (end w.store [] t) w.store) place (value_after f (end w.store [] t) t)

@@ -1,5 +1,5 @@
 -- What the scanners do with a value, and that they add no nodes.
-use Rattle.std.specs.Prelude.{ℕ, zero, suc, ◌+◌, ◌-◌, ◌^◌, ◌≤◌, pos, min, if◌then◌else◌, Option, Some, None, is_some}
+use Rattle.std.specs.Prelude.{ℕ, zero, suc, ◌+◌, ◌-◌, ◌^◌, ◌≤◌, pos, min, slice_set, if◌then◌else◌, is_some}
 use Rattle.std.proofs.Common.{arith, refl}
 use Rattle.std.specs.Option.{option_map_or}
 use Rattle.rhai_value.specs.Parts.{array_of, with_content, with_int}
@@ -8,6 +8,9 @@ use Rattle.rhai_value.specs.Tree.{Tree, node, leaf, branch, fields, holder, arra
 use Rattle.rhai_run.specs.declared.command.Scanner.{Scanner}
 use Rattle.rhai_run.specs.declared.command.Scanner.TheVariants as scanner
 use Rattle.rhai_run.specs.declared.scanners.Visits.{Visits}
+use Rattle.rhai_run.specs.declared.answer.Answer.TheVariants as answer
+use Rattle.rhai_run.specs.Outcome.{Outcome, free}
+use Rattle.rhai_run.specs.State.{State, with_hand}
 
 -- the first n of these
 abbrev pub first_trees : ℕ → Trees → Trees
@@ -29,6 +32,10 @@ visited v t = (record v { visits = min (v.visits + 1) (2 ^ 64 - 1) }, scanned v.
 -- before the first visit
 abbrev pub unvisited : Scanner → Visits
 unvisited k = record { scanner = k; visits = 0 }
+
+-- a scanner goes through the value at i; the answer is to how many values it came
+abbrev pub scan_done : State → ℕ → Visits × Tree → Outcome
+scan_done w i o = free (answer.Int (pos o.0.visits)) (with_hand w (slice_set w.hand i o.1))
 
 fewer_trees : (n : ℕ) (ts : Trees) → nodes_trees (first_trees n ts) ≤ nodes_trees ts
 fewer_trees zero ts = omega arith

@@ -1,5 +1,6 @@
 -- Where the value of a place stands: at a hand position, or in the entry at a position of the scope.
-use Rattle.std.specs.Prelude.{◌≡◌, [], ℕ, Bool, false, nat_eq, List, slice_get, slice_set, Option, Some, option_map, Result, Ok, Err}
+use Rattle.std.specs.Prelude.{◌≡◌, [], ℕ, Bool, false, nat_eq, if◌then◌else◌, List, slice_get, slice_set, Option, Some, None, option_map, Result, Ok, Err}
+use Rattle.std.specs.Option.{ok_or}
 use Rattle.rhai_text.specs.declared.token.Token.{Token}
 use Rattle.rhai_ops.specs.Outcome as call
 use Rattle.rhai_ops.specs.Results.{outcome, Suits}
@@ -9,8 +10,8 @@ use Rattle.rhai_value.specs.declared.store.Cell.{Cell}
 use Rattle.rhai_value.specs.End.{end}
 use Rattle.rhai_value.specs.Tree.{Tree}
 use Rattle.rhai_target.specs.Change.{Change, value_changed, store_changed}
-use Rattle.rhai_scope.specs.Entry.{Entry, with_value as holding}
-use Rattle.rhai_scope.specs.Lookup.{changed_at, last_position}
+use Rattle.rhai_scope.specs.Entry.{Entry, is_constant_entry, with_value as holding}
+use Rattle.rhai_scope.specs.Lookup.{changed_at, last_entry, last_position}
 use Rattle.rhai_run.specs.declared.command.Place.{Place}
 use Rattle.rhai_run.specs.declared.command.Place.TheVariants as place
 use Rattle.rhai_run.specs.declared.not_done.NotDone.{NotDone}
@@ -18,11 +19,22 @@ use Rattle.rhai_run.specs.declared.not_done.NotDone.TheVariants.{Refused, Memory
 use Rattle.rhai_run.specs.declared.slot.Slot.{Slot}
 use Rattle.rhai_run.specs.declared.slot.Slot.TheVariants as slot
 use Rattle.rhai_run.specs.State.{State, with_hand, with_cells}
-use Rattle.rhai_run.specs.Reply.{no_value, reason_of}
+use Rattle.rhai_run.specs.declared.answer.Refusal.{Refusal}
+use Rattle.rhai_run.specs.declared.answer.Refusal.TheVariants.{NoValue, NoEntry, ConstantEntry}
 use Rattle.rhai_run.specs.Outcome.{Outcome, given, refuse, with_value}
 use Rattle.rhai_run.specs.Operators.{called}
 use Rattle.rhai_run.specs.declared.command.Command.TheVariants as command
 use Rattle.rhai_run.specs.Step.{step}
+
+-- the value of an entry, or why there is none to write to
+abbrev pub entry_found : Option Entry → Result Tree Refusal
+entry_found None = Err NoEntry
+entry_found (Some e) = if is_constant_entry e then Err ConstantEntry else Ok e.value
+
+-- the same of a place
+abbrev pub source : List Tree → List Entry → Place → Result Tree Refusal
+source hand entries (place.Hand i) = ok_or (slice_get hand i) NoValue
+source hand entries (place.Entry name) = entry_found (last_entry name entries)
 
 -- where the value of a place stands, if there is one
 abbrev pub slot_of : List Entry → Place → Option Slot
@@ -59,7 +71,7 @@ both_assigned w q j how t u o = called w (λ d. assigned_in (with_hand w (slice_
 -- the call of a row on these operands
 abbrev pub called_in : State → Slot → ℕ → FnBuiltin → Outcome
 called_in w q j row =
-    given (value_in w.hand w.entries q) no_value w (λ t. with_value w j (λ u. both_assigned w q j (effect row) t u (outcome row w.limits w.store t u)))
+    given (value_in w.hand w.entries q) NoValue w (λ t. with_value w j (λ u. both_assigned w q j (effect row) t u (outcome row w.limits w.store t u)))
 
 -- the slot isn't the hand position, both have values, and the row is for them
 abbrev pub HasOperands : FnBuiltin → State → Slot → ℕ → Type 0
@@ -69,5 +81,5 @@ HasOperands row w q j =
 -- a row that is looked up has its operands, and the step is its call; or the step is the refusal
 abbrev pub Looks : Result (FnBuiltin × Slot) NotDone → State → Token → Place → ℕ → Type 0
 Looks (Ok found) w op place j = HasOperands found.0 w found.1 j × (step w (command.Assign op place j) ≡ called_in w found.1 j found.0)
-Looks (Err (Refused why)) w op place j = step w (command.Assign op place j) ≡ refuse (reason_of why) w
+Looks (Err (Refused why)) w op place j = step w (command.Assign op place j) ≡ refuse why w
 Looks (Err Memory) w op place j = ⊥

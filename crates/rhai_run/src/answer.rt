@@ -1,6 +1,9 @@
 //! What a world answers.
+ghost use Rattle.std.specs.Prelude.{◌≡◌};
+ghost use Rattle.rhai_run.specs.declared.answer.Refusal.TheVariants.{Mismatch};
 
-use rhai_text::EvalAltResult;
+use crate::lists::{Bytes, Text};
+use rhai_text::{EvalAltResult, TypeName};
 
 /// Why a command was refused. A refused command changes nothing.
 #[derive(Drop)]
@@ -30,9 +33,16 @@ pub enum Refusal {
     /// The value has no hash bytes.
     NotHashable,
     /// Another type is held; this is its name.
-    Mismatch(&'static str),
+    Mismatch(TypeName),
     /// The call that the command makes ended in this error.
     Fault(EvalAltResult),
+}
+
+/// That another type is held, of this name.
+pub(crate) fn mismatch(name: &'static str) -> Refusal
+    ensures { result ≡ Mismatch name.now }
+{
+    Refusal::Mismatch(TypeName::new(name))
 }
 
 /// The answer to one command.
@@ -45,9 +55,9 @@ pub enum Answer {
     /// A number.
     Int(i128),
     /// A text.
-    Text(String),
+    Text(Text),
     /// Bytes.
-    Bytes(Vec<u8>),
+    Bytes(Bytes),
     /// Two numbers.
     Pair(usize, usize),
     /// There is nothing to answer.

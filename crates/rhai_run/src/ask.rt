@@ -3,14 +3,15 @@ ghost use Rattle.std.specs.Prelude.{◌≡◌, IfOk};
 ghost use Rattle.std.specs.Str.{chars};
 ghost use Rattle.rhai_show.specs.declared.form.Form.TheVariants.{Debug};
 ghost use Rattle.rhai_run.specs.Ask.{asked};
-ghost use Rattle.rhai_run.specs.Reply.{reply_of, text_answer as a_text};
+ghost use Rattle.rhai_run.specs.declared.answer.Answer.TheVariants as answer;
 ghost use Rattle.rhai_run.specs.Does.{Does};
 ghost use Rattle.rhai_run.specs.declared.command.Command.TheVariants as command;
 ghost use Rattle.rhai_run.specs.Step.{step};
 
-use crate::answer::{Answer, Refusal};
+use crate::answer::{Answer, Refusal, mismatch};
 use crate::cast::is_value_of;
 use crate::command::Question;
+use crate::lists::{Bytes, Text};
 use crate::not_done::NotDone;
 use crate::world_state::WorldState;
 use rhai_show::{debug_text, display_text, hashed, is_hashable};
@@ -22,14 +23,14 @@ impl WorldState {
         ensures { Does result self.now self.now (step self.now (command.Show i)) }
     {
         let text = display_text(self.alloc, self.value(i)?, &self.store)?;
-        Ok(Answer::Text(text))
+        Ok(Answer::Text(Text::new(text)))
     }
 
     pub(crate) fn debug(&self, i: usize) -> Result<Answer, NotDone>
         ensures { Does result self.now self.now (step self.now (command.Debug i)) }
     {
         let text = debug_text(self.alloc, self.value(i)?, &self.store)?;
-        Ok(Answer::Text(text))
+        Ok(Answer::Text(Text::new(text)))
     }
 
     pub(crate) fn hash(&self, i: usize) -> Result<Answer, NotDone>
@@ -37,7 +38,7 @@ impl WorldState {
     {
         match hashed(self.alloc, self.value(i)?, &self.store)? {
             None => Err(NotDone::Refused(Refusal::NotHashable)),
-            Some(hashed) => Ok(Answer::Bytes(hashed.into_bytes(self.alloc)?)),
+            Some(hashed) => Ok(Answer::Bytes(Bytes::new(hashed.into_bytes(self.alloc)?))),
         }
     }
 
@@ -62,19 +63,19 @@ impl WorldState {
             Question::Hashable => Ok(Answer::Bool(is_hashable(self.alloc, value, s)?)),
             Question::Is(kind) => Ok(Answer::Bool(is_value_of(value, s, *kind))),
             Question::Unit => {
-                value.as_unit(s).map_err(Refusal::Mismatch)?;
+                value.as_unit(s).map_err(mismatch)?;
                 Ok(Answer::Done)
             }
             Question::Int => {
-                let int = value.as_int(s).map_err(Refusal::Mismatch)?;
+                let int = value.as_int(s).map_err(mismatch)?;
                 Ok(Answer::Int(i128::from(int)))
             }
             Question::Bool => {
-                let truth = value.as_bool(s).map_err(Refusal::Mismatch)?;
+                let truth = value.as_bool(s).map_err(mismatch)?;
                 Ok(Answer::Bool(truth))
             }
             Question::Char => {
-                let character = value.as_char(s).map_err(Refusal::Mismatch)?;
+                let character = value.as_char(s).map_err(mismatch)?;
                 Ok(text_answer(self.alloc, character.encode_utf8(&mut [0; 4]))?)
             }
         }
@@ -82,7 +83,8 @@ impl WorldState {
 }
 
 fn text_answer(alloc: Global, text: &str) -> Result<Answer, AllocError>
-    ensures { IfOk result (λ a. reply_of a ≡ a_text (chars text.now)) }
+    ensures { IfOk result (λ a. a ≡ answer.Text (chars text.now)) }
 {
-    Ok(Answer::Text(String::from_str(alloc, text)?))
+    let text = String::from_str(alloc, text)?;
+    Ok(Answer::Text(Text::new(text)))
 }

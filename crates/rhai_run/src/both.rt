@@ -1,10 +1,9 @@
 //! The same commands on two worlds.
-ghost use Rattle.std.specs.Prelude.{◌≡◌, map, IfOk, IfErr, OnOk};
+ghost use Rattle.std.specs.Prelude.{◌≡◌, IfOk, IfErr, OnOk};
 ghost use Rattle.rhai_value.specs.Relation.{Renaming};
-ghost use Rattle.rhai_run.specs.Reply.{reply_of};
 ghost use Rattle.rhai_run.specs.Machine.{replies, state_after};
-ghost use Rattle.rhai_run.specs.Both.{StopsBoth, AlikeEnds};
-ghost use Rattle.rhai_run.specs.Correspondence.{Corresponds};
+ghost use Rattle.rhai_run.specs.Both.{StopsBoth};
+ghost use Rattle.rhai_run.specs.Correspondence.{Corresponds, RunAlike};
 
 use crate::answer::Answer;
 use crate::command::Command;
@@ -24,16 +23,14 @@ pub enum StoppedBoth {
 /// worlds correspond at the end.
 /// Errors: in which run memory was refused, with what was answered until then; both worlds can be run again.
 /// Cost: two runs.
-#[tactic(auto, using(crate::proofs::Runs::ends_alike))]
 pub fn run_both(
     first: &mut World,
     second: &mut World,
     commands: &[Command],
 ) -> Result<(Vec<Answer>, Vec<Answer>), StoppedBoth>
-    ensures answers { IfOk result (λ p. (map reply_of p.0.items ≡ replies first.old commands.now) × (map reply_of p.1.items ≡ replies second.old commands.now)) }
+    ensures answers { IfOk result (λ p. (p.0.items ≡ replies first.old commands.now) × (p.1.items ≡ replies second.old commands.now)) }
     ensures states { OnOk result ((first.new ≡ state_after first.old commands.now) × (second.new ≡ state_after second.old commands.now)) }
-    ensures alike { IfOk result (λ p. (r : Renaming) → Corresponds r first.old second.old
-        → AlikeEnds r first.old second.old (map reply_of p.0.items) (map reply_of p.1.items) first.new second.new) }
+    ensures alike { OnOk result ((r : Renaming) → Corresponds r first.old second.old → RunAlike r first.old second.old commands.now) }
     ensures stopped { IfErr result (λ s. StopsBoth s first.old second.old commands.now first.new second.new) }
 {
     laws::runs_are_alike();

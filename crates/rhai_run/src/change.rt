@@ -3,7 +3,7 @@ ghost use Rattle.rhai_run.specs.Does.{Does};
 ghost use Rattle.rhai_run.specs.declared.command.Command.TheVariants as command;
 ghost use Rattle.rhai_run.specs.Step.{step};
 
-use crate::answer::{Answer, Refusal};
+use crate::answer::{Answer, Refusal, mismatch};
 use crate::command::Scanner;
 use crate::not_done::NotDone;
 use crate::place::differ;
@@ -63,7 +63,7 @@ impl WorldState {
         let target = &mut self.hand[i];
         if !target.set_int(&mut self.store, value) {
             let name = target.type_name(&self.store);
-            return Err(NotDone::Refused(Refusal::Mismatch(name)));
+            return Err(NotDone::Refused(mismatch(name)));
         }
         Ok(Answer::Done)
     }

@@ -1,7 +1,13 @@
-//! What a world is told to do.
+//! What a world is told to do, and which call does it.
 ghost use Rattle.std.specs.Prelude.{◌≡◌, IfOk};
+ghost use Rattle.rhai_run.specs.Step.{step};
+ghost use Rattle.rhai_run.specs.Fits.{Fits};
+ghost use Rattle.rhai_run.specs.Does.{Does};
 
+use crate::answer::Answer;
 use crate::lists::{Bytes, FlaggedNames, Names};
+use crate::not_done::NotDone;
+use crate::world_state::WorldState;
 use rhai_text::{ImmutableString, Token};
 use rhai_value::{ExclusiveRange, Host, INT, InclusiveRange, Tag, TypeId};
 use std::alloc::{AllocError, Global};
@@ -235,4 +241,82 @@ pub enum Command {
     Debug(usize),
     /// Answers the hash bytes of the value at the hand position.
     Hash(usize),
+}
+
+impl WorldState {
+    /// Does one command.
+    #[inline(always)]
+    pub(crate) fn apply(&mut self, command: &Command) -> Result<Answer, NotDone>
+        requires { Fits self.old }
+        ensures { Does result self.old self.new (step self.old command.now) }
+    {
+        match command {
+            Command::Put(literal) => self.put(literal),
+            Command::MakeArray(n) => self.make_array(*n),
+            Command::MakeMap(keys) => self.make_map(keys),
+            Command::MakeFn(name, n) => self.make_fn(name, *n),
+            Command::Copy(i) => self.copy(*i),
+            Command::Take(i) => self.take(*i),
+            Command::Drop => self.drop_last(),
+            Command::Share(i) => self.share(*i),
+            Command::Flatten(i) => self.flatten(*i),
+            Command::FlattenClone(i) => self.flatten_clone(*i),
+            Command::Cast(i, kind) => self.cast(*i, *kind),
+            Command::MakeReadOnly(i) => self.make_read_only(*i),
+            Command::SetTag(i, tag) => self.set_tag(*i, *tag),
+            Command::Ask(i, question) => self.ask(*i, question),
+            Command::WriteInt(i, value) => self.write_int(*i, *value),
+            Command::Write(i, j) => self.write(*i, *j),
+            Command::Binary(op, i, j) => self.binary(*op, *i, *j),
+            Command::Assign(op, place, j) => self.assign(*op, place, *j),
+            Command::Scan(i, scanner) => self.scan(*i, *scanner),
+            Command::Push(name, i) => self.push(name, *i),
+            Command::PushDynamic(name, i) => self.push_dynamic(name, *i),
+            Command::PushConstant(name, i) => self.push_constant(name, *i),
+            Command::SetEntry(name, i) => self.set_entry(name, *i),
+            Command::SetOrPush(name, i) => self.set_or_push(name, *i),
+            Command::SetValue(name, i) => self.set_value(name, *i),
+            Command::Pop => self.pop(),
+            Command::Rewind(n) => self.rewind(*n),
+            Command::Clear => self.clear(),
+            Command::Len => self.len(),
+            Command::IsEmpty => self.is_empty(),
+            Command::Contains(name) => self.contains(name),
+            Command::Search(name) => self.search(name),
+            Command::IsConstant(name) => self.is_constant(name),
+            Command::Get(name) => self.get(name),
+            Command::GetValue(name, kind) => self.get_value(name, *kind),
+            Command::GetRef(name, kind) => self.get_ref(name, *kind),
+            Command::SetRef(name, value) => self.set_ref(name, *value),
+            Command::Remove(name, kind) => self.remove(name, *kind),
+            Command::SetAlias(name, alias) => self.set_alias(name, alias),
+            Command::Aliases(name) => self.aliases(name),
+            Command::KeepVisible => self.keep_visible(),
+            Command::CopyScope => self.copy_scope(),
+            Command::Entries => self.entries(),
+            Command::Names => self.names(),
+            Command::Extend(names) => self.extend(names),
+            Command::ExtendFlagged(names) => self.extend_flagged(names),
+            Command::ShowScope => self.show_scope(),
+            Command::HashScope => self.hash_scope(),
+            Command::Mark(place) => self.mark(place),
+            Command::Unmark(k) => self.unmark(*k),
+            Command::WriteMarked(k, i) => self.write_marked(*k, *i),
+            Command::ReadMarked(k) => self.read_marked(*k),
+            Command::WriteBit(place, bit, j) => self.write_bit(place, *bit, *j),
+            Command::WriteField(place, mask, shift, j) => {
+                self.write_field(place, *mask, *shift, *j)
+            }
+            Command::WriteByte(place, index, j) => self.write_byte(place, *index, *j),
+            Command::WriteChar(place, index, j) => self.write_char(place, *index, *j),
+            Command::WriteSlice(place, start, end, exclusive, j) => {
+                self.write_slice(place, *start, *end, *exclusive, *j)
+            }
+            Command::Offset(length, start, len) => self.offset(*length, *start, *len),
+            Command::Index(length, index, from_end) => self.index(*length, *index, *from_end),
+            Command::Show(i) => self.show(*i),
+            Command::Debug(i) => self.debug(*i),
+            Command::Hash(i) => self.hash(*i),
+        }
+    }
 }

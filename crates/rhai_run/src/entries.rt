@@ -13,6 +13,7 @@ ghost use Rattle.rhai_run.specs.Step.{step};
 
 use crate::answer::{Answer, Refusal};
 use crate::cast::{can_cast, can_move, cast_to, moved_as};
+use crate::lists::Text;
 use crate::not_done::NotDone;
 use crate::vectors::replace_at;
 use crate::world_state::WorldState;
@@ -218,6 +219,6 @@ impl WorldState {
     {
         let aliases = self.scope.aliases(name.as_str()).ok_or(Refusal::NoEntry)?;
         let text = aliases_shown(self.alloc, aliases)?.into_text();
-        Ok(Answer::Text(text))
+        Ok(Answer::Text(Text::new(text)))
     }
 }

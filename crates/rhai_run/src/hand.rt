@@ -3,7 +3,7 @@ ghost use Rattle.rhai_run.specs.Does.{Does};
 ghost use Rattle.rhai_run.specs.declared.command.Command.TheVariants as command;
 ghost use Rattle.rhai_run.specs.Step.{step};
 
-use crate::answer::{Answer, Refusal};
+use crate::answer::{Answer, Refusal, mismatch};
 use crate::cast::{can_cast, cast_to};
 use crate::command::Literal;
 use crate::lists::Names;
@@ -87,7 +87,7 @@ impl WorldState {
         let value = self.value(i)?;
         if !can_cast(value, &self.store, kind) {
             let name = value.type_name(&self.store);
-            return Err(NotDone::Refused(Refusal::Mismatch(name)));
+            return Err(NotDone::Refused(mismatch(name)));
         }
         let value = cast_to(value, self.alloc, &self.store, kind)?;
         self.append(value)

@@ -29,7 +29,12 @@ ghost use Rattle.rhai_run.specs.Bindings.{bindings};
 ghost use Rattle.rhai_run.specs.Captures.{SharesEntry, entry_content};
 ghost use Rattle.rhai_run.specs.Programs.{all, capture, sequence, last_of, operate, program_of, refusal, set, commands_of};
 ghost use Rattle.rhai_run.specs.State.{State, empty_state, with_store};
-ghost use Rattle.rhai_run.specs.Reply.{Reply, Reason, refused, fault, out_of_memory, not_hashable};
+ghost use Rattle.std.specs.declared.alloc.AllocError.{AllocError};
+ghost use Rattle.rhai_text.specs.declared.error.EvalAltResult.TheVariants.{ErrorMemory};
+ghost use Rattle.rhai_run.specs.declared.answer.Answer.{Answer};
+ghost use Rattle.rhai_run.specs.declared.answer.Answer.TheVariants.{Refused};
+ghost use Rattle.rhai_run.specs.declared.answer.Refusal.{Refusal};
+ghost use Rattle.rhai_run.specs.declared.answer.Refusal.TheVariants.{Fault, NotHashable};
 ghost use Rattle.rhai_run.specs.Step.{step};
 ghost use Rattle.rhai_run.specs.Machine.{replies, state_after};
 ghost use Rattle.rhai_run.specs.Stop.{NeverWants, StopsAfter};
@@ -51,9 +56,9 @@ pub fn steps_fit()
 /// A refused command leaves the state as it was, and wants no memory but where a hash is asked for of what has none; want of memory
 /// itself is the reason of no refusal.
 pub fn refusals_change_nothing()
-    ensures state { (w : State) (c : Command) (why : Reason) → (step w c).reply ≡ refused why → (step w c).after ≡ w }
-    ensures named { (w : State) (c : Command) → (step w c).reply ≡ refused (fault out_of_memory) → ⊥ }
-    ensures memory { (w : State) (c : Command) (why : Reason) → (step w c).reply ≡ refused why → (step w c).wants ≡ true → why ≡ not_hashable }
+    ensures state { (w : State) (c : Command) (why : Refusal) → (step w c).reply ≡ Refused why → (step w c).after ≡ w }
+    ensures named { (w : State) (c : Command) (e : AllocError) → (step w c).reply ≡ Refused (Fault (ErrorMemory e)) → ⊥ }
+    ensures memory { (w : State) (c : Command) (why : Refusal) → (step w c).reply ≡ Refused why → (step w c).wants ≡ true → why ≡ NotHashable }
 {}
 
 /// A state that fits corresponds to itself, each cell being paired with itself.
@@ -111,6 +116,7 @@ pub fn scanners_are_renamed()
 {}
 
 /// The commands that never want memory, whatever the state is. (There are others that want none in some states: `step` tells.)
+#[tactic(auto, using(crate::proofs::Free::free_either, crate::proofs::Free::free_given, crate::proofs::Free::free_unless, crate::proofs::Free::free_value, crate::proofs::Free::free_two, crate::proofs::Free::free_write_back))]
 pub fn free_commands_are_granted()
     ensures drop_last { NeverWants command.Drop }
     ensures set_tag { (i : ℕ) (tag : ℤ) → NeverWants (command.SetTag i tag) }
@@ -173,9 +179,9 @@ pub fn expressions_by_kind()
 /// and so is the state in the end.
 #[tactic(auto, using(crate::proofs::GoingOn::answers_go_on, crate::proofs::GoingOn::state_goes_on))]
 pub fn stopped_runs_go_on()
-    ensures answers { (w v : State) (commands : List Command) (replied : List Reply) → StopsAfter w commands replied v
+    ensures answers { (w v : State) (commands : List Command) (replied : List Answer) → StopsAfter w commands replied v
         → replied ++ replies v (drop (length replied) commands) ≡ replies w commands }
-    ensures state { (w v : State) (commands : List Command) (replied : List Reply) → StopsAfter w commands replied v
+    ensures state { (w v : State) (commands : List Command) (replied : List Answer) → StopsAfter w commands replied v
         → state_after v (drop (length replied) commands) ≡ state_after w commands }
 {}
 
@@ -199,6 +205,6 @@ pub fn expressions_leave_a_value()
 
 /// Where one is refused, the hand is as before, and the scope as long as before.
 pub fn refused_expressions_leave_nothing()
-    ensures hand { (w : State) (e : Expr) (why : Reason) → refusal w (commands_of w e) ≡ Some why → (state_after w (commands_of w e)).hand ≡ w.hand }
-    ensures scope { (w : State) (e : Expr) (why : Reason) → refusal w (commands_of w e) ≡ Some why → length (state_after w (commands_of w e)).entries ≡ length w.entries }
+    ensures hand { (w : State) (e : Expr) (why : Refusal) → refusal w (commands_of w e) ≡ Some why → (state_after w (commands_of w e)).hand ≡ w.hand }
+    ensures scope { (w : State) (e : Expr) (why : Refusal) → refusal w (commands_of w e) ≡ Some why → length (state_after w (commands_of w e)).entries ≡ length w.entries }
 {}

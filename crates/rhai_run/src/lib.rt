@@ -39,5 +39,5 @@ pub use answer::{Answer, Refusal};
 pub use both::{StoppedBoth, run_both};
 pub use command::{Command, Literal, Place, Question, Scanner};
 pub use expr::Expr;
-pub use lists::{Bytes, FlaggedNames, Names};
+pub use lists::{Bytes, FlaggedNames, Names, Text};
 pub use world::{Stopped, World, apply, run};

@@ -65,7 +65,7 @@ fn token(marks: &[WriteToken], k: usize) -> Result<&WriteToken, NotDone>
 }
 
 impl WorldState {
-    #[tactic(auto, using(crate::proofs::MarkLists::first_is_free, crate::proofs::InSlots::source_is))]
+    #[tactic(auto, using(crate::proofs::MarkLists::first_is_free, crate::proofs::InSlots::source_is, crate::proofs::InSlots::placed_is, crate::proofs::InSlots::placed_refused))]
     pub(crate) fn mark(&mut self, place: &Place) -> Result<Answer, NotDone>
         ensures { Does result self.old self.new (step self.old (command.Mark place.now)) }
     {

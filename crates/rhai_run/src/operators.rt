@@ -151,6 +151,7 @@ impl WorldState {
         )))?;
         let row = get_builtin_op_assignment_fn(&op, first, y).ok_or(Refusal::NoBuiltin)?;
         rows_suit();
+        operators_write_nothing();
         Ok((row, slot))
     }
 

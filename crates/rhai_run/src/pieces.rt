@@ -1,14 +1,13 @@
 //! Parts of values that are written back.
 ghost use Rattle.std.specs.Prelude.{◌≡◌, [], true, is_some, Some, None, if◌then◌else◌, OnOk, OnErr};
-ghost use Rattle.rhai_run.specs.Reply.{wrong_source};
 ghost use Rattle.rhai_text.specs.declared.error.EvalAltResult.TheVariants.{ErrorMismatchDataType};
 ghost use Rattle.rhai_text.specs.contracts.position.Position;
 ghost use Rattle.rhai_value.specs.End.{end, held_part};
 ghost use Rattle.rhai_value.specs.Parts.{int_of, blob_of, text_of};
 ghost use Rattle.rhai_target.specs.Change.{value_changed, store_changed};
-ghost use Rattle.rhai_run.specs.declared.answer.Refusal.TheVariants.{Fault};
+ghost use Rattle.rhai_run.specs.declared.answer.Refusal.TheVariants.{Fault, WrongSource};
 ghost use Rattle.rhai_run.specs.declared.not_done.NotDone.TheVariants.{Refused};
-ghost use Rattle.rhai_run.specs.WriteBack.{no_bit, no_byte, lack, change, makes_text, IsWorking};
+ghost use Rattle.rhai_run.specs.WriteBack.{no_bit, no_byte, rule, IsWorking};
 ghost use Rattle.rhai_run.specs.Does.{Tests};
 
 use crate::answer::Refusal;
@@ -35,13 +34,9 @@ pub(crate) enum Piece {
 }
 
 fn wrong_type(wanted: &'static str, found: &'static str) -> NotDone
-    ensures { result ≡ Refused (Fault (ErrorMismatchDataType wanted.entry found.entry Position.NONE)) }
+    ensures { result ≡ Refused (Fault (ErrorMismatchDataType wanted.now found.now Position.NONE)) }
 {
-    NotDone::Refused(Refusal::Fault(EvalAltResult::ErrorMismatchDataType(
-        wanted,
-        found,
-        Position::NONE,
-    )))
+    NotDone::Refused(Refusal::Fault(EvalAltResult::mismatch(wanted, found, Position::NONE)))
 }
 
 /// Whether a source holds an int, and an int has the bit.
@@ -70,7 +65,7 @@ fn has_byte(source: &Dynamic, store: &Store, index: usize) -> Result<(), NotDone
 
 /// Whether a source holds a text.
 fn has_text(source: &Dynamic, store: &Store) -> Result<(), NotDone>
-    ensures { Tests result (if is_some (held_part text_of (end store.now [] source.now)) then None else Some wrong_source) }
+    ensures { Tests result (if is_some (held_part text_of (end store.now [] source.now)) then None else Some WrongSource) }
 {
     if !source.is_string(store) {
         return Err(NotDone::Refused(Refusal::WrongSource));
@@ -81,7 +76,7 @@ fn has_text(source: &Dynamic, store: &Store) -> Result<(), NotDone>
 impl Piece {
     /// Whether a source has the piece.
     pub(crate) fn is_in(self, source: &Dynamic, store: &Store) -> Result<(), NotDone>
-        ensures { Tests result (lack self (end store.now [] source.now)) }
+        ensures { Tests result ((rule self).lack (end store.now [] source.now)) }
     {
         match self {
             Piece::Bit(place) => has_bit(source, store, place),
@@ -134,11 +129,11 @@ impl Piece {
         store: &mut Store,
         value: &Dynamic,
     ) -> Result<(), AllocError>
-        requires there { lack self (end store.old [] source.old) ≡ None }
-        requires working { is_some (change self store.old source.old value.now) ≡ true }
-        ensures own { OnOk result (source.new ≡ value_changed (change self store.old source.old value.now) (end store.old [] source.old) source.old) }
-        ensures store { OnOk result (store.new ≡ store_changed (change self store.old source.old value.now) (end store.old [] source.old) store.old) }
-        ensures err { OnErr result ((source.new ≡ source.old) × (store.new ≡ store.old) × (makes_text self ≡ true)) }
+        requires there { (rule self).lack (end store.old [] source.old) ≡ None }
+        requires working { is_some ((rule self).change store.old source.old value.now) ≡ true }
+        ensures own { OnOk result (source.new ≡ value_changed ((rule self).change store.old source.old value.now) (end store.old [] source.old) source.old) }
+        ensures store { OnOk result (store.new ≡ store_changed ((rule self).change store.old source.old value.now) (end store.old [] source.old) store.old) }
+        ensures err { OnErr result ((source.new ≡ source.old) × (store.new ≡ store.old) × ((rule self).makes_text ≡ true)) }
     {
         let done = match self {
             Piece::Bit(place) => write_bit(source, store, value, place, Position::NONE),

@@ -1,11 +1,12 @@
 //! Commands on the scope as a whole, and pushes.
 ghost use Rattle.rhai_value.specs.declared.access_mode.AccessMode.TheVariants.{ReadWrite, ReadOnly};
-ghost use Rattle.rhai_run.specs.Scope.{moved_into_entry};
+ghost use Rattle.rhai_run.specs.Entries.{moved_into_entry};
 ghost use Rattle.rhai_run.specs.Does.{Does};
 ghost use Rattle.rhai_run.specs.declared.command.Command.TheVariants as command;
 ghost use Rattle.rhai_run.specs.Step.{step};
 
 use crate::answer::{Answer, Refusal};
+use crate::lists::{Bytes, Text};
 use crate::not_done::NotDone;
 use crate::vectors::replace_at;
 use crate::world_state::WorldState;
@@ -137,7 +138,7 @@ impl WorldState {
         ensures { Does result self.now self.now (step self.now command.ShowScope) }
     {
         let text = self.scope.shown(&self.store)?.into_text();
-        Ok(Answer::Text(text))
+        Ok(Answer::Text(Text::new(text)))
     }
 
     pub(crate) fn hash_scope(&self) -> Result<Answer, NotDone>
@@ -145,7 +146,7 @@ impl WorldState {
     {
         match self.scope.hashed(&self.store)? {
             None => Err(NotDone::Refused(Refusal::NotHashable)),
-            Some(hashed) => Ok(Answer::Bytes(hashed.into_bytes(self.alloc)?)),
+            Some(hashed) => Ok(Answer::Bytes(Bytes::new(hashed.into_bytes(self.alloc)?))),
         }
     }
 }

@@ -3,8 +3,7 @@ ghost use Rattle.std.specs.Prelude.{◌≡◌, [], Some, Ok, true, is_some, opti
 ghost use Rattle.std.specs.Str.{chars};
 ghost use Rattle.rhai_scope.specs.Lookup.{last_entry, last_position};
 ghost use Rattle.rhai_run.specs.Does.{IsRefusal};
-ghost use Rattle.rhai_run.specs.Places.{entry_found, source};
-ghost use Rattle.rhai_run.specs.Slots.{slot_of, value_in};
+ghost use Rattle.rhai_run.specs.Slots.{entry_found, slot_of, source, value_in};
 ghost use Rattle.rhai_run.specs.declared.slot.Slot.TheVariants as slot;
 
 use crate::answer::Refusal;

@@ -3,7 +3,7 @@ ghost use Rattle.std.specs.Prelude.{◌≡◌, [], true, is_some, None, IfSome, 
 ghost use Rattle.rhai_value.specs.End.{end};
 ghost use Rattle.rhai_run.specs.declared.pieces.Piece.TheVariants.{Bit, Field, Byte, Character};
 ghost use Rattle.rhai_run.specs.Slots.{changed_in, value_in};
-ghost use Rattle.rhai_run.specs.WriteBack.{lack, change, makes_text, step_write_back};
+ghost use Rattle.rhai_run.specs.WriteBack.{rule, step_write_back};
 ghost use Rattle.rhai_run.specs.Does.{Does};
 ghost use Rattle.rhai_run.specs.declared.command.Command.TheVariants as command;
 ghost use Rattle.rhai_run.specs.Step.{step};
@@ -24,10 +24,10 @@ impl WorldState {
     #[tactic(auto, using(crate::proofs::SlotValues::hand_kept, crate::proofs::SlotValues::scope_kept))]
     fn put_piece(&mut self, slot: Slot, piece: Piece, value: &Dynamic) -> Result<(), AllocError>
         requires suits { IsSomeAnd (value_in self.old.hand self.old.entries slot) (λ t.
-            (lack piece (end self.old.store [] t) ≡ None) × (is_some (change piece self.old.store t value.now) ≡ true)) }
+            ((rule piece).lack (end self.old.store [] t) ≡ None) × (is_some ((rule piece).change self.old.store t value.now) ≡ true)) }
         ensures ok { OnOk result (IfSome (value_in self.old.hand self.old.entries slot) (λ t.
-            self.new ≡ changed_in self.old slot (change piece self.old.store t value.now) t)) }
-        ensures err { OnErr result ((self.new ≡ self.old) × (makes_text piece ≡ true)) }
+            self.new ≡ changed_in self.old slot ((rule piece).change self.old.store t value.now) t)) }
+        ensures err { OnErr result ((self.new ≡ self.old) × ((rule piece).makes_text ≡ true)) }
     {
         let mut places = Slots {
             hand: &mut self.hand,
@@ -38,7 +38,7 @@ impl WorldState {
     }
 
     /// Writes the value at a hand position to a piece of the one at a place.
-    #[tactic(auto, using(crate::proofs::InSlots::source_is, crate::proofs::InSlots::same_change))]
+    #[tactic(auto, using(crate::proofs::InSlots::source_is, crate::proofs::InSlots::placed_is, crate::proofs::InSlots::placed_refused, crate::proofs::InSlots::same_change))]
     fn write_back(&mut self, place: &Place, piece: Piece, j: usize) -> Result<Answer, NotDone>
         ensures { Does result self.old self.new (step_write_back self.old place.now piece j) }
     {

@@ -3,8 +3,7 @@ use Rattle.rhai_value.specs.End.{first}
 use Rattle.rhai_ops.specs.AssignTable.{assign_row}
 use Rattle.rhai_run.specs.State.{State}
 use Rattle.rhai_run.specs.StateCode.{state_of}
-use Rattle.rhai_run.specs.Places.{source}
-use Rattle.rhai_run.specs.Slots.{slot_of, value_in}
+use Rattle.rhai_run.specs.Slots.{slot_of, source, value_in}
 use Rattle.rhai_run.proofs.Assigns.{assign_is}
 use Rattle.rhai_run.proofs.InSlots.{slot_apart, source_is}
 use Rattle.rhai_run.proofs.world_state.WorldState.assignment.Goals as goal
@@ -27,5 +26,5 @@ returns c =
     (subst (λ us. option_map Ok (value_in us v.entries q) ≡ Some (source us v.entries p)) c.deref.ensures.value c.in_ok-slot.ensures.value) in (
       (x, y, slot_apart w.entries p q c.args.j is c.in_ok-is_apart.ensures.ok, at, c.in_ok-y.ensures.ok, c.rows_suit.ensures.place c.args.op w.store x c.in_ok-first.first.now y c.in_ok-row.row content found),
       assign_is w c.args.op p q c.args.j x y c.in_ok-first.first.now c.in_ok-row.row c.in_ok-y.ensures.ok c.in_ok-is_apart.ensures.ok is
-          (source_is (value_in w.hand w.entries q) (source w.hand w.entries p) x same at) at content found,
+          (source_is (value_in w.hand w.entries q) (source w.hand w.entries p) x same at) at content found (c.operators_write_nothing.ensures.assignment c.args.op c.in_ok-first.first.now y c.in_ok-row.row found),
     )

@@ -5,7 +5,8 @@ use Rattle.rhai_value.specs.End.{end, end_name, store_after, value_after}
 use Rattle.rhai_value.specs.Parts.{with_int}
 use Rattle.rhai_run.specs.State.{State, with_cells}
 use Rattle.rhai_run.specs.StateCode.{state_of}
-use Rattle.rhai_run.specs.Reply.{done, mismatch, refused}
+use Rattle.rhai_run.specs.declared.answer.Answer.TheVariants.{Done, Refused}
+use Rattle.rhai_run.specs.declared.answer.Refusal.TheVariants.{Mismatch}
 use Rattle.rhai_run.proofs.Moves.{hand_within, int_done, int_refused}
 use Rattle.rhai_run.proofs.world_state.WorldState.write_int.Goals as goal
 use Rattle.rhai_run.specs.declared.command.Command.TheVariants as command
@@ -18,9 +19,9 @@ returns-then-not-set_int c =
     let t = c.index_mut-target.result.now in
     let stays = c.if-not-set_int.ensures.stays in
     let name = c.type_name-name.result.now in
-    subst (λ v. (refused (mismatch name) ≡ (step v (command.WriteInt c.args.i c.args.value)).reply) × (with_cells w c.set_int.new.store (slice_set w.hand c.args.i c.set_int.new.self) ≡ (step v (command.WriteInt c.args.i c.args.value)).after)) c.self.view_is
+    rw c.mismatch.ensures (subst (λ v. (Refused (Mismatch name) ≡ (step v (command.WriteInt c.args.i c.args.value)).reply) × (with_cells w c.set_int.new.store (slice_set w.hand c.args.i c.set_int.new.self) ≡ (step v (command.WriteInt c.args.i c.args.value)).after)) c.self.view_is
     (int_refused w c.args.i c.args.value t c.set_int.new.self c.set_int.new.store name (slice_get_read w.hand (length w.hand) c.args.i t refl within c.index_mut-target.ensures.value)
-    (sym c.if-not-set_int.ensures.is_int) stays (c.type_name-name.ensures ∙ ap₂ (λ s d. end_name (end s [] d)) stays.1 stays.0))
+    (sym c.if-not-set_int.ensures.is_int) stays (c.type_name-name.ensures ∙ ap₂ (λ s d. end_name (end s [] d)) stays.1 stays.0)))
 
 pub returns : goal.returns
 returns c =
@@ -29,7 +30,7 @@ returns c =
     let t = c.index_mut-target.result.now in
     let e = end w.store [] t in
     let back = to_z-of_z w64 c.args.value c.ranges.value in
-    subst (λ v. (done ≡ (step v (command.WriteInt c.args.i c.args.value)).reply) × (with_cells w c.set_int.new.store (slice_set w.hand c.args.i c.set_int.new.self) ≡ (step v (command.WriteInt c.args.i c.args.value)).after)) c.self.view_is
+    subst (λ v. (Done ≡ (step v (command.WriteInt c.args.i c.args.value)).reply) × (with_cells w c.set_int.new.store (slice_set w.hand c.args.i c.set_int.new.self) ≡ (step v (command.WriteInt c.args.i c.args.value)).after)) c.self.view_is
     (int_done w c.args.i c.args.value t c.set_int.new.self c.set_int.new.store (slice_get_read w.hand (length w.hand) c.args.i t refl within c.index_mut-target.ensures.value)
     (sym c.if-not-set_int.ensures.is_int)
     (c.set_int.ensures.own ∙ ap (λ z. value_after (with_int z) e t) back, c.set_int.ensures.store ∙ ap (λ z. store_after (with_int z) e w.store) back))

@@ -11,7 +11,7 @@ use Rattle.rhai_lines.specs.Words.{Left, and_then, words_of, is_name, name_of}
 use Rattle.rhai_lines.specs.Vocabulary.{Word, reads, a_name}
 use Rattle.rhai_lines.specs.Spelling.{behind, spells, writes, joined, words_for, flagged_word, text_words, has_feed}
 use Rattle.rhai_lines.specs.Arguments.{Arguments, says, of_no_verb, none, one, before, last, each_of, names, flagged_of, flagged_names, an_alias, text_left, a_text, only, a_char, bytes_of_pairs, is_hex, a_blob}
-use Rattle.rhai_lines.specs.Printed.{byte_text}
+use Rattle.rhai_show.specs.Leaves.{hex_digits}
 use Rattle.rhai_lines.proofs.SaysBack.{the_same, both, graphic, is_graphic, has_feed_append, utf8_behind, word_is, left_is, graphic_no_feed, graphic_utf8}
 use Rattle.rhai_lines.proofs.WordsBack.{named_back, word_back}
 use Rattle.rhai_lines.proofs.Names.{no_name}
@@ -152,7 +152,7 @@ digit_of : (d : ℕ) → d < 16 → (digit_value (digit_glyph false d) ≡ d) ×
 digit_of d h = (grind (arith, nat_tests, h), grind (arith, nat_tests, h), grind (arith, nat_tests, h))
 
 digits_back : (bytes : List ℕ) → list_all (λ b. nat_lt b 256) bytes ≡ true
-    → (bytes_of_pairs (flat_map byte_text bytes) ≡ bytes) × ((length (flat_map byte_text bytes) % 2 ≡ 0) × ((list_all is_ascii_hexdigit (flat_map byte_text bytes) ≡ true) × (graphic (flat_map byte_text bytes) ≡ true)))
+    → (bytes_of_pairs (flat_map hex_digits bytes) ≡ bytes) × ((length (flat_map hex_digits bytes) % 2 ≡ 0) × ((list_all is_ascii_hexdigit (flat_map hex_digits bytes) ≡ true) × (graphic (flat_map hex_digits bytes) ≡ true)))
 digits_back [] e = (refl, (refl, (refl, refl)))
 digits_back (b ∷ bs) e =
     let h = both (nat_lt b 256) (list_all (λ b. nat_lt b 256) bs) e in
@@ -163,7 +163,7 @@ digits_back (b ∷ bs) e =
     let value : (b / 16) * 16 + b % 16 ≡ b = omega arith in (
       ap₂ (λ x xs. x ∷ xs) (ap₂ (λ x y. x * 16 + y) high.0 low.0 ∙ value) k.0,
       (
-        even (length (flat_map byte_text bs)) k.1.0,
+        even (length (flat_map hex_digits bs)) k.1.0,
         (
           ap₂ (λ s t. s && t) high.1 (ap₂ (λ s t. s && t) low.1 k.1.1.0),
           ap₂ (λ s t. s && t) high.2 (ap₂ (λ s t. s && t) low.2 k.1.1.1),
@@ -180,16 +180,16 @@ blob_back [] left e = subst (SaysLeft a_blob []) (the_same e) (record { back = r
 blob_back (b ∷ bs) left e = by (list_all (λ x. nat_lt x 256) (b ∷ bs)) refl
   where
     by : (t : Bool) → list_all (λ x. nat_lt x 256) (b ∷ bs) ≡ t → SaysLeft a_blob (b ∷ bs) left
-    by false f = cc (sym (ap (λ t. if t then Some (Some (flat_map byte_text (b ∷ bs))) else None) f) ∙ e)
+    by false f = cc (sym (ap (λ t. if t then Some (Some (flat_map hex_digits (b ∷ bs))) else None) f) ∙ e)
     by true f =
         let k = digits_back (b ∷ bs) f in
-        let even : (length (flat_map byte_text (b ∷ bs)) % 2 == 0) ≡ true = grind (arith, nat_tests, k.1.0) in
-        let some : nat_lt 0 (length (flat_map byte_text (b ∷ bs))) ≡ true = grind (arith, nat_tests) in
-        let hex : is_hex (flat_map byte_text (b ∷ bs)) ≡ true = ap₂ (λ s t. s && t) (ap₂ (λ s t. s && t) some even) k.1.1.0 in
-        subst (SaysLeft a_blob (b ∷ bs)) (the_same (sym (ap (λ t. if t then Some (Some (flat_map byte_text (b ∷ bs))) else None) f) ∙ e))
+        let even : (length (flat_map hex_digits (b ∷ bs)) % 2 == 0) ≡ true = grind (arith, nat_tests, k.1.0) in
+        let some : nat_lt 0 (length (flat_map hex_digits (b ∷ bs))) ≡ true = grind (arith, nat_tests) in
+        let hex : is_hex (flat_map hex_digits (b ∷ bs)) ≡ true = ap₂ (λ s t. s && t) (ap₂ (λ s t. s && t) some even) k.1.1.0 in
+        subst (SaysLeft a_blob (b ∷ bs)) (the_same (sym (ap (λ t. if t then Some (Some (flat_map hex_digits (b ∷ bs))) else None) f) ∙ e))
         (record {
-          back = ap (λ t. if t then Some (bytes_of_pairs (flat_map byte_text (b ∷ bs))) else None) hex ∙ ap Some k.0;
-          fits = (graphic_no_feed (flat_map byte_text (b ∷ bs)) k.1.1.1, utf8_space (flat_map byte_text (b ∷ bs)) (graphic_utf8 (flat_map byte_text (b ∷ bs)) k.1.1.1));
+          back = ap (λ t. if t then Some (bytes_of_pairs (flat_map hex_digits (b ∷ bs))) else None) hex ∙ ap Some k.0;
+          fits = (graphic_no_feed (flat_map hex_digits (b ∷ bs)) k.1.1.1, utf8_space (flat_map hex_digits (b ∷ bs)) (graphic_utf8 (flat_map hex_digits (b ∷ bs)) k.1.1.1));
         })
 
 -- what is written for any arguments

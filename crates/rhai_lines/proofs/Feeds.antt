@@ -10,9 +10,9 @@ use Rattle.std.proofs.Math.Seq.{split_at, take-append_seam}
 use Rattle.std.proofs.lemmas.List.{append_cancel_left, get_or-take, length-take}
 use Rattle.memchr.specs.Find.{Nowhere, Passes, is_byte}
 use Rattle.rhai_run.specs.State.{State}
-use Rattle.rhai_lines.specs.Output.{lines_of, without_empty_rest, line_answer, line_state, answers_to_lines, state_after_lines, output_from, output_of_first_from}
+use Rattle.rhai_lines.specs.Output.{lines_of, without_empty_rest, line_answer, line_state, answers_to_lines, state_after_lines, output, output_of_first}
 use Rattle.rhai_lines.proofs.Prints.{Appends-nil, Appends-more}
-use Rattle.rhai_lines.specs.Fed.{AnswerAlike, HasNoFeed, Fed, Feeds, StopsWithin, Completes}
+use Rattle.rhai_lines.specs.Fed.{AnswerAlike, Fed, Feeds, StopsWithin, Completes}
 
 -- ---- lines
 
@@ -44,14 +44,14 @@ none_passes : (t : Bool) → (t ≡ true → ⊥) → t ≡ false
 none_passes true n = absurd (n refl)
 none_passes false n = refl
 
-pub no_feed_before : (bytes : List ℕ) (k : ℕ) → Nowhere (Passes (is_byte 10) bytes) 0 k → HasNoFeed (take k bytes)
+pub no_feed_before : (bytes : List ℕ) (k : ℕ) → Nowhere (Passes (is_byte 10) bytes) 0 k → All (λ b. (b == 10) ≡ false) (take k bytes)
 no_feed_before bytes k n =
     All-from_get_or (λ b. (b == 10) ≡ false) (take k bytes) 0 (λ i l.
     let below : i < k = search (arith, l, length-take k bytes) in
     rw (get_or-take k bytes i 0 below) (none_passes (get_or bytes i 0 == 10) (n i (omega arith) below)))
 
-pub no_feed : (bytes : List ℕ) → Nowhere (Passes (is_byte 10) bytes) 0 (length bytes) → HasNoFeed bytes
-no_feed bytes n = subst HasNoFeed (take_all (length bytes) bytes (omega arith)) (no_feed_before bytes (length bytes) n)
+pub no_feed : (bytes : List ℕ) → Nowhere (Passes (is_byte 10) bytes) 0 (length bytes) → All (λ b. (b == 10) ≡ false) bytes
+no_feed bytes n = subst (All (λ b. (b == 10) ≡ false)) (take_all (length bytes) bytes (omega arith)) (no_feed_before bytes (length bytes) n)
 
 pub cut_at : (bytes : List ℕ) (k : ℕ) → k < length bytes → Passes (is_byte 10) bytes k → bytes ≡ take k bytes ++ 10 ∷ drop (k + 1) bytes
 cut_at bytes k l p =
@@ -89,7 +89,7 @@ pub fed_start : (input : List ℕ) (w : State) (old : Option (List ℕ)) → Fed
 fed_start input w old = record { lines = []; input_is = refl; has_no_feed = All-nil _; state_is = λ _. refl; replied = Appends-nil old }
 
 -- bytes of the line have come
-pub fed_bytes : {input rest partial : List ℕ} {start now : State} {old new : Option (List ℕ)} (bytes : List ℕ) → Fed input (bytes ++ rest) partial start now old new → HasNoFeed bytes → Fed input rest (partial ++ bytes) start now old new
+pub fed_bytes : {input rest partial : List ℕ} {start now : State} {old new : Option (List ℕ)} (bytes : List ℕ) → Fed input (bytes ++ rest) partial start now old new → All (λ b. (b == 10) ≡ false) bytes → Fed input rest (partial ++ bytes) start now old new
 fed_bytes {rest} {partial} bytes h n =
     record { lines = h.lines; input_is = h.input_is ∙ ap (λ xs. h.lines ++ lines_of xs) (sym (append_assoc partial bytes rest)); has_no_feed = All-append (λ b. (b == 10) ≡ false) partial bytes h.has_no_feed n; state_is = h.state_is; replied = h.replied }
 
@@ -117,11 +117,11 @@ fed_alike after h k =
     record { lines = h.lines; input_is = h.input_is; has_no_feed = h.has_no_feed; state_is = λ lines. h.state_is lines ∙ k lines; replied = h.replied }
 
 -- nothing is left
-pub fed_end : {input : List ℕ} {start now : State} {old new : Option (List ℕ)} → Fed input [] [] start now old new → Appends old new (output_from start input)
+pub fed_end : {input : List ℕ} {start now : State} {old new : Option (List ℕ)} → Fed input [] [] start now old new → Appends old new (output start input)
 fed_end {start} {old} {new} h = subst (λ ls. Appends old new (answers_to_lines start ls)) (sym (h.input_is ∙ append-nil h.lines)) h.replied
 
 -- some first lines are answered
-pub fed_first : {input rest partial : List ℕ} {start now : State} {old new : Option (List ℕ)} → Fed input rest partial start now old new → (n : ℕ) × Appends old new (output_of_first_from start n input)
+pub fed_first : {input rest partial : List ℕ} {start now : State} {old new : Option (List ℕ)} → Fed input rest partial start now old new → (n : ℕ) × Appends old new (output_of_first start n input)
 fed_first {rest} {partial} {start} {old} {new} h =
     (length h.lines, subst (λ ls. Appends old new (answers_to_lines start ls)) (sym (ap (take (length h.lines)) h.input_is ∙ take-append_seam h.lines (lines_of (partial ++ rest)))) h.replied)
 
@@ -131,13 +131,13 @@ pub feeds_none : {partial : List ℕ} {now : State} {written : Option (List ℕ)
 feeds_none input rest start old h = h
 
 -- a line feed ends the line
-pub feeds_line : {partial : List ℕ} {now after : State} {written : Option (List ℕ)} (line : List ℕ) (more : Option (List ℕ)) → HasNoFeed line → after ≡ line_state now (partial ++ line) → Appends written more (line_answer now (partial ++ line)) → Feeds (line ++ 10 ∷ []) partial now written [] after more
+pub feeds_line : {partial : List ℕ} {now after : State} {written : Option (List ℕ)} (line : List ℕ) (more : Option (List ℕ)) → All (λ b. (b == 10) ≡ false) line → after ≡ line_state now (partial ++ line) → Appends written more (line_answer now (partial ++ line)) → Feeds (line ++ 10 ∷ []) partial now written [] after more
 feeds_line {partial} {now} {after} {written} line more n s t input rest start old h =
     let whole = fed_bytes line (subst (λ xs. Fed input xs partial start now old written) (append_assoc line (10 ∷ []) rest) h) n in
     fed_line after more whole (lines_of-at_feed (partial ++ line) rest 10 whole.has_no_feed refl) s t
 
 -- no line feed is among the bytes
-pub feeds_rest : {partial : List ℕ} {now : State} {written : Option (List ℕ)} (bytes : List ℕ) → HasNoFeed bytes → Feeds bytes partial now written (partial ++ bytes) now written
+pub feeds_rest : {partial : List ℕ} {now : State} {written : Option (List ℕ)} (bytes : List ℕ) → All (λ b. (b == 10) ≡ false) bytes → Feeds bytes partial now written (partial ++ bytes) now written
 feeds_rest bytes n input rest start old h = fed_bytes bytes h n
 
 -- bytes, and then others
@@ -148,7 +148,7 @@ feeds_more bytes more {partial} {now} {written} f g input rest start old h =
 pub stops_within : (bytes left : List ℕ) {partial next : List ℕ} {now after : State} {written more : Option (List ℕ)} (new : Option (List ℕ)) → Feeds bytes partial now written next after more → new ≡ more → StopsWithin (bytes ++ left) partial now written new
 stops_within bytes left {partial} {now} {written} new f e input rest start old h =
     let k = fed_first (f input (left ++ rest) start old (subst (λ xs. Fed input xs partial start now old written) (append_assoc bytes left rest) h)) in
-    (k.0, subst (λ m. Appends old m (output_of_first_from start k.0 input)) (sym e) k.1)
+    (k.0, subst (λ m. Appends old m (output_of_first start k.0 input)) (sym e) k.1)
 
 -- ---- the end of the input
 

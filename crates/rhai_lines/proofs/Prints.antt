@@ -1,12 +1,8 @@
 -- One write after another.
-use Rattle.std.proofs.Common.{◌≡◌, ℕ, ◌+◌, ◌<◌, List, [], ◌++◌, length, take, get_or, flat_map, Option, Some, None, Result, Ok, Err, OnOk, string_bytes, sym, ap, ◌∙◌, subst, append_assoc, append-nil}
+use Rattle.std.proofs.Common.{◌≡◌, ℕ, ◌+◌, ◌<◌, List, [], ◌++◌, length, take, get_or, flat_map, Option, Some, None, Result, Ok, Err, OnOk, sym, ap, ◌∙◌, subst, append_assoc, append-nil}
 use Rattle.std.specs.Io.KnownBytes.{Appends}
-use Rattle.std.proofs.lemmas.Str.{encodes-chars, IsUtf8-string_bytes}
 use Rattle.std.proofs.lemmas.List.{flat_map_more, take_more}
-use Rattle.rhai_run.specs.declared.answer.Answer.{Answer}
-use Rattle.rhai_run.specs.declared.answer.Answer.TheVariants.{Text}
-use Rattle.rhai_run.specs.Reply.{reply_of}
-use Rattle.rhai_lines.specs.Printed.{printed, byte_text}
+use Rattle.rhai_show.specs.Leaves.{hex_digits}
 
 pub Appends-nil : (old : Option (List ℕ)) → Appends old old []
 Appends-nil None = tt
@@ -24,10 +20,7 @@ Appends-last (Ok x) old mid new a b h k = Appends-more old mid new a b h k
 Appends-last (Err e) old mid new a b h k = tt
 
 -- a byte after the bytes before it
-pub Appends-byte : (old mid new : Option (List ℕ)) (bytes : List ℕ) (i : ℕ) → i < length bytes → Appends old mid (flat_map byte_text (take i bytes)) → Appends mid new (byte_text (get_or bytes i 0)) → Appends old new (flat_map byte_text (take (i + 1) bytes))
+pub Appends-byte : (old mid new : Option (List ℕ)) (bytes : List ℕ) (i : ℕ) → i < length bytes → Appends old mid (flat_map hex_digits (take i bytes)) → Appends mid new (hex_digits (get_or bytes i 0)) → Appends old new (flat_map hex_digits (take (i + 1) bytes))
 Appends-byte old mid new bytes i l h k =
-    let e : flat_map byte_text (take i bytes) ++ byte_text (get_or bytes i 0) ≡ flat_map byte_text (take (i + 1) bytes) = flat_map_more byte_text [] (take i bytes) (get_or bytes i 0) ∙ ap (flat_map byte_text) (sym (take_more bytes i 0 l)) in
-    subst (Appends old new) e (Appends-more old mid new (flat_map byte_text (take i bytes)) (byte_text (get_or bytes i 0)) h k)
-
-pub printed-text : (a : Answer) (t : _) → a ≡ Text t → printed (reply_of a) ≡ string_bytes t
-printed-text a t e = ap (λ x. printed (reply_of x)) e ∙ encodes-chars (string_bytes t) (IsUtf8-string_bytes t)
+    let e : flat_map hex_digits (take i bytes) ++ hex_digits (get_or bytes i 0) ≡ flat_map hex_digits (take (i + 1) bytes) = flat_map_more hex_digits [] (take i bytes) (get_or bytes i 0) ∙ ap (flat_map hex_digits) (sym (take_more bytes i 0 l)) in
+    subst (Appends old new) e (Appends-more old mid new (flat_map hex_digits (take i bytes)) (hex_digits (get_or bytes i 0)) h k)

@@ -3,7 +3,7 @@ use Rattle.std.proofs.Common.{◌≡◌, ℕ, List, [], ◌++◌, Option, Some, 
 use Rattle.std.specs.Io.KnownBytes.{Appends, Consumes, IsAtEnd, Keeps}
 use Rattle.std.proofs.lemmas.Option.{same_Some}
 use Rattle.rhai_run.specs.State.{State}
-use Rattle.rhai_lines.specs.Output.{output_from, output_of_first_from}
+use Rattle.rhai_lines.specs.Output.{output, output_of_first}
 use Rattle.rhai_lines.specs.Fed.{AnswerAlike, Fed, Feeds, StopsWithin, Completes, AnswersWhatIsRead}
 use Rattle.rhai_lines.proofs.Feeds.{fed_start, fed_first, fed_kept, fed_alike}
 
@@ -46,7 +46,7 @@ reached_more known left next bytes {partial} {start} {now} {old} {written} h c f
     (s.0, s.1, f input s.0 start old (subst (λ xs. Fed input xs partial start now old written) s.2 a.2))
 
 -- the run ends here well
-pub reached_end : (known left next : Option (List ℕ)) (bytes : List ℕ) {partial : List ℕ} {start now : State} {old written : Option (List ℕ)} (more : Option (List ℕ)) → Reached known left partial start now old written → Consumes left next bytes → bytes ≡ [] → IsAtEnd next → Completes partial now written more → IfSome known (λ input. Appends old more (output_from start input))
+pub reached_end : (known left next : Option (List ℕ)) (bytes : List ℕ) {partial : List ℕ} {start now : State} {old written : Option (List ℕ)} (more : Option (List ℕ)) → Reached known left partial start now old written → Consumes left next bytes → bytes ≡ [] → IsAtEnd next → Completes partial now written more → IfSome known (λ input. Appends old more (output start input))
 reached_end None left next bytes more h c z e f = tt
 reached_end (Some input) left next bytes {partial} {start} {now} {old} {written} more h c z e f =
     let a = h input refl in
@@ -62,13 +62,13 @@ reached_end_left (Some input) left next bytes h c e =
     s.1 ∙ ap Some (at_end next s.0 e s.1)
 
 -- the run stops here, or within the bytes that are read
-pub reached_stop : (known left : Option (List ℕ)) {partial : List ℕ} {start now : State} {old written : Option (List ℕ)} (more : Option (List ℕ)) → Reached known left partial start now old written → more ≡ written → IfSome known (λ input. (n : ℕ) × Appends old more (output_of_first_from start n input))
+pub reached_stop : (known left : Option (List ℕ)) {partial : List ℕ} {start now : State} {old written : Option (List ℕ)} (more : Option (List ℕ)) → Reached known left partial start now old written → more ≡ written → IfSome known (λ input. (n : ℕ) × Appends old more (output_of_first start n input))
 reached_stop None left more h e = tt
 reached_stop (Some input) left {start} {old} more h e =
     let k = fed_first (h input refl).2 in
-    (k.0, subst (λ m. Appends old m (output_of_first_from start k.0 input)) (sym e) k.1)
+    (k.0, subst (λ m. Appends old m (output_of_first start k.0 input)) (sym e) k.1)
 
-pub reached_stop_within : (known left next : Option (List ℕ)) (bytes : List ℕ) {partial : List ℕ} {start now : State} {old written : Option (List ℕ)} (more : Option (List ℕ)) → Reached known left partial start now old written → Consumes left next bytes → StopsWithin bytes partial now written more → IfSome known (λ input. (n : ℕ) × Appends old more (output_of_first_from start n input))
+pub reached_stop_within : (known left next : Option (List ℕ)) (bytes : List ℕ) {partial : List ℕ} {start now : State} {old written : Option (List ℕ)} (more : Option (List ℕ)) → Reached known left partial start now old written → Consumes left next bytes → StopsWithin bytes partial now written more → IfSome known (λ input. (n : ℕ) × Appends old more (output_of_first start n input))
 reached_stop_within None left next bytes more h c f = tt
 reached_stop_within (Some input) left next bytes {partial} {start} {now} {old} {written} more h c f =
     let a = h input refl in

@@ -7,7 +7,7 @@ use Rattle.rhai_run.specs.State.{State}
 use Rattle.rhai_run.specs.Step.{step}
 use Rattle.rhai_lines.specs.Spelling.{has_feed, IsLineOf, IsFollowed, IsJournalOf}
 use Rattle.rhai_lines.specs.Printed.{printed}
-use Rattle.rhai_lines.specs.Output.{lines_of, answered, answers_to_lines, output_from, output_of_commands}
+use Rattle.rhai_lines.specs.Output.{lines_of, answered, answers_to_lines, output, output_of_commands}
 use Rattle.rhai_lines.proofs.SaysBack.{the_same}
 use Rattle.rhai_lines.proofs.LinesBack.{line_says}
 use Rattle.rhai_lines.proofs.Feeds.{lines_of-at_feed}
@@ -21,19 +21,19 @@ without_feed [] e = tt
 without_feed (b ∷ bs) e = let h = neither (nat_eq b 10) (has_feed bs) e in (h.0, without_feed bs h.1)
 
 -- what is written for a journal
-pub replay : (cs : List Command) (bytes : List ℕ) (w : State) → IsJournalOf cs (Some bytes) → output_from w bytes ≡ output_of_commands w cs
-replay [] bytes w e = ap (output_from w) (the_same e)
+pub replay : (cs : List Command) (bytes : List ℕ) (w : State) → IsJournalOf cs (Some bytes) → output w bytes ≡ output_of_commands w cs
+replay [] bytes w e = ap (output w) (the_same e)
 replay (c ∷ cs) bytes w p = by p.0 p.1 p.2 (λ more v h. replay cs more v h)
   where
-    by : (line : Option (List ℕ)) → IsLineOf c line → IsFollowed line (λ more. IsJournalOf cs more) (Some bytes) → ((more : List ℕ) (v : State) → IsJournalOf cs (Some more) → output_from v more ≡ output_of_commands v cs) → output_from w bytes ≡ output_of_commands w (c ∷ cs)
+    by : (line : Option (List ℕ)) → IsLineOf c line → IsFollowed line (λ more. IsJournalOf cs more) (Some bytes) → ((more : List ℕ) (v : State) → IsJournalOf cs (Some more) → output v more ≡ output_of_commands v cs) → output w bytes ≡ output_of_commands w (c ∷ cs)
     by None l f k = cc f
     by (Some line) l f k = rest f.0 f.1 f.2
       where
-        rest : (more : Option (List ℕ)) → IsJournalOf cs more → Some bytes ≡ option_map (λ m. line ++ 10 ∷ m) more → output_from w bytes ≡ output_of_commands w (c ∷ cs)
+        rest : (more : Option (List ℕ)) → IsJournalOf cs more → Some bytes ≡ option_map (λ m. line ++ 10 ∷ m) more → output w bytes ≡ output_of_commands w (c ∷ cs)
         rest None j e = cc e
         rest (Some more) j e =
             let h = line_says c line l in
-            ap (output_from w) (the_same e)
+            ap (output w) (the_same e)
             ∙ ap (answers_to_lines w) (lines_of-at_feed line more 10 (All-from_recursion (λ b. (b == 10) ≡ false) line (without_feed line h.no_feed)) refl)
             ∙ ap (λ o. ((answered w o).0 ++ 10 ∷ []) ++ answers_to_lines (answered w o).1 (lines_of more)) h.back
             ∙ ap (λ bs. (printed (step w c).reply ++ 10 ∷ []) ++ bs) (k more (step w c).after j)

@@ -11,7 +11,7 @@ use Rattle.rhai_lines.specs.Vocabulary.{Word}
 use Rattle.rhai_lines.specs.Spelling.{behind, spells, writes, joined, text_words, has_feed, spoken}
 use Rattle.rhai_lines.specs.Arguments.{Arguments, one, before, a_text, a_char, a_blob}
 use Rattle.rhai_lines.specs.Cursor.{Adds, AddsLine}
-use Rattle.rhai_lines.specs.Printed.{byte_text}
+use Rattle.rhai_show.specs.Leaves.{hex_digits}
 use Rattle.rhai_lines.specs.Verbs.{form_of}
 use Rattle.rhai_run.specs.declared.command.Command.{Command}
 
@@ -92,7 +92,7 @@ each_fits (b ∷ bs) h =
     let t : nat_lt b 256 ≡ true = grind (arith, nat_tests, k) in
     ap₂ (λ x y. x && y) t (each_fits bs (λ i. h (suc i)))
 
-pub blob_is : (verb bytes : List ℕ) → ((i : ℕ) → Fits w8 (slice_index_or bytes i 0)) → (length bytes == 0) ≡ false → spoken verb a_blob bytes ≡ Some (verb ++ 32 ∷ flat_map byte_text bytes)
+pub blob_is : (verb bytes : List ℕ) → ((i : ℕ) → Fits w8 (slice_index_or bytes i 0)) → (length bytes == 0) ≡ false → spoken verb a_blob bytes ≡ Some (verb ++ 32 ∷ flat_map hex_digits bytes)
 unfolding spoken writes
 blob_is verb [] h n = cc n
-blob_is verb (b ∷ bs) h n = ap (λ t. written verb (if t then Some (Some (flat_map byte_text (b ∷ bs))) else None)) (each_fits (b ∷ bs) h)
+blob_is verb (b ∷ bs) h n = ap (λ t. written verb (if t then Some (Some (flat_map hex_digits (b ∷ bs))) else None)) (each_fits (b ∷ bs) h)

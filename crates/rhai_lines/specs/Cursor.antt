@@ -79,6 +79,11 @@ FindsTuple (Err e) values arguments left = Lacks e arguments left
 abbrev pub Finds : {A : Type 0} → Result A NoCommand → Arguments A → Left → Type 0
 Finds result arguments left = FindsTuple result (λ a. a) arguments left
 
+-- All that is left says values, which the code has as a tuple and of which this command is made; or there are none.
+abbrev pub Makes : {T A : Type 0} → Result Command NoCommand → (T → A) → (T → Command → Type 0) → Arguments A → Left → Type 0
+Makes {T} (Ok c) values IsMade arguments left = (t : T) × (says arguments left ≡ Some (values t)) × IsMade t c
+Makes (Err e) values IsMade arguments left = Lacks e arguments left
+
 -- The same of a list, a word of which says one item.
 abbrev pub LacksItems : {A : Type 0} → NoCommand → (List ℕ → Option A) → Left → Type 0
 LacksItems BadLine item left = each_of item (words_of left) ≡ None

@@ -2,22 +2,19 @@
 use Rattle.std.specs.Prelude.{◌≡◌, ℕ, false, List, [], ◌++◌, Option, Some, All, ◌==◌}
 use Rattle.std.specs.Io.KnownBytes.{Appends}
 use Rattle.rhai_run.specs.State.{State}
-use Rattle.rhai_lines.specs.Output.{lines_of, answers_to_lines, state_after_lines, output_from, output_of_first_from}
-
--- no byte of these is a line feed
-abbrev pub HasNoFeed : List ℕ → Type 0
-HasNoFeed bytes = All (λ b. (b == 10) ≡ false) bytes
+use Rattle.rhai_lines.specs.Output.{lines_of, answers_to_lines, state_after_lines, output, output_of_first}
 
 -- No lines that come tell the two worlds apart.
 abbrev pub AnswerAlike : State → State → Type 0
 AnswerAlike w v = (lines : List (List ℕ)) → answers_to_lines w lines ≡ answers_to_lines v lines
 
 -- Of the input, the rest is not read yet, and some first lines have their answers: the world is no longer start but now, which answers as start
--- does after these lines, and the writer's bytes are no longer old but new. The bytes of the partial line are read and have no answer.
+-- does after these lines, and the writer's bytes are no longer old but new. The bytes of the partial line are read and have no answer; none is a line
+-- feed (10).
 pub record Fed (input rest partial : List ℕ) (start now : State) (old new : Option (List ℕ)) : Type 0 where
   pub lines : List (List ℕ)
   pub input_is : lines_of input ≡ lines ++ lines_of (partial ++ rest)
-  pub has_no_feed : HasNoFeed partial
+  pub has_no_feed : All (λ b. (b == 10) ≡ false) partial
   pub state_is : AnswerAlike (state_after_lines start lines) now
   pub replied : Appends old new (answers_to_lines start lines)
 
@@ -29,12 +26,12 @@ Feeds bytes partial now written next after more =
 -- Somewhere in these bytes a run stops, where it has written the answers of some number of first lines.
 abbrev pub StopsWithin : List ℕ → List ℕ → State → Option (List ℕ) → Option (List ℕ) → Type 0
 StopsWithin bytes partial now written more =
-    (input rest : List ℕ) (start : State) (old : Option (List ℕ)) → Fed input (bytes ++ rest) partial start now old written → (n : ℕ) × Appends old more (output_of_first_from start n input)
+    (input rest : List ℕ) (start : State) (old : Option (List ℕ)) → Fed input (bytes ++ rest) partial start now old written → (n : ℕ) × Appends old more (output_of_first start n input)
 
 -- At the end of the input, what was written becomes its whole output.
 abbrev pub Completes : List ℕ → State → Option (List ℕ) → Option (List ℕ) → Type 0
 Completes partial now written more =
-    (input : List ℕ) (start : State) (old : Option (List ℕ)) → Fed input [] partial start now old written → Appends old more (output_from start input)
+    (input : List ℕ) (start : State) (old : Option (List ℕ)) → Fed input [] partial start now old written → Appends old more (output start input)
 
 -- The rest of the input is left in the reader, and of what it gave the whole lines have their answers: only a partial line has none.
 abbrev pub AnswersWhatIsRead : State → List ℕ → Option (List ℕ) → Option (List ℕ) → Option (List ℕ) → Type 0

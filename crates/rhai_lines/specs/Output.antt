@@ -43,19 +43,12 @@ state_after_lines w (line ∷ lines) = state_after_lines (line_state w line) lin
 abbrev pub new_world : State
 new_world = empty_state (record { text = 0; items = 0 })
 
--- what is written for an input that a new world reads, and for its first n lines
-abbrev pub output : List ℕ → List ℕ
-output input = answers_to_lines new_world (lines_of input)
+-- what is written for an input that a world reads, and for its first n lines
+abbrev pub output : State → List ℕ → List ℕ
+output w input = answers_to_lines w (lines_of input)
 
-abbrev pub output_of_first : ℕ → List ℕ → List ℕ
-output_of_first n input = answers_to_lines new_world (take n (lines_of input))
-
--- the same of an input that any world reads
-abbrev pub output_from : State → List ℕ → List ℕ
-output_from w input = answers_to_lines w (lines_of input)
-
-abbrev pub output_of_first_from : State → ℕ → List ℕ → List ℕ
-output_of_first_from w n input = answers_to_lines w (take n (lines_of input))
+abbrev pub output_of_first : State → ℕ → List ℕ → List ℕ
+output_of_first w n input = answers_to_lines w (take n (lines_of input))
 
 -- what is written for commands that a world is told
 abbrev pub output_of_commands : State → List Command → List ℕ

@@ -1,11 +1,17 @@
 -- How an answer is printed.
-use Rattle.std.specs.Prelude.{ℕ, pos, ◌/◌, ◌%◌, false, List, [], ◌∷◌, ◌++◌, flat_map, if◌then◌else◌, codes, encode_utf8_all}
-use Rattle.std.specs.Fmt.{digit_glyph, signed_decimal}
+use Rattle.std.specs.Prelude.{ℕ, pos, List, ◌++◌, flat_map, if◌then◌else◌, codes, encode_utf8_all}
+use Rattle.std.specs.Fmt.{signed_decimal}
+use Rattle.rhai_show.specs.Leaves.{hex_digits}
 use Rattle.rhai_text.specs.declared.error.ArithmeticFault.{ArithmeticFault}
 use Rattle.rhai_text.specs.declared.error.ArithmeticFault.TheVariants.{Overflow, DivisionByZero, NegativePower, PowerTooLarge}
 use Rattle.rhai_text.specs.declared.error.SizeKind.{SizeKind}
 use Rattle.rhai_text.specs.declared.error.SizeKind.TheVariants.{Text, Items}
-use Rattle.rhai_run.specs.Reply.{Reply, done, truth, number, text_answer, bytes, pair, nothing, refused, Reason, no_value, same_value, no_entry, empty_scope, constant_entry, shared_entry, no_mark, wrong_source, bit_place, byte_place, no_builtin, not_hashable, mismatch, fault, Fault, wrong_type, data_race, arithmetic, too_large, out_of_memory}
+use Rattle.rhai_run.specs.declared.answer.Answer.{Answer}
+use Rattle.rhai_run.specs.declared.answer.Refusal.{Refusal}
+use Rattle.rhai_text.specs.declared.error.EvalAltResult.{EvalAltResult}
+use Rattle.rhai_run.specs.declared.answer.Answer.TheVariants as answer
+use Rattle.rhai_run.specs.declared.answer.Refusal.TheVariants.{NoValue, SameValue, NoEntry, EmptyScope, ConstantEntry, SharedEntry, NoMark, WrongSource, BitPlace, BytePlace, NoBuiltin, NotHashable, Mismatch, Fault}
+use Rattle.rhai_text.specs.declared.error.EvalAltResult.TheVariants as error
 
 -- why a calculation has no result, and which of the sizes is too large
 abbrev pub arithmetic_text : ArithmeticFault → List ℕ
@@ -19,41 +25,37 @@ size_text Text = codes "Text"
 size_text Items = codes "Items"
 
 -- the error of a call: its name, and behind it the wanted and the found type, the reason or the kind of size
-abbrev pub fault_text : Fault → List ℕ
-fault_text (wrong_type wanted found at) = codes "ErrorMismatchDataType " ++ wanted ++ codes " " ++ found
-fault_text (data_race at) = codes "ErrorDataRace"
-fault_text (arithmetic why at) = codes "ErrorArithmetic " ++ arithmetic_text why
-fault_text (too_large size at) = codes "ErrorDataTooLarge " ++ size_text size
-fault_text out_of_memory = codes "ErrorMemory"
+abbrev pub fault_text : EvalAltResult → List ℕ
+fault_text (error.ErrorMismatchDataType wanted found at) = codes "ErrorMismatchDataType " ++ wanted ++ codes " " ++ found
+fault_text (error.ErrorDataRace at) = codes "ErrorDataRace"
+fault_text (error.ErrorArithmetic why at) = codes "ErrorArithmetic " ++ arithmetic_text why
+fault_text (error.ErrorDataTooLarge size at) = codes "ErrorDataTooLarge " ++ size_text size
+fault_text (error.ErrorMemory e) = codes "ErrorMemory"
 
 -- why a command was refused: the name of the refusal, behind a mismatch the type that is held; for a fault the error
-abbrev pub reason_text : Reason → List ℕ
-reason_text no_value = codes "NoValue"
-reason_text same_value = codes "SameValue"
-reason_text no_entry = codes "NoEntry"
-reason_text empty_scope = codes "EmptyScope"
-reason_text constant_entry = codes "ConstantEntry"
-reason_text shared_entry = codes "SharedEntry"
-reason_text no_mark = codes "NoMark"
-reason_text wrong_source = codes "WrongSource"
-reason_text bit_place = codes "BitPlace"
-reason_text byte_place = codes "BytePlace"
-reason_text no_builtin = codes "NoBuiltin"
-reason_text not_hashable = codes "NotHashable"
-reason_text (mismatch name) = codes "Mismatch " ++ name
-reason_text (fault why) = fault_text why
-
--- a byte as two lower-case hexadecimal digits
-abbrev pub byte_text : ℕ → List ℕ
-byte_text b = digit_glyph false (b / 16) ∷ digit_glyph false (b % 16) ∷ []
+abbrev pub reason_text : Refusal → List ℕ
+reason_text NoValue = codes "NoValue"
+reason_text SameValue = codes "SameValue"
+reason_text NoEntry = codes "NoEntry"
+reason_text EmptyScope = codes "EmptyScope"
+reason_text ConstantEntry = codes "ConstantEntry"
+reason_text SharedEntry = codes "SharedEntry"
+reason_text NoMark = codes "NoMark"
+reason_text WrongSource = codes "WrongSource"
+reason_text BitPlace = codes "BitPlace"
+reason_text BytePlace = codes "BytePlace"
+reason_text NoBuiltin = codes "NoBuiltin"
+reason_text NotHashable = codes "NotHashable"
+reason_text (Mismatch name) = codes "Mismatch " ++ name
+reason_text (Fault why) = fault_text why
 
 -- an answer, as bytes
-abbrev pub printed : Reply → List ℕ
-printed done = codes "ok"
-printed (truth b) = if b then codes "true" else codes "false"
-printed (number n) = signed_decimal n
-printed (text_answer characters) = encode_utf8_all characters
-printed (bytes bs) = flat_map byte_text bs
-printed (pair m n) = signed_decimal (pos m) ++ codes " " ++ signed_decimal (pos n)
-printed nothing = codes "none"
-printed (refused why) = codes "refused " ++ reason_text why
+abbrev pub printed : Answer → List ℕ
+printed answer.Done = codes "ok"
+printed (answer.Bool b) = if b then codes "true" else codes "false"
+printed (answer.Int n) = signed_decimal n
+printed (answer.Text characters) = encode_utf8_all characters
+printed (answer.Bytes bs) = flat_map hex_digits bs
+printed (answer.Pair m n) = signed_decimal (pos m) ++ codes " " ++ signed_decimal (pos n)
+printed answer.Nothing = codes "none"
+printed (answer.Refused why) = codes "refused " ++ reason_text why

@@ -19,7 +19,7 @@ use Rattle.rhai_run.specs.declared.command.Place.TheVariants as place
 use Rattle.rhai_lines.specs.Words.{Left, name_of}
 use Rattle.rhai_lines.specs.Numbers.{below, as_signed}
 use Rattle.rhai_lines.specs.Vocabulary.{Word, a_truth, a_position, a_bit, an_int, a_tag, a_kind, a_token, a_question, a_scanner, a_host, a_place, a_name, kinds, operators}
-use Rattle.rhai_lines.specs.Printed.{byte_text}
+use Rattle.rhai_show.specs.Leaves.{hex_digits}
 use Rattle.rhai_lines.specs.Arguments.{Arguments, of_no_verb, none, one, before, names, flagged_names, an_alias, a_text, a_blob, a_char}
 use Rattle.rhai_lines.specs.Verbs.{form_of}
 
@@ -122,7 +122,7 @@ text_words (c ∷ cs) = if scalars (c ∷ cs) && not (has_feed (encode_utf8_all 
 
 abbrev pub blob_words : List ℕ → Option Left
 blob_words [] = Some None
-blob_words (b ∷ bs) = if list_all (λ x. nat_lt x 256) (b ∷ bs) then Some (Some (flat_map byte_text (b ∷ bs))) else None
+blob_words (b ∷ bs) = if list_all (λ x. nat_lt x 256) (b ∷ bs) then Some (Some (flat_map hex_digits (b ∷ bs))) else None
 
 -- What is left of a line for the values of a verb's arguments, where they can be said.
 unfoldable pub writes : {A : Type 0} → Arguments A → A → Option Left

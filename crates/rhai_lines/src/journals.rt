@@ -31,7 +31,7 @@ pub fn line_of(alloc: Global, command: &Command) -> Result<Option<String>, Alloc
 pub fn journal(alloc: Global, commands: &[Command]) -> Result<Option<String>, AllocError>
     ensures lines { IfOk result (λ o. IsJournalOf commands.now (option_map string_bytes o)) }
     ensures none { commands.now ≡ [] → IsOk result }
-    ensures replayed { IfOk result (λ o. IfSome o (λ text. output (string_bytes text) ≡ output_of_commands new_world commands.now)) }
+    ensures replayed { IfOk result (λ o. IfSome o (λ text. output new_world (string_bytes text) ≡ output_of_commands new_world commands.now)) }
 {
     let mut text = String::new(alloc);
     let mut left = commands;

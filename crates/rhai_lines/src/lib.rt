@@ -6,6 +6,7 @@ mod commands;
 mod journals;
 pub mod laws;
 mod lines;
+mod made;
 mod numbers;
 mod print;
 mod spell;

@@ -1,9 +1,9 @@
 //! A run over lines: each is answered as soon as it is complete.
-ghost use Rattle.std.specs.Prelude.{◌≡◌, ℕ, List, Option, [], ◌∷◌, ◌++◌, take, Some, OnOk, OnErr, IfErr, IfNone, IfSome};
+ghost use Rattle.std.specs.Prelude.{◌≡◌, ℕ, List, Option, [], ◌∷◌, ◌++◌, ◌==◌, false, take, Some, All, OnOk, OnErr, IfErr, IfNone, IfSome};
 ghost use Rattle.std.specs.Io.KnownBytes.{Appends};
 ghost use Rattle.rhai_run.specs.State.{State};
-ghost use Rattle.rhai_lines.specs.Output.{line_answer, line_state, output_from, output_of_first_from, new_world, output, output_of_first};
-ghost use Rattle.rhai_lines.specs.Fed.{AnswerAlike, HasNoFeed, Feeds, StopsWithin, Completes, AnswersWhatIsRead};
+ghost use Rattle.rhai_lines.specs.Output.{line_answer, line_state, new_world, output, output_of_first};
+ghost use Rattle.rhai_lines.specs.Fed.{AnswerAlike, Feeds, StopsWithin, Completes, AnswersWhatIsRead};
 ghost use Rattle.rhai_lines.specs.Faults.{IsNoWriteFault, IsReadFault, IsNoReadFault};
 
 use crate::commands::command;
@@ -57,8 +57,8 @@ fn answer_line<W: Write>(
 
 /// Cuts the first line off, if a line feed ends one.
 fn cut_line(bytes: &[u8]) -> Option<(&[u8], &[u8])>
-    ensures some { IfSome result (λ p. (bytes.now ≡ p.0.now ++ 10 ∷ p.1.now) × HasNoFeed p.0.now) }
-    ensures none { IfNone result (HasNoFeed bytes.now) }
+    ensures some { IfSome result (λ p. (bytes.now ≡ p.0.now ++ 10 ∷ p.1.now) × All (λ b. (b == 10) ≡ false) p.0.now) }
+    ensures none { IfNone result (All (λ b. (b == 10) ≡ false) bytes.now) }
 {
     let at = memchr(b'\n', bytes)?;
     Some((&bytes[..at], &bytes[at + 1..]))
@@ -145,9 +145,9 @@ fn answer_input<R: Read, W: Write>(
     reader: &mut R,
     writer: &mut W,
 ) -> Result<(), LinesFault>
-    ensures done { OnOk result (IfSome (R.remaining reader.old) (λ input. Appends (W.contents writer.old) (W.contents writer.new) (output_from world.old input))) }
+    ensures done { OnOk result (IfSome (R.remaining reader.old) (λ input. Appends (W.contents writer.old) (W.contents writer.new) (output world.old input))) }
     ensures end { OnOk result (IfSome (R.remaining reader.old) (λ _. R.remaining reader.new ≡ Some [])) }
-    ensures fault { IfErr result (λ e. IsNoWriteFault e → IfSome (R.remaining reader.old) (λ input. (n : ℕ) × Appends (W.contents writer.old) (W.contents writer.new) (output_of_first_from world.old n input))) }
+    ensures fault { IfErr result (λ e. IsNoWriteFault e → IfSome (R.remaining reader.old) (λ input. (n : ℕ) × Appends (W.contents writer.old) (W.contents writer.new) (output_of_first world.old n input))) }
     ensures read { IfErr result (λ e. IsReadFault e → IfSome (R.remaining reader.old) (λ input. AnswersWhatIsRead world.old input (R.remaining reader.new) (W.contents writer.old) (W.contents writer.new))) }
 {
     let mut partial = Vec::new(alloc);
@@ -184,9 +184,9 @@ pub fn run_lines<R: Read, W: Write>(
     reader: &mut R,
     writer: &mut W,
 ) -> Result<(), LinesFault>
-    ensures done { OnOk result (IfSome (R.remaining reader.old) (λ input. Appends (W.contents writer.old) (W.contents writer.new) (output input))) }
+    ensures done { OnOk result (IfSome (R.remaining reader.old) (λ input. Appends (W.contents writer.old) (W.contents writer.new) (output new_world input))) }
     ensures end { OnOk result (IfSome (R.remaining reader.old) (λ _. R.remaining reader.new ≡ Some [])) }
-    ensures fault { IfErr result (λ e. IsNoWriteFault e → IfSome (R.remaining reader.old) (λ input. (n : ℕ) × Appends (W.contents writer.old) (W.contents writer.new) (output_of_first n input))) }
+    ensures fault { IfErr result (λ e. IsNoWriteFault e → IfSome (R.remaining reader.old) (λ input. (n : ℕ) × Appends (W.contents writer.old) (W.contents writer.new) (output_of_first new_world n input))) }
     ensures read { IfErr result (λ e. IsReadFault e → IfSome (R.remaining reader.old) (λ input. AnswersWhatIsRead new_world input (R.remaining reader.new) (W.contents writer.old) (W.contents writer.new))) }
 {
     let mut world = World::new(alloc, Limits { text: 0, items: 0 });

@@ -1,8 +1,8 @@
 //! Answers as bytes.
 ghost use Rattle.std.specs.Prelude.{◌++◌, ◌∷◌, [], codes, flat_map, OnOk};
 ghost use Rattle.std.specs.Io.KnownBytes.{Appends};
-ghost use Rattle.rhai_run.specs.Reply.{reply_of, reason_of, fault_of};
-ghost use Rattle.rhai_lines.specs.Printed.{printed, reason_text, fault_text, arithmetic_text, size_text, byte_text};
+ghost use Rattle.rhai_show.specs.Leaves.{hex_digits};
+ghost use Rattle.rhai_lines.specs.Printed.{printed, reason_text, fault_text, arithmetic_text, size_text};
 
 use rhai_run::{Answer, Refusal};
 use rhai_text::{ArithmeticFault, EvalAltResult, SizeKind};
@@ -33,14 +33,14 @@ fn write_size<W: Write>(size: SizeKind, writer: &mut W) -> io::Result<()>
 
 /// Writes the error of a call.
 fn write_fault<W: Write>(error: &EvalAltResult, writer: &mut W) -> io::Result<()>
-    ensures { OnOk result (Appends (W.contents writer.old) (W.contents writer.new) (fault_text (fault_of error.now))) }
+    ensures { OnOk result (Appends (W.contents writer.old) (W.contents writer.new) (fault_text error.now)) }
 {
     match error {
         EvalAltResult::ErrorMismatchDataType(wanted, found, _) => {
             writer.write_all(b"ErrorMismatchDataType ")?;
-            writer.write_all(wanted.as_bytes())?;
+            writer.write_all(wanted.as_str().as_bytes())?;
             writer.write_all(b" ")?;
-            writer.write_all(found.as_bytes())
+            writer.write_all(found.as_str().as_bytes())
         }
         EvalAltResult::ErrorDataRace(_) => writer.write_all(b"ErrorDataRace"),
         EvalAltResult::ErrorArithmetic(why, _) => {
@@ -57,7 +57,7 @@ fn write_fault<W: Write>(error: &EvalAltResult, writer: &mut W) -> io::Result<()
 
 /// Writes why a command was refused.
 fn write_reason<W: Write>(refusal: &Refusal, writer: &mut W) -> io::Result<()>
-    ensures { OnOk result (Appends (W.contents writer.old) (W.contents writer.new) (reason_text (reason_of refusal.now))) }
+    ensures { OnOk result (Appends (W.contents writer.old) (W.contents writer.new) (reason_text refusal.now)) }
 {
     match refusal {
         Refusal::NoValue => writer.write_all(b"NoValue"),
@@ -74,7 +74,7 @@ fn write_reason<W: Write>(refusal: &Refusal, writer: &mut W) -> io::Result<()>
         Refusal::NotHashable => writer.write_all(b"NotHashable"),
         Refusal::Mismatch(name) => {
             writer.write_all(b"Mismatch ")?;
-            writer.write_all(name.as_bytes())
+            writer.write_all(name.as_str().as_bytes())
         }
         Refusal::Fault(error) => write_fault(error, writer),
     }
@@ -82,14 +82,14 @@ fn write_reason<W: Write>(refusal: &Refusal, writer: &mut W) -> io::Result<()>
 
 /// Writes a byte as two hexadecimal digits.
 fn write_byte<W: Write>(byte: u8, writer: &mut W) -> io::Result<()>
-    ensures { OnOk result (Appends (W.contents writer.old) (W.contents writer.new) (byte_text byte)) }
+    ensures { OnOk result (Appends (W.contents writer.old) (W.contents writer.new) (hex_digits byte)) }
 {
     write!(writer, "{byte:02x}")
 }
 
 /// Writes bytes as hexadecimal digits, two for each.
 fn write_hex<W: Write>(bytes: &[u8], writer: &mut W) -> io::Result<()>
-    ensures { OnOk result (Appends (W.contents writer.old) (W.contents writer.new) (flat_map byte_text bytes.now)) }
+    ensures { OnOk result (Appends (W.contents writer.old) (W.contents writer.new) (flat_map hex_digits bytes.now)) }
 {
     for byte in bytes {
         write_byte(*byte, writer)?;
@@ -99,15 +99,15 @@ fn write_hex<W: Write>(bytes: &[u8], writer: &mut W) -> io::Result<()>
 
 /// Writes an answer. It costs what the answer's text has of bytes.
 fn write_reply<W: Write>(answer: &Answer, writer: &mut W) -> io::Result<()>
-    ensures { OnOk result (Appends (W.contents writer.old) (W.contents writer.new) (printed (reply_of answer.now))) }
+    ensures { OnOk result (Appends (W.contents writer.old) (W.contents writer.new) (printed answer.now)) }
 {
     match answer {
         Answer::Done => writer.write_all(b"ok"),
         Answer::Bool(true) => writer.write_all(b"true"),
         Answer::Bool(false) => writer.write_all(b"false"),
         Answer::Int(number) => write!(writer, "{number}"),
-        Answer::Text(text) => writer.write_all(text.as_bytes()),
-        Answer::Bytes(bytes) => write_hex(bytes, writer),
+        Answer::Text(text) => writer.write_all(text.as_str().as_bytes()),
+        Answer::Bytes(bytes) => write_hex(bytes.as_slice(), writer),
         Answer::Pair(first, second) => write!(writer, "{first} {second}"),
         Answer::Nothing => writer.write_all(b"none"),
         Answer::Refused(refusal) => {
@@ -121,7 +121,7 @@ fn write_reply<W: Write>(answer: &Answer, writer: &mut W) -> io::Result<()>
 /// Errors: the writer's; a part of the line may stand.
 /// Cost: the length of the line; no memory.
 pub fn write_answer<W: Write>(answer: &Answer, writer: &mut W) -> io::Result<()>
-    ensures { OnOk result (Appends (W.contents writer.old) (W.contents writer.new) (printed (reply_of answer.now) ++ 10 ∷ [])) }
+    ensures { OnOk result (Appends (W.contents writer.old) (W.contents writer.new) (printed answer.now ++ 10 ∷ [])) }
 {
     write_reply(answer, writer)?;
     writer.write_all(b"\n")

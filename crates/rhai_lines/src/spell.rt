@@ -3,7 +3,7 @@ ghost use Rattle.std.specs.Prelude.{◌≡◌, ◌∷◌, ◌++◌, OnOk, option
 ghost use Rattle.std.specs.Str.{chars};
 ghost use Rattle.rhai_lines.specs.Vocabulary.{a_name};
 ghost use Rattle.rhai_lines.specs.Arguments.{none, one as one_word, before, names, flagged_names, an_alias, a_text, a_char, a_blob};
-ghost use Rattle.rhai_lines.specs.Printed.{byte_text};
+ghost use Rattle.rhai_show.specs.Leaves.{hex_digits};
 ghost use Rattle.rhai_lines.specs.Spelling.{behind, spells, words_for, has_feed, spoken};
 ghost use Rattle.rhai_lines.specs.Cursor.{Adds};
 
@@ -184,7 +184,7 @@ pub(crate) fn character(line: &mut String, verb: &str, c: char) -> Result<bool, 
 
 /// Adds a byte as two hexadecimal digits.
 fn add_byte(line: &mut String, byte: u8) -> Result<(), AllocError>
-    ensures { OnOk result (string_bytes line.new ≡ string_bytes line.old ++ byte_text byte) }
+    ensures { OnOk result (string_bytes line.new ≡ string_bytes line.old ++ hex_digits byte) }
 {
     write!(line, "{byte:02x}")
 }

@@ -1,7 +1,6 @@
 //! Worlds whose unreached cells are given back.
-ghost use Rattle.std.specs.Prelude.{◌≡◌, map, IfOk};
+ghost use Rattle.std.specs.Prelude.{◌≡◌, IfOk};
 ghost use Rattle.rhai_run.specs.Machine.{replies};
-ghost use Rattle.rhai_run.specs.Reply.{reply_of};
 
 use crate::rows::{commands_of, lines_of, wanted_of_commands};
 use rhai_lines::write_answer;
@@ -14,7 +13,7 @@ const UNLIMITED: Limits = Limits { text: 0, items: 0 };
 
 /// The caller that the README of `rhai_run` shows: the answers are those of the world before.
 fn collect_and_run(world: &mut World, commands: &[Command]) -> Result<Vec<Answer>, Stopped>
-    ensures { IfOk result (λ answers. map reply_of answers.items ≡ replies world.old commands.now) }
+    ensures { IfOk result (λ answers. answers.items ≡ replies world.old commands.now) }
 {
     laws::collecting_is_not_seen();
     let _ = world.collect();

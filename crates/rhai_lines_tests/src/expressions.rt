@@ -190,10 +190,10 @@ pub(crate) fn outcome_text(
 }
 
 fn outcome(alloc: Global, world: &mut World, expr: &Expr) -> Result<String, AllocError> {
-    match eval(world, expr) {
-        Ok(outcome) => outcome_text(alloc, world, outcome),
-        Err(_) => Err(AllocError),
-    }
+    let Ok(outcome) = eval(world, expr) else {
+        return Err(AllocError);
+    };
+    outcome_text(alloc, world, outcome)
 }
 
 /// The first row that comes to something else on the world, with what it comes to.

@@ -1,6 +1,5 @@
 //! Calls of `rhai_run` that no line makes: one command, and what a host sees of a world.
 ghost use Rattle.std.specs.Prelude.{◌≡◌, IfOk};
-ghost use Rattle.rhai_run.specs.Reply.{reply_of};
 ghost use Rattle.rhai_run.specs.declared.command.Command.TheVariants as command;
 ghost use Rattle.rhai_run.specs.Step.{step};
 
@@ -12,7 +11,7 @@ const UNLIMITED: Limits = Limits { text: 0, items: 0 };
 
 /// The caller that the README of `rhai_run` shows.
 fn leave_scope(world: &mut World) -> Result<Answer, AllocError>
-    ensures { IfOk result (λ a. (reply_of a ≡ (step world.old command.Pop).reply) × (world.new ≡ (step world.old command.Pop).after)) }
+    ensures { IfOk result (λ a. (a ≡ (step world.old command.Pop).reply) × (world.new ≡ (step world.old command.Pop).after)) }
 {
     apply(world, &Command::Pop)
 }

@@ -1,6 +1,6 @@
 //! Rows of a line and its answer, `line -> answer`.
 ghost use Rattle.std.specs.Prelude.{◌≡◌, IfOk};
-ghost use Rattle.rhai_lines.specs.Output.{output};
+ghost use Rattle.rhai_lines.specs.Output.{new_world, output};
 
 use rhai_lines::{LinesFault, command, run_lines, write_answer};
 use rhai_run::{Answer, Command};
@@ -84,7 +84,7 @@ pub(crate) fn printed_lines(alloc: Global, answers: &[Answer]) -> Result<String,
 
 /// What is written for an input that lies in memory.
 pub(crate) fn answers(alloc: Global, input: &[u8]) -> Result<Vec<u8>, LinesFault>
-    ensures { IfOk result (λ out. out.items ≡ output input.now) }
+    ensures { IfOk result (λ out. out.items ≡ output new_world input.now) }
 {
     let mut reader = input;
     let mut out = Vec::new(alloc);

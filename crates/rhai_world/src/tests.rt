@@ -1,5 +1,5 @@
 ghost use Rattle.std.specs.Prelude.{◌≡◌, IfOk};
-ghost use Rattle.rhai_lines.specs.Output.{output};
+ghost use Rattle.rhai_lines.specs.Output.{new_world, output};
 
 use crate::status;
 use rhai_lines::{LinesFault, run_lines};
@@ -85,7 +85,7 @@ impl Write for ByteWriter {
 
 /// What is written for an input that lies in memory.
 fn answers(alloc: Global, input: &[u8]) -> Result<Vec<u8>, LinesFault>
-    ensures { IfOk result (λ out. out.items ≡ output input.now) }
+    ensures { IfOk result (λ out. out.items ≡ output new_world input.now) }
 {
     let mut reader = input;
     let mut out = Vec::new(alloc);

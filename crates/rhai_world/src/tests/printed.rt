@@ -1,8 +1,8 @@
 //! How each answer and each refusal is printed, those too that no line of today leads to.
 
 use rhai_lines::write_answer;
-use rhai_run::{Answer, Refusal};
-use rhai_text::{ArithmeticFault, EvalAltResult, Position, SizeKind};
+use rhai_run::{Answer, Bytes, Refusal, Text};
+use rhai_text::{ArithmeticFault, EvalAltResult, Position, SizeKind, TypeName};
 use std::alloc::{AllocError, Global};
 use std::test::Fail;
 
@@ -51,14 +51,17 @@ fn numbers(rt: HostRuntime) -> Result<(), Fail> {
 fn texts_and_bytes(rt: HostRuntime) -> Result<(), Fail> {
     let alloc = rt.alloc();
     let text = String::from_str(alloc, "a\n\u{e9}")?;
-    assert_eq!(rt; printed(alloc, Answer::Text(text))?.as_str(), "a\n\u{e9}\n");
+    assert_eq!(rt;
+        printed(alloc, Answer::Text(Text::new(text)))?.as_str(),
+        "a\n\u{e9}\n"
+    );
     let bytes = b"\x00\x0f\xa0\xff".to_vec(alloc)?;
     assert_eq!(rt;
-        printed(alloc, Answer::Bytes(bytes))?.as_str(),
+        printed(alloc, Answer::Bytes(Bytes::new(bytes)))?.as_str(),
         "000fa0ff\n"
     );
     assert_eq!(rt;
-        printed(alloc, Answer::Bytes(Vec::new(alloc)))?.as_str(),
+        printed(alloc, Answer::Bytes(Bytes::new(Vec::new(alloc))))?.as_str(),
         "\n"
     );
     Ok(())
@@ -106,7 +109,7 @@ fn other_refusals(rt: HostRuntime) -> Result<(), Fail> {
         "refused NotHashable\n"
     );
     assert_eq!(rt;
-        refused(alloc, Refusal::Mismatch("<shared>"))?.as_str(),
+        refused(alloc, Refusal::Mismatch(TypeName::new("<shared>")))?.as_str(),
         "refused Mismatch <shared>\n"
     );
     Ok(())
@@ -115,7 +118,7 @@ fn other_refusals(rt: HostRuntime) -> Result<(), Fail> {
 #[test]
 fn errors_of_calls(rt: HostRuntime) -> Result<(), Fail> {
     let alloc = rt.alloc();
-    let wrong = EvalAltResult::ErrorMismatchDataType("char", "i64", Position::NONE);
+    let wrong = EvalAltResult::mismatch("char", "i64", Position::NONE);
     assert_eq!(rt;
         fault(alloc, wrong)?.as_str(),
         "refused ErrorMismatchDataType char i64\n"

@@ -4,7 +4,7 @@ use Rattle.rhai_lines.proofs.print.write_fault.Goals as goal
 pub returns-in_ok-write_all-in-ErrorMismatchDataType-3 :
     goal.returns-in_ok-write_all-in-ErrorMismatchDataType-3
 returns-in_ok-write_all-in-ErrorMismatchDataType-3 g c =
-    rw (c.in-ErrorMismatchDataType.is, ← c.as_bytes.ensures.value, ← c.as_bytes-in-ErrorMismatchDataType.ensures.value) (Appends-last c.write_all-in-ErrorMismatchDataType-3.result _ _ _ _ _ (Appends-more _ _ _ _ _ (Appends-more _ _ _ _ _ c.in_ok-write_all-in-ErrorMismatchDataType.ensures.bytes c.in_ok-write_all-in-ErrorMismatchDataType-2.ensures.bytes) c.in_ok-write_all-in-ErrorMismatchDataType-3.ensures.bytes) c.write_all-in-ErrorMismatchDataType-3.ensures.bytes)
+    rw (c.in-ErrorMismatchDataType.is, ← c.as_str.ensures, ← c.as_bytes.ensures.value, ← c.as_str-in-ErrorMismatchDataType.ensures, ← c.as_bytes-in-ErrorMismatchDataType.ensures.value) (Appends-last c.write_all-in-ErrorMismatchDataType-3.result _ _ _ _ _ (Appends-more _ _ _ _ _ (Appends-more _ _ _ _ _ c.in_ok-write_all-in-ErrorMismatchDataType.ensures.bytes c.in_ok-write_all-in-ErrorMismatchDataType-2.ensures.bytes) c.in_ok-write_all-in-ErrorMismatchDataType-3.ensures.bytes) c.write_all-in-ErrorMismatchDataType-3.ensures.bytes)
 
 pub returns-in_ok-write_all-in-ErrorArithmetic : goal.returns-in_ok-write_all-in-ErrorArithmetic
 returns-in_ok-write_all-in-ErrorArithmetic g c =

@@ -1,10 +1,9 @@
-use Rattle.std.proofs.Common.{◌≡◌, List, map, Result, Ok, Err, ap, subst, sym, OnOk, OnErr, IfOk}
+use Rattle.std.proofs.Common.{◌≡◌, List, Result, Ok, Err, ap, subst, sym, OnOk, OnErr, IfOk}
 use Rattle.std.specs.declared.alloc.AllocError.{AllocError}
 use Rattle.rhai_run.specs.declared.command.Command.{Command}
 use Rattle.rhai_run.specs.Correspondence.{RunAlike}
 use Rattle.rhai_run.specs.KeptWorld.{Collects, kept_pairs}
 use Rattle.rhai_run.specs.Machine.{replies}
-use Rattle.rhai_run.specs.Reply.{reply_of}
 use Rattle.rhai_run.specs.State.{State}
 use Rattle.rhai_lines_tests.proofs.collected.collect_and_run.Goals as goal
 
@@ -19,4 +18,4 @@ returns c =
     let v = c.collect.new.self in
     let cs = c.args.commands.now in
     let replied = same w v cs c.collect.result c.collect.ensures.collected c.collect.ensures.err (λ h. c.collecting_is_not_seen.ensures w v h cs) in
-    subst (λ qs. IfOk c.run.result (λ answers. map reply_of answers.items ≡ qs)) replied c.run.ensures.answers
+    subst (λ qs. IfOk c.run.result (λ answers. answers.items ≡ qs)) replied c.run.ensures.answers

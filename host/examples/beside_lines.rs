@@ -5,64 +5,6 @@ use std::io::{Read, Write};
 use std::process::{Command as Program, Stdio};
 
 const NAMES: [&str; 5] = ["a", "b", "count", "x_1", "name_of_more_than_twenty_four_letters"];
-const TYPES: [(&str, Type); 23] = [
-    ("()", Type::Unit),
-    ("bool", Type::Bool),
-    ("char", Type::Char),
-    ("i64", Type::Int),
-    ("u8", Type::U8),
-    ("u16", Type::U16),
-    ("u32", Type::U32),
-    ("u64", Type::U64),
-    ("u128", Type::U128),
-    ("i8", Type::I8),
-    ("i16", Type::I16),
-    ("i32", Type::I32),
-    ("i128", Type::I128),
-    ("String", Type::String),
-    ("string", Type::ImmutableString),
-    ("array", Type::Array),
-    ("blob", Type::Blob),
-    ("map", Type::Map),
-    ("Fn", Type::FnPtr),
-    ("range", Type::ExclusiveRange),
-    ("rangeeq", Type::InclusiveRange),
-    ("Dynamic", Type::Dynamic),
-    ("<shared>", Type::Shared),
-];
-const OPERATORS: [(&str, Operator); 31] = [
-    ("+", Operator::Plus),
-    ("-", Operator::Minus),
-    ("*", Operator::Multiply),
-    ("/", Operator::Divide),
-    ("%", Operator::Modulo),
-    ("**", Operator::PowerOf),
-    (">>", Operator::RightShift),
-    ("<<", Operator::LeftShift),
-    ("&", Operator::Ampersand),
-    ("|", Operator::Pipe),
-    ("^", Operator::XOr),
-    ("==", Operator::EqualsTo),
-    ("!=", Operator::NotEqualsTo),
-    (">", Operator::GreaterThan),
-    (">=", Operator::GreaterThanEqualsTo),
-    ("<", Operator::LessThan),
-    ("<=", Operator::LessThanEqualsTo),
-    ("..", Operator::ExclusiveRange),
-    ("..=", Operator::InclusiveRange),
-    ("=", Operator::Equals),
-    ("+=", Operator::PlusAssign),
-    ("-=", Operator::MinusAssign),
-    ("*=", Operator::MultiplyAssign),
-    ("/=", Operator::DivideAssign),
-    ("%=", Operator::ModuloAssign),
-    ("**=", Operator::PowerOfAssign),
-    (">>=", Operator::RightShiftAssign),
-    ("<<=", Operator::LeftShiftAssign),
-    ("&=", Operator::AndAssign),
-    ("|=", Operator::OrAssign),
-    ("^=", Operator::XOrAssign),
-];
 
 /// Numbers that look random, from a seed.
 struct Random(u64);
@@ -118,18 +60,25 @@ impl Session {
         (NAMES[i], self.names[i])
     }
 
-    fn place(&mut self) -> (String, Place) {
+    fn place(&mut self) -> Place {
         if self.random.coin() {
-            let (text, name) = self.name();
-            (format!("@{text}"), Place::Entry(name))
+            Place::Entry(self.name().1)
         } else {
-            let i = self.at();
-            (i.to_string(), Place::Hand(i))
+            Place::Hand(self.at())
         }
     }
 
-    fn does(&mut self, line: String, command: Command) -> Said {
-        (line, self.world.apply(command))
+    fn kind(&mut self) -> Type {
+        Type::ALL[self.random.below(Type::ALL.len())]
+    }
+
+    fn operator(&mut self) -> Operator {
+        Operator::ALL[self.random.below(Operator::ALL.len())]
+    }
+
+    fn does(&mut self, command: Command) -> Said {
+        let line = self.world.line_of(&command).unwrap_or_else(|error| format!("{command:?}: {error}"));
+        (line, self.world.apply(&command))
     }
 
     fn list(&mut self) -> (String, Vec<Name>) {
@@ -142,22 +91,22 @@ impl Session {
         let wide = u128::from(n) << 64 | u128::from(self.random.next());
         let int = self.random.int();
         match self.random.below(17) {
-            0 => self.does("unit".into(), Command::PutUnit {}),
-            1 => self.does(format!("bool {}", n & 1 == 0), Command::PutBool { truth: n & 1 == 0 }),
-            2 => self.does(format!("host u8 {}", n as u8), Command::PutU8 { n: n as u8 }),
-            3 => self.does(format!("host u16 {}", n as u16), Command::PutU16 { n: n as u16 }),
-            4 => self.does(format!("host u32 {}", n as u32), Command::PutU32 { n: n as u32 }),
-            5 => self.does(format!("host u64 {n}"), Command::PutU64 { n }),
-            6 => self.does(format!("host u128 {wide}"), Command::PutU128 { n: wide }),
-            7 => self.does(format!("host i8 {}", n as i8), Command::PutI8 { n: n as i8 }),
-            8 => self.does(format!("host i16 {}", n as i16), Command::PutI16 { n: n as i16 }),
-            9 => self.does(format!("host i32 {}", n as i32), Command::PutI32 { n: n as i32 }),
-            10 => self.does(format!("host i128 {}", wide as i128), Command::PutI128 { n: wide as i128 }),
-            11 => self.does(format!("range {int} {}", n as i64), Command::PutRange { start: int, end: n as i64 }),
-            12 => self.does(format!("rangeeq {int} 9"), Command::PutRangeWithEnd { start: int, end: 9 }),
+            0 => self.does(Command::PutUnit {}),
+            1 => self.does(Command::PutBool { truth: n & 1 == 0 }),
+            2 => self.does(Command::PutU8 { n: n as u8 }),
+            3 => self.does(Command::PutU16 { n: n as u16 }),
+            4 => self.does(Command::PutU32 { n: n as u32 }),
+            5 => self.does(Command::PutU64 { n }),
+            6 => self.does(Command::PutU128 { n: wide }),
+            7 => self.does(Command::PutI8 { n: n as i8 }),
+            8 => self.does(Command::PutI16 { n: n as i16 }),
+            9 => self.does(Command::PutI32 { n: n as i32 }),
+            10 => self.does(Command::PutI128 { n: wide as i128 }),
+            11 => self.does(Command::PutRange { start: int, end: n as i64 }),
+            12 => self.does(Command::PutRangeWithEnd { start: int, end: 9 }),
             13 => {
                 let character = char::from_u32(33 + (n % 400) as u32).unwrap_or('x');
-                self.does(format!("char {character}"), Command::PutChar { character })
+                self.does(Command::PutChar { character })
             }
             14 => {
                 let text: String = (0..n % 30).map(|i| char::from_u32(97 + ((n >> i) % 300) as u32).unwrap_or('y')).collect();
@@ -168,86 +117,86 @@ impl Session {
                 let hex: String = bytes.iter().map(|byte| format!("{byte:02x}")).collect();
                 (format!("blob {hex}").trim_end().into(), self.world.put_blob(bytes).map(|()| Answer::Done))
             }
-            _ => self.does(format!("int {int}"), Command::PutInt { n: int }),
+            _ => self.does(Command::PutInt { n: int }),
         }
     }
 
     fn hand(&mut self) -> Said {
         let (i, j, int) = (self.at(), self.at(), self.random.int());
         let count = self.random.below(4);
-        let (kind_text, kind) = TYPES[self.random.below(TYPES.len())];
+        let kind = self.kind();
         match self.random.below(15) {
-            0 => self.does(format!("array {count}"), Command::MakeArray { count }),
-            1 => self.does(format!("copy {i}"), Command::Copy { i }),
-            2 => self.does(format!("flatclone {i}"), Command::FlattenClone { i }),
-            3 => self.does(format!("take {i}"), Command::Take { i }),
-            4 => self.does("drop".into(), Command::Drop {}),
-            5 => self.does(format!("share {i}"), Command::Share { i }),
-            6 => self.does(format!("flatten {i}"), Command::Flatten { i }),
-            7 => self.does(format!("cast {i} {kind_text}"), Command::Cast { i, kind }),
-            8 => self.does(format!("readonly {i}"), Command::MakeReadOnly { i }),
-            9 => self.does(format!("tag {i} {}", int as i32), Command::SetTag { i, tag: int as i32 }),
-            10 => self.does(format!("write {i} {int}"), Command::WriteInt { i, n: int }),
-            11 => self.does(format!("store {i} {j}"), Command::Write { i, j }),
+            0 => self.does(Command::MakeArray { count }),
+            1 => self.does(Command::Copy { i }),
+            2 => self.does(Command::FlattenClone { i }),
+            3 => self.does(Command::Take { i }),
+            4 => self.does(Command::Drop {}),
+            5 => self.does(Command::Share { i }),
+            6 => self.does(Command::Flatten { i }),
+            7 => self.does(Command::Cast { i, kind }),
+            8 => self.does(Command::MakeReadOnly { i }),
+            9 => self.does(Command::SetTag { i, tag: int as i32 }),
+            10 => self.does(Command::WriteInt { i, n: int }),
+            11 => self.does(Command::Write { i, j }),
             12 => {
                 let (text, keys) = self.list();
                 (format!("map{text}"), self.world.make_map(&keys).map(|()| Answer::Done))
             }
             13 => {
-                let (text, name) = self.name();
-                self.does(format!("fn {text} {count}"), Command::MakeFn { name, count })
+                let name = self.name().1;
+                self.does(Command::MakeFn { name, count })
             }
             _ => {
-                let (text, operator) = OPERATORS[self.random.below(OPERATORS.len())];
-                self.does(format!("op {i} {text} {j}"), Command::Binary { operator, i, j })
+                let operator = self.operator();
+                self.does(Command::Binary { operator, i, j })
             }
         }
     }
 
     fn ask(&mut self) -> Said {
         let i = self.at();
-        let (text, kind) = TYPES[self.random.below(TYPES.len())];
+        let kind = self.kind();
         match self.random.below(16) {
-            0 => self.does(format!("ask {i} tag"), Command::Tag { i }),
-            1 => self.does(format!("ask {i} variant"), Command::IsVariant { i }),
-            2 => self.does(format!("ask {i} shared"), Command::IsShared { i }),
-            3 => self.does(format!("ask {i} readonly"), Command::IsReadOnly { i }),
-            4 => self.does(format!("ask {i} locked"), Command::IsLocked { i }),
-            5 => self.does(format!("ask {i} type"), Command::TypeName { i }),
-            6 => self.does(format!("ask {i} hashable"), Command::IsHashable { i }),
-            7 => self.does(format!("ask {i} unit"), Command::AsUnit { i }),
-            8 => self.does(format!("ask {i} int"), Command::AsInt { i }),
-            9 => self.does(format!("ask {i} bool"), Command::AsBool { i }),
-            10 => self.does(format!("ask {i} char"), Command::AsChar { i }),
-            11 => self.does(format!("ask {i} is {text}"), Command::IsType { i, kind }),
-            12 => self.does(format!("ask {i} held {text}"), Command::IsHeld { i, kind }),
-            13 => self.does(format!("show {i}"), Command::Show { i }),
-            14 => self.does(format!("debug {i}"), Command::Debug { i }),
-            _ => self.does(format!("hash {i}"), Command::Hash { i }),
+            0 => self.does(Command::Tag { i }),
+            1 => self.does(Command::IsVariant { i }),
+            2 => self.does(Command::IsShared { i }),
+            3 => self.does(Command::IsReadOnly { i }),
+            4 => self.does(Command::IsLocked { i }),
+            5 => self.does(Command::TypeName { i }),
+            6 => self.does(Command::IsHashable { i }),
+            7 => self.does(Command::AsUnit { i }),
+            8 => self.does(Command::AsInt { i }),
+            9 => self.does(Command::AsBool { i }),
+            10 => self.does(Command::AsChar { i }),
+            11 => self.does(Command::IsType { i, kind }),
+            12 => self.does(Command::IsHeld { i, kind }),
+            13 => self.does(Command::Show { i }),
+            14 => self.does(Command::Debug { i }),
+            _ => self.does(Command::Hash { i }),
         }
     }
 
     fn entry(&mut self) -> Said {
         let i = self.at();
         let (text, name) = self.name();
-        let (kind_text, kind) = TYPES[self.random.below(TYPES.len())];
+        let kind = self.kind();
         let value = self.random.int();
         match self.random.below(18) {
-            0 => self.does(format!("push {text} {i}"), Command::Push { name, i }),
-            1 => self.does(format!("pushdyn {text} {i}"), Command::PushDynamic { name, i }),
-            2 => self.does(format!("pushconst {text} {i}"), Command::PushConstant { name, i }),
-            3 => self.does(format!("set {text} {i}"), Command::SetEntry { name, i }),
-            4 => self.does(format!("setorpush {text} {i}"), Command::SetOrPush { name, i }),
-            5 => self.does(format!("setvalue {text} {i}"), Command::SetValue { name, i }),
-            6 => self.does(format!("contains {text}"), Command::Contains { name }),
-            7 => self.does(format!("search {text}"), Command::Search { name }),
-            8 => self.does(format!("constant {text}"), Command::IsConstant { name }),
-            9 => self.does(format!("get {text}"), Command::Get { name }),
-            10 => self.does(format!("aliases {text}"), Command::Aliases { name }),
-            11 => self.does(format!("value {text} {kind_text}"), Command::GetValue { name, kind }),
-            12 => self.does(format!("ref {text} {kind_text}"), Command::GetRef { name, kind }),
-            13 => self.does(format!("remove {text} {kind_text}"), Command::Remove { name, kind }),
-            14 => self.does(format!("refint {text} {value}"), Command::SetRef { name, value }),
+            0 => self.does(Command::Push { name, i }),
+            1 => self.does(Command::PushDynamic { name, i }),
+            2 => self.does(Command::PushConstant { name, i }),
+            3 => self.does(Command::SetEntry { name, i }),
+            4 => self.does(Command::SetOrPush { name, i }),
+            5 => self.does(Command::SetValue { name, i }),
+            6 => self.does(Command::Contains { name }),
+            7 => self.does(Command::Search { name }),
+            8 => self.does(Command::IsConstant { name }),
+            9 => self.does(Command::Get { name }),
+            10 => self.does(Command::Aliases { name }),
+            11 => self.does(Command::GetValue { name, kind }),
+            12 => self.does(Command::GetRef { name, kind }),
+            13 => self.does(Command::Remove { name, kind }),
+            14 => self.does(Command::SetRef { name, value }),
             15 => {
                 let alias = NAMES[self.random.below(NAMES.len())];
                 (format!("alias {text} {alias}"), self.world.set_alias(name, alias).map(|()| Answer::Done))
@@ -267,57 +216,50 @@ impl Session {
     fn scope(&mut self) -> Said {
         let count = self.random.below(6);
         match self.random.below(11) {
-            0 => self.does("pop".into(), Command::Pop {}),
-            1 => self.does(format!("rewind {count}"), Command::Rewind { count }),
-            2 => self.does("len".into(), Command::Len {}),
-            3 => self.does("empty".into(), Command::IsEmpty {}),
-            4 => self.does("visible".into(), Command::KeepVisible {}),
-            5 => self.does("copyscope".into(), Command::CopyScope {}),
-            6 => self.does("iter".into(), Command::Entries {}),
-            7 => self.does("names".into(), Command::Names {}),
-            8 => self.does("showscope".into(), Command::ShowScope {}),
-            9 => self.does("hashscope".into(), Command::HashScope {}),
-            _ => self.does("clear".into(), Command::Clear {}),
+            0 => self.does(Command::Pop {}),
+            1 => self.does(Command::Rewind { count }),
+            2 => self.does(Command::Len {}),
+            3 => self.does(Command::IsEmpty {}),
+            4 => self.does(Command::KeepVisible {}),
+            5 => self.does(Command::CopyScope {}),
+            6 => self.does(Command::Entries {}),
+            7 => self.does(Command::Names {}),
+            8 => self.does(Command::ShowScope {}),
+            9 => self.does(Command::HashScope {}),
+            _ => self.does(Command::Clear {}),
         }
     }
 
     fn place_or_mark(&mut self) -> Said {
-        let (text, place) = self.place();
+        let place = self.place();
         let (j, mark, index) = (self.at(), self.random.below(3), self.random.below(5));
         let (bit, int) = (self.random.below(66) as u8, self.random.int());
         match self.random.below(16) {
             0 => {
-                let said = self.does(format!("mark {text}"), Command::Mark { place });
+                let said = self.does(Command::Mark { place });
                 self.marks += usize::from(said.1.is_ok());
                 said
             }
             1 => {
-                let said = self.does(format!("unmark {mark}"), Command::Unmark { mark });
+                let said = self.does(Command::Unmark { mark });
                 self.marks -= usize::from(said.1.is_ok());
                 said
             }
-            2 => self.does(format!("writemarked {mark} {j}"), Command::WriteMarked { mark, i: j }),
-            3 => self.does(format!("readmarked {mark}"), Command::ReadMarked { mark }),
-            4 => self.does(format!("bit {text} {bit} {j}"), Command::WriteBit { place, bit, j }),
-            5 => self.does(format!("field {text} {int} {bit} {j}"), Command::WriteField { place, mask: int, shift: bit, j }),
-            6 => self.does(format!("byte {text} {index} {j}"), Command::WriteByte { place, index, j }),
-            7 => self.does(format!("charat {text} {index} {j}"), Command::WriteChar { place, index, j }),
-            8 => self.does(
-                format!("slice {text} {mark} {index} {j}"),
-                Command::WriteSlice { place, start: mark, end: index, exclusive: true, j },
-            ),
-            9 => self.does(
-                format!("sliceeq {text} {mark} {index} {j}"),
-                Command::WriteSlice { place, start: mark, end: index, exclusive: false, j },
-            ),
-            10 => self
-                .does(format!("offset {index} {int} {}", int / 2), Command::Offset { length: index, start: int, count: int / 2 }),
-            11 => self.does(format!("index {index} {int} true"), Command::Index { length: index, index: int, from_end: true }),
-            12 => self.does(format!("index {index} {int} false"), Command::Index { length: index, index: int, from_end: false }),
+            2 => self.does(Command::WriteMarked { mark, i: j }),
+            3 => self.does(Command::ReadMarked { mark }),
+            4 => self.does(Command::WriteBit { place, bit, j }),
+            5 => self.does(Command::WriteField { place, mask: int, shift: bit, j }),
+            6 => self.does(Command::WriteByte { place, index, j }),
+            7 => self.does(Command::WriteChar { place, index, j }),
+            8 => self.does(Command::WriteSlice { place, start: mark, end: index, exclusive: true, j }),
+            9 => self.does(Command::WriteSlice { place, start: mark, end: index, exclusive: false, j }),
+            10 => self.does(Command::Offset { length: index, start: int, count: int / 2 }),
+            11 => self.does(Command::Index { length: index, index: int, from_end: true }),
+            12 => self.does(Command::Index { length: index, index: int, from_end: false }),
             13 => self.scan(j),
             _ => {
-                let (op, operator) = OPERATORS[self.random.below(OPERATORS.len())];
-                self.does(format!("assign {text} {op} {j}"), Command::Assign { operator, place, j })
+                let operator = self.operator();
+                self.does(Command::Assign { operator, place, j })
             }
         }
     }
@@ -325,10 +267,10 @@ impl Session {
     fn scan(&mut self, i: usize) -> Said {
         let count = self.random.below(3);
         match self.random.below(4) {
-            0 => self.does(format!("scan {i} tags {count}"), Command::ScanTags { i, tag: count as i32 }),
-            1 => self.does(format!("scan {i} zero"), Command::ScanZero { i }),
-            2 => self.does(format!("scan {i} noshare"), Command::ScanNoShare { i }),
-            _ => self.does(format!("scan {i} cut {count}"), Command::ScanCut { i, count }),
+            0 => self.does(Command::ScanTags { i, tag: count as i32 }),
+            1 => self.does(Command::ScanZero { i }),
+            2 => self.does(Command::ScanNoShare { i }),
+            _ => self.does(Command::ScanCut { i, count }),
         }
     }
 
@@ -345,12 +287,12 @@ impl Session {
 
     /// Lines that leave hand, scope and marks empty, with their answers.
     fn reset(&mut self) -> Vec<Said> {
-        let mut said = vec![self.does("clear".into(), Command::Clear {})];
+        let mut said = vec![self.does(Command::Clear {})];
         for _ in 0..self.world.hand_len() {
-            said.push(self.does("drop".into(), Command::Drop {}));
+            said.push(self.does(Command::Drop {}));
         }
         while self.marks > 0 {
-            said.push(self.does("unmark 0".into(), Command::Unmark { mark: 0 }));
+            said.push(self.does(Command::Unmark { mark: 0 }));
             self.marks -= 1;
         }
         said

@@ -1,21 +1,16 @@
-//! A session that keeps a journal: each line that is done is kept, and a run over the journal answers the same again.
-use rhai_world::{Error, Limits, World};
+//! A session that keeps a journal: a new world answers the same to all of it.
+use rhai_world::{Command, Error, Journal, Limits, World};
 
 fn main() -> Result<(), Error> {
     let mut world = World::new(Limits::default())?;
-    let mut journal = String::new();
-    for line in ["int 7", "share 0", "copy 0", "drop 0", "write 1 9", "push x 1", "show 0"] {
-        match world.line(line) {
+    let mut journal = Journal::new();
+    for line in ["int 7", "share 0", "copy 0", "drop 0", "write 1 9", "push x 1"] {
+        match journal.line(&mut world, line) {
             Ok(answer) => println!("{line}: {answer:?}"),
-            Err(Error::NoCommand) => {
-                println!("{line}: no command");
-                continue;
-            }
             Err(error) => println!("{line}: {error}"),
         }
-        journal += line;
-        journal.push('\n');
     }
-    print!("{}", String::from_utf8_lossy(&world.run_lines(journal.as_bytes())?));
+    journal.apply(&mut world, &Command::Show { i: 0 })?;
+    print!("the same again:\n{}", String::from_utf8_lossy(&journal.replayed()?));
     Ok(())
 }

@@ -4,6 +4,7 @@ use std::fmt;
 
 /// The answer to a command.
 #[derive(Clone, Debug, PartialEq, Eq)]
+#[repr(u8)]
 pub enum Answer {
     /// It is done.
     Done,
@@ -149,8 +150,19 @@ impl std::error::Error for Error {
 }
 
 /// The number whose two's complement has these two words.
+#[inline]
 pub(crate) fn wide(told: &Told) -> i128 {
-    (u128::from(told.low) | u128::from(told.high) << 64) as i128
+    match narrow(told) {
+        Some(n) => i128::from(n),
+        None => (u128::from(told.low) | u128::from(told.high) << 64) as i128,
+    }
+}
+
+/// The same, where 64 bits suffice.
+#[inline]
+pub(crate) fn narrow(told: &Told) -> Option<i64> {
+    let low = told.low as i64;
+    (told.high == (low >> 63) as u64).then_some(low)
 }
 
 pub(crate) fn size(word: u64) -> Result<usize, Error> {

@@ -1,123 +1,115 @@
 //! Types, operators, places and names.
+use std::fmt;
 
-/// A type that a value may be of.
-#[derive(Clone, Copy, Debug, PartialEq, Eq)]
-#[repr(u32)]
-pub enum Type {
-    /// `()`.
-    Unit,
-    /// `bool`.
-    Bool,
-    /// `char`.
-    Char,
-    /// `i64`.
-    Int,
-    /// `u8`.
-    U8,
-    /// `u16`.
-    U16,
-    /// `u32`.
-    U32,
-    /// `u64`.
-    U64,
-    /// `u128`.
-    U128,
-    /// `i8`.
-    I8,
-    /// `i16`.
-    I16,
-    /// `i32`.
-    I32,
-    /// `i128`.
-    I128,
-    /// `String`, which no value holds.
-    String,
-    /// A text.
-    ImmutableString,
-    /// An array.
-    Array,
-    /// A blob.
-    Blob,
-    /// A map.
-    Map,
-    /// A function pointer.
-    FnPtr,
-    /// A range without its end.
-    ExclusiveRange,
-    /// A range with its end.
-    InclusiveRange,
-    /// Any value.
-    Dynamic,
-    /// A holder whose chain is stuck or closed.
-    Shared,
+/// An enum of numbers, each with its word in a line.
+macro_rules! words {
+    ($(#[$outer:meta])* $name:ident { $($(#[$doc:meta])* $variant:ident = $word:literal,)* }) => {
+        $(#[$outer])*
+        #[derive(Clone, Copy, Debug, PartialEq, Eq)]
+        #[repr(u32)]
+        pub enum $name { $($(#[$doc])* $variant,)* }
+
+        impl $name {
+            /// All of them, in their order.
+            pub const ALL: &'static [$name] = &[$($name::$variant,)*];
+        }
+
+        impl fmt::Display for $name {
+            fn fmt(&self, f: &mut fmt::Formatter<'_>) -> fmt::Result {
+                f.write_str(match self { $($name::$variant => $word,)* })
+            }
+        }
+    };
 }
 
-/// An operator: the twenty between two operands, and then the eleven that assign.
-#[derive(Clone, Copy, Debug, PartialEq, Eq)]
-#[repr(u32)]
-pub enum Operator {
-    /// `+`
-    Plus,
-    /// `-`
-    Minus,
-    /// `*`
-    Multiply,
-    /// `/`
-    Divide,
-    /// `%`
-    Modulo,
-    /// `**`
-    PowerOf,
-    /// `>>`
-    RightShift,
-    /// `<<`
-    LeftShift,
-    /// `&`
-    Ampersand,
-    /// `|`
-    Pipe,
-    /// `^`
-    XOr,
-    /// `==`
-    EqualsTo,
-    /// `!=`
-    NotEqualsTo,
-    /// `>`
-    GreaterThan,
-    /// `>=`
-    GreaterThanEqualsTo,
-    /// `<`
-    LessThan,
-    /// `<=`
-    LessThanEqualsTo,
-    /// `..`
-    ExclusiveRange,
-    /// `..=`
-    InclusiveRange,
-    /// `=`
-    Equals,
-    /// `+=`
-    PlusAssign,
-    /// `-=`
-    MinusAssign,
-    /// `*=`
-    MultiplyAssign,
-    /// `/=`
-    DivideAssign,
-    /// `%=`
-    ModuloAssign,
-    /// `**=`
-    PowerOfAssign,
-    /// `>>=`
-    RightShiftAssign,
-    /// `<<=`
-    LeftShiftAssign,
-    /// `&=`
-    AndAssign,
-    /// `|=`
-    OrAssign,
-    /// `^=`
-    XOrAssign,
+words! {
+    /// A type that a value may be of. It displays as lines say it.
+    Type {
+        /// `()`.
+        Unit = "()",
+        /// `bool`.
+        Bool = "bool",
+        /// `char`.
+        Char = "char",
+        /// `i64`.
+        Int = "i64",
+        /// `u8`.
+        U8 = "u8",
+        /// `u16`.
+        U16 = "u16",
+        /// `u32`.
+        U32 = "u32",
+        /// `u64`.
+        U64 = "u64",
+        /// `u128`.
+        U128 = "u128",
+        /// `i8`.
+        I8 = "i8",
+        /// `i16`.
+        I16 = "i16",
+        /// `i32`.
+        I32 = "i32",
+        /// `i128`.
+        I128 = "i128",
+        /// `String`, which no value holds.
+        String = "String",
+        /// A text.
+        ImmutableString = "string",
+        /// An array.
+        Array = "array",
+        /// A blob.
+        Blob = "blob",
+        /// A map.
+        Map = "map",
+        /// A function pointer.
+        FnPtr = "Fn",
+        /// A range without its end.
+        ExclusiveRange = "range",
+        /// A range with its end.
+        InclusiveRange = "rangeeq",
+        /// Any value.
+        Dynamic = "Dynamic",
+        /// A holder whose chain is stuck or closed.
+        Shared = "<shared>",
+    }
+}
+
+words! {
+    /// An operator: the twenty between two operands, and then the eleven that assign. It displays as its sign.
+    #[allow(missing_docs)]
+    Operator {
+        Plus = "+",
+        Minus = "-",
+        Multiply = "*",
+        Divide = "/",
+        Modulo = "%",
+        PowerOf = "**",
+        RightShift = ">>",
+        LeftShift = "<<",
+        Ampersand = "&",
+        Pipe = "|",
+        XOr = "^",
+        EqualsTo = "==",
+        NotEqualsTo = "!=",
+        GreaterThan = ">",
+        GreaterThanEqualsTo = ">=",
+        LessThan = "<",
+        LessThanEqualsTo = "<=",
+        ExclusiveRange = "..",
+        InclusiveRange = "..=",
+        Equals = "=",
+        PlusAssign = "+=",
+        MinusAssign = "-=",
+        MultiplyAssign = "*=",
+        DivideAssign = "/=",
+        ModuloAssign = "%=",
+        PowerOfAssign = "**=",
+        RightShiftAssign = ">>=",
+        LeftShiftAssign = "<<=",
+        AndAssign = "&=",
+        OrAssign = "|=",
+        XOrAssign = "^=",
+    }
 }
 
 /// A name that was handed to a world, by its number there.

@@ -1,6 +1,7 @@
 //! Worlds of rhai's script values, over a library whose every call is proved.
 //!
-//! A [`World`] is a store of shared cells, named values, and a hand of values that commands name by position.
+//! A [`World`] is a store of shared cells, named values, and a hand of values that commands name by position. A [`Journal`] keeps commands as
+//! lines, and [`Script`] runs scripts.
 //!
 //! ```
 //! use rhai_world::{Limits, World};
@@ -30,7 +31,9 @@ mod answer;
 mod commands;
 mod doors;
 mod handle;
+mod journal;
 mod kinds;
+mod script;
 #[allow(missing_docs)]
 mod sys;
 mod value;
@@ -40,6 +43,8 @@ pub use answer::{Answer, ArithmeticFault, Error, Refusal, SizeKind};
 pub use commands::Command;
 #[cfg(feature = "faults")]
 pub use doors::refuse;
+pub use journal::Journal;
 pub use kinds::{Limits, Name, Operator, Place, Type};
-pub use value::{Hand, Value};
+pub use script::{Script, ScriptError};
+pub use value::{Entry, Hand, Value};
 pub use world::World;

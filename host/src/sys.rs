@@ -6,6 +6,22 @@
 
 use crate::handle::Handle;
 
+/// How a script ended. The answer is what it printed, and behind that what went wrong.
+#[repr(C)]
+#[derive(Clone, Copy, Debug, Default)]
+pub struct ScriptEnd {
+    /// 0 it ran to its end, 1 the text is no script, 2 it went wrong when it ran.
+    pub kind: u32,
+    /// The line of what went wrong, counted from 1; else 0.
+    pub line: u32,
+    /// The place on that line, counted from 1; else 0.
+    pub column: u32,
+    /// How many bytes of the answer it printed.
+    pub printed: usize,
+    /// How many bytes behind these say what went wrong.
+    pub said: usize,
+}
+
 /// An answer in numbers. Its text, its bytes and the names of types are fetched by further calls.
 #[repr(C)]
 #[derive(Clone, Copy, Debug, Default)]
@@ -80,6 +96,8 @@ extern "C" {
     fn rhai_host_unmark(handle: &mut Handle, mark: usize, told: &mut Told) -> u32;
     fn rhai_host_write_marked(handle: &mut Handle, mark: usize, i: usize, told: &mut Told) -> u32;
     fn rhai_host_read_marked(handle: &mut Handle, mark: usize, told: &mut Told) -> u32;
+    fn rhai_host_name_text(handle: &mut Handle, number: usize, told: &mut Told) -> u32;
+    fn rhai_host_entry(handle: &mut Handle, i: usize, is_constant: &mut bool, told: &mut Told) -> u32;
     fn rhai_host_make_fn(handle: &mut Handle, name: usize, count: usize, told: &mut Told) -> u32;
     fn rhai_host_push(handle: &mut Handle, name: usize, i: usize, told: &mut Told) -> u32;
     fn rhai_host_push_dynamic(handle: &mut Handle, name: usize, i: usize, told: &mut Told) -> u32;
@@ -135,6 +153,16 @@ extern "C" {
     fn rhai_host_names(handle: &mut Handle, told: &mut Told) -> u32;
     fn rhai_host_show_scope(handle: &mut Handle, told: &mut Told) -> u32;
     fn rhai_host_hash_scope(handle: &mut Handle, told: &mut Told) -> u32;
+    fn rhai_host_run_script(
+        handle: &mut Handle,
+        script: *const u8,
+        script_len: usize,
+        text: usize,
+        items: usize,
+        operations: u64,
+        calls: usize,
+        end: &mut ScriptEnd,
+    ) -> u32;
     fn rhai_host_put_u128(handle: &mut Handle, low: u64, high: u64, told: &mut Told) -> u32;
     fn rhai_host_put_i128(handle: &mut Handle, low: u64, high: u64, told: &mut Told) -> u32;
     fn rhai_host_put_text(handle: &mut Handle, text: *const u8, text_len: usize, told: &mut Told) -> u32;
@@ -463,6 +491,18 @@ pub fn read_marked(handle: &mut Handle, mark: usize, told: &mut Told) -> u32 {
 }
 
 #[inline]
+pub fn name_text(handle: &mut Handle, number: usize, told: &mut Told) -> u32 {
+    // SAFETY: as SAFETY.md says of all calls.
+    unsafe { rhai_host_name_text(handle, number, told) }
+}
+
+#[inline]
+pub fn entry(handle: &mut Handle, i: usize, is_constant: &mut bool, told: &mut Told) -> u32 {
+    // SAFETY: as SAFETY.md says of all calls.
+    unsafe { rhai_host_entry(handle, i, is_constant, told) }
+}
+
+#[inline]
 pub fn make_fn(handle: &mut Handle, name: usize, count: usize, told: &mut Told) -> u32 {
     // SAFETY: as SAFETY.md says of all calls.
     unsafe { rhai_host_make_fn(handle, name, count, told) }
@@ -697,6 +737,20 @@ pub fn show_scope(handle: &mut Handle, told: &mut Told) -> u32 {
 pub fn hash_scope(handle: &mut Handle, told: &mut Told) -> u32 {
     // SAFETY: as SAFETY.md says of all calls.
     unsafe { rhai_host_hash_scope(handle, told) }
+}
+
+#[inline]
+pub fn run_script(
+    handle: &mut Handle,
+    script: &[u8],
+    text: usize,
+    items: usize,
+    operations: u64,
+    calls: usize,
+    end: &mut ScriptEnd,
+) -> u32 {
+    // SAFETY: as SAFETY.md says of all calls.
+    unsafe { rhai_host_run_script(handle, script.as_ptr(), script.len(), text, items, operations, calls, end) }
 }
 
 #[inline]

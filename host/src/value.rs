@@ -54,7 +54,55 @@ impl Iterator for Hand<'_> {
     }
 }
 
+/// An entry of a scope, with its value as `World::value` has it.
+#[derive(Clone, Debug, PartialEq, Eq)]
+pub struct Entry {
+    /// Its name.
+    pub name: String,
+    /// Whether it is a constant; a holder is where what it holds is.
+    pub is_constant: bool,
+    /// Its value without its holders; `None` where it holds itself, or has more than 500 levels.
+    pub value: Option<Value>,
+}
+
 impl World {
+    /// The entries of the scope, from the oldest to the newest.
+    ///
+    /// ```
+    /// use rhai_world::{Limits, Value, World};
+    ///
+    /// let mut world = World::new(Limits::default())?;
+    /// let x = world.name("x")?;
+    /// world.put_int(7)?;
+    /// world.push_constant(x, 0)?;
+    /// for entry in world.scope()? {
+    ///     assert_eq!((entry.name.as_str(), entry.is_constant), ("x", true));
+    ///     assert_eq!(entry.value, Some(Value::Int(7)));
+    /// }
+    /// # Ok::<(), rhai_world::Error>(())
+    /// ```
+    pub fn scope(&mut self) -> Result<std::vec::IntoIter<Entry>, Error> {
+        let before = self.hand_len();
+        self.entries()?;
+        let entries = self.entries_from(before);
+        while self.hand_len() > before {
+            self.drop()?;
+        }
+        entries.map(Vec::into_iter)
+    }
+
+    /// The entries, whose values stand in the hand from this position on.
+    fn entries_from(&mut self, first: usize) -> Result<Vec<Entry>, Error> {
+        let count = self.hand_len() - first;
+        let mut entries = Vec::new();
+        entries.try_reserve_exact(count).map_err(|_| Error::OutOfMemory)?;
+        for i in 0..count {
+            let (name, is_constant) = self.entry(i)?;
+            entries.push(Entry { name, is_constant, value: self.value(first + i)? });
+        }
+        Ok(entries)
+    }
+
     /// The values of the hand, each as `value` has it.
     pub fn hand(&mut self) -> Hand<'_> {
         Hand { world: self, next: 0 }

@@ -1,8 +1,8 @@
 //! A world, and what answers are made of.
-use crate::answer::{size, wide, Answer, ArithmeticFault, Error, Refusal, SizeKind};
+use crate::answer::{narrow, size, wide, Answer, ArithmeticFault, Error, Refusal, SizeKind};
 use crate::handle::Handle;
 use crate::kinds::{Limits, Name};
-use crate::sys::{self, Told};
+use crate::sys::{self, ScriptEnd, Told};
 use std::fmt;
 
 /// A store of shared cells, named values, and a hand of values that commands name by position. It is closed when it is dropped.
@@ -21,7 +21,7 @@ use std::fmt;
 /// is_shared::<rhai_world::World>();
 /// ```
 pub struct World {
-    handle: Handle,
+    pub(crate) handle: Handle,
 }
 
 impl World {
@@ -43,6 +43,13 @@ impl World {
         }
     }
 
+    /// The text of a name.
+    pub fn name_text(&mut self, name: Name) -> Result<String, Error> {
+        let mut told = Told::default();
+        let status = sys::name_text(&mut self.handle, name.0, &mut told);
+        self.text(status, &told)
+    }
+
     /// Takes a number back from a name.
     pub fn forget_name(&mut self, name: Name) -> Result<(), Error> {
         match sys::forget_name(&mut self.handle, name.0) {
@@ -53,56 +60,64 @@ impl World {
 
     /// Appends a text.
     pub fn put_text(&mut self, text: &str) -> Result<(), Error> {
-        let told = self.call(|handle, told| sys::put_text(handle, text.as_bytes(), told))?;
-        self.done(told)
+        let mut told = Told::default();
+        let status = sys::put_text(&mut self.handle, text.as_bytes(), &mut told);
+        self.done(status, &told)
     }
 
     /// Appends a blob.
     pub fn put_blob(&mut self, bytes: &[u8]) -> Result<(), Error> {
-        let told = self.call(|handle, told| sys::put_blob(handle, bytes, told))?;
-        self.done(told)
+        let mut told = Told::default();
+        let status = sys::put_blob(&mut self.handle, bytes, &mut told);
+        self.done(status, &told)
     }
 
     /// Gives the last entry of the name the alias, if it hasn't got it; an empty alias means the name.
     pub fn set_alias(&mut self, name: Name, alias: &str) -> Result<(), Error> {
-        let told = self.call(|handle, told| sys::set_alias(handle, name.0, alias.as_bytes(), told))?;
-        self.done(told)
+        let mut told = Told::default();
+        let status = sys::set_alias(&mut self.handle, name.0, alias.as_bytes(), &mut told);
+        self.done(status, &told)
     }
 
     /// Takes as many values off the end of the hand as there are keys, and appends the map of these to those in order; of equal keys
     /// the last value stands.
     pub fn make_map(&mut self, keys: &[Name]) -> Result<(), Error> {
         let keys = numbers(keys)?;
-        let told = self.call(|handle, told| sys::make_map(handle, &keys, told))?;
-        self.done(told)
+        let mut told = Told::default();
+        let status = sys::make_map(&mut self.handle, &keys, &mut told);
+        self.done(status, &told)
     }
 
     /// Takes as many values off the end of the hand as there are names, and adds an entry of each name with its value, which may be
     /// written.
     pub fn extend(&mut self, names: &[Name]) -> Result<(), Error> {
         let names = numbers(names)?;
-        let told = self.call(|handle, told| sys::extend(handle, &names, told))?;
-        self.done(told)
+        let mut told = Told::default();
+        let status = sys::extend(&mut self.handle, &names, &mut told);
+        self.done(status, &told)
     }
 
     /// Takes as many values off the end of the hand as there are names, and adds an entry of each name with its value, which is a
     /// constant where its flag says so. There are as many flags as names.
     pub fn extend_flagged(&mut self, names: &[Name], constants: &[bool]) -> Result<(), Error> {
         let names = numbers(names)?;
-        let told = self.call(|handle, told| sys::extend_flagged(handle, &names, constants, told))?;
-        self.done(told)
+        let mut told = Told::default();
+        let status = sys::extend_flagged(&mut self.handle, &names, constants, &mut told);
+        self.done(status, &told)
     }
 
     /// Does the command that a line says, one of `docs/LINES.md`. The program of the same name reads the same lines.
     pub fn line(&mut self, line: &str) -> Result<Answer, Error> {
-        let told = self.call(|handle, told| sys::line(handle, line.as_bytes(), told))?;
-        self.answer(told)
+        let mut told = Told::default();
+        let status = sys::line(&mut self.handle, line.as_bytes(), &mut told);
+        self.answer(status, &told)
     }
 
     /// Runs lines on a world of their own, and answers what they print; this world stays.
     pub fn run_lines(&mut self, input: &[u8]) -> Result<Vec<u8>, Error> {
-        let told = self.call(|handle, told| sys::run_lines(handle, input, told))?;
-        self.bytes(told)
+        let mut told = Told::default();
+        let status = sys::run_lines(&mut self.handle, input, &mut told);
+        self.bytes(status, &told)
     }
 
     /// Gives back each cell that nothing reaches.
@@ -118,91 +133,127 @@ impl World {
         sys::hand_len(&mut self.handle)
     }
 
-    /// Makes a call, whose answer is no refusal.
-    #[inline]
-    pub(crate) fn call(&mut self, export: impl FnOnce(&mut Handle, &mut Told) -> u32) -> Result<Told, Error> {
-        let mut told = Told::default();
-        match export(&mut self.handle, &mut told) {
-            0 if told.kind == REFUSED => Err(self.refused(&told)),
-            0 => Ok(told),
-            status => Err(failed(status)),
+    /// Runs a script on values of its own, and answers how it ended, what it printed, and what went wrong; this world stays.
+    pub(crate) fn run_script(
+        &mut self,
+        script: &str,
+        operations: u64,
+        limits: Limits,
+        calls: usize,
+    ) -> Result<(ScriptEnd, String, String), Error> {
+        let mut end = ScriptEnd::default();
+        match sys::run_script(&mut self.handle, script.as_bytes(), limits.text, limits.items, operations, calls, &mut end) {
+            0 => {}
+            status => return Err(failed(status)),
         }
+        let mut printed = self.text_of(false, (end.printed + end.said) as u64)?;
+        let why = copied(printed.get(end.printed..).ok_or(Error::Unexpected)?)?;
+        printed.truncate(end.printed);
+        Ok((end, printed, why))
     }
 
-    pub(crate) fn answer(&mut self, told: Told) -> Result<Answer, Error> {
+    /// The name of the entry at this position, counted from the oldest, and whether it is a constant.
+    pub(crate) fn entry(&mut self, i: usize) -> Result<(String, bool), Error> {
+        let mut is_constant = false;
+        let mut told = Told::default();
+        let status = sys::entry(&mut self.handle, i, &mut is_constant, &mut told);
+        Ok((self.text(status, &told)?, is_constant))
+    }
+
+    #[inline]
+    pub(crate) fn answer(&mut self, status: u32, told: &Told) -> Result<Answer, Error> {
+        if status != 0 {
+            return Err(self.failure(status, told));
+        }
         match told.kind {
             DONE => Ok(Answer::Done),
             TRUTH => Ok(Answer::Bool(told.low != 0)),
-            NUMBER => Ok(Answer::Int(wide(&told))),
+            NUMBER => Ok(Answer::Int(wide(told))),
             TEXT => Ok(Answer::Text(self.text_of(false, told.low)?)),
             BYTES => Ok(Answer::Bytes(self.bytes_of(false, told.low)?)),
             PAIR => Ok(Answer::Pair(size(told.low)?, size(told.high)?)),
             NOTHING => Ok(Answer::Nothing),
-            _ => Err(Error::Unexpected),
+            _ => Err(self.failure(status, told)),
         }
     }
 
+    /// That the answer is of this kind.
     #[inline]
-    pub(crate) fn done(&mut self, told: Told) -> Result<(), Error> {
-        expect(told.kind == DONE)
+    fn expect(&mut self, kind: u32, status: u32, told: &Told) -> Result<(), Error> {
+        if status == 0 && told.kind == kind {
+            return Ok(());
+        }
+        Err(self.failure(status, told))
     }
 
     #[inline]
-    pub(crate) fn truth(&mut self, told: Told) -> Result<bool, Error> {
-        expect(told.kind == TRUTH)?;
+    pub(crate) fn done(&mut self, status: u32, told: &Told) -> Result<(), Error> {
+        self.expect(DONE, status, told)
+    }
+
+    #[inline]
+    pub(crate) fn truth(&mut self, status: u32, told: &Told) -> Result<bool, Error> {
+        self.expect(TRUTH, status, told)?;
         Ok(told.low != 0)
     }
 
     #[inline]
-    pub(crate) fn int(&mut self, told: Told) -> Result<i64, Error> {
-        expect(told.kind == NUMBER)?;
-        i64::try_from(wide(&told)).map_err(|_| Error::Unexpected)
+    pub(crate) fn int(&mut self, status: u32, told: &Told) -> Result<i64, Error> {
+        self.expect(NUMBER, status, told)?;
+        narrow(told).ok_or(Error::Unexpected)
     }
 
     #[inline]
-    pub(crate) fn count(&mut self, told: Told) -> Result<usize, Error> {
-        expect(told.kind == NUMBER && told.high == 0)?;
-        size(told.low)
+    pub(crate) fn count(&mut self, status: u32, told: &Told) -> Result<usize, Error> {
+        self.expect(NUMBER, status, told)?;
+        usize::try_from(wide(told)).map_err(|_| Error::Unexpected)
     }
 
-    pub(crate) fn pair(&mut self, told: Told) -> Result<(usize, usize), Error> {
-        expect(told.kind == PAIR)?;
+    pub(crate) fn pair(&mut self, status: u32, told: &Told) -> Result<(usize, usize), Error> {
+        self.expect(PAIR, status, told)?;
         Ok((size(told.low)?, size(told.high)?))
     }
 
-    pub(crate) fn text(&mut self, told: Told) -> Result<String, Error> {
-        expect(told.kind == TEXT)?;
+    pub(crate) fn text(&mut self, status: u32, told: &Told) -> Result<String, Error> {
+        self.expect(TEXT, status, told)?;
         self.text_of(false, told.low)
     }
 
-    pub(crate) fn bytes(&mut self, told: Told) -> Result<Vec<u8>, Error> {
-        expect(told.kind == BYTES)?;
+    pub(crate) fn bytes(&mut self, status: u32, told: &Told) -> Result<Vec<u8>, Error> {
+        self.expect(BYTES, status, told)?;
         self.bytes_of(false, told.low)
     }
 
-    pub(crate) fn truth_if_any(&mut self, told: Told) -> Result<Option<bool>, Error> {
-        if told.kind == NOTHING {
+    pub(crate) fn truth_if_any(&mut self, status: u32, told: &Told) -> Result<Option<bool>, Error> {
+        if status == 0 && told.kind == NOTHING {
             return Ok(None);
         }
-        self.truth(told).map(Some)
+        self.truth(status, told).map(Some)
     }
 
-    pub(crate) fn count_if_any(&mut self, told: Told) -> Result<Option<usize>, Error> {
-        if told.kind == NOTHING {
+    pub(crate) fn count_if_any(&mut self, status: u32, told: &Told) -> Result<Option<usize>, Error> {
+        if status == 0 && told.kind == NOTHING {
             return Ok(None);
         }
-        self.count(told).map(Some)
+        self.count(status, told).map(Some)
     }
 
-    pub(crate) fn done_if_any(&mut self, told: Told) -> Result<bool, Error> {
-        if told.kind == NOTHING {
+    pub(crate) fn done_if_any(&mut self, status: u32, told: &Told) -> Result<bool, Error> {
+        if status == 0 && told.kind == NOTHING {
             return Ok(false);
         }
-        self.done(told).map(|()| true)
+        self.done(status, told).map(|()| true)
     }
 
+    /// Why a call isn't answered as it promises where it is done.
     #[cold]
-    fn refused(&mut self, told: &Told) -> Error {
+    fn failure(&mut self, status: u32, told: &Told) -> Error {
+        if status != 0 {
+            return failed(status);
+        }
+        if told.kind != REFUSED {
+            return Error::Unexpected;
+        }
         match self.refusal(told) {
             Ok(why) => Error::Refused(why),
             Err(error) => error,
@@ -258,13 +309,12 @@ const PAIR: u32 = 5;
 const NOTHING: u32 = 6;
 const REFUSED: u32 = 7;
 
-#[inline]
-fn expect(promised: bool) -> Result<(), Error> {
-    if promised {
-        Ok(())
-    } else {
-        Err(Error::Unexpected)
-    }
+/// The text again, where there is memory.
+fn copied(text: &str) -> Result<String, Error> {
+    let mut copy = String::new();
+    copy.try_reserve_exact(text.len()).map_err(|_| Error::OutOfMemory)?;
+    copy.push_str(text);
+    Ok(copy)
 }
 
 fn numbers(names: &[Name]) -> Result<Vec<usize>, Error> {

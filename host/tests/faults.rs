@@ -1,6 +1,6 @@
 //! Each request for memory refused in turn, and all from one on.
 #![cfg(feature = "faults")]
-use rhai_world::{refuse, Answer, Command, Error, Limits, Name, Operator, Place, Type, World};
+use rhai_world::{refuse, Answer, Command, Error, Journal, Limits, Name, Operator, Place, Script, ScriptError, Type, World};
 
 fn script(x: Name) -> Vec<Command> {
     vec![
@@ -47,12 +47,12 @@ fn answers(world: &mut World, x: Name) -> (Vec<Result<Answer, Error>>, usize) {
     let answers = script(x)
         .into_iter()
         .map(|command| {
-            let answer = world.apply(command);
+            let answer = world.apply(&command);
             if answer != Err(Error::OutOfMemory) {
                 return answer;
             }
             refused += 1;
-            world.apply(command)
+            world.apply(&command)
         })
         .collect();
     (answers, refused)
@@ -89,15 +89,15 @@ fn all_requests_from_one_on() {
         answers(&mut world, x)
     });
     let free = |world: &mut World, x: Name| {
-        assert_eq!(world.apply(Command::Rewind { count: usize::MAX }), Ok(Answer::Done));
-        assert!(world.apply(Command::Contains { name: x }).is_ok());
-        assert!(world.apply(Command::Len {}).is_ok());
+        assert_eq!(world.apply(&Command::Rewind { count: usize::MAX }), Ok(Answer::Done));
+        assert!(world.apply(&Command::Contains { name: x }).is_ok());
+        assert!(world.apply(&Command::Len {}).is_ok());
     };
     for nth in 0..asked {
         let (world, _) = refuse(nth, true, || {
             let Ok((mut world, x)) = world() else { return None };
             for command in script(x) {
-                let _ = world.apply(command);
+                let _ = world.apply(&command);
                 free(&mut world, x);
             }
             Some((world, x))
@@ -106,5 +106,62 @@ fn all_requests_from_one_on() {
             world.put_int(1).unwrap();
             free(&mut world, x);
         }
+    }
+}
+
+const SCRIPT: &str =
+    "let words = []; for i in 0..9 { words.push(`word` + i); print(words); } let m = #{a: words}; print(m.a[8]); m.b.c";
+
+#[test]
+fn scripts() {
+    let script = SCRIPT.replace('`', "\"");
+    let run = || Script::run(&script, 100_000, Limits::default());
+    let (expected, asked) = refuse(u64::MAX, false, run);
+    assert!(matches!(expected, Err(ScriptError::Fault { .. })), "{expected:?}");
+    assert!(asked > 50, "{asked}");
+    let mut stopped = 0;
+    for nth in 0..asked {
+        for lasts in [false, true] {
+            match refuse(nth, lasts, run).0 {
+                Err(ScriptError::OutOfMemory) => stopped += 1,
+                Err(ScriptError::Fault { message, .. }) if message == "out of memory" => stopped += 1,
+                // A few requests are for what can wait, as giving cells back can.
+                found => assert_eq!(found, expected, "request {nth}"),
+            }
+            assert_eq!(run(), expected);
+        }
+    }
+    assert!(stopped > 2 * asked - asked / 4, "{stopped} of {}", 2 * asked);
+}
+
+#[test]
+fn looks_and_journals() {
+    let work = |world: &mut World, x: Name, journal: &mut Journal| -> Result<(), Error> {
+        for command in
+            [Command::PutInt { n: 1 }, Command::Push { name: x, i: 0 }, Command::Get { name: x }, Command::Debug { i: 0 }]
+        {
+            journal.apply(world, &command)?;
+        }
+        assert_eq!(world.scope()?.map(|entry| entry.name).collect::<Vec<_>>(), [world.name_text(x)?]);
+        assert_eq!(journal.replayed()?, b"ok\nok\nok\n()\n");
+        Ok(())
+    };
+    let new = || {
+        let mut world = World::new(Limits::default()).unwrap();
+        let x = world.name("a_name_that_is_longer_than_twenty_four_bytes").unwrap();
+        (world, x, Journal::new())
+    };
+    let (mut world, x, mut journal) = new();
+    let (done, asked) = refuse(u64::MAX, false, || work(&mut world, x, &mut journal));
+    assert_eq!(done, Ok(()));
+    let hand = world.hand_len();
+    for nth in 0..asked {
+        let (mut world, x, mut journal) = new();
+        assert_eq!(refuse(nth, true, || work(&mut world, x, &mut journal)).0, Err(Error::OutOfMemory), "request {nth}");
+        assert!(world.hand_len() <= hand);
+        let lines = journal.lines().lines().count();
+        assert!(
+            lines <= 4 && journal.replayed().is_ok_and(|printed| printed.iter().filter(|&&byte| byte == b'\n').count() == lines)
+        );
     }
 }

@@ -1,5 +1,7 @@
 //! Each command once, refusals with their reasons, and worlds beside each other.
-use rhai_world::{Answer, ArithmeticFault, Command, Error, Limits, Operator, Place, Refusal, SizeKind, Type, World};
+use rhai_world::{
+    Answer, ArithmeticFault, Command, Entry, Error, Journal, Limits, Operator, Place, Refusal, SizeKind, Type, Value, World,
+};
 
 fn world() -> World {
     World::new(Limits::default()).unwrap()
@@ -263,9 +265,84 @@ fn lines() {
 fn commands_as_values() {
     let mut w = world();
     let list = [Command::PutInt { n: 7 }, Command::Copy { i: 0 }, Command::Drop {}, Command::AsInt { i: 0 }, Command::Drop {}];
-    let answers: Vec<Answer> = list.iter().map(|&c| w.apply(c).unwrap()).collect();
+    let answers: Vec<Answer> = list.iter().map(|c| w.apply(c).unwrap()).collect();
     assert_eq!(answers, [Answer::Done, Answer::Done, Answer::Done, Answer::Int(7), Answer::Done]);
-    assert_eq!(w.apply(Command::Drop {}), refused(Refusal::NoValue));
+    assert_eq!(w.apply(&Command::Drop {}), refused(Refusal::NoValue));
+}
+
+#[test]
+fn entries_of_a_scope() {
+    let mut w = world();
+    assert_eq!(w.scope().map(|entries| entries.len()), Ok(0));
+    let names = ["const x\nconst y", "x", "", "x"].map(|name| w.name(name).unwrap());
+    w.put_int(1).unwrap();
+    w.push_constant(names[0], 0).unwrap();
+    w.put_int(2).unwrap();
+    w.share(1).unwrap();
+    w.push_constant(names[1], 1).unwrap();
+    w.put_int(3).unwrap();
+    w.make_read_only(2).unwrap();
+    w.share(2).unwrap();
+    w.push(names[2], 2).unwrap();
+    w.make_array(0).unwrap();
+    w.share(3).unwrap();
+    w.copy(3).unwrap();
+    w.make_array(1).unwrap();
+    w.write(3, 4).unwrap();
+    w.push(names[3], 3).unwrap();
+    let entry = |name: &str, is_constant, value| Entry { name: name.into(), is_constant, value };
+    let entries: Vec<Entry> = w.scope().unwrap().collect();
+    assert_eq!(
+        entries,
+        [
+            entry("const x\nconst y", true, Some(Value::Int(1))),
+            entry("x", false, Some(Value::Int(2))),
+            entry("", true, Some(Value::Int(3))),
+            entry("x", false, None)
+        ]
+    );
+    assert_eq!((w.hand_len(), w.len()), (5, Ok(4)));
+    assert_eq!(w.name_text(names[0]).as_deref(), Ok("const x\nconst y"));
+    assert_eq!(w.name_text(names[2]).as_deref(), Ok(""));
+    w.forget_name(names[3]).unwrap();
+    assert_eq!(w.name_text(names[3]), Err(Error::NoCommand));
+}
+
+#[test]
+fn journals() {
+    let (mut w, mut beside, mut journal) = (world(), world(), Journal::new());
+    let (x, odd) = (w.name("x").unwrap(), w.name("an odd name").unwrap());
+    beside.name("x").unwrap();
+    let commands = [
+        Command::PutInt { n: -7 },
+        Command::PutI128 { n: i128::MIN },
+        Command::PutChar { character: ' ' },
+        Command::Share { i: 0 },
+        Command::Push { name: x, i: 0 },
+        Command::Assign { operator: Operator::PowerOfAssign, place: Place::Entry(x), j: 1 },
+        Command::GetValue { name: x, kind: Type::ImmutableString },
+        Command::Index { length: 4, index: -1, from_end: true },
+        Command::WriteSlice { place: Place::Hand(2), start: 0, end: 1, exclusive: false, j: 1 },
+        Command::Hash { i: 2 },
+        Command::Drop {},
+        Command::Names {},
+    ];
+    for command in commands {
+        assert_eq!(journal.apply(&mut w, &command), beside.apply(&command));
+    }
+    assert_eq!(journal.line(&mut w, "text two words"), Ok(Answer::Done));
+    assert_eq!(journal.line(&mut w, "no such line"), Err(Error::NoCommand));
+    assert_eq!(journal.line(&mut w, "text two\nint 1"), Err(Error::NoCommand));
+    assert_eq!(journal.apply(&mut w, &Command::Get { name: odd }), Err(Error::NoCommand));
+    assert_eq!(journal.apply(&mut w, &Command::PutChar { character: '\n' }), Err(Error::NoCommand));
+    assert_eq!(
+        journal.lines(),
+        "int -7\nhost i128 -170141183460469231731687303715884105728\nchar  \nshare 0\npush x 0\nassign @x **= 1\nvalue x string\n\
+         index 4 -1 true\nsliceeq 2 0 1 1\nhash 2\ndrop\nnames\ntext two words\n"
+    );
+    let printed = "ok\nok\nok\nok\nok\nrefused NoBuiltin\nnone\n3\nrefused WrongSource\n0320000000\nok\nx\n\nok\n";
+    assert_eq!(journal.replayed().as_deref(), Ok(printed.as_bytes()));
+    assert_eq!(w.show(2).as_deref(), Ok("two words"));
 }
 
 #[test]

@@ -1,25 +1,26 @@
 -- A name is taken out of its table, goes into a command, and comes back to its number.
 use Rattle.std.proofs.Common.{◌≡◌, ℕ, ℤ, zero, suc, List, [], ◌∷◌, slice_get, slice_set, Bool, true, false, Option, Some, None, option_map, refl, sym, ap, ◌∙◌, subst}
 use Rattle.std.proofs.lemmas.List.{set-set}
+use Rattle.std.specs.Option.{option_flatten}
 use Rattle.rhai_handle.specs.declared.kept.Kept.{Kept}
 use Rattle.rhai_run.specs.declared.command.Command.{Command}
 use Rattle.rhai_run.specs.declared.command.Place.{Place}
 use Rattle.rhai_run.specs.declared.command.Place.TheVariants as place
 use Rattle.rhai_host.specs.declared.told.Told.{Told}
-use Rattle.rhai_host.specs.Names.{IsTaken, joined, name_at, names_of, place_at, place_name}
+use Rattle.rhai_host.specs.Names.{IsTaken, name_at, names_of, place_at, place_name}
 use Rattle.rhai_host.specs.Calls.{DoesOne, DoesOneIf, InWorld, PerformsIf}
 
 -- what is written over itself
-set_own : {X : Type 0} (xs : List (Option X)) (i : ℕ) (x : X) → Some x ≡ joined (slice_get xs i) → slice_set xs i (Some x) ≡ xs
+set_own : {X : Type 0} (xs : List (Option X)) (i : ℕ) (x : X) → Some x ≡ option_flatten (slice_get xs i) → slice_set xs i (Some x) ≡ xs
 set_own [] i x e = refl
 set_own (y ∷ ys) zero x e = ap (λ z. z ∷ ys) e
 set_own (y ∷ ys) (suc i) x e = ap (λ zs. y ∷ zs) (set_own ys i x e)
 
-put_back : {X : Type 0} (xs : List (Option X)) (i : ℕ) (x : X) → Some x ≡ joined (slice_get xs i) → slice_set (slice_set xs i None) i (Some x) ≡ xs
+put_back : {X : Type 0} (xs : List (Option X)) (i : ℕ) (x : X) → Some x ≡ option_flatten (slice_get xs i) → slice_set (slice_set xs i None) i (Some x) ≡ xs
 put_back xs i x e = set-set xs i None (Some x) ∙ set_own xs i x e
 
 -- nothing comes of nothing that is taken
-set_none : {X : Type 0} (xs : List (Option X)) (i : ℕ) → None ≡ joined (slice_get xs i) → slice_set xs i None ≡ xs
+set_none : {X : Type 0} (xs : List (Option X)) (i : ℕ) → None ≡ option_flatten (slice_get xs i) → slice_set xs i None ≡ xs
 set_none [] i e = refl
 set_none (y ∷ ys) zero e = ap (λ z. z ∷ ys) e
 set_none (y ∷ ys) (suc i) e = ap (λ zs. y ∷ zs) (set_none ys i e)

@@ -1,5 +1,5 @@
 -- How an answer is told in numbers.
-use Rattle.std.specs.Prelude.{ℕ, ℤ, ◌%◌, ◌/◌, ◌^◌, Bool, true, false, length, string_bytes}
+use Rattle.std.specs.Prelude.{ℕ, ℤ, ◌%◌, ◌/◌, ◌^◌, Bool, true, false, length, encode_utf8_all}
 use Rattle.std.specs.Int.{cast_unsigned, w128}
 use Rattle.rhai_text.specs.declared.error.ArithmeticFault.{ArithmeticFault}
 use Rattle.rhai_text.specs.declared.error.ArithmeticFault.TheVariants as arithmetic
@@ -43,7 +43,7 @@ size_number size.Items = 1
 
 -- an error: its number, which one of its kind, or how long the names of the wanted and of the found type are
 abbrev pub told_fault : EvalAltResult → Told
-told_fault (error.ErrorMismatchDataType wanted found at) = in_numbers 7 13 (length wanted.now) (length found.now)
+told_fault (error.ErrorMismatchDataType wanted found at) = in_numbers 7 13 (length wanted) (length found)
 told_fault (error.ErrorDataRace at) = in_numbers 7 14 0 0
 told_fault (error.ErrorArithmetic why at) = in_numbers 7 15 (arithmetic_number why) 0
 told_fault (error.ErrorDataTooLarge what at) = in_numbers 7 16 (size_number what) 0
@@ -63,7 +63,7 @@ told_refusal refusal.BitPlace = in_numbers 7 8 0 0
 told_refusal refusal.BytePlace = in_numbers 7 9 0 0
 told_refusal refusal.NoBuiltin = in_numbers 7 10 0 0
 told_refusal refusal.NotHashable = in_numbers 7 11 0 0
-told_refusal (refusal.Mismatch name) = in_numbers 7 12 (length name.now) 0
+told_refusal (refusal.Mismatch name) = in_numbers 7 12 (length name) 0
 told_refusal (refusal.Fault e) = told_fault e
 
 -- an answer: its kind, and a truth, the two words of a number, the length of a text in bytes or of bytes, or two numbers
@@ -71,8 +71,19 @@ abbrev pub told_of : Answer → Told
 told_of answer.Done = in_numbers 0 0 0 0
 told_of (answer.Bool b) = in_numbers 1 0 (bit b) 0
 told_of (answer.Int n) = in_numbers 2 0 (low_word n) (high_word n)
-told_of (answer.Text t) = in_numbers 3 0 (length (string_bytes t)) 0
-told_of (answer.Bytes b) = in_numbers 4 0 (length b.items) 0
+told_of (answer.Text t) = in_numbers 3 0 (length (encode_utf8_all t)) 0
+told_of (answer.Bytes b) = in_numbers 4 0 (length b) 0
 told_of (answer.Pair m n) = in_numbers 5 0 m n
 told_of answer.Nothing = in_numbers 6 0 0 0
 told_of (answer.Refused why) = told_refusal why
+
+-- what is kept after an answer: a text, bytes and a refusal stand in the place of what was kept before, which the others leave
+abbrev pub kept_answer : Answer → Answer → Answer
+kept_answer last answer.Done = last
+kept_answer last (answer.Bool b) = last
+kept_answer last (answer.Int n) = last
+kept_answer last (answer.Text t) = answer.Text t
+kept_answer last (answer.Bytes b) = answer.Bytes b
+kept_answer last (answer.Pair m n) = last
+kept_answer last answer.Nothing = last
+kept_answer last (answer.Refused why) = answer.Refused why

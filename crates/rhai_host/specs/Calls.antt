@@ -3,19 +3,19 @@
 use Rattle.std.specs.Prelude.{◌≡◌, ◌⊎◌, ℕ, zero, suc, true, Option, None, Some}
 use Rattle.rhai_handle.specs.declared.kept.Kept.{Kept}
 use Rattle.rhai_run.specs.declared.command.Command.{Command}
-use Rattle.rhai_run.specs.Reply.{reply_of}
 use Rattle.rhai_run.specs.Step.{step}
 use Rattle.rhai_host.specs.declared.told.Told.{Told}
-use Rattle.rhai_host.specs.Answers.{told_of}
+use Rattle.rhai_host.specs.Answers.{kept_answer, told_of}
 use Rattle.rhai_host.specs.Names.{names_of}
 
 -- nothing has changed
 abbrev pub Unchanged : Kept → Kept → Type 0
 Unchanged k l = (l.world ≡ k.world) × (names_of l ≡ names_of k) × (l.answer ≡ k.answer)
 
--- the command's step was made, its answer is kept, and it is told
+-- the command's step was made, its answer is told, and what numbers don't tell of it is kept
 abbrev pub IsDone : Kept → Kept → Told → Command → Type 0
-IsDone k l told c = (l.world ≡ (step k.world c).after) × (reply_of l.answer ≡ (step k.world c).reply) × (names_of l ≡ names_of k) × (told ≡ told_of l.answer)
+IsDone k l told c =
+    (l.world ≡ (step k.world c).after) × (told ≡ told_of (step k.world c).reply) × (l.answer ≡ kept_answer k.answer (step k.world c).reply) × (names_of l ≡ names_of k)
 
 -- memory was refused, which a command that wants none never is, and nothing has changed
 abbrev pub IsStopped : Kept → Kept → Command → Type 0

@@ -1,7 +1,9 @@
 pub mod Answers
 pub mod Calls
 pub mod Lists
+pub mod NameTexts
 pub mod Names
 pub mod Numbers
 pub mod Opened
 pub mod Runs
+pub mod Scripts

@@ -1,5 +1,6 @@
 -- The names that a host has handed over, and how one of them goes into a command and comes back.
 use Rattle.std.specs.Prelude.{◌≡◌, ℕ, List, slice_get, slice_set, Option, None, Some, Bool, true, false, option_map}
+use Rattle.std.specs.Option.{option_flatten}
 use Rattle.rhai_handle.specs.declared.kept.Kept.{Kept}
 use Rattle.rhai_run.specs.declared.command.Command.{Command}
 use Rattle.rhai_run.specs.declared.command.Command.TheVariants as command
@@ -10,14 +11,9 @@ use Rattle.rhai_run.specs.declared.command.Place.TheVariants as place
 abbrev pub names_of : Kept → List (Option (List ℕ))
 names_of k = k.names.items
 
--- what is there, if anything is
-abbrev pub joined : {X : Type 0} → Option (Option X) → Option X
-joined None = None
-joined (Some o) = o
-
 -- the name of a number
 abbrev pub name_at : Kept → ℕ → Option (List ℕ)
-name_at k number = joined (slice_get (names_of k) number)
+name_at k number = option_flatten (slice_get (names_of k) number)
 
 -- a place: a position in the hand, or the entry of the name of a number
 abbrev pub place_at : Kept → Bool → ℕ → Option Place

@@ -27,11 +27,6 @@ operators = op.Plus ∷ op.Minus ∷ op.Multiply ∷ op.Divide ∷ op.Modulo ∷
 abbrev pub operator_of : ℕ → Option Token
 operator_of number = slice_get operators number
 
--- what is said of something, where it is there
-abbrev pub where_there : {X Y : Type 0} → Option X → (X → Option Y) → Option Y
-where_there None f = None
-where_there (Some x) f = f x
-
 -- the characters of bytes, where they are UTF-8
 abbrev pub text_of : List ℕ → Option (List ℕ)
 text_of bytes = if is_utf8 bytes then Some (chars bytes) else None

@@ -1,12 +1,11 @@
 -- Calls that open, close and look at a world, and keep names.
-use Rattle.std.specs.Prelude.{◌≡◌, ◌≢◌, ℕ, zero, suc, ◌+◌, Bool, true, false, List, [], ◌∷◌, ◌++◌, length, take, drop, slice_set, string_bytes, nat_eq, if◌then◌else◌, Option, None, Some}
+use Rattle.std.specs.Prelude.{◌≡◌, ◌≢◌, ℕ, zero, suc, ◌+◌, Bool, true, false, List, [], ◌∷◌, ◌++◌, length, take, drop, slice_set, encode_utf8_all, nat_eq, if◌then◌else◌, Option, None, Some}
 use Rattle.rhai_text.specs.declared.error.EvalAltResult.{EvalAltResult}
 use Rattle.rhai_text.specs.declared.error.EvalAltResult.TheVariants as error
 use Rattle.rhai_text.specs.declared.limits.Limits.{Limits}
 use Rattle.rhai_handle.specs.declared.kept.Kept.{Kept}
 use Rattle.rhai_run.specs.KeptWorld.{Collects}
 use Rattle.rhai_run.specs.State.{empty_state}
-use Rattle.rhai_run.specs.Reply.{reply_of, done}
 use Rattle.rhai_run.specs.declared.answer.Answer.{Answer}
 use Rattle.rhai_run.specs.declared.answer.Answer.TheVariants as answer
 use Rattle.rhai_run.specs.declared.answer.Refusal.{Refusal}
@@ -17,7 +16,7 @@ use Rattle.rhai_host.specs.Numbers.{text_of}
 
 -- a new world, no name and the answer that all is done; or memory was refused, and the handle is as it was
 abbrev pub Opens : ℕ → Option Kept → Option Kept → Limits → Type 0
-Opens zero old new limits = InWorld new (λ l. (l.world ≡ empty_state limits) × (names_of l ≡ []) × (reply_of l.answer ≡ done))
+Opens zero old new limits = InWorld new (λ l. (l.world ≡ empty_state limits) × (names_of l ≡ []) × (l.answer ≡ answer.Done))
 Opens (suc zero) old new limits = new ≡ old
 Opens (suc (suc n)) old new limits = ⊥
 
@@ -47,8 +46,8 @@ GivesUp status (Some k) new number = InWorld new (λ l. IsGivenUp status k l num
 
 -- the names of types in an error, the wanted one and then the one that was found
 abbrev pub fault_text : EvalAltResult → Bool → List ℕ
-fault_text (error.ErrorMismatchDataType wanted found at) false = wanted.now
-fault_text (error.ErrorMismatchDataType wanted found at) true = found.now
+fault_text (error.ErrorMismatchDataType wanted found at) false = wanted
+fault_text (error.ErrorMismatchDataType wanted found at) true = found
 fault_text (error.ErrorDataRace at) second = []
 fault_text (error.ErrorArithmetic why at) second = []
 fault_text (error.ErrorDataTooLarge what at) second = []
@@ -56,7 +55,7 @@ fault_text (error.ErrorMemory e) second = []
 
 -- the names of types in a refusal
 abbrev pub refusal_text : Refusal → Bool → List ℕ
-refusal_text (refusal.Mismatch name) false = name.now
+refusal_text (refusal.Mismatch name) false = name
 refusal_text (refusal.Mismatch name) true = []
 refusal_text (refusal.Fault e) second = fault_text e second
 refusal_text refusal.NoValue second = []
@@ -74,9 +73,9 @@ refusal_text refusal.NotHashable second = []
 
 -- the bytes of an answer: a text, bytes, or the name of a type; or those of a second name
 abbrev pub answer_bytes : Answer → Bool → List ℕ
-answer_bytes (answer.Text t) false = string_bytes t
+answer_bytes (answer.Text t) false = encode_utf8_all t
 answer_bytes (answer.Text t) true = []
-answer_bytes (answer.Bytes b) false = b.items
+answer_bytes (answer.Bytes b) false = b
 answer_bytes (answer.Bytes b) true = []
 answer_bytes (answer.Refused why) second = refusal_text why second
 answer_bytes answer.Done second = []
@@ -85,7 +84,7 @@ answer_bytes (answer.Int n) second = []
 answer_bytes (answer.Pair m n) second = []
 answer_bytes answer.Nothing second = []
 
--- the same of the last answer in a handle; none where no world is open
+-- the same of the answer that is kept in a handle; none where no world is open
 abbrev pub kept_bytes : Option Kept → Bool → List ℕ
 kept_bytes None second = []
 kept_bytes (Some k) second = answer_bytes k.answer second

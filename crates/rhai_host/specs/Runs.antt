@@ -1,8 +1,8 @@
 -- Runs over lines, whose output is the answer.
 use Rattle.std.specs.Prelude.{◌≡◌, ℕ, zero, suc, List, Option, None, Some}
 use Rattle.rhai_handle.specs.declared.kept.Kept.{Kept}
-use Rattle.rhai_run.specs.Reply.{reply_of, bytes}
-use Rattle.rhai_lines.specs.Output.{output}
+use Rattle.rhai_run.specs.declared.answer.Answer.TheVariants as answer
+use Rattle.rhai_lines.specs.Output.{new_world, output}
 use Rattle.rhai_host.specs.declared.told.Told.{Told}
 use Rattle.rhai_host.specs.Answers.{told_of}
 use Rattle.rhai_host.specs.Calls.{InWorld, Unchanged}
@@ -10,7 +10,7 @@ use Rattle.rhai_host.specs.Names.{names_of}
 
 -- the answer is what the lines print on a new world; or memory was refused, and nothing has changed
 abbrev pub IsRun : ℕ → Kept → Kept → List ℕ → Told → Type 0
-IsRun zero k l input told = (reply_of l.answer ≡ bytes (output input)) × (told ≡ told_of l.answer) × (l.world ≡ k.world) × (names_of l ≡ names_of k)
+IsRun zero k l input told = (l.answer ≡ answer.Bytes (output new_world input)) × (told ≡ told_of l.answer) × (l.world ≡ k.world) × (names_of l ≡ names_of k)
 IsRun (suc zero) k l input told = Unchanged k l
 IsRun (suc (suc n)) k l input told = ⊥
 

@@ -10,7 +10,7 @@ use crate::perform::{CLOSED, DONE, OUT_OF_MEMORY, no_command, no_room, perform};
 use crate::told::{Told, told_of};
 use rhai_handle::{Handle, Kept};
 use rhai_lines::{command, run_lines};
-use rhai_run::Answer;
+use rhai_run::{Answer, Bytes};
 use std::alloc::Global;
 
 /// Does the command that a line says; `docs/LINES.md` has the lines.
@@ -38,7 +38,7 @@ fn run_kept(alloc: Global, kept: &mut Kept, input: &[u8], told: &mut Told) -> u3
     let mut out = Vec::new(alloc);
     match run_lines(alloc, &mut reader, &mut out) {
         Ok(()) => {
-            let answer = Answer::Bytes(out);
+            let answer = Answer::Bytes(Bytes::new(out));
             *told = told_of(&answer);
             kept.answer = answer;
             DONE

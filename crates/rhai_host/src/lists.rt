@@ -1,11 +1,12 @@
 //! Commands with a list of names, and with a text besides a name.
-ghost use Rattle.std.specs.Prelude.{◌≡◌, IfOk, option_map, slice_get};
+ghost use Rattle.std.specs.Option.{option_flatten};
+ghost use Rattle.std.specs.Prelude.{◌≡◌, IfOk, option_and_then, option_map, slice_get};
 ghost use Rattle.rhai_handle.specs.Content.{content};
 ghost use Rattle.rhai_run.specs.declared.command.Command.TheVariants as command;
 ghost use Rattle.rhai_host.specs.Calls.{DoesOneMade, PerformsIf, PerformsMade};
 ghost use Rattle.rhai_host.specs.Lists.{flagged_at, names_at};
-ghost use Rattle.rhai_host.specs.Names.{joined, name_at, names_of};
-ghost use Rattle.rhai_host.specs.Numbers.{text_of, where_there};
+ghost use Rattle.rhai_host.specs.Names.{name_at, names_of};
+ghost use Rattle.rhai_host.specs.Numbers.{text_of};
 
 use crate::names::{lend, perform_lent};
 use crate::perform::{CLOSED, NO_COMMAND, NO_ROOM, no_command, no_room, perform_made};
@@ -17,7 +18,7 @@ use rhai_text::ImmutableString;
 use std::alloc::{AllocError, Global};
 
 fn name_of(names: &[Option<ImmutableString>], number: usize) -> Option<&ImmutableString>
-    ensures { option_map (λ n. n.now) result ≡ joined (slice_get names.now number) }
+    ensures { option_map (λ n. n.now) result ≡ option_flatten (slice_get names.now number) }
 {
     if number < names.len() {
         names[number].as_ref()
@@ -197,7 +198,7 @@ pub extern "C" fn rhai_host_set_alias(
     alias: &[u8],
     told: &mut Told,
 ) -> u32
-    ensures { PerformsMade result (content handle.old) (content handle.new) told.new (λ k. where_there (text_of alias.now) (λ a. option_map (λ n. command.SetAlias n a) (name_at k name))) }
+    ensures { PerformsMade result (content handle.old) (content handle.new) told.new (λ k. option_and_then (λ a. option_map (λ n. command.SetAlias n a) (name_at k name)) (text_of alias.now)) }
 {
     match text_of(alloc, alias) {
         Ok(Some(alias)) => aliased(alloc, handle, name, alias, told),

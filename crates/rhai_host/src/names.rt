@@ -42,6 +42,7 @@ fn taken(kept: &mut Kept, number: usize) -> Option<ImmutableString>
 }
 
 /// Takes the name out of the command.
+#[inline(always)]
 fn name_in(command: Command) -> Option<ImmutableString>
     ensures { result ≡ name_in command }
 {
@@ -111,6 +112,7 @@ fn name_in(command: Command) -> Option<ImmutableString>
     }
 }
 
+#[inline(always)]
 fn place_name(place: Place) -> Option<ImmutableString>
     ensures { result ≡ place_name place }
 {
@@ -133,6 +135,7 @@ fn give_back(kept: &mut Kept, number: usize, name: Option<ImmutableString>)
 }
 
 /// Takes the world out of its handle, and the name of a number out of its table; or answers why not.
+#[inline(always)]
 pub(crate) fn lend(alloc: Global, handle: &mut Handle, number: usize) -> Result<Lent, u32>
     ensures lent { IfOk result (λ l. InWorld (content handle.old) (λ k. (name_at k number ≡ Some l.name) × IsTaken k l.kept.value number (Some l.name))) }
     ensures closed { IfOk result (λ _. content handle.new ≡ None) }
@@ -181,6 +184,7 @@ pub(crate) fn lend_place(
 }
 
 /// Does the command in what is left of a world, gives its name back, and puts the world into its handle again.
+#[inline(always)]
 pub(crate) fn perform_lent(
     handle: &mut Handle,
     kept: Box<Kept>,

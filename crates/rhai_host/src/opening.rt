@@ -122,9 +122,9 @@ fn fault_text(fault: &EvalAltResult, second: bool) -> &[u8]
     match fault {
         EvalAltResult::ErrorMismatchDataType(wanted, found, _) => {
             if second {
-                found.as_bytes()
+                found.as_str().as_bytes()
             } else {
-                wanted.as_bytes()
+                wanted.as_str().as_bytes()
             }
         }
         EvalAltResult::ErrorDataRace(_)
@@ -138,7 +138,13 @@ fn refusal_text(why: &Refusal, second: bool) -> &[u8]
     ensures { result.now ≡ refusal_text why.now second }
 {
     match why {
-        Refusal::Mismatch(name) => { if second { &[] } else { name.as_bytes() } }
+        Refusal::Mismatch(name) => {
+            if second {
+                &[]
+            } else {
+                name.as_str().as_bytes()
+            }
+        }
         Refusal::Fault(fault) => fault_text(fault, second),
         Refusal::NoValue
         | Refusal::SameValue
@@ -159,8 +165,8 @@ fn first_bytes(answer: &Answer) -> &[u8]
     ensures { result.now ≡ answer_bytes answer.now false }
 {
     match answer {
-        Answer::Text(text) => text.as_bytes(),
-        Answer::Bytes(bytes) => bytes,
+        Answer::Text(text) => text.as_str().as_bytes(),
+        Answer::Bytes(bytes) => bytes.as_slice(),
         Answer::Refused(why) => refusal_text(why, false),
         Answer::Done | Answer::Bool(_) | Answer::Int(_) | Answer::Pair(_, _) | Answer::Nothing => {
             &[]
@@ -200,7 +206,8 @@ fn copy_into(bytes: &[u8], room: &mut [u8])
     room[..count].copy_from_slice(&bytes[..count]);
 }
 
-/// Copies the bytes of the last answer, or those of its second name, as far as there is room; answers how many it has.
+/// Copies the bytes of the last text, bytes or refusal that was answered, or those of its second name, as far as there is room; answers how
+/// many it has.
 #[unsafe(no_mangle)]
 pub extern "C" fn rhai_host_answer(
     alloc: Global,

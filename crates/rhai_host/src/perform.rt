@@ -1,10 +1,11 @@
 //! One command in the world of a handle.
-ghost use Rattle.std.specs.Prelude.{◌<◌, Option, None};
+ghost use Rattle.std.specs.Prelude.{◌≡◌, ◌<◌, Option, None};
 ghost use Rattle.rhai_handle.specs.Content.{content};
 ghost use Rattle.rhai_run.specs.declared.command.Command.{Command};
 ghost use Rattle.rhai_run.specs.declared.command.Command.TheVariants as command;
 ghost use Rattle.rhai_run.specs.declared.command.Literal.{Literal};
 ghost use Rattle.rhai_handle.specs.declared.kept.Kept.{Kept};
+ghost use Rattle.rhai_host.specs.Answers.{kept_answer, told_of};
 ghost use Rattle.rhai_host.specs.Calls.{DoesOne, Performs, PerformsIf, PerformsMade};
 ghost use Rattle.rhai_host.specs.declared.told.Told.{Told};
 
@@ -24,6 +25,21 @@ pub(crate) const NO_COMMAND: u32 = 3;
 /// Memory for what a command is made of was refused, and nothing has changed.
 pub(crate) const NO_ROOM: u32 = 4;
 
+/// Tells an answer, and keeps what numbers don't tell of it. Not inlined, so that a call that is most often done stays short.
+#[inline(never)]
+pub(crate) fn keep(kept: &mut Kept, answer: Answer, told: &mut Told)
+    ensures kept { kept.new ≡ record kept.old { answer = kept_answer kept.old.answer answer } }
+    ensures told { told.new ≡ told_of answer }
+{
+    *told = told_of(&answer);
+    match answer {
+        Answer::Text(text) => kept.answer = Answer::Text(text),
+        Answer::Bytes(bytes) => kept.answer = Answer::Bytes(bytes),
+        Answer::Refused(why) => kept.answer = Answer::Refused(why),
+        Answer::Done | Answer::Bool(_) | Answer::Int(_) | Answer::Pair(_, _) | Answer::Nothing => {}
+    }
+}
+
 #[inline(always)]
 pub(crate) fn perform_in(kept: &mut Kept, command: &Command, told: &mut Told) -> u32
     ensures { DoesOne result kept.old kept.new told.new command.now }
@@ -31,12 +47,14 @@ pub(crate) fn perform_in(kept: &mut Kept, command: &Command, told: &mut Told) ->
     match apply(&mut kept.world, command) {
         Ok(Answer::Done) => {
             *told = told_of(&Answer::Done);
-            kept.answer = Answer::Done;
+            DONE
+        }
+        Ok(Answer::Int(n)) => {
+            *told = told_of(&Answer::Int(n));
             DONE
         }
         Ok(answer) => {
-            *told = told_of(&answer);
-            kept.answer = answer;
+            keep(kept, answer, told);
             DONE
         }
         Err(_) => OUT_OF_MEMORY,

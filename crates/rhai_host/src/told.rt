@@ -58,8 +58,8 @@ fn told_fault(fault: &EvalAltResult) -> Told
         EvalAltResult::ErrorMismatchDataType(wanted, found, _) => in_numbers(
             7,
             13,
-            wanted.len() as u64,
-            found.len() as u64,
+            wanted.as_str().len() as u64,
+            found.as_str().len() as u64,
         ),
         EvalAltResult::ErrorDataRace(_) => in_numbers(7, 14, 0, 0),
         EvalAltResult::ErrorArithmetic(why, _) => in_numbers(7, 15, arithmetic_number(why), 0),
@@ -84,7 +84,7 @@ fn told_refusal(why: &Refusal) -> Told
         Refusal::BytePlace => in_numbers(7, 9, 0, 0),
         Refusal::NoBuiltin => in_numbers(7, 10, 0, 0),
         Refusal::NotHashable => in_numbers(7, 11, 0, 0),
-        Refusal::Mismatch(name) => in_numbers(7, 12, name.len() as u64, 0),
+        Refusal::Mismatch(name) => in_numbers(7, 12, name.as_str().len() as u64, 0),
         Refusal::Fault(fault) => told_fault(fault),
     }
 }
@@ -107,8 +107,8 @@ pub(crate) fn told_of(answer: &Answer) -> Told
         Answer::Done => in_numbers(0, 0, 0, 0),
         Answer::Bool(truth) => in_numbers(1, 0, u64::from(*truth), 0),
         Answer::Int(n) => told_number(*n),
-        Answer::Text(text) => in_numbers(3, 0, text.len() as u64, 0),
-        Answer::Bytes(bytes) => in_numbers(4, 0, bytes.len() as u64, 0),
+        Answer::Text(text) => in_numbers(3, 0, text.as_str().len() as u64, 0),
+        Answer::Bytes(bytes) => in_numbers(4, 0, bytes.as_slice().len() as u64, 0),
         Answer::Pair(first, second) => in_numbers(5, 0, *first as u64, *second as u64),
         Answer::Nothing => in_numbers(6, 0, 0, 0),
         Answer::Refused(why) => told_refusal(why),

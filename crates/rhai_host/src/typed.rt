@@ -1,11 +1,11 @@
 //! Commands with a type or an operator, which are told by their numbers.
-ghost use Rattle.std.specs.Prelude.{option_map};
+ghost use Rattle.std.specs.Prelude.{option_and_then, option_map};
 ghost use Rattle.rhai_handle.specs.Content.{content};
 ghost use Rattle.rhai_run.specs.declared.command.Command.TheVariants as command;
 ghost use Rattle.rhai_run.specs.declared.command.Question.TheVariants as question;
 ghost use Rattle.rhai_host.specs.Calls.{PerformsIf};
 ghost use Rattle.rhai_host.specs.Names.{name_at, place_at};
-ghost use Rattle.rhai_host.specs.Numbers.{operator_of, type_of, where_there};
+ghost use Rattle.rhai_host.specs.Numbers.{operator_of, type_of};
 
 use crate::names::{lend, lend_place, perform_lent};
 use crate::numbers::{operator_of, type_of};
@@ -120,7 +120,7 @@ pub extern "C" fn rhai_host_assign(
     j: usize,
     told: &mut Told,
 ) -> u32
-    ensures { PerformsIf result (content handle.old) (content handle.new) told.new (λ k. where_there (operator_of operator) (λ op. option_map (λ p. command.Assign op p j) (place_at k is_entry at))) }
+    ensures { PerformsIf result (content handle.old) (content handle.new) told.new (λ k. option_and_then (λ op. option_map (λ p. command.Assign op p j) (place_at k is_entry at)) (operator_of operator)) }
 {
     match operator_of(operator) {
         Some(operator) => assign(alloc, handle, operator, is_entry, at, j, told),
@@ -152,7 +152,7 @@ pub extern "C" fn rhai_host_get_value(
     kind: u32,
     told: &mut Told,
 ) -> u32
-    ensures { PerformsIf result (content handle.old) (content handle.new) told.new (λ k. where_there (type_of kind) (λ t. option_map (λ n. command.GetValue n t) (name_at k name))) }
+    ensures { PerformsIf result (content handle.old) (content handle.new) told.new (λ k. option_and_then (λ t. option_map (λ n. command.GetValue n t) (name_at k name)) (type_of kind)) }
 {
     match type_of(kind) {
         Some(kind) => get_value(alloc, handle, name, kind, told),
@@ -184,7 +184,7 @@ pub extern "C" fn rhai_host_get_ref(
     kind: u32,
     told: &mut Told,
 ) -> u32
-    ensures { PerformsIf result (content handle.old) (content handle.new) told.new (λ k. where_there (type_of kind) (λ t. option_map (λ n. command.GetRef n t) (name_at k name))) }
+    ensures { PerformsIf result (content handle.old) (content handle.new) told.new (λ k. option_and_then (λ t. option_map (λ n. command.GetRef n t) (name_at k name)) (type_of kind)) }
 {
     match type_of(kind) {
         Some(kind) => get_ref(alloc, handle, name, kind, told),
@@ -216,7 +216,7 @@ pub extern "C" fn rhai_host_remove(
     kind: u32,
     told: &mut Told,
 ) -> u32
-    ensures { PerformsIf result (content handle.old) (content handle.new) told.new (λ k. where_there (type_of kind) (λ t. option_map (λ n. command.Remove n t) (name_at k name))) }
+    ensures { PerformsIf result (content handle.old) (content handle.new) told.new (λ k. option_and_then (λ t. option_map (λ n. command.Remove n t) (name_at k name)) (type_of kind)) }
 {
     match type_of(kind) {
         Some(kind) => remove(alloc, handle, name, kind, told),

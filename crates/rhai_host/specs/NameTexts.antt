@@ -1,0 +1,31 @@
+-- Names that are told as texts.
+use Rattle.std.specs.Prelude.{◌≡◌, ℕ, zero, suc, Bool, List, slice_get, Option, None, Some, option_map, IfSome}
+use Rattle.rhai_scope.specs.Items.{Named, shown_raw}
+use Rattle.rhai_handle.specs.declared.kept.Kept.{Kept}
+use Rattle.rhai_run.specs.declared.answer.Answer.TheVariants as answer
+use Rattle.rhai_host.specs.declared.told.Told.{Told}
+use Rattle.rhai_host.specs.Answers.{told_of}
+use Rattle.rhai_host.specs.Calls.{InWorld, Unchanged}
+use Rattle.rhai_host.specs.Names.{name_at, names_of}
+
+-- the answer is the text of these characters, and is told; or memory was refused, or there is no such name, and nothing has changed
+abbrev pub IsToldText : ℕ → Kept → Kept → Option (List ℕ) → Told → Type 0
+IsToldText status k l None told = (status ≡ 3) × Unchanged k l
+IsToldText zero k l (Some name) told = (l.answer ≡ answer.Text name) × (told ≡ told_of l.answer) × (l.world ≡ k.world) × (names_of l ≡ names_of k)
+IsToldText (suc zero) k l (Some name) told = Unchanged k l
+IsToldText (suc (suc n)) k l (Some name) told = ⊥
+
+-- the name of a number
+abbrev pub TellsName : ℕ → Option Kept → Option Kept → ℕ → Told → Type 0
+TellsName status None new number told = (status ≡ 2) × (new ≡ None)
+TellsName status (Some k) new number told = InWorld new (λ l. IsToldText status k l (name_at k number) told)
+
+-- the entry at a position: its name, whether it is a constant, as a holder is where its cell's content is, and its value
+abbrev pub shown_at : Kept → ℕ → Option Named
+shown_at k i = option_map (shown_raw k.world.store) (slice_get k.world.entries i)
+
+-- the name of the entry at a position, and whether it is a constant
+abbrev pub TellsEntry : ℕ → Option Kept → Option Kept → ℕ → Bool → Told → Type 0
+TellsEntry status None new i constant told = (status ≡ 2) × (new ≡ None)
+TellsEntry status (Some k) new i constant told =
+    InWorld new (λ l. IsToldText status k l (option_map (λ e. e.0) (shown_at k i)) told) × (status ≡ 0 → IfSome (shown_at k i) (λ e. constant ≡ e.1))

@@ -1,0 +1,40 @@
+-- Runs of scripts. What a script does is no promise of its library, which is safe and ends; so what is said here is where its end is told.
+use Rattle.std.specs.Prelude.{◌≡◌, ℕ, zero, suc, ◌+◌, ⊤, false, List, length, Option, None, Some, Result, Ok, Err}
+use Rattle.example_script.specs.declared.script.ScriptError.{ScriptError}
+use Rattle.example_script.specs.declared.script.ScriptError.TheVariants as script
+use Rattle.example_syntax.specs.declared.error.SyntaxError.TheVariants as syntax
+use Rattle.rhai_text.specs.declared.position.Position.{Position}
+use Rattle.rhai_handle.specs.declared.kept.Kept.{Kept}
+use Rattle.rhai_host.specs.declared.scripts.ScriptEnd.{ScriptEnd}
+use Rattle.rhai_host.specs.Calls.{InWorld, Unchanged}
+use Rattle.rhai_host.specs.Names.{names_of}
+use Rattle.rhai_host.specs.Numbers.{text_of}
+use Rattle.rhai_host.specs.Opened.{answer_bytes}
+
+-- the kind of an end, and its place
+abbrev pub IsAt : ScriptEnd → ℕ → Position → Type 0
+IsAt end kind place = (end.kind ≡ kind) × (end.line ≡ place.line) × (end.column ≡ place.position)
+
+-- how a run ended is told; want of memory isn't told so
+abbrev pub IsEndOf : Result ⊤ ScriptError → ScriptEnd → Type 0
+IsEndOf (Ok x) end = (end.kind ≡ 0) × (end.line ≡ 0) × (end.column ≡ 0)
+IsEndOf (Err (script.Syntax (syntax.Fault why place))) end = IsAt end 1 place
+IsEndOf (Err (script.Syntax syntax.OutOfMemory)) end = ⊥
+IsEndOf (Err (script.Fault why place)) end = IsAt end 2 place
+IsEndOf (Err script.OutOfMemory) end = ⊥
+
+-- the bytes are what was printed, and what is said of what went wrong: nothing where nothing did
+pub record IsWhole (end : ScriptEnd) (bytes : List ℕ) : Type 0 where
+  pub both : end.printed + end.said ≡ length bytes
+  pub well : end.kind ≡ 0 → end.said ≡ 0
+
+-- the script was run, and its end is the answer; or memory was refused, or the bytes are no text, and nothing has changed
+abbrev pub IsScriptRun : ℕ → Kept → Kept → Option (List ℕ) → ScriptEnd → Type 0
+IsScriptRun status k l None end = (status ≡ 3) × Unchanged k l
+IsScriptRun zero k l (Some text) end = IsWhole end (answer_bytes l.answer false) × (l.world ≡ k.world) × (names_of l ≡ names_of k)
+IsScriptRun (suc zero) k l (Some text) end = Unchanged k l
+IsScriptRun (suc (suc n)) k l (Some text) end = ⊥
+
+abbrev pub RunsScript : ℕ → Option Kept → Option Kept → List ℕ → ScriptEnd → Type 0
+RunsScript status None new script end = (status ≡ 2) × (new ≡ None)
+RunsScript status (Some k) new script end = InWorld new (λ l. IsScriptRun status k l (text_of script) end)

@@ -1,0 +1,138 @@
+//! Runs of scripts.
+ghost use Rattle.std.specs.Prelude.{◌≡◌, ◌++◌, IfOk, length, option_map, string_bytes};
+ghost use Rattle.std.specs.Str.{chars};
+ghost use Rattle.rhai_handle.specs.Content.{content};
+ghost use Rattle.rhai_host.specs.Numbers.{text_of};
+ghost use Rattle.rhai_host.specs.Scripts.{IsEndOf, IsScriptRun, IsWhole, RunsScript};
+
+use crate::perform::{CLOSED, DONE, NO_COMMAND, OUT_OF_MEMORY};
+use example_script::{ScriptError, ScriptLimits, run_script};
+use example_syntax::SyntaxError;
+use rhai_handle::{Handle, Kept};
+use rhai_run::{Answer, Bytes};
+use rhai_text::{Limits, Position};
+use std::alloc::{AllocError, Global};
+
+/// How a script ended. The answer is what it printed, and behind that what went wrong.
+#[repr(C)]
+#[derive(Drop)]
+pub struct ScriptEnd {
+    /// 0 it ran to its end, 1 the text is no script, 2 it went wrong when it ran.
+    pub kind: u32,
+    /// The line of what went wrong, counted from 1; else 0.
+    pub line: u32,
+    /// The place on that line, counted from 1; else 0.
+    pub column: u32,
+    /// How many bytes of the answer it printed.
+    pub printed: usize,
+    /// How many bytes behind these say what went wrong.
+    pub said: usize,
+}
+
+/// How a script ended, with the text that is the answer.
+#[derive(Drop)]
+struct Ended {
+    end: ScriptEnd,
+    text: String,
+}
+
+fn end_at(kind: u32, place: Position, printed: String, why: &str) -> Result<Ended, AllocError>
+    ensures { IfOk result (λ e. (e.end ≡ record { kind = kind; line = place.line; column = place.position; printed = length (string_bytes printed); said = length why.now }) × (string_bytes e.text ≡ string_bytes printed ++ why.now)) }
+{
+    let mut text = printed;
+    let printed = text.len();
+    text.push_str(why)?;
+    let end = ScriptEnd {
+        kind,
+        line: place.line(),
+        column: place.position(),
+        printed,
+        said: why.len(),
+    };
+    Ok(Ended { end, text })
+}
+
+/// What is told of a run that ended so, and printed this.
+fn told_end(
+    alloc: Global,
+    done: Result<(), ScriptError>,
+    printed: String,
+) -> Result<Ended, AllocError>
+    ensures end { IfOk result (λ e. IsEndOf done e.end) }
+    ensures whole { IfOk result (λ e. IsWhole e.end (string_bytes e.text)) }
+{
+    match done {
+        Ok(()) => end_at(0, Position::NONE, printed, ""),
+        Err(ScriptError::Syntax(SyntaxError::Fault(fault, place))) => {
+            let why = format!(in alloc; "{fault}")?;
+            end_at(1, place, printed, why.as_str())
+        }
+        Err(ScriptError::Fault(why, place)) => end_at(2, place, printed, why.as_str()),
+        Err(ScriptError::Syntax(SyntaxError::OutOfMemory) | ScriptError::OutOfMemory) => Err(
+            AllocError,
+        ),
+    }
+}
+
+/// The text of bytes, if they are one.
+fn text_in(bytes: &[u8]) -> Option<&str>
+    ensures { option_map (λ t. chars t.now) result ≡ text_of bytes.now }
+{
+    match str::from_utf8(bytes) {
+        Ok(text) => Some(text),
+        Err(_) => None,
+    }
+}
+
+fn run_kept(
+    alloc: Global,
+    kept: &mut Kept,
+    script: &[u8],
+    limits: &ScriptLimits,
+    end: &mut ScriptEnd,
+) -> u32
+    ensures { IsScriptRun result kept.old kept.new (text_of script.now) end.new }
+{
+    let Some(script) = text_in(script) else {
+        return NO_COMMAND;
+    };
+    let mut printed = String::new(alloc);
+    let mut operations = 0;
+    let done = run_script(alloc, script, &mut printed, limits, &mut operations);
+    match told_end(alloc, done, printed) {
+        Ok(ended) => {
+            *end = ended.end;
+            kept.answer = Answer::Bytes(Bytes::new(ended.text.into_bytes()));
+            DONE
+        }
+        Err(_) => OUT_OF_MEMORY,
+    }
+}
+
+/// Runs a script on values of its own: the largest sizes of texts and of arrays, 0 being none, the operations, and the calls within each
+/// other are limited. What it prints is the answer, with what went wrong behind it; the handle's world stays.
+#[unsafe(no_mangle)]
+pub extern "C" fn rhai_host_run_script(
+    alloc: Global,
+    handle: &mut Handle,
+    script: &[u8],
+    text: usize,
+    items: usize,
+    operations: u64,
+    calls: usize,
+    end: &mut ScriptEnd,
+) -> u32
+    ensures { RunsScript result (content handle.old) (content handle.new) script.now end.new }
+{
+    let Some(mut kept) = handle.take(alloc) else {
+        return CLOSED;
+    };
+    let limits = ScriptLimits {
+        sizes: Limits { text, items },
+        operations,
+        calls,
+    };
+    let status = run_kept(alloc, &mut kept, script, &limits, end);
+    handle.put(kept);
+    status
+}

@@ -1,0 +1,106 @@
+//! Runs of scripts.
+use crate::answer::Error;
+use crate::kinds::Limits;
+use crate::sys::ScriptEnd;
+use crate::world::World;
+use std::fmt;
+
+/// How many calls of a script may stand within each other.
+const CALLS: usize = 500;
+
+/// Scripts of a small language, a subset of rhai's: `crates/example_script` has a page of it.
+///
+/// ```
+/// use rhai_world::{Limits, Script, ScriptError};
+///
+/// let printed = Script::run("let x = 6; print(x * 7);", 1_000, Limits::default())?;
+/// assert_eq!(printed, "42\n");
+///
+/// let error = Script::run("let x = 1;\nprint(y);", 1_000, Limits::default()).unwrap_err();
+/// assert_eq!(error.to_string(), "variable not found: y (line 2, column 7)");
+/// # Ok::<(), ScriptError>(())
+/// ```
+#[derive(Clone, Copy, Debug)]
+pub struct Script;
+
+impl Script {
+    /// Runs a script on values of its own, and answers what it prints. It may take so many operations, its values may grow up to the
+    /// limits, and 500 calls may stand within each other.
+    pub fn run(text: &str, operations: u64, limits: Limits) -> Result<String, ScriptError> {
+        let mut world = World::new(Limits::default())?;
+        let (end, printed, message) = world.run_script(text, operations, limits, CALLS)?;
+        let ScriptEnd { kind, line, column, .. } = end;
+        match kind {
+            0 => Ok(printed),
+            1 => Err(ScriptError::Syntax { message, line, column }),
+            2 => Err(ScriptError::Fault { message, line, column, printed }),
+            _ => Err(ScriptError::Unexpected),
+        }
+    }
+}
+
+/// Why a script ended early. Lines and columns count from 1; both are 0 where there is no place.
+#[derive(Clone, Debug, PartialEq, Eq)]
+pub enum ScriptError {
+    /// The text is no script.
+    Syntax {
+        /// What is wrong with it.
+        message: String,
+        /// The line on which it is wrong.
+        line: u32,
+        /// The place on that line.
+        column: u32,
+    },
+    /// Something went wrong when it ran, or a limit was reached.
+    Fault {
+        /// What went wrong.
+        message: String,
+        /// The line where it went wrong.
+        line: u32,
+        /// The place on that line.
+        column: u32,
+        /// What the script printed before.
+        printed: String,
+    },
+    /// Memory was refused before the script ran, or for what is told of it. While it ran, a fault says so at its place.
+    OutOfMemory,
+    /// The library answered what it doesn't promise.
+    Unexpected,
+}
+
+impl ScriptError {
+    /// The line and the column, where there is a place.
+    pub fn position(&self) -> Option<(u32, u32)> {
+        match self {
+            ScriptError::Syntax { line, column, .. } | ScriptError::Fault { line, column, .. } if *line > 0 => {
+                Some((*line, *column))
+            }
+            ScriptError::Syntax { .. } | ScriptError::Fault { .. } | ScriptError::OutOfMemory | ScriptError::Unexpected => None,
+        }
+    }
+}
+
+impl fmt::Display for ScriptError {
+    fn fmt(&self, f: &mut fmt::Formatter<'_>) -> fmt::Result {
+        match self {
+            ScriptError::Syntax { message, .. } | ScriptError::Fault { message, .. } => f.write_str(message)?,
+            ScriptError::OutOfMemory => f.write_str("out of memory")?,
+            ScriptError::Unexpected => f.write_str("an answer that isn't promised")?,
+        }
+        match self.position() {
+            Some((line, column)) => write!(f, " (line {line}, column {column})"),
+            None => Ok(()),
+        }
+    }
+}
+
+impl std::error::Error for ScriptError {}
+
+impl From<Error> for ScriptError {
+    fn from(error: Error) -> ScriptError {
+        match error {
+            Error::OutOfMemory => ScriptError::OutOfMemory,
+            Error::Refused(_) | Error::Closed | Error::NoCommand | Error::Unexpected => ScriptError::Unexpected,
+        }
+    }
+}

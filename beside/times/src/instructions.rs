@@ -2,6 +2,7 @@
 
 use crate::rows::{Row, Taken};
 use crate::{by_port, by_release};
+use std::path::Path;
 use std::process::Command;
 
 /// How long the rounds that are counted would take, in nanoseconds.
@@ -17,8 +18,7 @@ pub fn run_one(side: &str, which: u32, rounds: usize) {
 }
 
 /// All instructions of so many rounds, and of what stands around them.
-fn counted(side: &str, which: u32, rounds: usize) -> Option<f64> {
-    let program = std::env::current_exe().ok()?;
+fn counted(program: &Path, side: &str, which: u32, rounds: usize) -> Option<f64> {
     let mut valgrind = Command::new("valgrind");
     valgrind.args(["--tool=callgrind", "--callgrind-out-file=/dev/null"]).arg(program);
     let output = valgrind.args(["one", side, &which.to_string(), &rounds.to_string()]).output().ok()?;
@@ -26,14 +26,21 @@ fn counted(side: &str, which: u32, rounds: usize) -> Option<f64> {
     said.lines().find_map(|line| line.split("Collected :").nth(1)).and_then(|count| count.trim().parse().ok())
 }
 
+/// Instructions of a round by a side of a program that takes `one SIDE WHICH ROUNDS`.
+#[must_use]
+pub fn of_round(program: &Path, side: &str, which: u32, rounds: usize) -> Option<f64> {
+    let more = counted(program, side, which, 2 * rounds)? - counted(program, side, which, rounds)?;
+    Some(more / rounds as f64)
+}
+
 /// Instructions an operation, by the port and by the release; nothing where valgrind isn't there.
 #[must_use]
 pub fn of(row: &Row, taken: &Taken) -> Option<[f64; 2]> {
+    let program = std::env::current_exe().ok()?;
     let mut of_sides = [0.0; 2];
     for ((at, (side, _)), nanoseconds) in SIDES.iter().enumerate().zip([taken.port, taken.release]) {
         let rounds = (COUNTED / nanoseconds / row.operations as f64).ceil() as usize;
-        let more = counted(side, row.which, 2 * rounds)? - counted(side, row.which, rounds)?;
-        of_sides[at] = more / rounds as f64 / row.operations as f64;
+        of_sides[at] = of_round(&program, side, row.which, rounds)? / row.operations as f64;
     }
     Some(of_sides)
 }

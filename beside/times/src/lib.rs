@@ -3,6 +3,7 @@
 //! A workload takes a number of rounds and answers a checksum; each is the mirror of a function of `crates/beside_bench/src`.
 
 pub mod child;
+mod clock;
 #[cfg(feature = "counts")]
 mod counting;
 pub mod instructions;
@@ -11,6 +12,7 @@ pub mod page;
 pub mod rows;
 pub mod workloads;
 
+pub use clock::now;
 #[cfg(feature = "counts")]
 pub use counting::counted;
 
@@ -48,26 +50,4 @@ pub fn by_release(which: u32, n: usize) -> u64 {
 #[must_use]
 pub fn sizes(which: u32) -> (usize, usize) {
     (door::rattle_size(which), workloads::size(which))
-}
-
-#[repr(C)]
-struct Spec {
-    seconds: i64,
-    nanoseconds: i64,
-}
-
-unsafe extern "C" {
-    fn clock_gettime(clock: i32, time: *mut Spec) -> i32;
-}
-
-/// The clock of this thread's processor time.
-const THREAD_CPUTIME: i32 = 3;
-
-/// The processor time of this thread in nanoseconds: other work on the machine doesn't count as ours.
-#[must_use]
-pub fn now() -> u64 {
-    let mut time = Spec { seconds: 0, nanoseconds: 0 };
-    // SAFETY: the call writes one `timespec`, which on 64 bits is two numbers of 64 bits.
-    unsafe { clock_gettime(THREAD_CPUTIME, &mut time) };
-    time.seconds as u64 * 1_000_000_000 + time.nanoseconds as u64
 }

@@ -127,17 +127,20 @@ pub const ROWS: &[Row] = &[
     row("run_write_ask_shared_per_command", 1101, 1024),
 ];
 
-type Side = fn(u32, usize) -> u64;
+/// The workloads of a side.
+pub type Side = fn(u32, usize) -> u64;
 
 /// The time of a run of so many rounds, and its checksum.
-fn timed(side: Side, which: u32, rounds: usize) -> (u64, u64) {
+#[must_use]
+pub fn timed(side: Side, which: u32, rounds: usize) -> (u64, u64) {
     let start = now();
     let sum = side(which, rounds);
     (now() - start, sum)
 }
 
 /// As many rounds as take some 15 ms, and several times what a run of none takes.
-fn calibrated(side: Side, which: u32) -> usize {
+#[must_use]
+pub fn calibrated(side: Side, which: u32) -> usize {
     let set_up = (0..3).map(|_| timed(side, which, 0).0).min().unwrap_or(0);
     let mut rounds = 1;
     loop {

@@ -3,7 +3,7 @@
 mod arrays;
 mod given;
 mod maps;
-mod ops;
+pub(crate) mod ops;
 mod scopes;
 mod shares;
 mod singles;

@@ -15,3 +15,4 @@ pub mod InRange
 pub mod Frames
 pub mod Rests
 pub mod Weights
+pub mod Shape

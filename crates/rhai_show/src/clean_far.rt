@@ -9,7 +9,8 @@ ghost use Rattle.rhai_show.specs.Rests.{rest_of, is_held, closed_by, HasOpen, re
 ghost use Rattle.rhai_show.specs.Weights.{weight};
 
 use crate::rest::Rest;
-use rhai_value::{Dynamic, Path, Store, Union};
+use crate::shape::{Shape, shape_of};
+use rhai_value::{Dynamic, Path, Store};
 use std::alloc::AllocError;
 
 /// Whether a value that holds no others is plain, or else the values in it.
@@ -36,18 +37,12 @@ pub(crate) fn opened<'a>(
     ensures free { HasNoHolder value.now → IsOk result }
     ensures barred { first store.now value.now ≡ None → IsOk result × IfOk result (λ o. IsOk o) }
 {
-    match value.parts() {
-        Union::Unit(_, _, _) => Ok(Ok(true)),
-        Union::Bool(_, _, _) => Ok(Ok(true)),
-        Union::Str(_, _, _) => Ok(Ok(true)),
-        Union::Char(_, _, _) => Ok(Ok(true)),
-        Union::Int(_, _, _) => Ok(Ok(true)),
-        Union::Blob(_, _, _) => Ok(Ok(true)),
-        Union::Variant(_, _, _) => Ok(Ok(true)),
-        Union::Array(_, _, items) => Ok(Err(Rest::Items(items.as_slice()))),
-        Union::Map(_, _, map) => Ok(Err(Rest::Fields(map.iter()))),
-        Union::FnPtr(_, _, function) => Ok(Err(Rest::Items(function.curry()))),
-        Union::Shared(_, _, _) => match opened_holder(store, path, seen, value)? {
+    match shape_of(value) {
+        Shape::Leaf(_) => Ok(Ok(true)),
+        Shape::Array(items) => Ok(Err(Rest::Items(items))),
+        Shape::Map(map) => Ok(Err(Rest::Fields(map.iter()))),
+        Shape::Function(function) => Ok(Err(Rest::Items(function.curry()))),
+        Shape::Holder => match opened_holder(store, path, seen, value)? {
             Ok(is_plain) => Ok(Ok(is_plain)),
             Err(content) => Ok(Err(Rest::Held(Some(content)))),
         },

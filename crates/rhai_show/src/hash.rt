@@ -13,13 +13,12 @@ ghost use Rattle.rhai_show.specs.HashBytes.{count_bytes, name_bytes, plain_bytes
 ghost use Rattle.rhai_show.specs.HashRows.{row_bytes};
 ghost use Rattle.rhai_show.specs.InRange.{IsCount, IsPlainInRange, IsRowInRange, IsHashed};
 
-use crate::hash_bytes::{
-    add_blob, add_bool, add_bytes, add_char, add_count, add_host, add_int, add_name, add_text,
-};
+use crate::hash_bytes::{add_bytes, add_count, add_leaf, add_name};
 use crate::hash_far::{add_far, opened_cell};
 use crate::hashable::is_hashable;
 use crate::hashed_value::Hashed;
-use rhai_value::{Dynamic, INT, Map, NEAR, Part, Path, Store, Union};
+use crate::shape::{Shape, shape_of};
+use rhai_value::{Dynamic, INT, Map, NEAR, Part, Path, Store};
 use std::alloc::{AllocError, Global};
 
 /// How many bytes there is room for at first where a value may hold others, so that short ones don't grow.
@@ -41,27 +40,22 @@ fn add_value(
     ensures range { OnOk result (IsPlainInRange store.now path.old value.now) }
     ensures path { OnOk result (path.new ≡ path.old) }
 {
-    match value.parts() {
-        Union::Unit(_, _, _) => add_bytes(out, &[0]),
-        Union::Bool(_, _, value) => add_bool(out, *value),
-        Union::Str(_, _, value) => add_text(out, value),
-        Union::Char(_, _, value) => add_char(out, *value),
-        Union::Int(_, _, value) => add_int(out, value),
-        Union::Array(_, _, items) => {
+    match shape_of(value) {
+        Shape::Leaf(leaf) => add_leaf(out, leaf),
+        Shape::Array(items) => {
             if levels == 0 {
                 return add_far(store, path, value, out);
             }
             add_bytes(out, &[5])?;
-            add_items(store, path, items.as_slice(), levels - 1, out)
+            add_items(store, path, items, levels - 1, out)
         }
-        Union::Blob(_, _, bytes) => add_blob(out, bytes.as_slice()),
-        Union::Map(_, _, map) => {
+        Shape::Map(map) => {
             if levels == 0 {
                 return add_far(store, path, value, out);
             }
             add_map(store, path, map, levels - 1, out)
         }
-        Union::FnPtr(_, _, function) => {
+        Shape::Function(function) => {
             if levels == 0 {
                 return add_far(store, path, value, out);
             }
@@ -69,8 +63,7 @@ fn add_value(
             add_name(out, function.fn_name())?;
             add_items(store, path, function.curry(), levels - 1, out)
         }
-        Union::Variant(_, _, value) => add_host(out, value),
-        Union::Shared(_, _, _) => {
+        Shape::Holder => {
             if levels == 0 {
                 return add_far(store, path, value, out);
             }
@@ -149,28 +142,6 @@ fn add_map(
     Ok(())
 }
 
-/// Adds the hash bytes of a value that holds no other one; false, and nothing is added, for a value that may.
-#[inline(always)]
-fn add_leaf(value: &Dynamic, out: &mut Vec<u8>) -> Result<bool, AllocError>
-    ensures bytes { IfOk result (λ b. b ≡ true → (s : List Cell) (path : List ℕ) → Some out.new.items ≡ option_map (λ p. out.old.items ++ plain_bytes p) (plain s path value.now)) }
-    ensures range { IfOk result (λ b. b ≡ true → (s : List Cell) (path : List ℕ) → IsPlainInRange s path value.now) }
-{
-    match value.parts() {
-        Union::Unit(_, _, _) => add_bytes(out, &[0])?,
-        Union::Bool(_, _, value) => add_bool(out, *value)?,
-        Union::Str(_, _, value) => add_text(out, value)?,
-        Union::Char(_, _, value) => add_char(out, *value)?,
-        Union::Int(_, _, value) => add_int(out, value)?,
-        Union::Blob(_, _, bytes) => add_blob(out, bytes.as_slice())?,
-        Union::Variant(_, _, value) => add_host(out, value)?,
-        Union::Array(_, _, _) => return Ok(false),
-        Union::Map(_, _, _) => return Ok(false),
-        Union::FnPtr(_, _, _) => return Ok(false),
-        Union::Shared(_, _, _) => return Ok(false),
-    }
-    Ok(true)
-}
-
 /// The hash bytes of a value that may hold others, once it is found hashable.
 #[inline(never)]
 #[tactic(auto, using(crate::proofs::Barred::barred_plain))]
@@ -209,9 +180,10 @@ pub fn hashed(alloc: Global, value: &Dynamic, store: &Store) -> Result<Option<Ha
     if let Some(number) = INT::own(content) {
         return Ok(Some(Hashed::of_int(number)));
     }
+    let Shape::Leaf(leaf) = shape_of(content) else {
+        return hashed_below(alloc, value, store);
+    };
     let mut bytes = Vec::new(alloc);
-    if add_leaf(content, &mut bytes)? {
-        return Ok(Some(Hashed::from_bytes(bytes)));
-    }
-    hashed_below(alloc, value, store)
+    add_leaf(&mut bytes, leaf)?;
+    Ok(Some(Hashed::from_bytes(bytes)))
 }

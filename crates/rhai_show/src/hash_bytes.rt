@@ -5,10 +5,29 @@ ghost use Rattle.std.specs.Str.{chars};
 ghost use Rattle.rhai_value.specs.Tree.{bool as a_bool, char as a_char, int as an_int, text as a_text, blob as a_blob, host as a_host};
 ghost use Rattle.rhai_show.specs.HashBytes.{count_bytes, int_bytes, sized, name_bytes, leaf_bytes};
 ghost use Rattle.rhai_show.specs.InRange.{IsCount, IsName, IsLeaf};
+ghost use Rattle.rhai_show.specs.Shape.{leaf_of};
 
+use crate::shape::Leaf;
 use rhai_text::ImmutableString;
 use rhai_value::{Host, INT};
 use std::alloc::AllocError;
+
+/// Adds the hash bytes of a leaf.
+#[inline(always)]
+pub(crate) fn add_leaf(out: &mut Vec<u8>, leaf: Leaf) -> Result<(), AllocError>
+    ensures bytes { OnOk result (out.new.items ≡ out.old.items ++ leaf_bytes (leaf_of leaf.entry)) }
+    ensures range { OnOk result (IsLeaf (leaf_of leaf.entry)) }
+{
+    match leaf {
+        Leaf::Unit => add_bytes(out, &[0]),
+        Leaf::Bool(truth) => add_bool(out, truth),
+        Leaf::Int(number) => add_int(out, number),
+        Leaf::Char(character) => add_char(out, character),
+        Leaf::Text(text) => add_text(out, text),
+        Leaf::Blob(bytes) => add_blob(out, bytes),
+        Leaf::Host(host) => add_host(out, host),
+    }
+}
 
 /// Adds bytes at the end.
 pub(crate) fn add_bytes(out: &mut Vec<u8>, bytes: &[u8]) -> Result<(), AllocError>
@@ -17,7 +36,7 @@ pub(crate) fn add_bytes(out: &mut Vec<u8>, bytes: &[u8]) -> Result<(), AllocErro
     out.extend_from_slice(bytes)
 }
 
-pub(crate) fn add_bool(out: &mut Vec<u8>, value: bool) -> Result<(), AllocError>
+fn add_bool(out: &mut Vec<u8>, value: bool) -> Result<(), AllocError>
     ensures { OnOk result (out.new.items ≡ out.old.items ++ leaf_bytes (a_bool value)) }
 {
     if value {
@@ -27,7 +46,7 @@ pub(crate) fn add_bool(out: &mut Vec<u8>, value: bool) -> Result<(), AllocError>
     }
 }
 
-pub(crate) fn add_char(out: &mut Vec<u8>, value: char) -> Result<(), AllocError>
+fn add_char(out: &mut Vec<u8>, value: char) -> Result<(), AllocError>
     ensures bytes { OnOk result (out.new.items ≡ out.old.items ++ leaf_bytes (a_char value)) }
     ensures range { OnOk result (IsLeaf (a_char value)) }
 {
@@ -36,7 +55,7 @@ pub(crate) fn add_char(out: &mut Vec<u8>, value: char) -> Result<(), AllocError>
     add_bytes(out, &(value as u32).to_le_bytes())
 }
 
-pub(crate) fn add_int(out: &mut Vec<u8>, value: &INT) -> Result<(), AllocError>
+fn add_int(out: &mut Vec<u8>, value: &INT) -> Result<(), AllocError>
     ensures bytes { OnOk result (out.new.items ≡ out.old.items ++ leaf_bytes (an_int value.now)) }
     ensures range { OnOk result (IsLeaf (an_int value.now)) }
 {
@@ -45,14 +64,14 @@ pub(crate) fn add_int(out: &mut Vec<u8>, value: &INT) -> Result<(), AllocError>
     add_number(out, value)
 }
 
-pub(crate) fn add_text(out: &mut Vec<u8>, value: &ImmutableString) -> Result<(), AllocError>
+fn add_text(out: &mut Vec<u8>, value: &ImmutableString) -> Result<(), AllocError>
     ensures bytes { OnOk result (out.new.items ≡ out.old.items ++ leaf_bytes (a_text value.now)) }
     ensures range { OnOk result (IsLeaf (a_text value.now)) }
 {
     add_kind_sized(out, 2, value.as_str().as_bytes())
 }
 
-pub(crate) fn add_blob(out: &mut Vec<u8>, value: &[u8]) -> Result<(), AllocError>
+fn add_blob(out: &mut Vec<u8>, value: &[u8]) -> Result<(), AllocError>
     ensures bytes { OnOk result (out.new.items ≡ out.old.items ++ leaf_bytes (a_blob value.now)) }
     ensures range { OnOk result (IsLeaf (a_blob value.now)) }
 {
@@ -102,7 +121,7 @@ fn add_number(out: &mut Vec<u8>, value: &INT) -> Result<(), AllocError>
     add_bytes(out, &value.to_le_bytes())
 }
 
-pub(crate) fn add_host(out: &mut Vec<u8>, value: &Host) -> Result<(), AllocError>
+fn add_host(out: &mut Vec<u8>, value: &Host) -> Result<(), AllocError>
     ensures bytes { OnOk result (out.new.items ≡ out.old.items ++ leaf_bytes (a_host value.now)) }
     ensures range { OnOk result (IsLeaf (a_host value.now)) }
 {

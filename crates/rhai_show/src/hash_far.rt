@@ -10,11 +10,10 @@ ghost use Rattle.rhai_show.specs.Plain.{plain};
 ghost use Rattle.rhai_show.specs.Rests.{child_of, rest_of, is_held, closed_by, HasOpen, Each, rest_weight};
 ghost use Rattle.rhai_show.specs.Weights.{weight};
 
-use crate::hash_bytes::{
-    add_blob, add_bool, add_bytes, add_char, add_count, add_host, add_int, add_name, add_text,
-};
+use crate::hash_bytes::{add_bytes, add_count, add_leaf, add_name};
 use crate::rest::{Child, Rest};
-use rhai_value::{Dynamic, Path, Store, Union};
+use crate::shape::{Shape, shape_of};
+use rhai_value::{Dynamic, Path, Store};
 use std::alloc::AllocError;
 use std::mem;
 
@@ -38,35 +37,30 @@ fn opened<'a>(
     ensures range { IfOk result (λ o. MatchOption o (IsPlainInRange store.now path.old value.now)
         (λ r. Each (IsKeyedInRange store.now path.new) (rest_of r) → IsPlainInRange store.now path.old value.now)) }
 {
-    match value.parts() {
-        Union::Unit(_, _, _) => add_bytes(out, &[0])?,
-        Union::Bool(_, _, value) => add_bool(out, *value)?,
-        Union::Str(_, _, value) => add_text(out, value)?,
-        Union::Char(_, _, value) => add_char(out, *value)?,
-        Union::Int(_, _, value) => add_int(out, value)?,
-        Union::Blob(_, _, bytes) => add_blob(out, bytes.as_slice())?,
-        Union::Variant(_, _, value) => add_host(out, value)?,
-        Union::Array(_, _, items) => {
-            add_bytes(out, &[5])?;
-            let items = items.as_slice();
-            add_count(out, items.len())?;
-            return Ok(Some(Rest::Items(items)));
+    match shape_of(value) {
+        Shape::Leaf(leaf) => {
+            add_leaf(out, leaf)?;
+            Ok(None)
         }
-        Union::Map(_, _, map) => {
+        Shape::Array(items) => {
+            add_bytes(out, &[5])?;
+            add_count(out, items.len())?;
+            Ok(Some(Rest::Items(items)))
+        }
+        Shape::Map(map) => {
             add_bytes(out, &[7])?;
             add_count(out, map.len())?;
-            return Ok(Some(Rest::Fields(map.iter())));
+            Ok(Some(Rest::Fields(map.iter())))
         }
-        Union::FnPtr(_, _, function) => {
+        Shape::Function(function) => {
             add_bytes(out, &[8])?;
             add_name(out, function.fn_name())?;
             let items = function.curry();
             add_count(out, items.len())?;
-            return Ok(Some(Rest::Items(items)));
+            Ok(Some(Rest::Items(items)))
         }
-        Union::Shared(_, _, _) => return Ok(Some(opened_holder(store, path, value)?)),
+        Shape::Holder => Ok(Some(opened_holder(store, path, value)?)),
     }
-    Ok(None)
 }
 
 /// Opens the cell of a holder.

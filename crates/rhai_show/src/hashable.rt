@@ -9,7 +9,8 @@ ghost use Rattle.rhai_show.specs.Clean.{are_plain, values_in, has_left, Clean, H
 
 use crate::clean_far::{leave_all, opened, opened_holder};
 use crate::rest::Rest;
-use rhai_value::{Dynamic, Map, NEAR, Path, Store, Union};
+use crate::shape::{Shape, shape_of};
+use rhai_value::{Dynamic, Map, NEAR, Path, Store};
 use std::alloc::{AllocError, Global};
 use std::mem;
 
@@ -33,33 +34,27 @@ fn is_clean(
     ensures free { HasNoHolder value.now → IsOk result }
     ensures barred { first store.now value.now ≡ None → IsOk result }
 {
-    match value.parts() {
-        Union::Unit(_, _, _) => Ok(true),
-        Union::Bool(_, _, _) => Ok(true),
-        Union::Str(_, _, _) => Ok(true),
-        Union::Char(_, _, _) => Ok(true),
-        Union::Int(_, _, _) => Ok(true),
-        Union::Blob(_, _, _) => Ok(true),
-        Union::Variant(_, _, _) => Ok(true),
-        Union::Array(_, _, items) => {
+    match shape_of(value) {
+        Shape::Leaf(_) => Ok(true),
+        Shape::Array(items) => {
             if levels == 0 {
                 return is_far_clean(store, path, seen, value, alloc);
             }
-            are_clean(store, path, seen, items.as_slice(), levels - 1, alloc)
+            are_clean(store, path, seen, items, levels - 1, alloc)
         }
-        Union::Map(_, _, map) => {
+        Shape::Map(map) => {
             if levels == 0 {
                 return is_far_clean(store, path, seen, value, alloc);
             }
             is_map_clean(store, path, seen, map, levels - 1, alloc)
         }
-        Union::FnPtr(_, _, function) => {
+        Shape::Function(function) => {
             if levels == 0 {
                 return is_far_clean(store, path, seen, value, alloc);
             }
             are_clean(store, path, seen, function.curry(), levels - 1, alloc)
         }
-        Union::Shared(_, _, _) => {
+        Shape::Holder => {
             if levels == 0 {
                 return is_far_clean(store, path, seen, value, alloc);
             }

@@ -4,8 +4,12 @@ ghost use Rattle.std.specs.Str.{chars};
 ghost use Rattle.std.specs.Fmt.{signed_decimal};
 ghost use Rattle.rhai_value.specs.Tree.{unit, char as a_char, text as a_text};
 ghost use Rattle.rhai_show.specs.Leaves.{bool_text, leaf_printed};
+ghost use Rattle.rhai_show.specs.Shape.{leaf_of};
 
+use crate::blob::add_blob;
 use crate::form::Form;
+use crate::host::add_host;
+use crate::shape::Leaf;
 use rhai_text::{ImmutableString, quoted_char_into};
 use rhai_value::INT;
 use std::alloc::AllocError;
@@ -18,7 +22,23 @@ pub(crate) fn add_text(out: &mut String, text: &str) -> Result<(), AllocError>
     out.push_str(text)
 }
 
-pub(crate) fn add_unit(out: &mut String, form: Form) -> Result<(), AllocError>
+/// Adds the text of a leaf.
+#[inline(always)]
+pub(crate) fn add_leaf(out: &mut String, leaf: Leaf, form: Form) -> Result<(), AllocError>
+    ensures { OnOk result (chars (string_bytes out.new) ≡ chars (string_bytes out.old) ++ leaf_printed form (leaf_of leaf.entry)) }
+{
+    match leaf {
+        Leaf::Unit => add_unit(out, form),
+        Leaf::Bool(truth) => add_bool(out, truth),
+        Leaf::Int(number) => add_int(out, number),
+        Leaf::Char(character) => add_char(out, character, form),
+        Leaf::Text(text) => add_string(out, text, form),
+        Leaf::Blob(bytes) => add_blob(out, bytes),
+        Leaf::Host(host) => add_host(out, host),
+    }
+}
+
+fn add_unit(out: &mut String, form: Form) -> Result<(), AllocError>
     ensures { OnOk result (chars (string_bytes out.new) ≡ chars (string_bytes out.old) ++ leaf_printed form unit) }
 {
     match form {
@@ -28,7 +48,7 @@ pub(crate) fn add_unit(out: &mut String, form: Form) -> Result<(), AllocError>
     }
 }
 
-pub(crate) fn add_bool(out: &mut String, value: bool) -> Result<(), AllocError>
+fn add_bool(out: &mut String, value: bool) -> Result<(), AllocError>
     ensures { OnOk result (chars (string_bytes out.new) ≡ chars (string_bytes out.old) ++ bool_text value) }
 {
     if value {
@@ -47,7 +67,7 @@ pub(crate) fn add_int(out: &mut String, value: &INT) -> Result<(), AllocError>
     write!(out, "{value}")
 }
 
-pub(crate) fn add_char(out: &mut String, value: char, form: Form) -> Result<(), AllocError>
+fn add_char(out: &mut String, value: char, form: Form) -> Result<(), AllocError>
     ensures { OnOk result (chars (string_bytes out.new) ≡ chars (string_bytes out.old) ++ leaf_printed form (a_char value)) }
 {
     let mut buffer = [0; 4];
@@ -58,11 +78,7 @@ pub(crate) fn add_char(out: &mut String, value: char, form: Form) -> Result<(), 
     }
 }
 
-pub(crate) fn add_string(
-    out: &mut String,
-    value: &ImmutableString,
-    form: Form,
-) -> Result<(), AllocError>
+fn add_string(out: &mut String, value: &ImmutableString, form: Form) -> Result<(), AllocError>
     ensures { OnOk result (chars (string_bytes out.new) ≡ chars (string_bytes out.old) ++ leaf_printed form (a_text value.now)) }
 {
     match form {

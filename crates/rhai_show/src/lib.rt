@@ -14,6 +14,7 @@ pub mod laws;
 mod leaf;
 mod rest;
 mod same;
+mod shape;
 mod shown;
 mod text;
 mod text_far;

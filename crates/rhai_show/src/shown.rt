@@ -10,7 +10,7 @@ use std::alloc::{AllocError, Global};
 use std::fmt;
 use std::marker::Model;
 
-/// A text that was made to be printed, which contracts see as its characters.
+/// A text that was made to be printed, or is an answer. Contracts see the list of its characters.
 #[derive(Drop)]
 pub struct Shown {
     text: String,
@@ -21,6 +21,10 @@ impl Model for Shown {
     ghost use Rattle.std.specs.Str.{chars};
 
     ghost Value = { List ℕ };
+
+    ghost use Rattle.std.specs.Coded.{coded_list, coded_ℕ};
+
+    ghost coded = { coded_list coded_ℕ };
 
     ghost view = { λ x. chars (string_bytes x.text) };
 }
@@ -53,6 +57,14 @@ impl Shown {
         ensures { result ≡ chars (string_bytes text) }
     {
         Shown { text }
+    }
+
+    /// Lends the text.
+    pub fn as_str(&self) -> &str
+        ensures characters { chars result.now ≡ self.now }
+        ensures bytes { result.now ≡ encode_utf8_all self.now }
+    {
+        &self.text
     }
 
     /// Moves the text out.

@@ -8,13 +8,12 @@ ghost use Rattle.rhai_show.specs.Leaves.{in_debug};
 ghost use Rattle.rhai_show.specs.Text.{joined, further, name_printed, printed};
 ghost use Rattle.rhai_show.specs.Listed.{listed, comma_unless, row_printed};
 
-use crate::blob::add_blob;
 use crate::form::Form;
-use crate::host::add_host;
-use crate::leaf::{add_bool, add_char, add_int, add_string, add_text, add_unit};
+use crate::leaf::{add_leaf, add_text};
+use crate::shape::{Shape, shape_of};
 use crate::text_far::add_far;
 use rhai_text::quoted_text_into;
-use rhai_value::{Dynamic, FnPtr, Map, NEAR, Path, Store, Union};
+use rhai_value::{Dynamic, FnPtr, Map, NEAR, Path, Store};
 use std::alloc::{AllocError, Global};
 
 /// Adds the text of a value, the cells of the path being open. It is inlined in the loops, where most values hold no other.
@@ -32,40 +31,27 @@ fn add_value(
         ≡ chars (string_bytes out.old) ++ printed store.now path.old value.now form) }
     ensures path { OnOk result (path.new ≡ path.old) }
 {
-    match value.parts() {
-        Union::Unit(_, _, _) => add_unit(out, form),
-        Union::Bool(_, _, value) => add_bool(out, *value),
-        Union::Int(_, _, value) => add_int(out, value),
-        Union::Char(_, _, value) => add_char(out, *value, form),
-        Union::Str(_, _, value) => add_string(out, value, form),
-        Union::Blob(_, _, bytes) => add_blob(out, bytes.as_slice()),
-        Union::Variant(_, _, value) => add_host(out, value),
-        Union::Array(_, _, items) => {
+    match shape_of(value) {
+        Shape::Leaf(leaf) => add_leaf(out, leaf, form),
+        Shape::Array(items) => {
             if levels == 0 {
                 return add_far(store, path, value, form, out);
             }
-            add_array(
-                store,
-                path,
-                items.as_slice(),
-                form.of_items(),
-                levels - 1,
-                out,
-            )
+            add_array(store, path, items, form.of_items(), levels - 1, out)
         }
-        Union::Map(_, _, map) => {
+        Shape::Map(map) => {
             if levels == 0 {
                 return add_far(store, path, value, form, out);
             }
             add_map(store, path, map, form.of_items(), levels - 1, out)
         }
-        Union::FnPtr(_, _, function) => {
+        Shape::Function(function) => {
             if levels == 0 {
                 return add_far(store, path, value, form, out);
             }
             add_function(store, path, function, form, levels - 1, out)
         }
-        Union::Shared(_, _, _) => {
+        Shape::Holder => {
             if levels == 0 {
                 return add_far(store, path, value, form, out);
             }

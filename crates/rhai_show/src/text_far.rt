@@ -10,13 +10,12 @@ ghost use Rattle.rhai_show.specs.Rests.{items_keyed, rest_of, is_held, closed_by
 ghost use Rattle.rhai_show.specs.Text.{further, printed};
 ghost use Rattle.rhai_show.specs.Weights.{weight};
 
-use crate::blob::add_blob;
 use crate::form::Form;
-use crate::host::add_host;
-use crate::leaf::{add_bool, add_char, add_int, add_string, add_text, add_unit};
+use crate::leaf::{add_leaf, add_text};
 use crate::rest::{Child, Rest};
+use crate::shape::{Shape, shape_of};
 use crate::text::{add_comma, add_name};
-use rhai_value::{Dynamic, FnPtr, Path, Store, Union};
+use rhai_value::{Dynamic, FnPtr, Path, Store};
 use std::alloc::AllocError;
 use std::mem;
 
@@ -47,45 +46,41 @@ fn opened<'a>(
     ensures left { IfOk result (λ o. IfSome o (λ f. HasOpen (is_held f.rest) path.new
         × (rest_weight (weight store.now path.new) (rest_of f.rest) ≤ weight store.now path.old value.now))) }
 {
-    match value.parts() {
-        Union::Unit(_, _, _) => add_unit(out, form)?,
-        Union::Bool(_, _, value) => add_bool(out, *value)?,
-        Union::Int(_, _, value) => add_int(out, value)?,
-        Union::Char(_, _, value) => add_char(out, *value, form)?,
-        Union::Str(_, _, value) => add_string(out, value, form)?,
-        Union::Blob(_, _, bytes) => add_blob(out, bytes.as_slice())?,
-        Union::Variant(_, _, value) => add_host(out, value)?,
-        Union::Array(_, _, items) => {
+    match shape_of(value) {
+        Shape::Leaf(leaf) => {
+            add_leaf(out, leaf, form)?;
+            Ok(None)
+        }
+        Shape::Array(items) => {
             add_text(out, "[")?;
-            return Ok(Some(Frame {
-                rest: Rest::Items(items.as_slice()),
+            Ok(Some(Frame {
+                rest: Rest::Items(items),
                 form: form.of_items(),
                 is_first: true,
                 ending: "]",
-            }));
+            }))
         }
-        Union::Map(_, _, map) => {
+        Shape::Map(map) => {
             add_text(out, "#{")?;
-            return Ok(Some(Frame {
+            Ok(Some(Frame {
                 rest: Rest::Fields(map.iter()),
                 form: form.of_items(),
                 is_first: true,
                 ending: "}",
-            }));
+            }))
         }
-        Union::FnPtr(_, _, function) => {
+        Shape::Function(function) => {
             add_text(out, "Fn(")?;
             add_name(out, function.fn_name(), form)?;
-            return Ok(Some(Frame {
+            Ok(Some(Frame {
                 rest: Rest::Items(shown_curry(function, form)),
                 form: Form::Debug,
                 is_first: false,
                 ending: ")",
-            }));
+            }))
         }
-        Union::Shared(_, _, _) => return opened_holder(store, path, value, form, out),
+        Shape::Holder => opened_holder(store, path, value, form, out),
     }
-    Ok(None)
 }
 
 /// Adds the text of a holder whose cell doesn't open; opens another's.

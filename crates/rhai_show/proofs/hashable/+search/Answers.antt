@@ -1,10 +1,10 @@
-use Rattle.std.proofs.Common.{◌≡◌, ◌+◌, ◌≤◌, ◌++◌, true, false, [], ◌∷◌, drop, map, reverse, is_some, sym, ap, ap₂, ◌∙◌, subst, subst₂, arith, add-one}
+use Rattle.std.proofs.Common.{◌≡◌, ◌+◌, ◌≤◌, ◌++◌, true, false, [], ◌∷◌, drop, map, reverse, is_some, refl, sym, ap, ap₂, ◌∙◌, subst, subst₂, arith, add-one}
 use Rattle.std.proofs.Math.Seq.{drop-cons}
 use Rattle.std.specs.Map.Iter.{deref_pair}
 use Rattle.std.proofs.lemmas.Map.Iter.{rest_more}
 use Rattle.rhai_value.specs.Rows.{trees_of, fields_of}
-use Rattle.rhai_value.specs.Tree.{tree_then, no_trees, array, function, unit, bool, int, char, text, blob, host}
-use Rattle.rhai_value.specs.View.{tree_of}
+use Rattle.rhai_value.specs.Tree.{tree_then, no_trees, array, function}
+use Rattle.rhai_show.specs.Shape.{leaf_of}
 use Rattle.rhai_show.specs.Plain.{plain}
 use Rattle.rhai_show.specs.Clean.{are_plain, values_in, HasNoHolder, Searched}
 use Rattle.rhai_show.proofs.Weights.{branch-weight, map-weight, weight_item}
@@ -63,55 +63,26 @@ is_map_clean-is_clean-requires t c =
 pub is_clean-returns-else-levels-eq0-clause-answer : goal.is_clean-returns-else-levels-eq0-clause-answer
 is_clean-returns-else-levels-eq0-clause-answer t c =
     let h = c.in-Array in
-    let e = plain-branch c.args.store.now c.args.path.now c.args.value.now array (trees_of h.items.items) h.field-0 h.field-1 (sym c.parts.ensures ∙ ap tree_of h.is) in
-    let same = ap (λ xs. are_plain c.args.store.now c.args.path.now (trees_of xs)) (sym c.as_slice.ensures.value) in
-    answered c.are_clean.result _ _ (e ∙ same) c.are_clean.ensures.answer
+    let e = plain-branch c.args.store.now c.args.path.now c.args.value.now array (trees_of h.items.now) h.ensures.0 h.ensures.1 h.ensures.2 in
+    answered c.are_clean.result _ _ e c.are_clean.ensures.answer
 
 pub is_clean-returns-else-levels-eq0-2-clause-answer : goal.is_clean-returns-else-levels-eq0-2-clause-answer
 is_clean-returns-else-levels-eq0-2-clause-answer t c =
     let h = c.in-Map in
-    let e = plain-map c.args.store.now c.args.path.now c.args.value.now (fields_of h.map) h.field-0 h.field-1 (sym c.parts.ensures ∙ ap tree_of h.is) in
+    let e = plain-map c.args.store.now c.args.path.now c.args.value.now (fields_of h.map.now) h.ensures.0 h.ensures.1 h.ensures.2 in
     answered c.is_map_clean.result _ _ e c.is_map_clean.ensures.answer
 
 pub is_clean-returns-else-levels-eq0-3-clause-answer : goal.is_clean-returns-else-levels-eq0-3-clause-answer
 is_clean-returns-else-levels-eq0-3-clause-answer t c =
-    let h = c.in-FnPtr in
-    let e = plain-branch c.args.store.now c.args.path.now c.args.value.now (function h.function.0) (trees_of h.function.1) h.field-0 h.field-1 (sym c.parts.ensures ∙ ap tree_of h.is) in
+    let h = c.in-Function in
+    let e = plain-branch c.args.store.now c.args.path.now c.args.value.now (function h.function.now.0) (trees_of h.function.now.1) h.ensures.0 h.ensures.1 h.ensures.2 in
     let same = ap (λ xs. are_plain c.args.store.now c.args.path.now (trees_of xs)) (sym c.curry.ensures) in
-    answered c.are_clean-in-FnPtr.result _ _ (e ∙ same) c.are_clean-in-FnPtr.ensures.answer
+    answered c.are_clean-in-Function.result _ _ (e ∙ same) c.are_clean-in-Function.ensures.answer
 
 pub is_clean-returns-else-levels-eq0-2-clause-searched : goal.is_clean-returns-else-levels-eq0-2-clause-searched
 is_clean-returns-else-levels-eq0-2-clause-searched t c =
     let h = c.in-Map in
-    searched_by c.is_map_clean.result _ _ (map_leaves c.args.store.now c.args.path.now c.args.seen.now c.is_map_clean.new.seen c.args.value.now (fields_of h.map) h.field-0 h.field-1 (sym c.parts.ensures ∙ ap tree_of h.is)) c.is_map_clean.ensures.searched
-
-pub is_clean-returns-in-Unit-clause-answer : goal.is_clean-returns-in-Unit-clause-answer
-is_clean-returns-in-Unit-clause-answer t c =
-    plain-leaf c.args.store.now c.args.path.now c.args.value.now unit c.in-Unit.field-0 c.in-Unit.field-1 (sym c.parts.ensures ∙ ap tree_of c.in-Unit.is)
-
-pub is_clean-returns-in-Bool-clause-answer : goal.is_clean-returns-in-Bool-clause-answer
-is_clean-returns-in-Bool-clause-answer t c =
-    plain-leaf c.args.store.now c.args.path.now c.args.value.now (bool c.in-Bool.field-2) c.in-Bool.field-0 c.in-Bool.field-1 (sym c.parts.ensures ∙ ap tree_of c.in-Bool.is)
-
-pub is_clean-returns-in-Str-clause-answer : goal.is_clean-returns-in-Str-clause-answer
-is_clean-returns-in-Str-clause-answer t c =
-    plain-leaf c.args.store.now c.args.path.now c.args.value.now (text c.in-Str.field-2) c.in-Str.field-0 c.in-Str.field-1 (sym c.parts.ensures ∙ ap tree_of c.in-Str.is)
-
-pub is_clean-returns-in-Char-clause-answer : goal.is_clean-returns-in-Char-clause-answer
-is_clean-returns-in-Char-clause-answer t c =
-    plain-leaf c.args.store.now c.args.path.now c.args.value.now (char c.in-Char.field-2) c.in-Char.field-0 c.in-Char.field-1 (sym c.parts.ensures ∙ ap tree_of c.in-Char.is)
-
-pub is_clean-returns-in-Int-clause-answer : goal.is_clean-returns-in-Int-clause-answer
-is_clean-returns-in-Int-clause-answer t c =
-    plain-leaf c.args.store.now c.args.path.now c.args.value.now (int c.in-Int.field-2) c.in-Int.field-0 c.in-Int.field-1 (sym c.parts.ensures ∙ ap tree_of c.in-Int.is)
-
-pub is_clean-returns-in-Blob-clause-answer : goal.is_clean-returns-in-Blob-clause-answer
-is_clean-returns-in-Blob-clause-answer t c =
-    plain-leaf c.args.store.now c.args.path.now c.args.value.now (blob c.in-Blob.field-2.items) c.in-Blob.field-0 c.in-Blob.field-1 (sym c.parts.ensures ∙ ap tree_of c.in-Blob.is)
-
-pub is_clean-returns-in-Variant-clause-answer : goal.is_clean-returns-in-Variant-clause-answer
-is_clean-returns-in-Variant-clause-answer t c =
-    plain-leaf c.args.store.now c.args.path.now c.args.value.now (host c.in-Variant.field-2) c.in-Variant.field-0 c.in-Variant.field-1 (sym c.parts.ensures ∙ ap tree_of c.in-Variant.is)
+    searched_by c.is_map_clean.result _ _ (map_leaves c.args.store.now c.args.path.now c.args.seen.now c.is_map_clean.new.seen c.args.value.now (fields_of h.map.now) h.ensures.0 h.ensures.1 h.ensures.2) c.is_map_clean.ensures.searched
 
 -- no memory is wanted where no holder stands in the value
 pub are_clean-returns-in_err-is_clean-clause-free : goal.are_clean-returns-in_err-is_clean-clause-free
@@ -120,7 +91,7 @@ are_clean-returns-in_err-is_clean-clause-free t c = λ h.
 
 pub is_clean-returns-else-levels-eq0-2-clause-free : goal.is_clean-returns-else-levels-eq0-2-clause-free
 is_clean-returns-else-levels-eq0-2-clause-free t c = λ h.
-    c.is_map_clean.ensures.free (fields_free c.args.value.now (fields_of c.in-Map.map) c.in-Map.field-0 c.in-Map.field-1 (sym c.parts.ensures ∙ ap tree_of c.in-Map.is) h)
+    c.is_map_clean.ensures.free (fields_free c.args.value.now (fields_of c.in-Map.map.now) c.in-Map.ensures.0 c.in-Map.ensures.1 c.in-Map.ensures.2 h)
 
 pub is_map_clean-returns-in_err-is_clean-clause-free : goal.is_map_clean-returns-in_err-is_clean-clause-free
 is_map_clean-returns-in_err-is_clean-clause-free t c = λ h.
@@ -129,26 +100,24 @@ is_map_clean-returns-in_err-is_clean-clause-free t c = λ h.
 
 pub is_clean-is_held_clean-requires : goal.is_clean-is_held_clean-requires
 is_clean-is_held_clean-requires t c =
-    let h = c.in-Shared in
-    let is = sym c.parts.ensures ∙ ap tree_of h.is in
-    (omega arith, (c.requires, (h.field-2.index, h.field-0, h.field-1, is)))
+    (omega arith, (c.requires, c.in-Holder.ensures))
 
 pub is_clean-are_clean-requires : goal.is_clean-are_clean-requires
 is_clean-are_clean-requires t c =
     let h = c.in-Array in
-    let less = branch-weight c.args.store.now c.args.path.now c.args.value.now array c.as_slice.result.now h.items.items h.field-0 h.field-1 (sym c.parts.ensures ∙ ap tree_of h.is) c.as_slice.ensures.value in
+    let less = branch-weight c.args.store.now c.args.path.now c.args.value.now array c.in-Array.items.now h.items.now h.ensures.0 h.ensures.1 h.ensures.2 refl in
     (omega arith, c.requires)
 
-pub is_clean-are_clean-requires-in-FnPtr : goal.is_clean-are_clean-requires-in-FnPtr
-is_clean-are_clean-requires-in-FnPtr t c =
-    let h = c.in-FnPtr in
-    let less = branch-weight c.args.store.now c.args.path.now c.args.value.now (function h.function.0) c.curry.result.now h.function.1 h.field-0 h.field-1 (sym c.parts.ensures ∙ ap tree_of h.is) c.curry.ensures in
+pub is_clean-are_clean-requires-in-Function : goal.is_clean-are_clean-requires-in-Function
+is_clean-are_clean-requires-in-Function t c =
+    let h = c.in-Function in
+    let less = branch-weight c.args.store.now c.args.path.now c.args.value.now (function h.function.now.0) c.curry.result.now h.function.now.1 h.ensures.0 h.ensures.1 h.ensures.2 c.curry.ensures in
     (omega arith, c.requires)
 
 pub is_clean-is_map_clean-requires : goal.is_clean-is_map_clean-requires
 is_clean-is_map_clean-requires t c =
     let h = c.in-Map in
-    let less = map-weight c.args.store.now c.args.path.now c.args.value.now h.map h.field-0 h.field-1 (sym c.parts.ensures ∙ ap tree_of h.is) in
+    let less = map-weight c.args.store.now c.args.path.now c.args.value.now h.map.now h.ensures.0 h.ensures.1 h.ensures.2 in
     (omega arith, c.requires)
 
 -- what is left of each level stands in a list
@@ -218,3 +187,8 @@ is_far_clean-loop-child-preserved t c =
     let top = subst (λ x. Searching s c.args.value.now c.args.path.now c.args.seen.now l.path l.seen (x ∷ others)) (ap₂ (λ b cs. (b, cs)) (sym n.held) n.next.0) l.invariant in
     subst (λ fs. Searching s c.args.value.now c.args.path.now c.args.seen.now c.close-in-None.new.path l.seen (map level_of fs)) (reversed c.pop.new.self.items l.frames.items c.in-Some-pop.up c.in-Some-pop.ensures.items)
     (clean_up s c.args.value.now c.args.path.now c.args.seen.now l.path c.close-in-None.new.path l.seen (is_held rest) others top c.close-in-None.ensures)
+
+pub is_clean-returns-in-Leaf-clause-answer : goal.is_clean-returns-in-Leaf-clause-answer
+is_clean-returns-in-Leaf-clause-answer t c =
+    let h = c.in-Leaf.ensures in
+    plain-leaf c.args.store.now c.args.path.now c.args.value.now (leaf_of c.in-Leaf.field-0) h.0 h.1 h.2

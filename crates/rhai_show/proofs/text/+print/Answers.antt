@@ -4,9 +4,9 @@ use Rattle.std.specs.Map.Iter.{deref_pair}
 use Rattle.std.proofs.lemmas.Map.Iter.{rest_more, rest_all}
 use Rattle.std.proofs.lemmas.Option.{MatchOption-at_some}
 use Rattle.rhai_value.specs.Rows.{fields_of}
-use Rattle.rhai_value.specs.Tree.{Tree, nodes, nodes_fields, unit, bool, int, char, text, blob, host, cell_of}
-use Rattle.rhai_value.specs.View.{tree_of}
+use Rattle.rhai_value.specs.Tree.{Tree, nodes, nodes_fields, cell_of}
 use Rattle.rhai_value.specs.Walk.{entry}
+use Rattle.rhai_show.specs.Shape.{leaf_of}
 use Rattle.rhai_show.specs.declared.form.Form.TheVariants.{Debug}
 use Rattle.rhai_show.specs.Leaves.{in_debug, blob_printed}
 use Rattle.rhai_show.specs.Listed.{row_printed}
@@ -93,59 +93,29 @@ add_fields-loop-key-preserved t c =
       nodes_left = omega arith;
     }
 
-pub add_value-returns-in-Unit-clause-text : goal.add_value-returns-in-Unit-clause-text
-add_value-returns-in-Unit-clause-text t c =
-    added_leaf c.add_unit.result _ _ c.args.store.now c.args.path.now c.args.value.now c.args.form unit c.in-Unit.field-0 c.in-Unit.field-1 (sym c.parts.ensures ∙ ap tree_of c.in-Unit.is) c.add_unit.ensures
-
-pub add_value-returns-in-Bool-clause-text : goal.add_value-returns-in-Bool-clause-text
-add_value-returns-in-Bool-clause-text t c =
-    added_leaf c.add_bool.result _ _ c.args.store.now c.args.path.now c.args.value.now c.args.form (bool c.in-Bool.value) c.in-Bool.field-0 c.in-Bool.field-1 (sym c.parts.ensures ∙ ap tree_of c.in-Bool.is) c.add_bool.ensures
-
-pub add_value-returns-in-Int-clause-text : goal.add_value-returns-in-Int-clause-text
-add_value-returns-in-Int-clause-text t c =
-    added_leaf c.add_int.result _ _ c.args.store.now c.args.path.now c.args.value.now c.args.form (int c.in-Int.value) c.in-Int.field-0 c.in-Int.field-1 (sym c.parts.ensures ∙ ap tree_of c.in-Int.is) c.add_int.ensures
-
-pub add_value-returns-in-Char-clause-text : goal.add_value-returns-in-Char-clause-text
-add_value-returns-in-Char-clause-text t c =
-    added_leaf c.add_char.result _ _ c.args.store.now c.args.path.now c.args.value.now c.args.form (char c.in-Char.value) c.in-Char.field-0 c.in-Char.field-1 (sym c.parts.ensures ∙ ap tree_of c.in-Char.is) c.add_char.ensures
-
-pub add_value-returns-in-Str-clause-text : goal.add_value-returns-in-Str-clause-text
-add_value-returns-in-Str-clause-text t c =
-    added_leaf c.add_string.result _ _ c.args.store.now c.args.path.now c.args.value.now c.args.form (text c.in-Str.value) c.in-Str.field-0 c.in-Str.field-1 (sym c.parts.ensures ∙ ap tree_of c.in-Str.is) c.add_string.ensures
-
-pub add_value-returns-in-Blob-clause-text : goal.add_value-returns-in-Blob-clause-text
-add_value-returns-in-Blob-clause-text t c =
-    added_leaf c.add_blob.result _ _ c.args.store.now c.args.path.now c.args.value.now c.args.form (blob c.in-Blob.bytes.items) c.in-Blob.field-0 c.in-Blob.field-1 (sym c.parts.ensures ∙ ap tree_of c.in-Blob.is)
-    (added_as c.add_blob.result _ _ _ _ (ap blob_printed c.as_slice.ensures.value) c.add_blob.ensures)
-
-pub add_value-returns-in-Variant-clause-text : goal.add_value-returns-in-Variant-clause-text
-add_value-returns-in-Variant-clause-text t c =
-    added_leaf c.add_host.result _ _ c.args.store.now c.args.path.now c.args.value.now c.args.form (host c.in-Variant.value) c.in-Variant.field-0 c.in-Variant.field-1 (sym c.parts.ensures ∙ ap tree_of c.in-Variant.is) c.add_host.ensures
-
 pub add_value-returns-else-levels-eq0-clause-text : goal.add_value-returns-else-levels-eq0-clause-text
 add_value-returns-else-levels-eq0-clause-text t c =
     added_as c.add_array.result _ _ _ _
-    (printed-array c.args.store.now c.args.path.now c.args.value.now c.args.form c.of_items.result c.as_slice-in-Array.result.now c.in-Array.items.items c.in-Array.field-0 c.in-Array.field-1 (sym c.parts.ensures ∙ ap tree_of c.in-Array.is) c.of_items.ensures c.as_slice-in-Array.ensures.value)
+    (printed-array c.args.store.now c.args.path.now c.args.value.now c.args.form c.of_items.result c.in-Array.items.now c.in-Array.items.now c.in-Array.ensures.0 c.in-Array.ensures.1 c.in-Array.ensures.2 c.of_items.ensures refl)
     c.add_array.ensures.text
 
 pub add_value-returns-else-levels-eq0-2-clause-text : goal.add_value-returns-else-levels-eq0-2-clause-text
 add_value-returns-else-levels-eq0-2-clause-text t c =
     added_as c.add_map.result _ _ _ _
-    (printed-map c.args.store.now c.args.path.now c.args.value.now c.args.form c.of_items-in-Map.result c.in-Map.map c.in-Map.field-0 c.in-Map.field-1 (sym c.parts.ensures ∙ ap tree_of c.in-Map.is) c.of_items-in-Map.ensures)
+    (printed-map c.args.store.now c.args.path.now c.args.value.now c.args.form c.of_items-in-Map.result c.in-Map.map.now c.in-Map.ensures.0 c.in-Map.ensures.1 c.in-Map.ensures.2 c.of_items-in-Map.ensures)
     c.add_map.ensures.text
 
 pub add_value-returns-else-levels-eq0-3-clause-text : goal.add_value-returns-else-levels-eq0-3-clause-text
 add_value-returns-else-levels-eq0-3-clause-text t c =
     added_as c.add_function.result _ _ _ _
-    (printed-function c.args.store.now c.args.path.now c.args.value.now c.args.form c.in-FnPtr.function.0 c.in-FnPtr.function.1 c.in-FnPtr.field-0 c.in-FnPtr.field-1 (sym c.parts.ensures ∙ ap tree_of c.in-FnPtr.is))
+    (printed-function c.args.store.now c.args.path.now c.args.value.now c.args.form c.in-Function.function.now.0 c.in-Function.function.now.1 c.in-Function.ensures.0 c.in-Function.ensures.1 c.in-Function.ensures.2)
     c.add_function.ensures.text
 
 pub add_value-add_held-requires : goal.add_value-add_held-requires
 add_value-add_held-requires t c =
-    let h = c.in-Shared in
-    let is = sym c.parts.ensures ∙ ap tree_of h.is in
-    let size = ap nodes is in
-    (omega arith, (h.field-2.index, h.field-0, h.field-1, is))
+    let h = c.in-Holder in
+    let size = ap nodes h.ensures.3 in
+    (omega arith, h.ensures)
 
 pub add_held-returns-in-None-clause-text : goal.add_held-returns-in-None-clause-text
 add_held-returns-in-None-clause-text t c =
@@ -175,3 +145,8 @@ add_held-returns-in_ok-add_value-in-Some-clause-text t c =
     (ap (λ x. inside (content_form c.args.form) ++ x) (fixed (codes " (shared)") refl)
     ∙ printed-opened c.args.store.now c.args.path.now c.enter.new.self c.args.value.now c.in-Some.content.now c.args.form h.0 h.1 h.2 h.3 some next)
     c.add_text-in-Some.ensures
+
+pub add_value-returns-in-Leaf-clause-text : goal.add_value-returns-in-Leaf-clause-text
+add_value-returns-in-Leaf-clause-text t c =
+    let h = c.in-Leaf.ensures in
+    added_leaf c.add_leaf.result _ _ c.args.store.now c.args.path.now c.args.value.now c.args.form (leaf_of c.in-Leaf.leaf) h.0 h.1 h.2 c.add_leaf.ensures

@@ -1,5 +1,5 @@
 -- An operator and its assignment come to the same content.
-use Rattle.std.proofs.Common.{◌≡◌, ℕ, ℤ, Bool, true, false, ◌||◌, ◌&&◌, List, [], ◌∷◌, ◌++◌, Option, Some, None, IsTrue, is_some, unwrap_or, if◌then◌else◌, refl, sym, ap, ◌∙◌, subst}
+use Rattle.std.proofs.Common.{◌≡◌, ℕ, ℤ, Bool, true, false, ◌||◌, ◌&&◌, List, [], ◌∷◌, ◌++◌, Option, Some, None, IsTrue, unwrap_or, if◌then◌else◌, refl, sym, ap, ◌∙◌, subst}
 use denote.Enum.Bare.{same_true}
 use Rattle.std.proofs.lemmas.List.{append-nil}
 use Rattle.std.proofs.lemmas.Option.{same_Some}
@@ -25,8 +25,8 @@ use Rattle.rhai_ops.specs.declared.operand_kind.OperandKind.TheVariants as is
 use Rattle.rhai_ops.specs.AssignTable.{assign_row, assign_line}
 use Rattle.rhai_ops.specs.Outcome.{Outcome, answers, too_large, limited_text, limited_blob}
 use Rattle.rhai_ops.specs.Results.{outcome, joined_texts, joined_blobs}
-use Rattle.rhai_ops.specs.Table.{operand_kind, leaf_operand, row_of, rows_of_kinds, pair_row, type_line, pick, Line, is_numeric, is_range_type}
-use Rattle.rhai_ops.specs.Tokens.{is_assignment, is_number, is_token, without_assign}
+use Rattle.rhai_ops.specs.Table.{operand_kind, leaf_operand, row_of, rows_of_kinds, type_line, pick, Line, is_numeric, is_range_type}
+use Rattle.rhai_ops.specs.Tokens.{is_assignment, is_token, without_assign}
 use Rattle.rhai_ops.proofs.Questions.{base_is_number}
 use Rattle.rhai_ops.specs.Effects.{Effect, operator, assignment, effect, writes, rewritten, first_left, takes_nothing}
 use Rattle.rhai_ops.proofs.Roles.{assignments}
@@ -87,7 +87,7 @@ one : (q : Bool) (r a : FnBuiltin) → pick ((q, r) ∷ []) ≡ Some a → (q �
 one true r a e = (refl, e)
 one false r a e = cc
 
-first_row : (q : Bool) (r b : FnBuiltin) (rest : Line) → q ≡ true → pick ((q, r) ∷ rest) ≡ Some b → Some r ≡ Some b
+first_row : (q : Bool) (r b : FnBuiltin) (rest : Option FnBuiltin) → q ≡ true → (if q then Some r else rest) ≡ Some b → Some r ≡ Some b
 first_row true r b rest h e = e
 first_row false r b rest h e = cc
 
@@ -173,7 +173,7 @@ array_plus t _ a e = (one (is_token t op.PlusAssign) row.ArrayPush a e).0
 plus_is : (t : Token) → is_token t op.PlusAssign ≡ true → t ≡ op.PlusAssign
 plus_is t e = same_true token.the_type tt t op.PlusAssign e
 
-array_none : (o : OperandKind) (a b : TypeId) → pair_row (rows_of_kinds op.Plus is.Array o) (type_line op.Plus a b) ≡ None
+array_none : (o : OperandKind) (a b : TypeId) → pick (rows_of_kinds op.Plus is.Array o (type_line op.Plus a b)) ≡ None
 array_none _ a b = no_plus a b
 
 arrays : (t : Token) (s : List Cell) (ts : Trees) (g : ℤ) (m : AccessMode) (y : Tree) (b a : FnBuiltin) → row_of (without_assign t) s (node (branch array ts) g m) y ≡ Some b → assign_row t (node (branch array ts) g m) y ≡ Some a → ⊥

@@ -1,5 +1,5 @@
 -- The rows that compare answer by the order of what both hold.
-use Rattle.std.proofs.Common.{◌≡◌, Bool, ◌||◌, ◌&&◌, [], ◌∷◌, List, Option, Some, None, refl, ap, sym, ◌∙◌}
+use Rattle.std.proofs.Common.{◌≡◌, Bool, ◌||◌, ◌&&◌, [], ◌∷◌, List, Option, Some, None, refl, ap, ◌∙◌}
 use Rattle.std.proofs.lemmas.Option.{same_Some}
 use Rattle.std.specs.Ordering.{bool_cmp, int_cmp, nat_cmp}
 use Rattle.std.specs.declared.cmp.Ordering.{Ordering}
@@ -17,11 +17,11 @@ use Rattle.rhai_ops.specs.declared.builtin.FnBuiltin.TheVariants as row
 use Rattle.rhai_ops.specs.declared.operand_kind.OperandKind.{OperandKind}
 use Rattle.rhai_ops.specs.declared.operand_kind.OperandKind.TheVariants as is
 use Rattle.rhai_ops.specs.Numbers.{compared}
-use Rattle.rhai_ops.specs.Order.{ordered, row_order}
-use Rattle.rhai_ops.specs.Outcome.{answers, both, bool_answer}
+use Rattle.rhai_ops.specs.Order.{row_order}
+use Rattle.rhai_ops.specs.Outcome.{answers, of_both, both, bool_answer}
 use Rattle.rhai_ops.specs.Results.{part, text_order, outcome}
-use Rattle.rhai_ops.specs.Table.{operand_kind, row_of, rows_of_kinds, type_line, is_numeric, is_range_type}
-use Rattle.rhai_ops.proofs.Lines.{LineAll, PairAll, pair_all, if_all}
+use Rattle.rhai_ops.specs.Table.{operand_kind, row_of, rows_of_kinds, type_line, Line, is_numeric, is_range_type}
+use Rattle.rhai_ops.proofs.Lines.{LineAll, pick_all, if_all}
 
 -- a row that compares does so by this operator
 abbrev IsOf : Token → FnBuiltin → Type 0
@@ -33,15 +33,15 @@ IsOf t (row.CharTextCompare u) = u ≡ t
 IsOf t (row.TextCharCompare u) = u ≡ t
 IsOf t _ = Unit {0}
 
-own_is : (t : Token) (a b : OperandKind) → PairAll (IsOf t) (rows_of_kinds t a b)
-own_is t is.Unit is.Unit = search refl
-own_is t is.Bool is.Bool = search refl
-own_is t is.Int is.Int = search refl
-own_is t is.Str is.Str = search refl
-own_is t is.Char is.Char = search refl
-own_is t is.Blob is.Blob = search refl
-own_is t is.Array is.Array = search refl
-own_is t a b = search refl
+own_is : (t : Token) (types : Line) → LineAll (IsOf t) types → (a b : OperandKind) → LineAll (IsOf t) (rows_of_kinds t a b types)
+own_is t types l is.Unit is.Unit = search refl
+own_is t types l is.Bool is.Bool = search refl
+own_is t types l is.Int is.Int = search refl
+own_is t types l is.Str is.Str = search refl
+own_is t types l is.Char is.Char = search refl
+own_is t types l is.Blob is.Blob = search refl
+own_is t types l is.Array is.Array = search refl
+own_is t types l a b = search refl
 
 types_are : (t : Token) (a b : TypeId) → LineAll (IsOf t) (type_line t a b)
 types_are t a b =
@@ -49,7 +49,7 @@ types_are t a b =
     if_all (IsOf t) (is_range_type a && is_range_type b) _ _ (λ r. if_all (IsOf t) (is_type a b) _ _ (λ i. (λ d. tt, (λ d. tt, tt))) (λ i. (λ d. tt, (λ d. tt, tt))))
     (λ r. if_all (IsOf t) (is_type a b || (is_numeric a && is_numeric b)) _ _ (λ i. tt) (λ i. (λ d. tt, (λ d. tt, tt)))))
 
-by_order : {A B : Type 0} (t : Token) (cmp : A → B → Ordering) (p : Option A) (q : Option B) (o : Ordering) (c : Bool) → ordered cmp p q ≡ Some o → compared t o ≡ Some c
+by_order : {A B : Type 0} (t : Token) (cmp : A → B → Ordering) (p : Option A) (q : Option B) (o : Ordering) (c : Bool) → of_both cmp p q ≡ Some o → compared t o ≡ Some c
     → both (λ a b. bool_answer (compared t (cmp a b))) p q ≡ answers (fresh (bool c))
 by_order t cmp (Some a) (Some b) o c e k = ap (λ z. bool_answer (compared t z)) (same_Some (cmp a b) o e) ∙ ap bool_answer k
 by_order t cmp (Some a) None o c e k = cc
@@ -68,4 +68,4 @@ row_by_order t l s x y b o c i e k = cc
 pub compared_by_order : (t : Token) (l : Limits) (s : List Cell) (x y : Tree) (b : FnBuiltin) (o : Ordering) (c : Bool) → row_of t s x y ≡ Some b
     → row_order b s x y ≡ Some o → compared t o ≡ Some c → outcome b l s x y ≡ answers (fresh (bool c))
 compared_by_order t l s x y b o c found e k =
-    row_by_order t l s x y b o c (pair_all (IsOf t) (rows_of_kinds t (operand_kind x) (operand_kind y)) _ b (own_is t (operand_kind x) (operand_kind y)) (types_are t (end_type (end s [] x)) (end_type (end s [] y))) found) e k
+    row_by_order t l s x y b o c (pick_all (IsOf t) _ b (own_is t _ (types_are t (end_type (end s [] x)) (end_type (end s [] y))) (operand_kind x) (operand_kind y)) found) e k

@@ -4,7 +4,7 @@ use Rattle.std.specs.declared.cmp.Ordering.{Ordering}
 use Rattle.rhai_text.specs.declared.token.Token.{Token}
 use Rattle.rhai_text.specs.declared.token.Token.TheVariants as op
 use Rattle.rhai_ops.specs.Numbers.{number, both_bits, compared}
-use Rattle.rhai_ops.specs.Tokens.{is_number, is_bits, is_cmp, is_assignment, is_bits_assignment, without_assign}
+use Rattle.rhai_ops.specs.Tokens.{is_number, is_bits, is_cmp, is_assignment, without_assign}
 
 -- an operator has an answer on all operands or on none
 pub some_number : (t : Token) (x y : ℤ) → is_number t ≡ true → is_some (number t x y) ≡ true

@@ -11,9 +11,9 @@ use Rattle.rhai_ops.specs.declared.builtin.FnBuiltin.{FnBuiltin}
 use Rattle.rhai_ops.specs.declared.operand_kind.OperandKind.{OperandKind}
 use Rattle.rhai_ops.specs.declared.operand_kind.OperandKind.TheVariants as is
 use Rattle.rhai_ops.specs.AssignTable.{assign_line, assign_row}
-use Rattle.rhai_ops.specs.Table.{operand_kind, row_of, rows_of_kinds, type_line, is_numeric, is_range_type}
+use Rattle.rhai_ops.specs.Table.{operand_kind, row_of, rows_of_kinds, type_line, Line, is_numeric, is_range_type}
 use Rattle.rhai_ops.specs.Effects.{effect, operator, writes}
-use Rattle.rhai_ops.proofs.Lines.{LineAll, PairAll, pick_all, pair_all, if_all}
+use Rattle.rhai_ops.proofs.Lines.{LineAll, pick_all, if_all}
 
 abbrev Answers : FnBuiltin → Type 0
 Answers r = effect r ≡ operator
@@ -22,15 +22,15 @@ abbrev Writes : FnBuiltin → Type 0
 Writes r = IsTrue (writes (effect r))
 
 -- pair by pair; a row more is found without a line more
-own_answers : (t : Token) (a b : OperandKind) → PairAll Answers (rows_of_kinds t a b)
-own_answers t is.Unit is.Unit = search refl
-own_answers t is.Bool is.Bool = search refl
-own_answers t is.Int is.Int = search refl
-own_answers t is.Str is.Str = search refl
-own_answers t is.Char is.Char = search refl
-own_answers t is.Blob is.Blob = search refl
-own_answers t is.Array is.Array = search refl
-own_answers t a b = search refl
+own_answers : (t : Token) (types : Line) → LineAll Answers types → (a b : OperandKind) → LineAll Answers (rows_of_kinds t a b types)
+own_answers t types l is.Unit is.Unit = search refl
+own_answers t types l is.Bool is.Bool = search refl
+own_answers t types l is.Int is.Int = search refl
+own_answers t types l is.Str is.Str = search refl
+own_answers t types l is.Char is.Char = search refl
+own_answers t types l is.Blob is.Blob = search refl
+own_answers t types l is.Array is.Array = search refl
+own_answers t types l a b = search refl
 
 types_answer : (t : Token) (a b : TypeId) → LineAll Answers (type_line t a b)
 types_answer t a b =
@@ -39,7 +39,7 @@ types_answer t a b =
     (λ r. if_all Answers (is_type a b || (is_numeric a && is_numeric b)) _ _ (λ i. tt) (λ i. (λ d. refl, (λ d. refl, tt)))))
 
 pub operators : (t : Token) (s : List Cell) (x y : Tree) (r : FnBuiltin) → row_of t s x y ≡ Some r → effect r ≡ operator
-operators t s x y r e = pair_all Answers (rows_of_kinds t (operand_kind x) (operand_kind y)) _ r (own_answers t (operand_kind x) (operand_kind y)) (types_answer t (end_type (end s [] x)) (end_type (end s [] y))) e
+operators t s x y r e = pick_all Answers _ r (own_answers t _ (types_answer t (end_type (end s [] x)) (end_type (end s [] y))) (operand_kind x) (operand_kind y)) e
 
 own_writes : (t : Token) (a b : OperandKind) → LineAll Writes (assign_line t a b)
 own_writes t is.Unit is.Unit = search refl

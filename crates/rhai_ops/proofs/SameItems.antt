@@ -80,15 +80,12 @@ limited_related r l ts us h = rw (same_count r ts us h) (array_if r (is_allowed 
 pub pushed_related : (r : Renaming) (l : Limits) (ts : Trees) (t : Tree) (us : Trees) (u : Tree) → AllRelated r ts us → Related r t u → RelatedOutcomes r (pushed l ts t) (pushed l us u)
 pushed_related r l ts t us u h k = limited_related r l (then_items ts (tree_then t no_trees)) (then_items us (tree_then u no_trees)) (then_related r ts (tree_then t no_trees) us (tree_then u no_trees) h (k, tt))
 
+limited_if : (r : Renaming) (l : Limits) (b : Bool) (ts us : Trees) → AllRelated r ts us → RelatedOutcomes r (if b then answers (made (branch array ts)) else limited_array l ts) (if b then answers (made (branch array us)) else limited_array l us)
+limited_if r l true ts us h = ((refl, h), refl, refl)
+limited_if r l false ts us h = limited_related r l ts us h
+
 pub joined_related : (r : Renaming) (l : Limits) (ts us vs ws : Trees) → AllRelated r ts vs → AllRelated r us ws → RelatedOutcomes r (joined_items l ts us) (joined_items l vs ws)
-joined_related r l no_trees us no_trees ws h k = ((refl, k), refl, refl)
-joined_related r l (tree_then t ts) no_trees (tree_then v vs) no_trees h k = ((refl, then_related r (tree_then t ts) no_trees (tree_then v vs) no_trees h tt), refl, refl)
-joined_related r l (tree_then t ts) (tree_then u us) (tree_then v vs) (tree_then w ws) h k =
-    limited_related r l (then_items (tree_then t ts) (tree_then u us)) (then_items (tree_then v vs) (tree_then w ws)) (then_related r (tree_then t ts) (tree_then u us) (tree_then v vs) (tree_then w ws) h k)
-joined_related r l no_trees us (tree_then v vs) ws h k = absurd h
-joined_related r l (tree_then t ts) us no_trees ws h k = absurd h
-joined_related r l (tree_then t ts) no_trees (tree_then v vs) (tree_then w ws) h k = absurd k
-joined_related r l (tree_then t ts) (tree_then u us) (tree_then v vs) no_trees h k = absurd k
+joined_related r l ts us vs ws h k = rw (same_count r ts vs h, same_count r us ws k) (limited_if r l _ (then_items ts us) (then_items vs ws) (then_related r ts us vs ws h k))
 
 module _ (r : Renaming) (s z : List Cell) (one : IsOneToOne r) (cells : RelatedCells r s z) (t u : Tree) (h : Related r t u) where
   pub same_items : Alike (AllRelated r) (part array_of s t) (part array_of z u)

@@ -19,7 +19,7 @@ use Rattle.rhai_ops.specs.declared.builtin.FnBuiltin.{FnBuiltin}
 use Rattle.rhai_ops.specs.declared.builtin.FnBuiltin.TheVariants as row
 use Rattle.rhai_ops.specs.Numbers.{Number, number}
 use Rattle.rhai_ops.specs.AssignTable.{assign_line, assign_row}
-use Rattle.rhai_ops.specs.Table.{operand_kind, row_of, rows_of_kinds, type_line, pair_row, pick}
+use Rattle.rhai_ops.specs.Table.{operand_kind, row_of, rows_of_kinds, type_line, pick}
 use Rattle.rhai_ops.specs.Outcome.{Outcome, answers, too_large, both, number_answer, bool_answer, is_allowed, limited_text, limited_blob, RelatedOutcomes}
 use Rattle.rhai_value.specs.Bytes.{low_byte}
 use Rattle.rhai_ops.specs.Results.{blob_and_char, part, joined_blobs, joined_texts, joined_to_char, blob_and_text, pushed, joined_items, outcome, range_type}
@@ -94,7 +94,7 @@ module _ (r : Renaming) (s z : List Cell) (one : IsOneToOne r) (cells : RelatedC
 
   pub same_row : (k : Token) (t u v w : Tree) → Related r t u → Related r v w → row_of k s t v ≡ row_of k z u w
   same_row k t u v w h q =
-      ap₂ pair_row (ap₂ (rows_of_kinds k) (same_kind r t u h) (same_kind r v w q)) (ap₂ (type_line k) (same_type t u h) (same_type v w q))
+      ap₂ (λ line types. pick (line types)) (ap₂ (rows_of_kinds k) (same_kind r t u h) (same_kind r v w q)) (ap₂ (type_line k) (same_type t u h) (same_type v w q))
 
   module _ (t u v w : Tree) (h : Related r t u) (q : Related r v w) where
     -- of two leaves that both hold

@@ -19,11 +19,11 @@ use Rattle.rhai_ops.specs.declared.builtin.FnBuiltin.{FnBuiltin}
 use Rattle.rhai_ops.specs.declared.builtin.FnBuiltin.TheVariants as row
 use Rattle.rhai_ops.specs.declared.operand_kind.OperandKind.{OperandKind}
 use Rattle.rhai_ops.specs.declared.operand_kind.OperandKind.TheVariants as is
-use Rattle.rhai_ops.specs.Table.{operand_kind, leaf_operand, row_of, rows_of_kinds, type_line, pick, is_numeric, is_range_type}
+use Rattle.rhai_ops.specs.Table.{operand_kind, leaf_operand, row_of, rows_of_kinds, type_line, pick, Line, is_numeric, is_range_type}
 use Rattle.rhai_ops.specs.AssignTable.{assign_line, assign_row}
 use Rattle.rhai_ops.specs.Results.{part, Holds, Suits, range_type}
 use Rattle.rhai_ops.proofs.Questions.{base_is_number}
-use Rattle.rhai_ops.proofs.Lines.{LineAll, PairAll, pick_all, pair_all, if_all}
+use Rattle.rhai_ops.proofs.Lines.{LineAll, pick_all, if_all}
 
 -- a value that is no holder is held
 pub leaf_end : (s : List Cell) (p : List ℕ) (l : Leaf) (g : ℤ) (m : AccessMode) → end s p (node (leaf l) g m) ≡ held (site_after (slice_get p 0)) (node (leaf l) g m)
@@ -90,15 +90,15 @@ module _ (t : Token) (s : List Cell) (x y : Tree) where
   Fit r = Suits r s x y
 
   -- pair by pair; a row more is found without a line more
-  own_suits : (a b : OperandKind) → HoldsOwn a (end s [] x) → HoldsOwn b (end s [] y) → PairAll Fit (rows_of_kinds t a b)
-  own_suits is.Unit is.Unit h k = search refl
-  own_suits is.Bool is.Bool h k = search refl
-  own_suits is.Int is.Int h k = search refl
-  own_suits is.Str is.Str h k = search refl
-  own_suits is.Char is.Char h k = search refl
-  own_suits is.Blob is.Blob h k = search refl
-  own_suits is.Array is.Array h k = search refl
-  own_suits a b h k = search refl
+  own_suits : (types : Line) → LineAll Fit types → (a b : OperandKind) → HoldsOwn a (end s [] x) → HoldsOwn b (end s [] y) → LineAll Fit (rows_of_kinds t a b types)
+  own_suits types l is.Unit is.Unit h k = search refl
+  own_suits types l is.Bool is.Bool h k = search refl
+  own_suits types l is.Int is.Int h k = search refl
+  own_suits types l is.Str is.Str h k = search refl
+  own_suits types l is.Char is.Char h k = search refl
+  own_suits types l is.Blob is.Blob h k = search refl
+  own_suits types l is.Array is.Array h k = search refl
+  own_suits types l a b h k = search refl
 
   both_true : (b c : Bool) → (b && c) ≡ true → (b ≡ true) × (c ≡ true)
   both_true true true e = (refl, refl)
@@ -144,7 +144,7 @@ module _ (t : Token) (s : List Cell) (x y : Tree) where
   assign_row_suits a r h e = pick_all Fit (assign_line t a (operand_kind y)) r (assign_suits a (operand_kind y) h (holds_own s [] y)) e
 
   pub row_suits : (r : FnBuiltin) → row_of t s x y ≡ Some r → Suits r s x y
-  row_suits r e = pair_all Fit (rows_of_kinds t (operand_kind x) (operand_kind y)) (type_line t first_type second_type) r (own_suits (operand_kind x) (operand_kind y) (holds_own s [] x) (holds_own s [] y)) types_suit e
+  row_suits r e = pick_all Fit _ r (own_suits _ types_suit (operand_kind x) (operand_kind y) (holds_own s [] x) (holds_own s [] y)) e
 
 -- the row that is looked up for the first content of x may be called on x
 own_first : (s : List Cell) (x v : Tree) → Some x ≡ Some v → HoldsOwn (operand_kind v) (end s [] x)

@@ -1,7 +1,7 @@
 -- What the operators answer on two numbers, on two booleans, and on the order of two contents.
-use Rattle.std.specs.Prelude.{Option, Some, None, ℕ, ℤ, pos, negsuc, zero, suc, ◌+ℤ◌, ◌-ℤ◌, ◌*ℤ◌, ◌^◌, Bool, Result, Ok, Err, nat_lt, not, ◌&&◌, ◌||◌, bit_and, bit_or, bit_xor, int_div, int_rem, if◌then◌else◌}
+use Rattle.std.specs.Prelude.{Option, Some, None, ℕ, ℤ, pos, negsuc, suc, ◌+ℤ◌, ◌-ℤ◌, ◌*ℤ◌, ◌^◌, Bool, Result, Ok, Err, nat_lt, not, ◌&&◌, ◌||◌, bit_and, bit_or, bit_xor, int_div, int_rem, if◌then◌else◌}
 use Rattle.std.specs.Int.{w64, int_pow, int_wrap, int_shr, cast_signed, cast_unsigned}
-use Rattle.std.specs.Ordering.{is_eq, is_ne, is_lt, is_gt, is_le, is_ge}
+use Rattle.std.specs.Ordering.{int_eq, is_eq, is_ne, is_lt, is_gt, is_le, is_ge}
 use Rattle.std.specs.declared.cmp.Ordering.{Ordering}
 use Rattle.rhai_text.specs.declared.error.ArithmeticFault.{ArithmeticFault}
 use Rattle.rhai_text.specs.declared.error.ArithmeticFault.TheVariants.{Overflow, DivisionByZero, NegativePower, PowerTooLarge}
@@ -22,9 +22,7 @@ ranged z = if in_range z then Ok z else Err Overflow
 
 -- the answer on a divisor that isn't 0
 abbrev pub by_divisor : ℤ → Number → Number
-by_divisor (pos zero) answer = Err DivisionByZero
-by_divisor (pos (suc n)) answer = answer
-by_divisor (negsuc n) answer = answer
+by_divisor y answer = if int_eq y (pos 0) then Err DivisionByZero else answer
 
 abbrev pub powered : ℤ → ℤ → Number
 powered x (pos n) = if nat_lt 4294967295 n then Err PowerTooLarge else ranged (int_pow x n)

@@ -1,6 +1,6 @@
 -- What a call of a row comes to.
 use Rattle.std.specs.Prelude.{◌≡◌, ℕ, Bool, true, false, ◌||◌, nat_eq, nat_le, List, length, Option, Some, None, Result, Ok, Err, if◌then◌else◌}
-use Rattle.std.specs.Option.{option_map_or}
+use Rattle.std.specs.Option.{option_map_or, unwrap_or}
 use Rattle.std.specs.Str.{encode_utf8_all}
 use Rattle.rhai_text.specs.declared.error.ArithmeticFault.{ArithmeticFault}
 use Rattle.rhai_text.specs.declared.error.EvalAltResult.{EvalAltResult}
@@ -30,11 +30,14 @@ pub data Effect : Type 0 where
   operator : Effect
   assignment : Second → Effect
 
--- of what both hold
+-- what f makes of two contents, where both are there; and where f comes to something, what they come to
+abbrev pub of_both : {A B C : Type 0} → (A → B → C) → Option A → Option B → Option C
+of_both f (Some a) (Some b) = Some (f a b)
+of_both f (Some a) None = None
+of_both f None b = None
+
 abbrev pub both : {A B : Type 0} → (A → B → Outcome) → Option A → Option B → Outcome
-both f (Some a) (Some b) = f a b
-both f (Some a) None = unsuited
-both f None b = unsuited
+both f o p = unwrap_or (of_both f o p) unsuited
 
 -- a number, or why there is none
 abbrev pub number_answer : Option Number → Outcome

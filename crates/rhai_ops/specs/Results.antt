@@ -1,5 +1,5 @@
 -- What each row asks for, what it answers, and what it may want: one line a row.
-use Rattle.std.specs.Prelude.{ℕ, ℤ, pos, suc, ◌-◌, ◌^◌, Bool, true, false, not, ◌&&◌, List, [], ◌∷◌, ◌++◌, Option, Some, None, is_some, option_map, nat_eq, IsTrue, IsSome, if◌then◌else◌}
+use Rattle.std.specs.Prelude.{ℕ, ℤ, pos, suc, ◌-◌, ◌^◌, Bool, true, false, not, ◌&&◌, ◌||◌, List, [], ◌∷◌, ◌++◌, Option, Some, None, option_map, nat_eq, IsTrue, IsSome, if◌then◌else◌}
 use Rattle.std.specs.Cmp.Lexicographic.{slice_cmp, pointwise}
 use Rattle.std.specs.Ordering.{bool_cmp, int_cmp, int_eq, nat_cmp}
 use Rattle.std.specs.Char.{encode_utf8}
@@ -22,7 +22,7 @@ use Rattle.rhai_ops.specs.declared.builtin.FnBuiltin.TheVariants as row
 use Rattle.rhai_text.specs.declared.token.Token.{Token}
 use Rattle.rhai_ops.specs.Tokens.{is_number, is_bits, is_cmp, is_assignment, without_assign}
 use Rattle.rhai_ops.specs.Numbers.{number, both_bits, compared}
-use Rattle.rhai_ops.specs.Outcome.{Outcome, Effect, operator, assignment, Second, stays, taken, answers, too_large, both, number_answer, bool_answer, is_allowed, limited_text, limited_blob}
+use Rattle.rhai_ops.specs.Outcome.{Outcome, Effect, operator, assignment, Second, stays, taken, answers, too_large, of_both, both, number_answer, bool_answer, is_allowed, limited_text, limited_blob}
 
 -- what is held of a kind
 abbrev pub part : {A : Type 0} → (Tree → Option A) → List Cell → Tree → Option A
@@ -34,8 +34,7 @@ text_order v w = slice_cmp nat_cmp v w
 
 -- an equality, or its opposite
 abbrev pub unless : Bool → Bool → Bool
-unless true b = not b
-unless false b = b
+unless negated b = if negated then not b else b
 
 -- the greatest integer
 abbrev pub int_max : ℤ
@@ -55,9 +54,6 @@ abbrev pub same_range : Host → Host → Option Bool
 same_range (ExclusiveRange a) (ExclusiveRange b) = Some (int_eq a.start b.start && int_eq a.end b.end)
 same_range (InclusiveRange a) (InclusiveRange b) = Some (int_eq a.start b.start && int_eq a.end b.end)
 same_range _ _ = None
-
-abbrev pub range_answer : Bool → Option Bool → Outcome
-range_answer negated o = bool_answer (option_map (unless negated) o)
 
 -- two blobs as one: an empty one leaves the other as it is, without its holders; else the limit is tested
 abbrev pub joined_blobs : Limits → Tree → Tree → List ℕ → List ℕ → Outcome
@@ -103,32 +99,32 @@ abbrev pub pushed : Limits → Trees → Tree → Outcome
 pushed l ts u = limited_array l (then_items ts (tree_then u no_trees))
 
 abbrev pub joined_items : Limits → Trees → Trees → Outcome
-joined_items l no_trees us = answers (made (branch array us))
-joined_items l (tree_then t ts) no_trees = answers (made (branch array (then_items (tree_then t ts) no_trees)))
-joined_items l (tree_then t ts) (tree_then u us) = limited_array l (then_items (tree_then t ts) (tree_then u us))
+joined_items l ts us = if nat_eq (count ts) 0 || nat_eq (count us) 0 then answers (made (branch array (then_items ts us))) else limited_array l (then_items ts us)
 
 -- what is held has such a part
 abbrev pub Holds : {A : Type 0} → (Tree → Option A) → List Cell → Tree → Type 0
 Holds of s t = IsSome (part of s t)
 
--- What a row says: what it asks of its operator and of its operands, what it comes to on them, when memory may be wanted for that, whether
--- it looks at the limits, and whether it answers or writes. Both operands are read before anything is written.
+-- What a row says: what it asks of its operator and of its operands, what it comes to on them, by which order it compares them, when
+-- memory may be wanted, whether it looks at the limits, and whether it answers or writes. Both operands are read before anything is written.
 pub record Rule : Type 1 where
   pub asks : List Cell → Tree → Tree → Type 0
   pub comes_to : Limits → List Cell → Tree → Tree → Outcome
+  pub order : List Cell → Tree → Tree → Option Ordering
   pub wants : Tree → Tree → Type 0
   pub looks : Bool
   pub effect : Effect
 
--- of any two operands; no memory is wanted, no limit is looked at, and nothing is written
+-- of any two operands; nothing is compared, no memory is wanted, no limit is looked at, and nothing is written
 abbrev pub of_any : (Tree → Tree → Outcome) → Rule
-of_any f = record { asks = λ s x y. Unit {0}; comes_to = λ l s x y. f x y; wants = λ x y. ⊥; looks = false; effect = operator }
+of_any f = record { asks = λ s x y. Unit {0}; comes_to = λ l s x y. f x y; order = λ s x y. None; wants = λ x y. ⊥; looks = false; effect = operator }
 
 -- the same of a first operand that holds such a part, and a second one that is as asked, of which this is read
 abbrev pub of_read : {A B : Type 0} → (Tree → Option A) → (List Cell → Tree → Type 0) → (List Cell → Tree → Option B) → (Limits → A → B → Outcome) → Rule
 of_read first asked second f = record {
   asks = λ s x y. Holds first s x × asked s y;
   comes_to = λ l s x y. both (f l) (part first s x) (second s y);
+  order = λ s x y. None;
   wants = λ x y. ⊥;
   looks = false;
   effect = operator;
@@ -155,7 +151,8 @@ writing second r = record r { effect = assignment second }
 
 -- a comparison, by the order of such parts
 abbrev pub comparing : {A B : Type 0} → Token → (Tree → Option A) → (Tree → Option B) → (A → B → Ordering) → Rule
-comparing t first second order = only_if (is_cmp t) (of_parts first second (λ l a b. bool_answer (compared t (order a b))))
+comparing t first second order =
+    record (only_if (is_cmp t) (of_parts first second (λ l a b. bool_answer (compared t (order a b))))) { order = λ s x y. of_both order (part first s x) (part second s y) }
 
 -- two blobs as one
 abbrev pub blob_join : Rule
@@ -206,7 +203,7 @@ rule (row.TextCharCompare t) = comparing t text_of char_of (λ v d. text_order v
 rule row.FirstCopy = record (of_any (λ x y. answers (copy x))) { wants = λ x y. TakesNoMemory x → ⊥ }
 rule row.SecondCopy = record (of_any (λ x y. answers (copy y))) { wants = λ x y. TakesNoMemory y → ⊥ }
 rule row.BlobChar = blob_and_char
-rule (row.RangeEqual i n) = of_parts (typed_host_of (range_type i)) (typed_host_of (range_type i)) (λ l a b. range_answer n (same_range a b))
+rule (row.RangeEqual i n) = of_parts (typed_host_of (range_type i)) (typed_host_of (range_type i)) (λ l a b. bool_answer (option_map (unless n) (same_range a b)))
 rule (row.IntAssign t) = writing stays (only_if (is_assignment t) (of_ints (without_assign t)))
 rule (row.BoolAssign t) = writing stays (only_if (is_assignment t) (of_bools (without_assign t)))
 rule row.CharJoinAssign = writing stays (making (of_parts char_of char_of (λ l c d. answers (fresh (text (c ∷ d ∷ []))))))

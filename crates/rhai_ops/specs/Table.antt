@@ -1,13 +1,12 @@
 -- The table of binary operators: which row an operator has on two operands.
 use Rattle.std.specs.Prelude.{Bool, true, false, ◌||◌, ◌&&◌, List, [], ◌∷◌, Option, Some, None, if◌then◌else◌}
 use Rattle.std.specs.List.{list_any}
-use Rattle.std.specs.Option.{option_or}
 use Rattle.rhai_text.specs.declared.token.Token.{Token}
 use Rattle.rhai_text.specs.declared.token.Token.TheVariants as op
 use Rattle.rhai_value.specs.declared.store.Cell.{Cell}
 use Rattle.rhai_value.specs.declared.type_id.TypeId.{TypeId}
 use Rattle.rhai_value.specs.declared.type_id.TypeId.TheVariants as id
-use Rattle.rhai_value.specs.Tree.{Tree, node, Content, leaf, branch, fields, holder, array, function, Leaf, unit, bool, int, char, text, blob, host}
+use Rattle.rhai_value.specs.Tree.{Tree, node, leaf, branch, fields, holder, array, function, Leaf, unit, bool, int, char, text, blob, host}
 use Rattle.rhai_value.specs.End.{end, end_type}
 use Rattle.rhai_value.specs.Types.{is_type}
 use Rattle.rhai_ops.specs.declared.builtin.FnBuiltin.{FnBuiltin}
@@ -26,15 +25,12 @@ leaf_operand (char c) = is.Char
 leaf_operand (blob bs) = is.Blob
 leaf_operand (host h) = is.Other
 
-abbrev pub content_operand : Content → OperandKind
-content_operand (leaf l) = leaf_operand l
-content_operand (branch array ts) = is.Array
-content_operand (branch (function f) ts) = is.Other
-content_operand (fields fs) = is.Other
-content_operand (holder c) = is.Other
-
 abbrev pub operand_kind : Tree → OperandKind
-operand_kind (node c g m) = content_operand c
+operand_kind (node (leaf l) g m) = leaf_operand l
+operand_kind (node (branch array ts) g m) = is.Array
+operand_kind (node (branch (function f) ts) g m) = is.Other
+operand_kind (node (fields fs) g m) = is.Other
+operand_kind (node (holder c) g m) = is.Other
 
 -- a line of the table: rows, each with the question whether the operator is one of its operand_kind
 abbrev pub Line : Type 0
@@ -43,30 +39,7 @@ Line = List (Bool × FnBuiltin)
 -- the first row of the line whose question is answered yes
 abbrev pub pick : Line → Option FnBuiltin
 pick [] = None
-pick ((true, r) ∷ rest) = Some r
-pick ((false, r) ∷ rest) = pick rest
-
--- what two constructors say: this line and no other, or this line first and then that of the held types
-pub data Pair : Type 0 where
-  only : Line → Pair
-  first : Line → Pair
-
--- the questions are about the operator t
-abbrev pub rows_of_kinds : Token → OperandKind → OperandKind → Pair
-rows_of_kinds t is.Int is.Int = only ((is_number t, row.Int t) ∷ (is_cmp t, row.IntCompare t) ∷ (is_token t op.ExclusiveRange, row.IntRange false) ∷ (is_token t op.InclusiveRange, row.IntRange true) ∷ [])
-rows_of_kinds t is.Bool is.Bool = only ((is_cmp t, row.BoolCompare t) ∷ (is_bits t, row.Bool t) ∷ [])
-rows_of_kinds t is.Str is.Str = only ((is_token t op.Plus, row.TextJoin) ∷ (is_token t op.Minus, row.TextMinus) ∷ (is_cmp t, row.TextCompare t) ∷ [])
-rows_of_kinds t is.Char is.Char = only ((is_token t op.Plus, row.CharJoin) ∷ (is_cmp t, row.CharCompare t) ∷ [])
-rows_of_kinds t is.Blob is.Blob = only ((is_token t op.Plus, row.BlobJoin) ∷ (is_token t op.EqualsTo, row.BlobEqual false) ∷ (is_token t op.NotEqualsTo, row.BlobEqual true) ∷ [])
-rows_of_kinds t is.Unit is.Unit = only ((is_token t op.EqualsTo, row.ConstTrue) ∷ (is_cmp t, row.ConstFalse) ∷ [])
-rows_of_kinds t is.Int is.Unit = first ((is_token t op.ExclusiveRange, row.RangeFrom false) ∷ (is_token t op.InclusiveRange, row.RangeFrom true) ∷ [])
-rows_of_kinds t is.Unit is.Int = first ((is_token t op.ExclusiveRange, row.RangeTo false) ∷ (is_token t op.InclusiveRange, row.RangeTo true) ∷ [])
-rows_of_kinds t is.Char is.Str = only ((is_token t op.Plus, row.CharText) ∷ (is_cmp t, row.CharTextCompare t) ∷ [])
-rows_of_kinds t is.Str is.Char = only ((is_token t op.Plus, row.TextChar) ∷ (is_token t op.Minus, row.TextMinusChar) ∷ (is_cmp t, row.TextCharCompare t) ∷ [])
-rows_of_kinds t is.Unit is.Str = only ((is_token t op.Plus, row.SecondCopy) ∷ (is_token t op.NotEqualsTo, row.ConstTrue) ∷ (is_cmp t, row.ConstFalse) ∷ [])
-rows_of_kinds t is.Str is.Unit = only ((is_token t op.Plus, row.FirstCopy) ∷ (is_token t op.NotEqualsTo, row.ConstTrue) ∷ (is_cmp t, row.ConstFalse) ∷ [])
-rows_of_kinds t is.Blob is.Char = only ((is_token t op.Plus, row.BlobChar) ∷ [])
-rows_of_kinds t _ _ = first []
+pick ((asked, r) ∷ rest) = if asked then Some r else pick rest
 
 -- the nine numbers of the host and i64
 abbrev pub is_numeric : TypeId → Bool
@@ -86,10 +59,23 @@ type_line t a b =
     else (if is_type a b || (is_numeric a && is_numeric b) then []
     else (is_token t op.NotEqualsTo, row.ConstTrue) ∷ (is_cmp t, row.ConstFalse) ∷ []))
 
-abbrev pub pair_row : Pair → Line → Option FnBuiltin
-pair_row (only l) types = pick l
-pair_row (first l) types = option_or (pick l) (pick types)
+-- The line of two constructors, whose questions are about the operator t. One that ends in `types` goes on with that of the held types.
+abbrev pub rows_of_kinds : Token → OperandKind → OperandKind → Line → Line
+rows_of_kinds t is.Int is.Int types = (is_number t, row.Int t) ∷ (is_cmp t, row.IntCompare t) ∷ (is_token t op.ExclusiveRange, row.IntRange false) ∷ (is_token t op.InclusiveRange, row.IntRange true) ∷ []
+rows_of_kinds t is.Bool is.Bool types = (is_cmp t, row.BoolCompare t) ∷ (is_bits t, row.Bool t) ∷ []
+rows_of_kinds t is.Str is.Str types = (is_token t op.Plus, row.TextJoin) ∷ (is_token t op.Minus, row.TextMinus) ∷ (is_cmp t, row.TextCompare t) ∷ []
+rows_of_kinds t is.Char is.Char types = (is_token t op.Plus, row.CharJoin) ∷ (is_cmp t, row.CharCompare t) ∷ []
+rows_of_kinds t is.Blob is.Blob types = (is_token t op.Plus, row.BlobJoin) ∷ (is_token t op.EqualsTo, row.BlobEqual false) ∷ (is_token t op.NotEqualsTo, row.BlobEqual true) ∷ []
+rows_of_kinds t is.Unit is.Unit types = (is_token t op.EqualsTo, row.ConstTrue) ∷ (is_cmp t, row.ConstFalse) ∷ []
+rows_of_kinds t is.Int is.Unit types = (is_token t op.ExclusiveRange, row.RangeFrom false) ∷ (is_token t op.InclusiveRange, row.RangeFrom true) ∷ types
+rows_of_kinds t is.Unit is.Int types = (is_token t op.ExclusiveRange, row.RangeTo false) ∷ (is_token t op.InclusiveRange, row.RangeTo true) ∷ types
+rows_of_kinds t is.Char is.Str types = (is_token t op.Plus, row.CharText) ∷ (is_cmp t, row.CharTextCompare t) ∷ []
+rows_of_kinds t is.Str is.Char types = (is_token t op.Plus, row.TextChar) ∷ (is_token t op.Minus, row.TextMinusChar) ∷ (is_cmp t, row.TextCharCompare t) ∷ []
+rows_of_kinds t is.Unit is.Str types = (is_token t op.Plus, row.SecondCopy) ∷ (is_token t op.NotEqualsTo, row.ConstTrue) ∷ (is_cmp t, row.ConstFalse) ∷ []
+rows_of_kinds t is.Str is.Unit types = (is_token t op.Plus, row.FirstCopy) ∷ (is_token t op.NotEqualsTo, row.ConstTrue) ∷ (is_cmp t, row.ConstFalse) ∷ []
+rows_of_kinds t is.Blob is.Char types = (is_token t op.Plus, row.BlobChar) ∷ []
+rows_of_kinds t _ _ types = types
 
 -- the row of the operator on x and y in the store s
 abbrev pub row_of : Token → List Cell → Tree → Tree → Option FnBuiltin
-row_of t s x y = pair_row (rows_of_kinds t (operand_kind x) (operand_kind y)) (type_line t (end_type (end s [] x)) (end_type (end s [] y)))
+row_of t s x y = pick (rows_of_kinds t (operand_kind x) (operand_kind y) (type_line t (end_type (end s [] x)) (end_type (end s [] y))))

@@ -2,6 +2,7 @@
 ghost use Rattle.std.specs.Prelude.{◌≡◌, IfOk, IfErr};
 ghost use Rattle.rhai_ops.specs.Outcome.{IsOutcome, answers};
 ghost use Rattle.rhai_ops.specs.Results.{MayWant, Suits, outcome};
+ghost use Rattle.rhai_ops.specs.Order.{row_order};
 ghost use Rattle.rhai_ops.specs.Effects.{answered, first_left, second_left, store_left, effect, operator};
 ghost use Rattle.rhai_value.specs.Tree.{TakesNoMemory, copy};
 
@@ -9,9 +10,10 @@ use crate::answer::{part, value};
 use crate::builtin::FnBuiltin;
 use crate::operand_kind::{own_int, own_text};
 use crate::{assign, blobs, bools, chars, ints, push, ranges, texts};
-use rhai_text::{EvalAltResult, Limits};
+use rhai_text::{EvalAltResult, ImmutableString, Limits};
 use rhai_value::{Dynamic, INT, Store};
 use std::alloc::Global;
+use std::cmp::Ordering;
 
 impl FnBuiltin {
     /// Calls the row on these operands, which hold what it asks for. An operator changes nothing. An assignment writes what
@@ -44,6 +46,7 @@ impl FnBuiltin {
             }
         }
         match *self {
+            // `return` hands the answer on; as what the match comes to, it would be written to a local of all arms, and read again
             FnBuiltin::Int(_)
             | FnBuiltin::IntCompare(_)
             | FnBuiltin::IntRange(_)
@@ -68,7 +71,9 @@ impl FnBuiltin {
             | FnBuiltin::FirstCopy
             | FnBuiltin::SecondCopy
             | FnBuiltin::BlobChar
-            | FnBuiltin::RangeEqual(_, _) => self.call_ref(alloc, store, limits, left, right),
+            | FnBuiltin::RangeEqual(_, _) => return self.call_ref(
+                alloc, store, limits, left, right,
+            ),
             FnBuiltin::IntAssign(t) => ints::assign(t, store, left, right),
             FnBuiltin::BoolAssign(t) => assign::bits(t, store, left, right),
             FnBuiltin::CharJoinAssign => assign::two_chars(alloc, store, left, right),
@@ -183,6 +188,68 @@ impl FnBuiltin {
             | FnBuiltin::BlobPush
             | FnBuiltin::BlobCharAssign
             | FnBuiltin::BlobTextAssign => unreachable!(),
+        }
+    }
+
+    /// The order by which a row compares; the other rows have none.
+    pub(crate) fn order(self, left: &Dynamic, right: &Dynamic, store: &Store) -> Option<Ordering>
+        requires { Suits self store.now left.now right.now }
+        ensures { result ≡ row_order self store.now left.now right.now }
+    {
+        match self {
+            FnBuiltin::IntCompare(_) => Some(value::<INT>(left, store).cmp(&value::<INT>(
+                right, store,
+            ))),
+            FnBuiltin::BoolCompare(_) => Some(value::<bool>(left, store).cmp(&value::<bool>(
+                right, store,
+            ))),
+            FnBuiltin::TextCompare(_) => Some(part::<ImmutableString>(left, store).cmp(part::<
+                ImmutableString,
+            >(right, store))),
+            FnBuiltin::CharCompare(_) => Some(value::<char>(left, store).cmp(&value::<char>(
+                right, store,
+            ))),
+            FnBuiltin::CharTextCompare(_) => Some(chars::text_order_of(
+                value(left, store),
+                part(right, store),
+            )),
+            FnBuiltin::TextCharCompare(_) => Some(texts::char_order_of(
+                part(left, store),
+                value(right, store),
+            )),
+            FnBuiltin::Int(_)
+            | FnBuiltin::IntRange(_)
+            | FnBuiltin::Bool(_)
+            | FnBuiltin::TextJoin
+            | FnBuiltin::TextMinus
+            | FnBuiltin::CharJoin
+            | FnBuiltin::BlobJoin
+            | FnBuiltin::BlobEqual(_)
+            | FnBuiltin::ConstTrue
+            | FnBuiltin::ConstFalse
+            | FnBuiltin::RangeFrom(_)
+            | FnBuiltin::RangeTo(_)
+            | FnBuiltin::CharText
+            | FnBuiltin::TextChar
+            | FnBuiltin::TextMinusChar
+            | FnBuiltin::FirstCopy
+            | FnBuiltin::SecondCopy
+            | FnBuiltin::BlobChar
+            | FnBuiltin::RangeEqual(_, _)
+            | FnBuiltin::IntAssign(_)
+            | FnBuiltin::BoolAssign(_)
+            | FnBuiltin::CharJoinAssign
+            | FnBuiltin::TextJoinAssign
+            | FnBuiltin::TextMinusAssign
+            | FnBuiltin::ArrayAppend
+            | FnBuiltin::BlobAppend
+            | FnBuiltin::TextCharAssign
+            | FnBuiltin::TextMinusCharAssign
+            | FnBuiltin::CharTextAssign
+            | FnBuiltin::ArrayPush
+            | FnBuiltin::BlobPush
+            | FnBuiltin::BlobCharAssign
+            | FnBuiltin::BlobTextAssign => None,
         }
     }
 }

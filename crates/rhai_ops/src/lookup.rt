@@ -1,7 +1,7 @@
 //! The lookups.
 ghost use Rattle.std.specs.Prelude.{◌≡◌, ◌∷◌, [], Option, Some, None};
 ghost use Rattle.rhai_value.specs.End.{end, end_type};
-ghost use Rattle.rhai_ops.specs.Table.{row_of, pick, type_line, rows_of_kinds, pair_row};
+ghost use Rattle.rhai_ops.specs.Table.{row_of, pick, type_line, rows_of_kinds};
 ghost use Rattle.rhai_ops.specs.Table as table;
 ghost use Rattle.rhai_ops.specs.Tokens as asked;
 
@@ -45,7 +45,7 @@ fn other_row(op: Token, left: &Dynamic, right: &Dynamic, store: &Store) -> Optio
 }
 
 fn int_row(t: Token) -> Option<FnBuiltin>
-    ensures { result ≡ pair_row (rows_of_kinds t OperandKind.Int OperandKind.Int) [] }
+    ensures { result ≡ pick (rows_of_kinds t OperandKind.Int OperandKind.Int []) }
 {
     if is_number(t) {
         Some(FnBuiltin::Int(t))
@@ -57,7 +57,7 @@ fn int_row(t: Token) -> Option<FnBuiltin>
 }
 
 fn bool_row(t: Token) -> Option<FnBuiltin>
-    ensures { result ≡ pair_row (rows_of_kinds t OperandKind.Bool OperandKind.Bool) [] }
+    ensures { result ≡ pick (rows_of_kinds t OperandKind.Bool OperandKind.Bool []) }
 {
     if is_cmp(t) {
         Some(FnBuiltin::BoolCompare(t))
@@ -104,7 +104,7 @@ fn range_row(t: Token, exclusive: FnBuiltin, inclusive: FnBuiltin) -> Option<FnB
 }
 
 fn two_texts_row(t: Token) -> Option<FnBuiltin>
-    ensures { result ≡ pair_row (rows_of_kinds t OperandKind.Str OperandKind.Str) [] }
+    ensures { result ≡ pick (rows_of_kinds t OperandKind.Str OperandKind.Str []) }
 {
     text_row(
         t,
@@ -201,6 +201,7 @@ fn is_range_type(a: TypeId) -> bool
     matches!(a, TypeId::ExclusiveRange | TypeId::InclusiveRange)
 }
 
+#[tactic(auto, using(crate::proofs::Lines::pick_behind))]
 fn row_of_kinds(
     t: Token,
     a: OperandKind,
@@ -209,7 +210,7 @@ fn row_of_kinds(
     right: &Dynamic,
     store: &Store,
 ) -> Option<FnBuiltin>
-    ensures { result ≡ pair_row (rows_of_kinds t a b) (type_line t (end_type (end store.now [] left.now)) (end_type (end store.now [] right.now))) }
+    ensures { result ≡ pick (rows_of_kinds t a b (type_line t (end_type (end store.now [] left.now)) (end_type (end store.now [] right.now)))) }
 {
     match a {
         OperandKind::Unit => match b {

@@ -90,18 +90,12 @@ fn append(limits: &Limits, items: &mut Array, more: &mut Array) -> Result<Dynami
 }
 
 /// Whether the limit allows items behind an array; beside none it isn't asked.
-#[tactic(auto, using(crate::proofs::Items::none_before, crate::proofs::Items::none_behind, crate::proofs::Items::tested_items))]
+#[tactic(auto, using(crate::proofs::Items::may_join))]
 fn may_join(limits: &Limits, items: &Array, more: &Array) -> bool
     ensures { joined_items limits.now (trees_of items.now.items) (trees_of more.now.items)
         ≡ (if result then answers (made (branch array (trees_of (items.now.items ++ more.now.items)))) else too_large size.Items) }
 {
-    if items.is_empty() {
-        true
-    } else if more.is_empty() {
-        true
-    } else {
-        is_allowed(limits.items, items.len(), more.len())
-    }
+    items.is_empty() || more.is_empty() || is_allowed(limits.items, items.len(), more.len())
 }
 
 /// The items of an array behind those of the array at the place, where none are left.
@@ -157,14 +151,18 @@ pub(crate) fn append_items(
     ensures kept { IfErr result (λ e. right.new ≡ right.old) }
 {
     if let Some(own) = Array::own_mut(right) {
-        let done = append_at(limits, store, left, own)?;
-        leave_unit(right);
-        return Ok(done);
+        let done = append_at(limits, store, left, own);
+        if done.is_ok() {
+            leave_unit(right);
+        }
+        return done;
     }
     let mut copies = copies(alloc, limits, store, left, right)?;
-    let done = append_at(limits, store, left, &mut copies)?;
-    leave_unit(right);
-    Ok(done)
+    let done = append_at(limits, store, left, &mut copies);
+    if done.is_ok() {
+        leave_unit(right);
+    }
+    done
 }
 
 /// Unit where the second operand was.
@@ -212,9 +210,11 @@ pub(crate) fn append_blob(
     ensures second { IfOk result (λ d. right.new ≡ fresh unit) }
     ensures kept { IfErr result (λ e. right.new ≡ right.old) }
 {
-    let done = append_bytes(alloc, limits, store, left, right)?;
-    leave_unit(right);
-    Ok(done)
+    let done = append_bytes(alloc, limits, store, left, right);
+    if done.is_ok() {
+        leave_unit(right);
+    }
+    done
 }
 
 /// The low byte of an int behind the blob at the place.

@@ -1,10 +1,10 @@
 //! Ranges under operators.
-ghost use Rattle.std.specs.Prelude.{◌≡◌, ◌&&◌, true, false};
+ghost use Rattle.std.specs.Prelude.{◌≡◌, ◌&&◌, true, false, option_map};
 ghost use Rattle.std.specs.Ordering.{int_eq};
 ghost use Rattle.rhai_value.specs.Tree.{fresh, host};
 ghost use Rattle.rhai_value.specs.Parts.{typed_host_of};
-ghost use Rattle.rhai_ops.specs.Outcome.{IsOutcome, answers, both};
-ghost use Rattle.rhai_ops.specs.Results.{Holds, part as part_in, range, range_answer, range_type, same_range};
+ghost use Rattle.rhai_ops.specs.Outcome.{IsOutcome, answers, bool_answer, both};
+ghost use Rattle.rhai_ops.specs.Results.{Holds, part as part_in, range, range_type, same_range, unless as unless_it};
 
 use crate::answer::{unless, value};
 use rhai_text::EvalAltResult;
@@ -30,7 +30,7 @@ pub(crate) fn equal_exclusive(
 ) -> Result<Dynamic, EvalAltResult>
     requires first { Holds (typed_host_of (range_type false)) store.now left.now }
     requires second { Holds (typed_host_of (range_type false)) store.now right.now }
-    ensures { IsOutcome ⊥ result (both (λ a b. range_answer negated (same_range a b)) (part_in (typed_host_of (range_type false)) store.now left.now) (part_in (typed_host_of (range_type false)) store.now right.now)) }
+    ensures { IsOutcome ⊥ result (both (λ a b. bool_answer (option_map (unless_it negated) (same_range a b))) (part_in (typed_host_of (range_type false)) store.now left.now) (part_in (typed_host_of (range_type false)) store.now right.now)) }
 {
     let a = value::<ExclusiveRange>(left, store);
     let b = value::<ExclusiveRange>(right, store);
@@ -47,7 +47,7 @@ pub(crate) fn equal_inclusive(
 ) -> Result<Dynamic, EvalAltResult>
     requires first { Holds (typed_host_of (range_type true)) store.now left.now }
     requires second { Holds (typed_host_of (range_type true)) store.now right.now }
-    ensures { IsOutcome ⊥ result (both (λ a b. range_answer negated (same_range a b)) (part_in (typed_host_of (range_type true)) store.now left.now) (part_in (typed_host_of (range_type true)) store.now right.now)) }
+    ensures { IsOutcome ⊥ result (both (λ a b. bool_answer (option_map (unless_it negated) (same_range a b))) (part_in (typed_host_of (range_type true)) store.now left.now) (part_in (typed_host_of (range_type true)) store.now right.now)) }
 {
     let a = value::<InclusiveRange>(left, store);
     let b = value::<InclusiveRange>(right, store);

@@ -10,7 +10,7 @@ use crate::alias::Alias;
 use crate::rest::Rest;
 use crate::scope::Scope;
 use rhai_text::ImmutableString;
-use rhai_value::{Dynamic, Store};
+use rhai_value::{AccessMode, Dynamic, Store, Union};
 use std::alloc::{AllocError, Global};
 use std::iter::{ExactSizeIterator, FusedIterator, IntoIterator, Iterator};
 use std::marker::Model;
@@ -101,6 +101,7 @@ fn flat_copy(alloc: Global, store: &Store, value: &Dynamic) -> Result<Dynamic, A
 }
 
 #[inline(always)]
+#[tactic(auto, using(crate::proofs::FlatItems::flat_own))]
 fn flat_item<'a>(
     alloc: Global,
     store: &Store,
@@ -111,6 +112,10 @@ fn flat_item<'a>(
     ensures free { TakesNoMemory (flat store.now value.now) → IsOk result }
 {
     let is_constant = value.is_read_only(store);
+    if let Union::Int(tag, _, n) = value.parts() {
+        let copy = Dynamic::from_parts(Union::Int(*tag, AccessMode::ReadWrite, *n));
+        return Ok((name.as_str(), is_constant, copy));
+    }
     Ok((name.as_str(), is_constant, flat_copy(alloc, store, value)?))
 }
 

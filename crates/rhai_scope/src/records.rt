@@ -13,8 +13,9 @@ use std::marker::Model;
 /// An entry. Contracts see its name, its value and its aliases.
 #[derive(Drop)]
 pub(crate) struct Record {
-    name: ImmutableString,
+    // first: fields lie in this order, and a value is aligned to 16 bytes
     value: Dynamic,
+    name: ImmutableString,
     aliases: Vec<Alias>,
 }
 

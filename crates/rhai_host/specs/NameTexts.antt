@@ -24,8 +24,13 @@ TellsName status (Some k) new number told = InWorld new (λ l. IsToldText status
 abbrev pub shown_at : Kept → ℕ → Option Named
 shown_at k i = option_map (shown_raw k.world.store) (slice_get k.world.entries i)
 
+-- a flag that was so and is so now: where the name is told it says whether the entry is a constant, and else it stays
+abbrev pub IsFlag : ℕ → Option Named → Bool → Bool → Type 0
+IsFlag zero o was is = IfSome o (λ e. is ≡ e.1)
+IsFlag (suc n) o was is = is ≡ was
+
 -- the name of the entry at a position, and whether it is a constant
-abbrev pub TellsEntry : ℕ → Option Kept → Option Kept → ℕ → Bool → Told → Type 0
-TellsEntry status None new i constant told = (status ≡ 2) × (new ≡ None)
-TellsEntry status (Some k) new i constant told =
-    InWorld new (λ l. IsToldText status k l (option_map (λ e. e.0) (shown_at k i)) told) × (status ≡ 0 → IfSome (shown_at k i) (λ e. constant ≡ e.1))
+abbrev pub TellsEntry : ℕ → Option Kept → Option Kept → ℕ → Bool → Bool → Told → Type 0
+TellsEntry status None new i was is told = (status ≡ 2) × (new ≡ None) × (is ≡ was)
+TellsEntry status (Some k) new i was is told =
+    InWorld new (λ l. IsToldText status k l (option_map (λ e. e.0) (shown_at k i)) told) × IsFlag status (shown_at k i) was is

@@ -1,13 +1,13 @@
 //! The texts of names: of one that has a number, and of an entry of the scope.
-ghost use Rattle.std.specs.Prelude.{◌≡◌, option_map, IfSome};
+ghost use Rattle.std.specs.Prelude.{◌≡◌, option_map};
 ghost use Rattle.rhai_handle.specs.Content.{content};
-ghost use Rattle.rhai_host.specs.NameTexts.{IsToldText, TellsEntry, TellsName, shown_at};
+ghost use Rattle.rhai_host.specs.NameTexts.{IsFlag, IsToldText, TellsEntry, TellsName, shown_at};
 ghost use Rattle.rhai_host.specs.Names.{name_at};
 
 use crate::perform::{CLOSED, DONE, NO_COMMAND, OUT_OF_MEMORY, keep};
 use crate::told::Told;
 use rhai_handle::{Handle, Kept};
-use rhai_run::{Answer, Text};
+use rhai_run::{Answer, Shown};
 use std::alloc::Global;
 
 fn tell_name(alloc: Global, kept: &mut Kept, number: usize, told: &mut Told) -> u32
@@ -19,7 +19,7 @@ fn tell_name(alloc: Global, kept: &mut Kept, number: usize, told: &mut Told) -> 
     let Ok(text) = String::from_str(alloc, name.as_str()) else {
         return OUT_OF_MEMORY;
     };
-    keep(kept, Answer::Text(Text::new(text)), told);
+    keep(kept, Answer::Text(Shown::from_text(text)), told);
     DONE
 }
 
@@ -49,17 +49,17 @@ fn tell_entry(
     told: &mut Told,
 ) -> u32
     ensures name { IsToldText result kept.old kept.new (option_map (λ e. e.0) (shown_at kept.old i)) told.new }
-    ensures constant { result ≡ 0 → IfSome (shown_at kept.old i) (λ e. is_constant.new ≡ e.1) }
+    ensures constant { IsFlag result (shown_at kept.old i) is_constant.old is_constant.new }
 {
     let scope = kept.world.scope();
     if i >= scope.len() {
         return NO_COMMAND;
     }
-    *is_constant = scope.at(i).is_read_only(kept.world.store());
     let Ok(text) = String::from_str(alloc, scope.name_at(i).as_str()) else {
         return OUT_OF_MEMORY;
     };
-    keep(kept, Answer::Text(Text::new(text)), told);
+    *is_constant = scope.at(i).is_read_only(kept.world.store());
+    keep(kept, Answer::Text(Shown::from_text(text)), told);
     DONE
 }
 
@@ -72,7 +72,7 @@ pub extern "C" fn rhai_host_entry(
     is_constant: &mut bool,
     told: &mut Told,
 ) -> u32
-    ensures { TellsEntry result (content handle.old) (content handle.new) i is_constant.new told.new }
+    ensures { TellsEntry result (content handle.old) (content handle.new) i is_constant.old is_constant.new told.new }
 {
     let Some(mut kept) = handle.take(alloc) else {
         return CLOSED;

@@ -1,5 +1,5 @@
 -- What steps that call operators and assignments are made of.
-use Rattle.std.specs.Prelude.{ℕ, List, slice_index_or, slice_set}
+use Rattle.std.specs.Prelude.{ℕ, slice_set}
 use Rattle.rhai_ops.specs.Outcome as call
 use Rattle.rhai_ops.specs.Outcome.{no_place}
 use Rattle.rhai_ops.specs.Effects.{Effect, operator, assignment, stays, taken, rewritten}
@@ -11,10 +11,6 @@ use Rattle.rhai_text.specs.declared.error.EvalAltResult.TheVariants as error
 use Rattle.rhai_run.specs.Outcome.{Outcome, growing, refuse}
 use Rattle.rhai_run.specs.declared.command.Place.{Place}
 use Rattle.rhai_run.specs.Places.{changed_by}
-
--- the value at a place that there is
-abbrev pub value_at : List Tree → ℕ → Tree
-value_at ts i = slice_index_or ts i (fresh unit)
 
 -- what a row comes to: its value, of which a state is made, or its fault; a row that was looked up suits its operands
 abbrev pub called : State → (Tree → State) → call.Outcome → Outcome

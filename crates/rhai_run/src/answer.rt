@@ -2,7 +2,8 @@
 ghost use Rattle.std.specs.Prelude.{◌≡◌};
 ghost use Rattle.rhai_run.specs.declared.answer.Refusal.TheVariants.{Mismatch};
 
-use crate::lists::{Bytes, Text};
+use crate::lists::Bytes;
+use rhai_show::Shown;
 use rhai_text::{EvalAltResult, TypeName};
 
 /// Why a command was refused. A refused command changes nothing.
@@ -55,7 +56,7 @@ pub enum Answer {
     /// A number.
     Int(i128),
     /// A text.
-    Text(Text),
+    Text(Shown),
     /// Bytes.
     Bytes(Bytes),
     /// Two numbers.

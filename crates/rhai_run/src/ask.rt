@@ -11,10 +11,10 @@ ghost use Rattle.rhai_run.specs.Step.{step};
 use crate::answer::{Answer, Refusal, mismatch};
 use crate::cast::is_value_of;
 use crate::command::Question;
-use crate::lists::{Bytes, Text};
+use crate::lists::Bytes;
 use crate::not_done::NotDone;
 use crate::world_state::WorldState;
-use rhai_show::{debug_text, display_text, hashed, is_hashable};
+use rhai_show::{Shown, debug_text, display_text, hashed, is_hashable};
 use rhai_value::Dynamic;
 use std::alloc::{AllocError, Global};
 
@@ -23,14 +23,14 @@ impl WorldState {
         ensures { Does result self.now self.now (step self.now (command.Show i)) }
     {
         let text = display_text(self.alloc, self.value(i)?, &self.store)?;
-        Ok(Answer::Text(Text::new(text)))
+        Ok(Answer::Text(Shown::from_text(text)))
     }
 
     pub(crate) fn debug(&self, i: usize) -> Result<Answer, NotDone>
         ensures { Does result self.now self.now (step self.now (command.Debug i)) }
     {
         let text = debug_text(self.alloc, self.value(i)?, &self.store)?;
-        Ok(Answer::Text(Text::new(text)))
+        Ok(Answer::Text(Shown::from_text(text)))
     }
 
     pub(crate) fn hash(&self, i: usize) -> Result<Answer, NotDone>
@@ -86,5 +86,5 @@ fn text_answer(alloc: Global, text: &str) -> Result<Answer, AllocError>
     ensures { IfOk result (λ a. a ≡ answer.Text (chars text.now)) }
 {
     let text = String::from_str(alloc, text)?;
-    Ok(Answer::Text(Text::new(text)))
+    Ok(Answer::Text(Shown::from_text(text)))
 }

@@ -3,7 +3,7 @@ ghost use Rattle.std.specs.Prelude.{◌≡◌, IfOk, IfErr, OnOk};
 ghost use Rattle.rhai_value.specs.Relation.{Renaming};
 ghost use Rattle.rhai_run.specs.Machine.{replies, state_after};
 ghost use Rattle.rhai_run.specs.Both.{StopsBoth};
-ghost use Rattle.rhai_run.specs.Correspondence.{Corresponds, RunAlike};
+ghost use Rattle.rhai_run.specs.Correspondence.{Corresponds, EndAlike};
 
 use crate::answer::Answer;
 use crate::command::Command;
@@ -23,6 +23,7 @@ pub enum StoppedBoth {
 /// worlds correspond at the end.
 /// Errors: in which run memory was refused, with what was answered until then; both worlds can be run again.
 /// Cost: two runs.
+#[tactic(auto, using(crate::proofs::Runs::ends_alike))]
 pub fn run_both(
     first: &mut World,
     second: &mut World,
@@ -30,7 +31,7 @@ pub fn run_both(
 ) -> Result<(Vec<Answer>, Vec<Answer>), StoppedBoth>
     ensures answers { IfOk result (λ p. (p.0.items ≡ replies first.old commands.now) × (p.1.items ≡ replies second.old commands.now)) }
     ensures states { OnOk result ((first.new ≡ state_after first.old commands.now) × (second.new ≡ state_after second.old commands.now)) }
-    ensures alike { OnOk result ((r : Renaming) → Corresponds r first.old second.old → RunAlike r first.old second.old commands.now) }
+    ensures alike { IfOk result (λ p. (r : Renaming) → Corresponds r first.old second.old → EndAlike r first.old second.old p.0.items p.1.items first.new second.new) }
     ensures stopped { IfErr result (λ s. StopsBoth s first.old second.old commands.now first.new second.new) }
 {
     laws::runs_are_alike();

@@ -1,5 +1,9 @@
 //! What a world is told to do, and which call does it.
-ghost use Rattle.std.specs.Prelude.{◌≡◌, IfOk};
+ghost use Rattle.std.specs.Prelude.{◌≡◌, ℕ, ℤ, Bool, List, IfOk};
+ghost use Rattle.rhai_run.specs.declared.command.Command.TheVariants as command;
+ghost use Rattle.rhai_run.specs.declared.command.Place.{Place};
+ghost use Rattle.rhai_run.specs.declared.command.Scanner.{Scanner};
+ghost use Rattle.rhai_run.specs.Stop.{NeverWants};
 ghost use Rattle.rhai_run.specs.Step.{step};
 ghost use Rattle.rhai_run.specs.Fits.{Fits};
 ghost use Rattle.rhai_run.specs.Does.{Does};
@@ -9,7 +13,7 @@ use crate::lists::{Bytes, FlaggedNames, Names};
 use crate::not_done::NotDone;
 use crate::world_state::WorldState;
 use rhai_text::{ImmutableString, Token};
-use rhai_value::{ExclusiveRange, Host, INT, InclusiveRange, Tag, TypeId};
+use rhai_value::{AccessMode, ExclusiveRange, Host, INT, InclusiveRange, Tag, TypeId};
 use std::alloc::{AllocError, Global};
 
 /// A value that a command makes.
@@ -270,9 +274,9 @@ impl WorldState {
             Command::Binary(op, i, j) => self.binary(*op, *i, *j),
             Command::Assign(op, place, j) => self.assign(*op, place, *j),
             Command::Scan(i, scanner) => self.scan(*i, *scanner),
-            Command::Push(name, i) => self.push(name, *i),
+            Command::Push(name, i) => self.push_as(name, AccessMode::ReadWrite, *i),
             Command::PushDynamic(name, i) => self.push_dynamic(name, *i),
-            Command::PushConstant(name, i) => self.push_constant(name, *i),
+            Command::PushConstant(name, i) => self.push_as(name, AccessMode::ReadOnly, *i),
             Command::SetEntry(name, i) => self.set_entry(name, *i),
             Command::SetOrPush(name, i) => self.set_or_push(name, *i),
             Command::SetValue(name, i) => self.set_value(name, *i),
@@ -320,3 +324,31 @@ impl WorldState {
         }
     }
 }
+
+/// The commands that never want memory, whatever the state is. (There are others that want none in some states: `step` tells.)
+#[tactic(auto, using(crate::proofs::Free::free_either, crate::proofs::Free::free_given, crate::proofs::Free::free_unless, crate::proofs::Free::free_value, crate::proofs::Free::free_two, crate::proofs::Free::free_write_back))]
+pub fn free_commands_are_granted()
+    ensures drop_last { NeverWants command.Drop }
+    ensures set_tag { (i : ℕ) (tag : ℤ) → NeverWants (command.SetTag i tag) }
+    ensures make_read_only { (i : ℕ) → NeverWants (command.MakeReadOnly i) }
+    ensures write_int { (i : ℕ) (n : ℤ) → NeverWants (command.WriteInt i n) }
+    ensures write { (i j : ℕ) → NeverWants (command.Write i j) }
+    ensures scan { (i : ℕ) (scanner : Scanner) → NeverWants (command.Scan i scanner) }
+    ensures set_entry { (name : List ℕ) (i : ℕ) → NeverWants (command.SetEntry name i) }
+    ensures set_ref { (name : List ℕ) (n : ℤ) → NeverWants (command.SetRef name n) }
+    ensures pop { NeverWants command.Pop }
+    ensures rewind { (n : ℕ) → NeverWants (command.Rewind n) }
+    ensures clear { NeverWants command.Clear }
+    ensures len { NeverWants command.Len }
+    ensures is_empty { NeverWants command.IsEmpty }
+    ensures contains { (name : List ℕ) → NeverWants (command.Contains name) }
+    ensures search_for { (name : List ℕ) → NeverWants (command.Search name) }
+    ensures is_constant { (name : List ℕ) → NeverWants (command.IsConstant name) }
+    ensures unmark { (k : ℕ) → NeverWants (command.Unmark k) }
+    ensures write_marked { (k i : ℕ) → NeverWants (command.WriteMarked k i) }
+    ensures write_bit { (place : Place) (bit j : ℕ) → NeverWants (command.WriteBit place bit j) }
+    ensures write_field { (place : Place) (mask : ℤ) (shift j : ℕ) → NeverWants (command.WriteField place mask shift j) }
+    ensures write_byte { (place : Place) (index j : ℕ) → NeverWants (command.WriteByte place index j) }
+    ensures offset { (length : ℕ) (start len : ℤ) → NeverWants (command.Offset length start len) }
+    ensures index { (length : ℕ) (index : ℤ) (from_end : Bool) → NeverWants (command.Index length index from_end) }
+{}

@@ -13,13 +13,13 @@ ghost use Rattle.rhai_run.specs.Step.{step};
 
 use crate::answer::{Answer, Refusal};
 use crate::cast::{can_cast, can_move, cast_to, moved_as};
-use crate::lists::Text;
 use crate::not_done::NotDone;
 use crate::vectors::replace_at;
 use crate::world_state::WorldState;
 use rhai_scope::{Scope, aliases_shown};
+use rhai_show::Shown;
 use rhai_text::ImmutableString;
-use rhai_value::{Dynamic, INT, Store, TypeId};
+use rhai_value::{AccessMode, Dynamic, INT, Store, TypeId};
 use rhai_variant::Variant;
 use std::alloc::{AllocError, Global};
 
@@ -97,7 +97,7 @@ impl WorldState {
                 self.set_at(k, i);
                 Ok(Answer::Done)
             }
-            Some(_) | None => self.push(name, i),
+            Some(_) | None => self.push_as(name, AccessMode::ReadWrite, i),
         }
     }
 
@@ -108,7 +108,7 @@ impl WorldState {
     {
         self.value(i)?;
         let Some(k) = self.scope.search(name.as_str()) else {
-            return self.push(name, i);
+            return self.push_as(name, AccessMode::ReadWrite, i);
         };
         if self.scope.is_constant_at(k) {
             return Err(NotDone::Refused(Refusal::ConstantEntry));
@@ -120,12 +120,11 @@ impl WorldState {
     pub(crate) fn get(&mut self, name: &ImmutableString) -> Result<Answer, NotDone>
         ensures { Does result self.old self.new (step self.old (command.Get name.now)) }
     {
-        let value = self
-            .scope
-            .get(name.as_str())
-            .ok_or(Refusal::NoEntry)?
-            .copy(self.alloc)?;
-        self.append(value)
+        let value = self.scope.get(name.as_str()).ok_or(Refusal::NoEntry)?;
+        self.hand.reserve(1)?;
+        let value = value.copy(self.alloc)?;
+        self.hand.push_reserved(value);
+        Ok(Answer::Done)
     }
 
     pub(crate) fn get_value(
@@ -219,6 +218,6 @@ impl WorldState {
     {
         let aliases = self.scope.aliases(name.as_str()).ok_or(Refusal::NoEntry)?;
         let text = aliases_shown(self.alloc, aliases)?.into_text();
-        Ok(Answer::Text(Text::new(text)))
+        Ok(Answer::Text(Shown::from_text(text)))
     }
 }

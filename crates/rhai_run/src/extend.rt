@@ -5,10 +5,11 @@ ghost use Rattle.rhai_run.specs.declared.command.Command.TheVariants as command;
 ghost use Rattle.rhai_run.specs.Step.{step};
 
 use crate::answer::Answer;
-use crate::lists::{FlaggedNames, Names, Text};
+use crate::lists::{FlaggedNames, Names};
 use crate::not_done::NotDone;
 use crate::vectors::{append_in_room, split_last};
 use crate::world_state::WorldState;
+use rhai_show::Shown;
 use rhai_text::ImmutableString;
 use std::alloc::{AllocError, Global};
 
@@ -51,7 +52,7 @@ impl WorldState {
         ensures { Does result self.now self.now (step self.now command.Names) }
     {
         let text = self.scope.names_shown(&self.store)?.into_text();
-        Ok(Answer::Text(Text::new(text)))
+        Ok(Answer::Text(Shown::from_text(text)))
     }
 
     pub(crate) fn extend(&mut self, names: &Names) -> Result<Answer, NotDone>

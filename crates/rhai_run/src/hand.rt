@@ -18,7 +18,8 @@ impl WorldState {
     pub(crate) fn put(&mut self, literal: &Literal) -> Result<Answer, NotDone>
         ensures { Does result self.old self.new (step self.old (command.Put literal.now)) }
     {
-        let value = match literal {
+        self.hand.reserve(1)?;
+        self.hand.push_reserved(match literal {
             Literal::Unit => Dynamic::UNIT,
             Literal::Bool(value) => Dynamic::from_bool(*value),
             Literal::Int(value) => Dynamic::from_int(*value),
@@ -31,8 +32,8 @@ impl WorldState {
             Literal::Host(host) => Dynamic::from(*host),
             Literal::Range(range) => Dynamic::from(*range),
             Literal::RangeEq(range) => Dynamic::from(*range),
-        };
-        self.append(value)
+        });
+        Ok(Answer::Done)
     }
 
     pub(crate) fn make_array(&mut self, n: usize) -> Result<Answer, NotDone>
@@ -70,15 +71,21 @@ impl WorldState {
     pub(crate) fn copy(&mut self, i: usize) -> Result<Answer, NotDone>
         ensures { Does result self.old self.new (step self.old (command.Copy i)) }
     {
-        let value = self.value(i)?.copy(self.alloc)?;
-        self.append(value)
+        self.value(i)?;
+        self.hand.reserve(1)?;
+        let value = self.hand[i].copy(self.alloc)?;
+        self.hand.push_reserved(value);
+        Ok(Answer::Done)
     }
 
     pub(crate) fn flatten_clone(&mut self, i: usize) -> Result<Answer, NotDone>
         ensures { Does result self.old self.new (step self.old (command.FlattenClone i)) }
     {
-        let value = self.value(i)?.flatten_clone(self.alloc, &self.store)?;
-        self.append(value)
+        self.value(i)?;
+        self.hand.reserve(1)?;
+        let value = self.hand[i].flatten_clone(self.alloc, &self.store)?;
+        self.hand.push_reserved(value);
+        Ok(Answer::Done)
     }
 
     pub(crate) fn cast(&mut self, i: usize, kind: TypeId) -> Result<Answer, NotDone>
@@ -106,7 +113,12 @@ impl WorldState {
     pub(crate) fn drop_last(&mut self) -> Result<Answer, NotDone>
         ensures { Does result self.old self.new (step self.old command.Drop) }
     {
-        self.hand.pop().ok_or(Refusal::NoValue)?;
+        let len = self.hand.len();
+        if len == 0 {
+            return Err(NotDone::Refused(Refusal::NoValue));
+        }
+        // in its place: a value that is popped moves first
+        self.hand.truncate(len - 1);
         Ok(Answer::Done)
     }
 }

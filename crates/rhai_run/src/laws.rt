@@ -1,5 +1,5 @@
 //! Laws of the machine: each is the contract of a function that does nothing.
-ghost use Rattle.std.specs.Prelude.{◌≡◌, ℕ, ℤ, ◌+◌, ◌<◌, ◌↔◌, Bool, nat_eq, List, [], ◌∷◌, ◌++◌, length, drop, map, reverse, Some, None, option_map, true, false, Vec, Box};
+ghost use Rattle.std.specs.Prelude.{◌≡◌, ℕ, ◌+◌, ◌<◌, ◌↔◌, Bool, nat_eq, List, [], ◌∷◌, ◌++◌, length, drop, map, reverse, Some, None, option_map, true, false, Vec, Box};
 ghost use Rattle.std.specs.declared.alloc.Global.{Global};
 ghost use Rattle.std.specs.BTreeMap.{is_at};
 ghost use Rattle.std.specs.List.{Contains, IsDistinct, zip};
@@ -15,8 +15,6 @@ ghost use Rattle.rhai_value.specs.Reach.{IsReached};
 ghost use Rattle.rhai_value.specs.Scan.{SameVisits, scan};
 ghost use Rattle.rhai_run.specs.declared.command.Command.{Command};
 ghost use Rattle.rhai_run.specs.declared.command.Command.TheVariants as command;
-ghost use Rattle.rhai_run.specs.declared.command.Place.{Place};
-ghost use Rattle.rhai_run.specs.declared.command.Scanner.{Scanner};
 ghost use Rattle.rhai_run.specs.declared.command.Literal.{Literal};
 ghost use Rattle.rhai_run.specs.declared.command.Literal.TheVariants as literal;
 ghost use Rattle.rhai_run.specs.declared.command.Place.TheVariants as place;
@@ -37,7 +35,7 @@ ghost use Rattle.rhai_run.specs.declared.answer.Refusal.{Refusal};
 ghost use Rattle.rhai_run.specs.declared.answer.Refusal.TheVariants.{Fault, NotHashable};
 ghost use Rattle.rhai_run.specs.Step.{step};
 ghost use Rattle.rhai_run.specs.Machine.{replies, state_after};
-ghost use Rattle.rhai_run.specs.Stop.{NeverWants, StopsAfter};
+ghost use Rattle.rhai_run.specs.Stop.{StopsAfter};
 ghost use Rattle.rhai_run.specs.Scanners.{visited};
 ghost use Rattle.rhai_run.specs.Fits.{Fits};
 ghost use Rattle.rhai_run.specs.Correspondence.{Corresponds, RunAlike};
@@ -113,34 +111,6 @@ pub fn collecting_is_not_seen()
 pub fn scanners_are_renamed()
     ensures visit { (r : Renaming) → SameVisits r visited }
     ensures scan { (r : Renaming) → SameVisits r (scan visited) }
-{}
-
-/// The commands that never want memory, whatever the state is. (There are others that want none in some states: `step` tells.)
-#[tactic(auto, using(crate::proofs::Free::free_either, crate::proofs::Free::free_given, crate::proofs::Free::free_unless, crate::proofs::Free::free_value, crate::proofs::Free::free_two, crate::proofs::Free::free_write_back))]
-pub fn free_commands_are_granted()
-    ensures drop_last { NeverWants command.Drop }
-    ensures set_tag { (i : ℕ) (tag : ℤ) → NeverWants (command.SetTag i tag) }
-    ensures make_read_only { (i : ℕ) → NeverWants (command.MakeReadOnly i) }
-    ensures write_int { (i : ℕ) (n : ℤ) → NeverWants (command.WriteInt i n) }
-    ensures write { (i j : ℕ) → NeverWants (command.Write i j) }
-    ensures scan { (i : ℕ) (scanner : Scanner) → NeverWants (command.Scan i scanner) }
-    ensures set_entry { (name : List ℕ) (i : ℕ) → NeverWants (command.SetEntry name i) }
-    ensures set_ref { (name : List ℕ) (n : ℤ) → NeverWants (command.SetRef name n) }
-    ensures pop { NeverWants command.Pop }
-    ensures rewind { (n : ℕ) → NeverWants (command.Rewind n) }
-    ensures clear { NeverWants command.Clear }
-    ensures len { NeverWants command.Len }
-    ensures is_empty { NeverWants command.IsEmpty }
-    ensures contains { (name : List ℕ) → NeverWants (command.Contains name) }
-    ensures search_for { (name : List ℕ) → NeverWants (command.Search name) }
-    ensures is_constant { (name : List ℕ) → NeverWants (command.IsConstant name) }
-    ensures unmark { (k : ℕ) → NeverWants (command.Unmark k) }
-    ensures write_marked { (k i : ℕ) → NeverWants (command.WriteMarked k i) }
-    ensures write_bit { (place : Place) (bit j : ℕ) → NeverWants (command.WriteBit place bit j) }
-    ensures write_field { (place : Place) (mask : ℤ) (shift j : ℕ) → NeverWants (command.WriteField place mask shift j) }
-    ensures write_byte { (place : Place) (index j : ℕ) → NeverWants (command.WriteByte place index j) }
-    ensures offset { (length : ℕ) (start len : ℤ) → NeverWants (command.Offset length start len) }
-    ensures index { (length : ℕ) (index : ℤ) (from_end : Bool) → NeverWants (command.Index length index from_end) }
 {}
 
 /// Where states correspond, an expression stands for the same commands on both.

@@ -39,5 +39,6 @@ pub use answer::{Answer, Refusal};
 pub use both::{StoppedBoth, run_both};
 pub use command::{Command, Literal, Place, Question, Scanner};
 pub use expr::Expr;
-pub use lists::{Bytes, FlaggedNames, Names, Text};
+pub use lists::{Bytes, FlaggedNames, Names};
+pub use rhai_show::Shown;
 pub use world::{Stopped, World, apply, run};

@@ -1,9 +1,8 @@
 //! Commands that call operators and assignments.
-ghost use Rattle.std.specs.Prelude.{◌≡◌, ◌<◌, false, nat_eq, length, vec_len, IfSome, IsSomeAnd, OnOk, OnErr};
+ghost use Rattle.std.specs.Prelude.{◌≡◌, ◌<◌, length, IfSome, IsSomeAnd, OnOk, OnErr};
 ghost use Rattle.rhai_ops.specs.Outcome.{IsOutcome};
 ghost use Rattle.rhai_ops.specs.Results.{MayWant, Suits, outcome};
 ghost use Rattle.rhai_ops.specs.Effects.{answered, operator, second_left, effect};
-ghost use Rattle.rhai_run.specs.Operators.{value_at};
 ghost use Rattle.rhai_run.specs.Slots.{assigned_in, called_in, value_in, HasOperands, Looks};
 ghost use Rattle.rhai_run.specs.Does.{Calls, Does, Gives};
 ghost use Rattle.rhai_run.specs.declared.command.Command.TheVariants as command;
@@ -19,61 +18,13 @@ use crate::vectors::replace_at;
 use crate::world_state::WorldState;
 use rhai_ops::laws::{operators_write_nothing, rows_suit};
 use rhai_ops::{FnBuiltin, get_builtin_binary_op_fn, get_builtin_op_assignment_fn};
-use rhai_text::{EvalAltResult, Limits, Position, Token};
-use rhai_value::{Dynamic, Store};
-use std::alloc::Global;
-
-/// Calls a row of an operator, which writes nothing.
-fn answer_of(
-    row: FnBuiltin,
-    alloc: Global,
-    store: &mut Store,
-    limits: &Limits,
-    x: &mut Dynamic,
-    y: &mut Dynamic,
-) -> Result<Dynamic, EvalAltResult>
-    requires suits { Suits row store.old x.old y.old }
-    requires operator { effect row ≡ operator }
-    ensures result { IsOutcome (MayWant row x.old y.old) result (outcome row limits.now store.old x.old y.old) }
-    ensures first { x.new ≡ x.old }
-    ensures second { y.new ≡ y.old }
-    ensures store { store.new ≡ store.old }
-{
-    row.call(alloc, store, limits, x, y)
-}
-
-/// Calls a row of an operator on the values at two places, which stay as they are.
-fn call_on(
-    row: FnBuiltin,
-    alloc: Global,
-    store: &mut Store,
-    limits: &Limits,
-    values: &mut Vec<Dynamic>,
-    i: usize,
-    j: usize,
-) -> Result<Dynamic, EvalAltResult>
-    requires within { (i < vec_len values.old) × (j < vec_len values.old) }
-    requires apart { nat_eq i j ≡ false }
-    requires suits { Suits row store.old (value_at values.old.items i) (value_at values.old.items j) }
-    requires operator { effect row ≡ operator }
-    ensures result { IsOutcome (MayWant row (value_at values.old.items i) (value_at values.old.items j)) result
-        (outcome row limits.now store.old (value_at values.old.items i) (value_at values.old.items j)) }
-    ensures values { values.new.items ≡ values.old.items }
-    ensures store { store.new ≡ store.old }
-{
-    let mut x = replace_at(values, i, Dynamic::UNIT);
-    let mut y = replace_at(values, j, Dynamic::UNIT);
-    let result = answer_of(row, alloc, store, limits, &mut x, &mut y);
-    values[j] = y;
-    values[i] = x;
-    result
-}
+use rhai_text::{EvalAltResult, Position, Token};
+use rhai_value::Dynamic;
 
 impl WorldState {
-    /// What an operator answers on two values of the hand, which stay.
-    fn operate(&mut self, op: Token, i: usize, j: usize) -> Result<Dynamic, NotDone>
-        ensures value { Gives result self.old (step self.old (command.Binary op i j)) }
-        ensures same { self.new ≡ self.old }
+    /// What an operator answers on two values of the hand.
+    fn operate(&self, op: Token, i: usize, j: usize) -> Result<Dynamic, NotDone>
+        ensures { Gives result self.now (step self.now (command.Binary op i j)) }
     {
         let x = self.value(i)?;
         let y = self.value(j)?;
@@ -81,15 +32,7 @@ impl WorldState {
         let row = get_builtin_binary_op_fn(&op, x, y, &self.store).ok_or(Refusal::NoBuiltin)?;
         rows_suit();
         operators_write_nothing();
-        let value = call_on(
-            row,
-            self.alloc,
-            &mut self.store,
-            &self.limits,
-            &mut self.hand,
-            i,
-            j,
-        )?;
+        let value = row.call_ref(self.alloc, &self.store, &self.limits, x, y)?;
         Ok(value)
     }
 

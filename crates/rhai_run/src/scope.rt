@@ -1,15 +1,15 @@
 //! Commands on the scope as a whole, and pushes.
-ghost use Rattle.rhai_value.specs.declared.access_mode.AccessMode.TheVariants.{ReadWrite, ReadOnly};
 ghost use Rattle.rhai_run.specs.Entries.{moved_into_entry};
 ghost use Rattle.rhai_run.specs.Does.{Does};
 ghost use Rattle.rhai_run.specs.declared.command.Command.TheVariants as command;
 ghost use Rattle.rhai_run.specs.Step.{step};
 
 use crate::answer::{Answer, Refusal};
-use crate::lists::{Bytes, Text};
+use crate::lists::Bytes;
 use crate::not_done::NotDone;
 use crate::vectors::replace_at;
 use crate::world_state::WorldState;
+use rhai_show::Shown;
 use rhai_text::ImmutableString;
 use rhai_value::{AccessMode, Dynamic};
 
@@ -33,12 +33,6 @@ impl WorldState {
         Ok(Answer::Done)
     }
 
-    pub(crate) fn push(&mut self, name: &ImmutableString, i: usize) -> Result<Answer, NotDone>
-        ensures { Does result self.old self.new (step self.old (command.Push name.now i)) }
-    {
-        self.push_as(name, AccessMode::ReadWrite, i)
-    }
-
     pub(crate) fn push_dynamic(
         &mut self,
         name: &ImmutableString,
@@ -48,16 +42,6 @@ impl WorldState {
     {
         let access = self.value(i)?.access_mode();
         self.push_as(name, access, i)
-    }
-
-    pub(crate) fn push_constant(
-        &mut self,
-        name: &ImmutableString,
-        i: usize,
-    ) -> Result<Answer, NotDone>
-        ensures { Does result self.old self.new (step self.old (command.PushConstant name.now i)) }
-    {
-        self.push_as(name, AccessMode::ReadOnly, i)
     }
 
     pub(crate) fn pop(&mut self) -> Result<Answer, NotDone>
@@ -138,7 +122,7 @@ impl WorldState {
         ensures { Does result self.now self.now (step self.now command.ShowScope) }
     {
         let text = self.scope.shown(&self.store)?.into_text();
-        Ok(Answer::Text(Text::new(text)))
+        Ok(Answer::Text(Shown::from_text(text)))
     }
 
     pub(crate) fn hash_scope(&self) -> Result<Answer, NotDone>

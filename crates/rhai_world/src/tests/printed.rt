@@ -1,7 +1,7 @@
 //! How each answer and each refusal is printed, those too that no line of today leads to.
 
 use rhai_lines::write_answer;
-use rhai_run::{Answer, Bytes, Refusal, Text};
+use rhai_run::{Answer, Bytes, Refusal, Shown};
 use rhai_text::{ArithmeticFault, EvalAltResult, Position, SizeKind, TypeName};
 use std::alloc::{AllocError, Global};
 use std::test::Fail;
@@ -52,7 +52,7 @@ fn texts_and_bytes(rt: HostRuntime) -> Result<(), Fail> {
     let alloc = rt.alloc();
     let text = String::from_str(alloc, "a\n\u{e9}")?;
     assert_eq!(rt;
-        printed(alloc, Answer::Text(Text::new(text)))?.as_str(),
+        printed(alloc, Answer::Text(Shown::from_text(text)))?.as_str(),
         "a\n\u{e9}\n"
     );
     let bytes = b"\x00\x0f\xa0\xff".to_vec(alloc)?;

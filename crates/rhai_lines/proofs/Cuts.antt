@@ -44,8 +44,8 @@ command_of-no_text line n =
     ] refl
 
 -- the line's bytes say what its verb and what is left behind it say
-pub command_of-verb : (line text word verb : List ℕ) (left : Left) → text ≡ line → IsUtf8 line → word ≡ word_of text → left ≡ left_of text → verb ≡ word → command_of line ≡ said_by verb left
-command_of-verb line text word verb left t u w l v = command_of-text line text t u ∙ sym (ap₂ (λ x y. said_by x y) (v ∙ w) l)
+pub command_of-verb : (line text verb : List ℕ) (left : Left) → text ≡ line → IsUtf8 line → verb ≡ word_of text → left ≡ left_of text → command_of line ≡ said_by verb left
+command_of-verb line text verb left t u w l = command_of-text line text t u ∙ sym (ap₂ (λ x y. said_by x y) w l)
 
-pub takes-verb : (line text word verb : List ℕ) (left : Left) → text ≡ line → word ≡ word_of text → left ≡ left_of text → verb ≡ word → takes_by (word_of line) (left_of line) ≡ takes_by verb left
-takes-verb line text word verb left t w l v = ap₂ (λ x y. takes_by x y) (ap word_of (sym t) ∙ sym (v ∙ w)) (ap left_of (sym t) ∙ sym l)
+pub takes-verb : (line text verb : List ℕ) (left : Left) → text ≡ line → verb ≡ word_of text → left ≡ left_of text → takes_by (word_of line) (left_of line) ≡ takes_by verb left
+takes-verb line text verb left t w l = ap₂ (λ x y. takes_by x y) (ap word_of (sym t) ∙ sym w) (ap left_of (sym t) ∙ sym l)

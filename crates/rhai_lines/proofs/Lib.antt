@@ -12,10 +12,10 @@ pub mod Collected
 pub mod Added
 pub mod Spoken
 pub mod SaysBack
-pub mod Searches
 pub mod Lookups
 pub mod WordsBack
 pub mod ArgumentsBack
 pub mod LinesBack
 pub mod Replays
 pub mod OneLine
+pub mod MoreWords

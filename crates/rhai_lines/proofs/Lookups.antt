@@ -1,60 +1,56 @@
 -- The verb that a word is.
-use Rattle.std.proofs.Common.{◌≡◌, ℕ, Bool, true, false, ◌&&◌, if◌then◌else◌, cond, List, [], ◌∷◌, Some, None, is_some, bytes_eq, refl, sym, ap, ◌∙◌}
-use Rattle.std.specs.List.{list_all}
+use Rattle.std.proofs.Common.{◌≡◌, ℕ, ◌==◌, nat_lt, ◌||◌, cond, length, Bool, true, false, List, [], ◌∷◌, None, bytes_eq, refl, sym, ap, ◌∙◌, subst, Result, eq-eqb}
 use Rattle.std.proofs.lemmas.Slice.Eq.{bytes_eq-Decides}
-use Rattle.rhai_lines.specs.declared.verbs.Verb.{Verb}
-use Rattle.rhai_lines.specs.declared.verbs.Verb.TheVariants.{SetAlias}
-use Rattle.rhai_lines.specs.Spelling.{called}
-use Rattle.rhai_lines.specs.Words.{Left, named}
+use Rattle.rhai_run.specs.declared.command.Command.{Command}
+use Rattle.rhai_lines.specs.declared.words.NoCommand.{NoCommand}
+use Rattle.rhai_lines.specs.Words.{Left}
 use Rattle.rhai_lines.specs.Arguments.{says}
 use Rattle.rhai_lines.specs.Verbs.{Form, verbs, form_in, said, said_by}
-use Rattle.rhai_lines.specs.Cursor.{is_verb, verb_rows, verb_text}
-use Rattle.rhai_lines.proofs.SaysBack.{both, the_same}
+use Rattle.rhai_lines.specs.Cursor.{Says}
 
 pub same_bytes : (xs ys : List ℕ) → bytes_eq xs ys ≡ true → xs ≡ ys
 same_bytes xs ys e = (bytes_eq-Decides xs ys).0 e
 
--- in such a table the verb that a word names has that word for its text
-named_text : (rows : List (List ℕ × Verb)) (word : List ℕ) (verb : Verb) → list_all (λ row. bytes_eq (verb_text row.1) row.0) rows ≡ true → named rows word ≡ Some verb → verb_text verb ≡ word
-named_text [] word verb t e = cc
-named_text (row ∷ rows) word verb t e =
-    let h = both (bytes_eq (verb_text row.1) row.0) (list_all (λ row. bytes_eq (verb_text row.1) row.0) rows) t in
-    by (bytes_eq word row.0) refl (same_bytes (verb_text row.1) row.0 h.0) (named_text rows word verb h.1)
+-- what is said of a text is said of a word that is this text
+pub says_word : (r : Result Command NoCommand) (word text : List ℕ) (left : Left) → bytes_eq word text ≡ true → Says r text left → Says r word left
+says_word r word text left e h = subst (λ w. Says r w left) (sym (same_bytes word text e)) h
+
+-- A word of a class of lengths says nothing if it is none of the verbs of that class.
+abbrev pub Unlike : (ℕ → Bool) → List (List ℕ × Form) → List ℕ → Type 0 → Type 0
+Unlike class [] word Goal = Goal
+Unlike class (row ∷ rows) word Goal = cond (class (length row.0)) ((word ≡ row.0 → ⊥) → Unlike class rows word Goal) (Unlike class rows word Goal)
+
+differs : (word text : List ℕ) → (word ≡ text → ⊥) → bytes_eq word text ≡ false
+differs word text n = by (bytes_eq word text) refl
   where
-    by : (b : Bool) → bytes_eq word row.0 ≡ b → verb_text row.1 ≡ row.0 → (named rows word ≡ Some verb → verb_text verb ≡ word) → verb_text verb ≡ word
-    by true f h k = ap verb_text (sym (the_same (sym (ap (λ x. if x then Some row.1 else named rows word) f) ∙ e))) ∙ h ∙ sym (same_bytes word row.0 f)
-    by false f h k = k (sym (ap (λ x. if x then Some row.1 else named rows word) f) ∙ e)
+    by : (b : Bool) → bytes_eq word text ≡ b → bytes_eq word text ≡ false
+    by true e = absurd (n (same_bytes word text e))
+    by false e = e
 
-texts_fit : list_all (λ row. bytes_eq (verb_text row.1) row.0) verb_rows ≡ true
-unfolding verb_text verb_rows
-texts_fit = refl
+behind_row : (b : Bool) (form more : Form) (left : Left) → b ≡ false → said more left ≡ None → said (cond b form more) left ≡ None
+behind_row true form more left e h = cc
+behind_row false form more left e h = h
 
-pub text_is : (word : List ℕ) (verb : Verb) → named verb_rows word ≡ Some verb → verb_text verb ≡ word
-text_is word verb e = named_text verb_rows word verb texts_fit e
-
--- each verb is called by its text
-pub called_text : (v : Verb) → called is_verb verb_rows v ≡ Some (verb_text v)
-unfolding verb_rows verb_text
-called_text SetAlias = refl
-called_text v = refl
-
--- each verb that has a form is in the table of the code
-abbrev all_named : List (List ℕ × Form) → Bool
-all_named [] = true
-all_named (row ∷ rows) = is_some (named verb_rows row.0) && all_named rows
-
-no_form : (rows : List (List ℕ × Form)) (word : List ℕ) (left : Left) → all_named rows ≡ true → named verb_rows word ≡ None → said (form_in rows word) left ≡ None
+unlike : (class : ℕ → Bool) (rows : List (List ℕ × Form)) (word : List ℕ) (left : Left) (Goal : Type 0) → class (length word) ≡ true → (said (form_in rows word) left ≡ None → Goal) → Unlike class rows word Goal
 unfolding says
-no_form [] word left t e = refl
-no_form (row ∷ rows) word left t e =
-    let h = both (is_some (named verb_rows row.0)) (all_named rows) t in
-    by (bytes_eq word row.0) refl h.0 (no_form rows word left h.1 e)
+unlike class [] word left Goal t k = k refl
+unlike class (row ∷ rows) word left Goal t k = by (class (length row.0)) refl (λ n. unlike class rows word left Goal t (λ h. k (behind_row (bytes_eq word row.0) row.1 (form_in rows word) left (differs word row.0 n) h)))
   where
-    by : (b : Bool) → bytes_eq word row.0 ≡ b → is_some (named verb_rows row.0) ≡ true → said (form_in rows word) left ≡ None → said (cond b row.1 (form_in rows word)) left ≡ None
-    by true f h k = cc (sym h ∙ ap (λ w. is_some (named verb_rows w)) (sym (same_bytes word row.0 f)) ∙ ap is_some e)
-    by false f h k = k
+    by : (b : Bool) → class (length row.0) ≡ b → ((word ≡ row.0 → ⊥) → Unlike class rows word Goal) → cond b ((word ≡ row.0 → ⊥) → Unlike class rows word Goal) (Unlike class rows word Goal)
+    by true f more = more
+    by false f more = more (λ e. cc (sym f ∙ ap (λ w. class (length w)) (sym e) ∙ t))
 
-pub nothing_said : (word : List ℕ) (left : Left) → named verb_rows word ≡ None → said_by word left ≡ None
-unfolding said_by verb_rows
-nothing_said [] left e = refl
-nothing_said (b ∷ bs) left e = no_form verbs (b ∷ bs) left refl e
+said_by_is : (word : List ℕ) (left : Left) → said (form_in verbs word) left ≡ None → said_by word left ≡ None
+unfolding said_by
+said_by_is [] left h = refl
+said_by_is (b ∷ bs) left h = h
+
+pub of_length : (n : ℕ) (word : List ℕ) (left : Left) → length word ≡ n → Unlike (λ k. k == n) verbs word (said_by word left ≡ None)
+of_length n word left e = unlike (λ k. k == n) verbs word left (said_by word left ≡ None) (eq-eqb (length word) n e) (said_by_is word left)
+
+-- the lengths that have no function of their own
+abbrev pub is_other : ℕ → Bool
+is_other n = nat_lt n 3 || nat_lt 9 n
+
+pub of_other_length : (word : List ℕ) (left : Left) → is_other (length word) ≡ true → Unlike is_other verbs word (said_by word left ≡ None)
+of_other_length word left t = unlike is_other verbs word left (said_by word left ≡ None) t (said_by_is word left)

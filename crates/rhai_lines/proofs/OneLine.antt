@@ -1,140 +1,117 @@
--- A command has one line.
-use Rattle.std.proofs.Common.{◌≡◌, ℕ, Bool, true, false, cond, List, [], ◌∷◌, ◌++◌, Option, Some, None, option_map, codes, bytes_eq, refl, sym, ap, ap₂, ◌∙◌}
+-- A command has one line. No row of the table is named here: that each command is made by a row, and by one alone, is computed.
+use Rattle.std.proofs.Common.{◌≡◌, ℕ, zero, suc, Bool, true, false, ◌&&◌, nat_eq, cond, List, [], ◌∷◌, ◌++◌, map, Option, Some, None, option_map, bytes_eq, refl, sym, ap, ap₂, ◌∙◌, subst}
+use denote.Enum.Declared.{tag_of}
+use Rattle.rhai_run.specs.contracts.command.Command as command
+use Rattle.rhai_run.specs.contracts.command.Literal as literal_kind
 use Rattle.rhai_run.specs.declared.command.Command.{Command}
-use Rattle.rhai_run.specs.declared.command.Command.TheVariants.{Put, MakeArray, MakeMap, MakeFn, Copy, Take, Drop, Share, Flatten, FlattenClone, Cast, MakeReadOnly, SetTag, Ask, WriteInt, Write, Binary, Assign, Scan, Push, PushDynamic, PushConstant, SetEntry, SetOrPush, SetValue, Pop, Rewind, Clear, Len, IsEmpty, Contains, Search, IsConstant, Get, GetValue, GetRef, SetRef, Remove, SetAlias, Aliases, KeepVisible, CopyScope, Entries, Names as Listed, Extend, ExtendFlagged, ShowScope, HashScope, Mark, Unmark, WriteMarked, ReadMarked, WriteBit, WriteField, WriteByte, WriteChar, WriteSlice, Offset, Index, Show, Debug, Hash}
-use Rattle.rhai_run.specs.declared.command.Literal.TheVariants.{Unit, Bool as Truth, Int, Char, Text, Blob, Host as Hosted, Range, RangeEq}
-use Rattle.rhai_lines.specs.Verbs.{Form, verbs, form_in, form_of}
+use Rattle.rhai_run.specs.declared.command.Command.TheVariants.{Put, WriteSlice}
+use Rattle.rhai_run.specs.declared.command.Literal.TheVariants.{Unit as Nothing}
+use Rattle.rhai_lines.specs.Arguments.{of_no_verb}
+use Rattle.rhai_lines.specs.Verbs.{Form, form, verbs, form_in, form_of}
 use Rattle.rhai_lines.specs.Spelling.{spoken, IsLineOf, IsFollowed, IsJournalOf}
 use Rattle.rhai_lines.proofs.Lookups.{same_bytes}
 use Rattle.rhai_lines.proofs.SaysBack.{the_same}
 
--- A command taken apart: its verb, and the values of which the form of it makes the command.
-unfoldable taken : Command → (verb : List ℕ) × (form_of verb).Values
-unfolding form_of
-taken (Put Unit) = (codes "unit", tt)
-taken (Put (Truth b)) = (codes "bool", b)
-taken (Put (Int n)) = (codes "int", n)
-taken (Put (Hosted h)) = (codes "host", h)
-taken (Put (Range r)) = (codes "range", (r.start, r.end))
-taken (Put (RangeEq r)) = (codes "rangeeq", (r.start, r.end))
-taken (Put (Char c)) = (codes "char", c)
-taken (Put (Text t)) = (codes "text", t)
-taken (Put (Blob bytes)) = (codes "blob", bytes)
-taken (MakeArray n) = (codes "array", n)
-taken (MakeMap keys) = (codes "map", keys)
-taken (MakeFn name n) = (codes "fn", (name, n))
-taken (Copy i) = (codes "copy", i)
-taken (FlattenClone i) = (codes "flatclone", i)
-taken (Cast i k) = (codes "cast", (i, k))
-taken (Take i) = (codes "take", i)
-taken Drop = (codes "drop", tt)
-taken (Share i) = (codes "share", i)
-taken (Flatten i) = (codes "flatten", i)
-taken (MakeReadOnly i) = (codes "readonly", i)
-taken (SetTag i t) = (codes "tag", (i, t))
-taken (WriteInt i n) = (codes "write", (i, n))
-taken (Write i j) = (codes "store", (i, j))
-taken (Scan i s) = (codes "scan", (i, s))
-taken (Ask i q) = (codes "ask", (i, q))
-taken (Show i) = (codes "show", i)
-taken (Debug i) = (codes "debug", i)
-taken (Hash i) = (codes "hash", i)
-taken (Binary op i j) = (codes "op", (i, (op, j)))
-taken (Push name i) = (codes "push", (name, i))
-taken (PushDynamic name i) = (codes "pushdyn", (name, i))
-taken (PushConstant name i) = (codes "pushconst", (name, i))
-taken (SetEntry name i) = (codes "set", (name, i))
-taken (SetOrPush name i) = (codes "setorpush", (name, i))
-taken (SetValue name i) = (codes "setvalue", (name, i))
-taken Pop = (codes "pop", tt)
-taken (Rewind n) = (codes "rewind", n)
-taken Clear = (codes "clear", tt)
-taken KeepVisible = (codes "visible", tt)
-taken CopyScope = (codes "copyscope", tt)
-taken Len = (codes "len", tt)
-taken IsEmpty = (codes "empty", tt)
-taken Entries = (codes "iter", tt)
-taken Listed = (codes "names", tt)
-taken ShowScope = (codes "showscope", tt)
-taken HashScope = (codes "hashscope", tt)
-taken (Contains name) = (codes "contains", name)
-taken (Search name) = (codes "search", name)
-taken (IsConstant name) = (codes "constant", name)
-taken (Extend names) = (codes "extend", names)
-taken (ExtendFlagged names) = (codes "extendflagged", names)
-taken (Get name) = (codes "get", name)
-taken (Aliases name) = (codes "aliases", name)
-taken (SetAlias name alias) = (codes "alias", (name, alias))
-taken (GetValue name k) = (codes "value", (name, k))
-taken (GetRef name k) = (codes "ref", (name, k))
-taken (Remove name k) = (codes "remove", (name, k))
-taken (SetRef name n) = (codes "refint", (name, n))
-taken (Mark p) = (codes "mark", p)
-taken (Unmark k) = (codes "unmark", k)
-taken (WriteMarked k i) = (codes "writemarked", (k, i))
-taken (ReadMarked k) = (codes "readmarked", k)
-taken (Offset l s n) = (codes "offset", (l, (s, n)))
-taken (Index l n e) = (codes "index", (l, (n, e)))
-taken (WriteBit p b j) = (codes "bit", (p, (b, j)))
-taken (WriteField p m s j) = (codes "field", (p, (m, (s, j))))
-taken (WriteByte p i j) = (codes "byte", (p, (i, j)))
-taken (WriteChar p i j) = (codes "charat", (p, (i, j)))
-taken (WriteSlice p a b true j) = (codes "slice", (p, (a, (b, j))))
-taken (WriteSlice p a b false j) = (codes "sliceeq", (p, (a, (b, j))))
-taken (Assign op p j) = (codes "assign", (p, (op, j)))
+abbrev Row : Type 1
+Row = List ℕ × Form
 
-abbrev line_by : Command → Option (List ℕ)
-line_by c = spoken (taken c).0 (form_of (taken c).0).arguments (taken c).1
+abbrev at : List Row → ℕ → Row
+at [] n = ([], form of_no_verb (elim [ ]))
+at (row ∷ rows) zero = row
+at (row ∷ rows) (suc n) = at rows n
+
+-- something of each row
+abbrev Table : (Row → Type 0) → List Row → Type 0
+Table F [] = Unit {0}
+Table F (row ∷ rows) = F row × Table F rows
+
+-- What tells the rows apart: the number of the command, and that of the literal or the kind of end.
+abbrev Key : Type 0
+Key = ℕ × ℕ
+
+key : Command → Key
+key (Put literal) = (tag_of command.the_type (Put literal), tag_of literal_kind.the_type literal)
+key (WriteSlice p a b true j) = (tag_of command.the_type (WriteSlice p a b true j), 1)
+key (WriteSlice p a b false j) = (tag_of command.the_type (WriteSlice p a b false j), 0)
+key c = (tag_of command.the_type c, 0)
+
+-- Each row's key: all that the row makes has it.
+abbrev keys_made : (rows : List Row) → Table (λ row. row.1.Values → Key) rows
+keys_made [] = tt
+keys_made (row ∷ rows) = ((λ values. key (row.1.make values)), keys_made rows)
+
+abbrev same_keys : (rows : List Row) → Table (λ row. Key) rows → Table (λ row. row.1.Values → Key) rows
+same_keys [] ks = tt
+same_keys (row ∷ rows) ks = ((λ values. ks.0), same_keys rows ks.1)
+
+keys : (ks : Table (λ row. Key) verbs) × (keys_made verbs ≡ same_keys verbs ks)
+unfolding key
+keys = (_, refl)
+
+-- the row of a command, and the values of which it makes the command
+place_of : (rows : List Row) → Table (λ row. Key) rows → Key → ℕ
+place_of [] ks k = 0
+place_of (row ∷ rows) ks k = cond (nat_eq ks.0.0 k.0 && nat_eq ks.0.1 k.1) 0 (suc (place_of rows ks.1 k))
+
+abbrev row_of : Command → Row
+row_of c = at verbs (place_of verbs keys.0 (key c))
+
+made : (c : Command) → (values : (row_of c).1.Values) × ((row_of c).1.make values ≡ c)
+unfolding key keys place_of
+made (Put Nothing) = (_, refl)
+made (Put literal) = (_, refl)
+made (WriteSlice p a b true j) = (_, refl)
+made (WriteSlice p a b false j) = (_, refl)
+made c = (_, refl)
+
+-- the form of a row's verb is that of the row, since no verb stands twice
+forms_hold : map (λ row. form_of row.0) verbs ≡ map (λ row. row.1) verbs
+unfolding form_of
+forms_hold = refl
+
+form_holds : (rows : List Row) (n : ℕ) → map (λ row. form_of row.0) rows ≡ map (λ row. row.1) rows → form_of (at rows n).0 ≡ (at rows n).1
+unfolding form_of
+form_holds [] n e = refl
+form_holds (row ∷ rows) zero e = cc
+form_holds (row ∷ rows) (suc n) e = form_holds rows n (cc)
 
 -- and so each command has a line, or none, by its row
-made_again : (c : Command) → (form_of (taken c).0).make (taken c).1 ≡ c
-unfolding taken form_of
-made_again (Put Unit) = refl
-made_again (Put literal) = refl
-made_again (WriteSlice p a b true j) = refl
-made_again (WriteSlice p a b false j) = refl
-made_again c = refl
+abbrev line_by : Command → Option (List ℕ)
+line_by c = spoken (row_of c).0 (row_of c).1.arguments (made c).0
+
+is_line : (verb : List ℕ) (f : Form) (values : f.Values) (c : Command) → form_of verb ≡ f → f.make values ≡ c → IsLineOf c (spoken verb f.arguments values)
+is_line verb f values c e m = subst (λ f. (values : f.Values) → f.make values ≡ c → IsLineOf c (spoken verb f.arguments values)) e (λ values m. (verb, values, m, refl)) values m
 
 pub some_line : (c : Command) → (line : Option (List ℕ)) × IsLineOf c line
-some_line c = (line_by c, ((taken c).0, (taken c).1, made_again c, refl))
+some_line c = (line_by c, is_line (row_of c).0 (row_of c).1 (made c).0 c (form_holds verbs (place_of verbs keys.0 (key c)) forms_hold) (made c).1)
 
--- what each row makes is taken apart by that row
-abbrev IsTaken : List ℕ × Form → Type 0
-IsTaken row = (values : row.1.Values) → spoken row.0 row.1.arguments values ≡ line_by (row.1.make values)
+-- what each row says of its values is the line of what it makes of them
+abbrev lines_said : (rows : List Row) → Table (λ row. row.1.Values → Option (List ℕ)) rows
+lines_said [] = tt
+lines_said (row ∷ rows) = ((λ values. spoken row.0 row.1.arguments values), lines_said rows)
 
-infixr 5 ◌also◌
-data AreTaken : List (List ℕ × Form) → Type 1 where
-  nothing : AreTaken []
-  ◌also◌ : {row : List ℕ × Form} {rows : List (List ℕ × Form)} → IsTaken row → AreTaken rows → AreTaken (row ∷ rows)
+abbrev lines_made : (rows : List Row) → Table (λ row. row.1.Values → Option (List ℕ)) rows
+lines_made [] = tt
+lines_made (row ∷ rows) = ((λ values. line_by (row.1.make values)), lines_made rows)
 
-all_taken : AreTaken verbs
-unfolding taken form_of
-all_taken =
-    (λ v. refl) also (λ v. refl) also (λ v. refl) also (λ v. refl) also (λ v. refl) also (λ v. refl) also (λ v. refl) also (λ v. refl)
-    also (λ v. refl) also (λ v. refl) also (λ v. refl) also (λ v. refl) also (λ v. refl) also (λ v. refl) also (λ v. refl) also (λ v. refl)
-    also (λ v. refl) also (λ v. refl) also (λ v. refl) also (λ v. refl) also (λ v. refl) also (λ v. refl) also (λ v. refl) also (λ v. refl)
-    also (λ v. refl) also (λ v. refl) also (λ v. refl) also (λ v. refl) also (λ v. refl) also (λ v. refl) also (λ v. refl) also (λ v. refl)
-    also (λ v. refl) also (λ v. refl) also (λ v. refl) also (λ v. refl) also (λ v. refl) also (λ v. refl) also (λ v. refl) also (λ v. refl)
-    also (λ v. refl) also (λ v. refl) also (λ v. refl) also (λ v. refl) also (λ v. refl) also (λ v. refl) also (λ v. refl) also (λ v. refl)
-    also (λ v. refl) also (λ v. refl) also (λ v. refl) also (λ v. refl) also (λ v. refl) also (λ v. refl) also (λ v. refl) also (λ v. refl)
-    also (λ v. refl) also (λ v. refl) also (λ v. refl) also (λ v. refl) also (λ v. refl) also (λ v. refl) also (λ v. refl) also (λ v. refl)
-    also (λ v. refl) also (λ v. refl) also (λ v. refl) also (λ v. refl) also (λ v. refl) also (λ v. refl) also (λ v. refl)
-    also nothing
+same_lines : lines_said verbs ≡ lines_made verbs
+unfolding key keys place_of made
+same_lines = refl
 
-in_rows : (rows : List (List ℕ × Form)) (verb : List ℕ) (values : (form_in rows verb).Values) → AreTaken rows → spoken verb (form_in rows verb).arguments values ≡ line_by ((form_in rows verb).make values)
+in_rows : (rows : List Row) (verb : List ℕ) (values : (form_in rows verb).Values) → lines_said rows ≡ lines_made rows → spoken verb (form_in rows verb).arguments values ≡ line_by ((form_in rows verb).make values)
 in_rows [] verb values t = absurd values
-in_rows (row ∷ rows) verb values (h also t) = by (bytes_eq verb row.0) refl values (λ more. in_rows rows verb more t)
+in_rows (row ∷ rows) verb values t = by (bytes_eq verb row.0) refl values (λ more. in_rows rows verb more (ap (λ l. l.1) t))
   where
     by : (b : Bool) → bytes_eq verb row.0 ≡ b → (values : (cond b row.1 (form_in rows verb)).Values)
         → ((more : (form_in rows verb).Values) → spoken verb (form_in rows verb).arguments more ≡ line_by ((form_in rows verb).make more))
         → spoken verb (cond b row.1 (form_in rows verb)).arguments values ≡ line_by ((cond b row.1 (form_in rows verb)).make values)
-    by true f values k = ap (λ x. spoken x row.1.arguments values) (same_bytes verb row.0 f) ∙ h values
+    by true f values k = ap (λ x. spoken x row.1.arguments values) (same_bytes verb row.0 f) ∙ ap (λ l. l.0 values) t
     by false f values k = k values
 
 spoken_so : (verb : List ℕ) (values : (form_of verb).Values) → spoken verb (form_of verb).arguments values ≡ line_by ((form_of verb).make values)
 unfolding form_of
 spoken_so [] values = absurd values
-spoken_so (b ∷ bs) values = in_rows verbs (b ∷ bs) values all_taken
+spoken_so (b ∷ bs) values = in_rows verbs (b ∷ bs) values same_lines
 
 line_is : (c : Command) (line : Option (List ℕ)) → IsLineOf c line → line ≡ line_by c
 line_is c line p = p.3 ∙ spoken_so p.0 p.1 ∙ ap line_by p.2

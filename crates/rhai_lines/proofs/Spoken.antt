@@ -41,10 +41,10 @@ before_none verb p more c = by (spells p c.0) (writes more c.1)
     by None v e = refl
     by (Some w) v e = cc
 
--- A verb is shown, and then the words of values of which its form makes the command: the line of the command.
-pub adds_line : (verb shown : List ℕ) (values : (form_of verb).Values) (c : Command) (r : Result Bool AllocError) (old new : List ℕ)
-    → shown ≡ verb → Adds r (spoken shown (form_of verb).arguments values) old new → (form_of verb).make values ≡ c → AddsLine r c old new
-adds_line verb shown values c r old new s h m = by r (spoken verb (form_of verb).arguments values) refl (rw s at h)
+-- A verb, and the words of values of which its form makes the command: the line of the command.
+pub adds_line : (verb : List ℕ) (values : (form_of verb).Values) (c : Command) (r : Result Bool AllocError) (old new : List ℕ)
+    → Adds r (spoken verb (form_of verb).arguments values) old new → (form_of verb).make values ≡ c → AddsLine r c old new
+adds_line verb values c r old new h m = by r (spoken verb (form_of verb).arguments values) refl h
   where
     by : (r : Result Bool AllocError) (o : Option (List ℕ)) → spoken verb (form_of verb).arguments values ≡ o → Adds r o old new → AddsLine r c old new
     by (Ok true) None k h = absurd h

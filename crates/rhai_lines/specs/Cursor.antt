@@ -1,15 +1,8 @@
 -- What the reader of a line owes, and what its writer.
-use Rattle.std.specs.Prelude.{◌≡◌, ℕ, zero, suc, ◌&&◌, ◌++◌, ⊤, Bool, true, false, List, [], ◌∷◌, Option, Some, None, IsSomeAnd, Result, Ok, Err, map}
+use Rattle.std.specs.Prelude.{◌≡◌, ℕ, ◌++◌, ⊤, Bool, true, false, List, Option, Some, None, IsSomeAnd, Result, Ok, Err, map}
 use Rattle.std.specs.Borrow.{Bor}
-use Rattle.std.specs.Cmp.Lexicographic.{slice_cmp}
-use Rattle.std.specs.Ordering.{nat_cmp, is_lt}
 use Rattle.std.specs.declared.alloc.AllocError.{AllocError}
-use denote.Enum.Bare.{sameb}
-use denote.Enum.Declared.{tag_of}
 use Rattle.rhai_run.specs.declared.command.Command.{Command}
-use Rattle.rhai_lines.specs.contracts.verbs.Verb as verb
-use Rattle.rhai_lines.specs.declared.verbs.Verb.{Verb}
-use Rattle.rhai_lines.specs.declared.verbs.TheConstants.{VERBS}
 use Rattle.rhai_lines.specs.declared.words.NoCommand.{NoCommand}
 use Rattle.rhai_lines.specs.declared.words.NoCommand.TheVariants.{BadLine, Memory}
 use Rattle.rhai_lines.specs.Words.{Left, words_of}
@@ -28,32 +21,6 @@ left_in (Some text) = Some text.now
 abbrev pub rows : {A : Type 0} → List (Bor (List ℕ) × A) → List (List ℕ × A)
 rows table = map (λ row. (row.0.now, row.1)) table
 
--- each text of a table is below the next one
-abbrev pub rises : {A : Type 0} → List (List ℕ × A) → Bool
-rises [] = true
-rises (row ∷ []) = true
-rises (row ∷ next ∷ more) = is_lt (slice_cmp nat_cmp row.0 next.0) && rises (next ∷ more)
-
--- the verbs as the code has them, and the text of one
-unfoldable pub verb_rows : List (List ℕ × Verb)
-verb_rows = map (λ row. (row.0.now, row.1)) VERBS
-
-abbrev pub is_verb : Verb → Verb → Bool
-is_verb a b = sameb verb.the_type a b
-
-abbrev pub text_at : List (List ℕ × Verb) → ℕ → List ℕ
-text_at [] n = []
-text_at (row ∷ more) zero = row.0
-text_at (row ∷ more) (suc n) = text_at more n
-
--- (by the number of the verb, so that nothing unfolds where the verb isn't known)
-abbrev pub text_by : ℕ → List ℕ
-text_by zero = text_at verb_rows zero
-text_by (suc n) = text_at verb_rows (suc n)
-
-unfoldable pub verb_text : Verb → List ℕ
-verb_text v = text_by (tag_of verb.the_type v)
-
 -- A word says the value; or it says none; or memory was refused for the value that it says.
 abbrev pub Yields : {A : Type 0} → Result A NoCommand → Option A → (A → Bool) → Type 0
 Yields (Ok a) value takes = value ≡ Some a
@@ -71,13 +38,10 @@ abbrev pub Lacks : {A : Type 0} → NoCommand → Arguments A → Left → Type 
 Lacks BadLine arguments left = says arguments left ≡ None
 Lacks Memory arguments left = takes arguments left ≡ true
 
--- All that is left says the values, which the code has as a tuple; or there are none.
-abbrev pub FindsTuple : {T A : Type 0} → Result T NoCommand → (T → A) → Arguments A → Left → Type 0
-FindsTuple (Ok t) values arguments left = says arguments left ≡ Some (values t)
-FindsTuple (Err e) values arguments left = Lacks e arguments left
-
+-- All that is left says the values; or there are none.
 abbrev pub Finds : {A : Type 0} → Result A NoCommand → Arguments A → Left → Type 0
-Finds result arguments left = FindsTuple result (λ a. a) arguments left
+Finds (Ok a) arguments left = says arguments left ≡ Some a
+Finds (Err e) arguments left = Lacks e arguments left
 
 -- All that is left says values, which the code has as a tuple and of which this command is made; or there are none.
 abbrev pub Makes : {T A : Type 0} → Result Command NoCommand → (T → A) → (T → Command → Type 0) → Arguments A → Left → Type 0

@@ -4,7 +4,7 @@ ghost use Rattle.rhai_lines.specs.Verbs.{command_of};
 ghost use Rattle.rhai_lines.specs.Spelling.{IsLineOf, IsJournalOf};
 ghost use Rattle.rhai_lines.specs.Output.{output, output_of_commands, new_world};
 
-use crate::commands::add_line;
+use crate::verbs::add_line;
 use rhai_run::Command;
 use std::alloc::{AllocError, Global};
 

@@ -2,7 +2,6 @@
 #![tactic(auto)]
 
 mod args;
-mod commands;
 mod journals;
 pub mod laws;
 mod lines;
@@ -14,7 +13,7 @@ mod verbs;
 mod vocabulary;
 mod words;
 
-pub use commands::command;
 pub use journals::{journal, line_of};
 pub use lines::{LinesFault, run_lines};
 pub use print::{write_answer, write_bad_line};
+pub use verbs::command;

@@ -6,8 +6,8 @@ ghost use Rattle.rhai_lines.specs.Output.{line_answer, line_state, new_world, ou
 ghost use Rattle.rhai_lines.specs.Fed.{AnswerAlike, Feeds, StopsWithin, Completes, AnswersWhatIsRead};
 ghost use Rattle.rhai_lines.specs.Faults.{IsNoWriteFault, IsReadFault, IsNoReadFault};
 
-use crate::commands::command;
 use crate::print::{write_answer, write_bad_line};
+use crate::verbs::command;
 use memchr::memchr;
 use rhai_run::laws::collecting_is_not_seen;
 use rhai_run::{World, apply};

@@ -1,6 +1,9 @@
 //! Commands that are made of the arguments of a verb.
 //!
-//! No function here is inlined: the one that has an arm for each verb would have, and clear, a place for the arguments of each.
+//! The function that has an arm for each verb would have, and clear, a place for what it hands over by value in each. So no function here is inlined,
+//! and what is left of the line is lent.
+#![tactic(auto, unfolding(crate::specs::Arguments::says, crate::specs::Memory::takes))]
+
 ghost use Rattle.std.specs.Prelude.{◌≡◌};
 ghost use Rattle.rhai_run.specs.declared.command.Command.TheVariants.{Put, ExtendFlagged, SetAlias};
 ghost use Rattle.rhai_run.specs.declared.command.Literal.TheVariants.{Char, Text, Blob};
@@ -8,128 +11,147 @@ ghost use Rattle.rhai_lines.specs.Vocabulary.{a_name};
 ghost use Rattle.rhai_lines.specs.Arguments.{none, one as one_word, before, names as some_names, flagged_names as some_flagged_names, an_alias, a_text, a_blob, a_char};
 ghost use Rattle.rhai_lines.specs.Cursor.{left_in, Makes};
 
-use crate::args::{
-    args1, args2, args3, args4, blob, character, flagged_names, name_and_alias, names, no_args,
-    text,
-};
+use crate::args::{alias, bytes_in, is_hex, last_word, list, only_char, text, text_left};
 use crate::words::{NoCommand, Word};
-use rhai_run::{Command, Literal, Names};
+use rhai_run::{Bytes, Command, FlaggedNames, Literal, Names};
 use std::alloc::Global;
 
 /// The command of a verb with no arguments.
 #[inline(never)]
 pub(crate) fn of_none<F: FnOnce(()) -> Command>(
-    left: Option<&str>,
+    left: &Option<&str>,
     make: F,
 ) -> Result<Command, NoCommand>
     requires { F.IsAlwaysCallable make }
-    ensures { Makes result (λ u. tt) (F.post make) none (left_in left.entry) }
+    ensures { Makes result (λ u. tt) (F.post make) none (left_in left.now) }
 {
-    Ok(make(no_args(left)?))
+    match *left {
+        None => Ok(make(())),
+        Some(_) => Err(NoCommand::BadLine),
+    }
 }
 
 /// The command that is made of the value of one word.
 #[inline(never)]
 pub(crate) fn of_one<A: Word, F: FnOnce(A) -> Command>(
     alloc: Global,
-    left: Option<&str>,
+    left: &Option<&str>,
     make: F,
 ) -> Result<Command, NoCommand>
     requires { F.IsAlwaysCallable make }
-    ensures { Makes result (λ a. a) (F.post make) (one_word A.word) (left_in left.entry) }
+    ensures { Makes result (λ a. a) (F.post make) (one_word A.word) (left_in left.now) }
 {
-    Ok(make(args1(alloc, left)?))
+    Ok(make(last_word(alloc, *left)?))
 }
 
 /// The command that is made of the values of two words.
 #[inline(never)]
 pub(crate) fn of_two<A: Word, B: Word, F: FnOnce((A, B)) -> Command>(
     alloc: Global,
-    left: Option<&str>,
+    left: &Option<&str>,
     make: F,
 ) -> Result<Command, NoCommand>
     requires { F.IsAlwaysCallable make }
-    ensures { Makes result (λ a. a) (F.post make) (before A.word (one_word B.word)) (left_in left.entry) }
+    ensures { Makes result (λ a. a) (F.post make) (before A.word (one_word B.word)) (left_in left.now) }
 {
-    Ok(make(args2(alloc, left)?))
+    let (a, left) = A::read(alloc, *left)?;
+    let b = last_word(alloc, left)?;
+    Ok(make((a, b)))
 }
 
 /// The command that is made of the values of three words.
 #[inline(never)]
 pub(crate) fn of_three<A: Word, B: Word, C: Word, F: FnOnce((A, B, C)) -> Command>(
     alloc: Global,
-    left: Option<&str>,
+    left: &Option<&str>,
     make: F,
 ) -> Result<Command, NoCommand>
     requires { F.IsAlwaysCallable make }
-    ensures { Makes result (λ t. (t.0, (t.1, t.2))) (F.post make) (before A.word (before B.word (one_word C.word))) (left_in left.entry) }
+    ensures { Makes result (λ t. (t.0, (t.1, t.2))) (F.post make) (before A.word (before B.word (one_word C.word))) (left_in left.now) }
 {
-    Ok(make(args3(alloc, left)?))
+    let (a, left) = A::read(alloc, *left)?;
+    let (b, left) = B::read(alloc, left)?;
+    let c = last_word(alloc, left)?;
+    Ok(make((a, b, c)))
 }
 
 /// The command that is made of the values of four words.
 #[inline(never)]
 pub(crate) fn of_four<A: Word, B: Word, C: Word, D: Word, F: FnOnce((A, B, C, D)) -> Command>(
     alloc: Global,
-    left: Option<&str>,
+    left: &Option<&str>,
     make: F,
 ) -> Result<Command, NoCommand>
     requires { F.IsAlwaysCallable make }
-    ensures { Makes result (λ t. (t.0, (t.1, (t.2, t.3)))) (F.post make) (before A.word (before B.word (before C.word (one_word D.word)))) (left_in left.entry) }
+    ensures { Makes result (λ t. (t.0, (t.1, (t.2, t.3)))) (F.post make) (before A.word (before B.word (before C.word (one_word D.word)))) (left_in left.now) }
 {
-    Ok(make(args4(alloc, left)?))
+    let (a, left) = A::read(alloc, *left)?;
+    let (b, left) = B::read(alloc, left)?;
+    let (c, left) = C::read(alloc, left)?;
+    let d = last_word(alloc, left)?;
+    Ok(make((a, b, c, d)))
 }
 
 /// The command that is made of names.
 #[inline(never)]
 pub(crate) fn of_names<F: FnOnce(Names) -> Command>(
     alloc: Global,
-    left: Option<&str>,
+    left: &Option<&str>,
     make: F,
 ) -> Result<Command, NoCommand>
     requires { F.IsAlwaysCallable make }
-    ensures { Makes result (λ a. a) (F.post make) some_names (left_in left.entry) }
+    ensures { Makes result (λ a. a) (F.post make) some_names (left_in left.now) }
 {
-    Ok(make(names(alloc, left)?))
+    Ok(make(Names::new(list(alloc, *left)?)))
 }
 
 /// The command that extends the scope by names with flags.
 #[inline(never)]
-pub(crate) fn of_flagged_names(alloc: Global, left: Option<&str>) -> Result<Command, NoCommand>
-    ensures { Makes result (λ a. a) (λ names c. c ≡ ExtendFlagged names) some_flagged_names (left_in left.entry) }
+pub(crate) fn of_flagged_names(alloc: Global, left: &Option<&str>) -> Result<Command, NoCommand>
+    ensures { Makes result (λ a. a) (λ names c. c ≡ ExtendFlagged names) some_flagged_names (left_in left.now) }
 {
-    Ok(Command::ExtendFlagged(flagged_names(alloc, left)?))
+    Ok(Command::ExtendFlagged(FlaggedNames::new(list(alloc, *left)?)))
 }
 
 /// The command that gives an alias to a name.
 #[inline(never)]
-pub(crate) fn of_alias(alloc: Global, left: Option<&str>) -> Result<Command, NoCommand>
-    ensures { Makes result (λ a. a) (λ p c. c ≡ SetAlias p.0 p.1) (before a_name an_alias) (left_in left.entry) }
+pub(crate) fn of_alias(alloc: Global, left: &Option<&str>) -> Result<Command, NoCommand>
+    ensures { Makes result (λ a. a) (λ p c. c ≡ SetAlias p.0 p.1) (before a_name an_alias) (left_in left.now) }
 {
-    let (name, alias) = name_and_alias(alloc, left)?;
+    let (name, left) = Word::read(alloc, *left)?;
+    let alias = alias(alloc, left)?;
     Ok(Command::SetAlias(name, alias))
 }
 
 /// The command that puts a character.
 #[inline(never)]
-pub(crate) fn put_char(left: Option<&str>) -> Result<Command, NoCommand>
-    ensures { Makes result (λ a. a) (λ character c. c ≡ Put (Char character)) a_char (left_in left.entry) }
+pub(crate) fn put_char(left: &Option<&str>) -> Result<Command, NoCommand>
+    ensures { Makes result (λ a. a) (λ character c. c ≡ Put (Char character)) a_char (left_in left.now) }
 {
-    Ok(Command::Put(Literal::Char(character(left)?)))
+    match only_char(text_left(*left)) {
+        Some(c) => Ok(Command::Put(Literal::Char(c))),
+        None => Err(NoCommand::BadLine),
+    }
 }
 
 /// The command that puts a text.
 #[inline(never)]
-pub(crate) fn put_text(alloc: Global, left: Option<&str>) -> Result<Command, NoCommand>
-    ensures { Makes result (λ a. a) (λ text c. c ≡ Put (Text text)) a_text (left_in left.entry) }
+pub(crate) fn put_text(alloc: Global, left: &Option<&str>) -> Result<Command, NoCommand>
+    ensures { Makes result (λ a. a) (λ text c. c ≡ Put (Text text)) a_text (left_in left.now) }
 {
-    Ok(Command::Put(Literal::Text(text(alloc, left)?)))
+    Ok(Command::Put(Literal::Text(text(alloc, *left)?)))
 }
 
 /// The command that puts a blob.
 #[inline(never)]
-pub(crate) fn put_blob(alloc: Global, left: Option<&str>) -> Result<Command, NoCommand>
-    ensures { Makes result (λ a. a) (λ bytes c. c ≡ Put (Blob bytes)) a_blob (left_in left.entry) }
+pub(crate) fn put_blob(alloc: Global, left: &Option<&str>) -> Result<Command, NoCommand>
+    ensures { Makes result (λ a. a) (λ bytes c. c ≡ Put (Blob bytes)) a_blob (left_in left.now) }
 {
-    Ok(Command::Put(Literal::Blob(blob(alloc, left)?)))
+    let Some(digits) = *left else {
+        return Ok(Command::Put(Literal::Blob(Bytes::new(Vec::new(alloc)))));
+    };
+    if !is_hex(digits.as_bytes()) {
+        return Err(NoCommand::BadLine);
+    }
+    Ok(Command::Put(Literal::Blob(bytes_in(alloc, digits.as_bytes())?)))
 }

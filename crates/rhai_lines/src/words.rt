@@ -5,7 +5,7 @@ ghost use Rattle.rhai_lines.specs.declared.words.NoCommand.TheVariants.{BadLine,
 ghost use Rattle.rhai_lines.specs.Words.{word_of, left_of, next_word, is_name, name_of, named, truths};
 ghost use Rattle.rhai_lines.specs.Vocabulary.{a_name, a_truth, Word as word_kind};
 ghost use Rattle.rhai_lines.specs.Spelling.{called, spells};
-ghost use Rattle.rhai_lines.specs.Cursor.{left_in, rows, rises, Reads, Yields, Adds};
+ghost use Rattle.rhai_lines.specs.Cursor.{left_in, rows, Reads, Yields, Adds};
 
 use rhai_text::ImmutableString;
 use std::alloc::{AllocError, Global};
@@ -80,17 +80,6 @@ pub(crate) fn named<A: Copy>(table: &[(&str, A)], word: &str) -> Option<A>
         left = rest;
     }
     None
-}
-
-/// What a table whose texts stand in order has for a word.
-pub(crate) fn named_in_order<A: Copy>(table: &[(&str, A)], word: &str) -> Option<A>
-    requires { rises (rows table.now) ≡ true }
-    ensures { result ≡ named (rows table.now) word.now }
-{
-    match table.binary_search_by_key(&word, |&(text, _)| text) {
-        Ok(at) => Some(table[at].1),
-        Err(_) => None,
-    }
 }
 
 fn truth_in(word: &str) -> Option<bool>

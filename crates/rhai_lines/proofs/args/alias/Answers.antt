@@ -23,4 +23,4 @@ pub returns-in-None : goal.returns-in-None
 returns-in-None c = rw c.in-None.is (missing c.text.result (rw c.in-None.is at c.text.ensures))
 
 pub returns-in-Some : goal.returns-in-Some
-returns-in-Some c = rw c.in-Some.is (by_name c.args1.result c.in-Some.field-0.now (rw c.in-Some.is at c.args1.ensures))
+returns-in-Some c = rw c.in-Some.is (by_name c.last_word.result c.in-Some.field-0.now (rw c.in-Some.is at c.last_word.ensures))

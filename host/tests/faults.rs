@@ -124,7 +124,6 @@ fn scripts() {
         for lasts in [false, true] {
             match refuse(nth, lasts, run).0 {
                 Err(ScriptError::OutOfMemory) => stopped += 1,
-                Err(ScriptError::Fault { message, .. }) if message == "out of memory" => stopped += 1,
                 // A few requests are for what can wait, as giving cells back can.
                 found => assert_eq!(found, expected, "request {nth}"),
             }

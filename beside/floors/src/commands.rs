@@ -1,0 +1,277 @@
+//! Commands over one world, whose answers have 64 bytes.
+
+use crate::value::{Fault, Host, Mode, Text, Value};
+use std::hint::black_box;
+
+/// A value that a command makes.
+#[repr(u8)]
+pub enum Literal {
+    Int(i64),
+    Text(Text),
+    Host(Host),
+}
+
+#[repr(u8)]
+pub enum Command {
+    Put(Literal),
+    Copy(usize),
+    Drop,
+    Share(usize),
+    AskInt(usize),
+    WriteInt(usize, i64),
+    Push(Text, usize),
+    Rewind(usize),
+    Get(Text),
+    Show(usize),
+}
+
+#[repr(u8)]
+pub enum Refusal {
+    NoValue,
+    NoEntry,
+    Mismatch(&'static str),
+    Fault(Fault),
+}
+
+#[repr(u8)]
+pub enum Answer {
+    Done,
+    Int(i128),
+    Text(String),
+    Refused(Refusal),
+}
+
+const _: () = assert!(size_of::<Answer>() == 64 && size_of::<Command>() == 64);
+
+struct Entry {
+    name: Text,
+    value: Value,
+    aliases: Vec<Text>,
+}
+
+#[derive(Default)]
+struct World {
+    cells: Vec<Value>,
+    entries: Vec<Entry>,
+    hand: Vec<Value>,
+}
+
+/// Memory was refused.
+struct Stopped;
+
+impl From<std::collections::TryReserveError> for Stopped {
+    fn from(_: std::collections::TryReserveError) -> Self {
+        Stopped
+    }
+}
+
+const NO_VALUE: Result<Answer, Stopped> = Ok(Answer::Refused(Refusal::NoValue));
+
+impl World {
+    #[inline(always)]
+    fn append(&mut self, value: Value) -> Result<Answer, Stopped> {
+        self.hand.try_reserve(1)?;
+        self.hand.push(value);
+        Ok(Answer::Done)
+    }
+
+    #[inline(always)]
+    fn copy(&mut self, i: usize) -> Result<Answer, Stopped> {
+        match self.hand.get(i) {
+            None => NO_VALUE,
+            Some(Value::Int(tag, _, n)) => self.append(Value::Int(*tag, Mode::ReadWrite, *n)),
+            Some(Value::Shared(tag, _, cell)) => self.append(Value::Shared(*tag, Mode::ReadWrite, *cell)),
+            Some(value) => match value.copy() {
+                None => Err(Stopped),
+                Some(value) => self.append(value),
+            },
+        }
+    }
+
+    fn share(&mut self, i: usize) -> Result<Answer, Stopped> {
+        let Some(value) = self.hand.get_mut(i) else {
+            return NO_VALUE;
+        };
+        self.cells.try_reserve(1)?;
+        let holder = Value::Shared(0, Mode::ReadWrite, self.cells.len());
+        self.cells.push(std::mem::replace(value, holder));
+        Ok(Answer::Done)
+    }
+
+    #[inline(always)]
+    fn ask(&self, i: usize) -> Answer {
+        match self.hand.get(i).map(|value| value.held_int(&self.cells)) {
+            None => Answer::Refused(Refusal::NoValue),
+            Some(Ok(n)) => Answer::Int(i128::from(n)),
+            Some(Err(name)) => Answer::Refused(Refusal::Mismatch(name)),
+        }
+    }
+
+    #[inline(always)]
+    fn write(&mut self, i: usize, n: i64) -> Answer {
+        let place = match self.hand.get_mut(i) {
+            None => return Answer::Refused(Refusal::NoValue),
+            Some(Value::Shared(_, _, cell)) => self.cells.get_mut(*cell),
+            own => own,
+        };
+        match place {
+            Some(Value::Int(_, _, own)) => {
+                *own = n;
+                Answer::Done
+            }
+            Some(_) => Answer::Refused(Refusal::Mismatch("()")),
+            None => Answer::Refused(Refusal::Fault(Fault::Mismatch("i64", "<shared>", (0, 0)))),
+        }
+    }
+
+    #[inline(always)]
+    fn push(&mut self, name: &Text, i: usize) -> Result<Answer, Stopped> {
+        let Some(value) = self.hand.get_mut(i) else {
+            return NO_VALUE;
+        };
+        self.entries.try_reserve(1)?;
+        let value = std::mem::replace(value, Value::UNIT);
+        self.entries.push(Entry { name: name.clone(), value, aliases: Vec::new() });
+        Ok(Answer::Done)
+    }
+
+    #[inline(always)]
+    fn get(&mut self, name: &Text) -> Result<Answer, Stopped> {
+        match self.entries.iter().rev().find(|entry| entry.name.bytes() == name.bytes()) {
+            None => Ok(Answer::Refused(Refusal::NoEntry)),
+            Some(entry) => match entry.value.copy() {
+                None => Err(Stopped),
+                Some(value) => self.append(value),
+            },
+        }
+    }
+
+    fn show(&self, i: usize) -> Result<Answer, Stopped> {
+        match self.hand.get(i).map(|value| value.held_int(&self.cells)) {
+            None => NO_VALUE,
+            Some(Err(name)) => Ok(Answer::Refused(Refusal::Mismatch(name))),
+            Some(Ok(n)) => {
+                let shared = matches!(self.hand.get(i), Some(Value::Shared(..)));
+                Ok(Answer::Text(n.to_string() + if shared { " (shared)" } else { "" }))
+            }
+        }
+    }
+
+    #[inline(always)]
+    fn apply(&mut self, command: &Command) -> Result<Answer, Stopped> {
+        match command {
+            Command::Put(Literal::Int(n)) => self.append(Value::int(*n)),
+            Command::Put(Literal::Text(text)) => self.append(Value::text(text.clone())),
+            Command::Put(Literal::Host(host)) => self.append(Value::Host(0, Mode::ReadWrite, *host)),
+            Command::Copy(i) => self.copy(*i),
+            Command::Drop => match self.hand.len().checked_sub(1) {
+                None => NO_VALUE,
+                Some(last) => {
+                    self.hand.truncate(last);
+                    Ok(Answer::Done)
+                }
+            },
+            Command::Share(i) => self.share(*i),
+            Command::AskInt(i) => Ok(self.ask(*i)),
+            Command::WriteInt(i, n) => Ok(self.write(*i, *n)),
+            Command::Push(name, i) => self.push(name, *i),
+            Command::Rewind(len) => {
+                self.entries.truncate(*len);
+                Ok(Answer::Done)
+            }
+            Command::Get(name) => self.get(name),
+            Command::Show(i) => self.show(*i),
+        }
+    }
+}
+
+impl Entry {
+    #[inline(never)]
+    fn says_alias(&self) -> bool {
+        self.aliases.iter().any(|alias| alias.bytes().is_empty())
+    }
+}
+
+fn commands(kind: u32) -> Vec<Command> {
+    let mut commands = Vec::with_capacity(1536);
+    for i in 0..256 {
+        match kind {
+            0 => commands.extend([Command::Put(Literal::Int(i)), Command::Copy(0), Command::Drop, Command::Drop]),
+            1 => commands.extend([Command::WriteInt(0, i), Command::AskInt(1), Command::WriteInt(1, i), Command::AskInt(0)]),
+            2 => {
+                let name = Text::new("counter");
+                commands.extend([Command::Copy(0), Command::Push(name.clone(), 2), Command::Get(name)]);
+                commands.extend([Command::Rewind(0), Command::Drop, Command::Drop]);
+            }
+            _ => commands.extend([Command::Show(0), Command::Put(Literal::Int(i)), Command::Show(2), Command::Drop]),
+        }
+    }
+    commands
+}
+
+fn told(answer: &Answer) -> u64 {
+    match answer {
+        Answer::Done => 1,
+        Answer::Int(_) => 2,
+        Answer::Text(text) => text.len() as u64,
+        Answer::Refused(_) => 1000,
+    }
+}
+
+fn world() -> Result<World, Stopped> {
+    let mut world = World::default();
+    for command in [Command::Put(Literal::Int(1)), Command::Share(0), Command::Copy(0)] {
+        world.apply(&command)?;
+    }
+    Ok(world)
+}
+
+#[inline(never)]
+fn apply_called(world: &mut World, command: &Command) -> Result<Answer, Stopped> {
+    world.apply(command)
+}
+
+fn applied(kind: u32, n: usize, apply: impl Fn(&mut World, &Command) -> Result<Answer, Stopped>) -> Result<u64, Stopped> {
+    let (commands, mut world) = (commands(kind), world()?);
+    let mut sum = 0_u64;
+    for _ in 0..n {
+        for command in black_box(&commands) {
+            sum = sum.wrapping_add(told(&apply(&mut world, command)?));
+        }
+    }
+    Ok(sum + u64::from(world.entries.iter().any(Entry::says_alias)))
+}
+
+fn ran(kind: u32, n: usize, apply: impl Fn(&mut World, &Command) -> Result<Answer, Stopped>) -> Result<u64, Stopped> {
+    let (commands, mut world) = (commands(kind), world()?);
+    let mut sum = 0_u64;
+    for _ in 0..n {
+        let mut answers = Vec::new();
+        answers.try_reserve_exact(commands.len())?;
+        for command in black_box(&commands) {
+            answers.push(apply(&mut world, command)?);
+        }
+        sum = answers.iter().fold(sum, |sum, answer| sum.wrapping_add(told(answer)));
+    }
+    Ok(sum + u64::from(world.entries.iter().any(Entry::says_alias)))
+}
+
+/// Rows 1000 to 1003, the commands inlined.
+pub fn apply_inlined(kind: u32, n: usize) -> u64 {
+    applied(kind, n, |world, command| world.apply(command)).unwrap_or(u64::MAX)
+}
+
+/// The same by calls, which hand each answer over.
+pub fn apply_by_calls(kind: u32, n: usize) -> u64 {
+    applied(kind, n, apply_called).unwrap_or(u64::MAX)
+}
+
+/// Rows 1100 and 1101: all answers are kept.
+pub fn run_inlined(kind: u32, n: usize) -> u64 {
+    ran(kind, n, |world, command| world.apply(command)).unwrap_or(u64::MAX)
+}
+
+/// The same by calls.
+pub fn run_by_calls(kind: u32, n: usize) -> u64 {
+    ran(kind, n, apply_called).unwrap_or(u64::MAX)
+}

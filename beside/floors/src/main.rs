@@ -1,0 +1,68 @@
+//! Measures the forms beside the port and the released files.
+//!
+//! Usage: floors TURNS [PART]: the rows whose names have PART, the least of so many turns.
+
+use floors::measured::{count, run_one, Told};
+use floors::{forms, texts};
+use std::fmt::Write as _;
+use times::page::number;
+use times::rows::ROWS;
+
+fn cell(n: Option<f64>) -> String {
+    n.map_or("-".into(), number)
+}
+
+/// A line a form, and behind the name of the row what both sides take.
+fn table(told: &[Told]) -> String {
+    let mut text = String::from("| row | form | ns | to rhai | port to it | rhai ns | port ns | instructions | rhai | port |\n");
+    text.push_str("|---|---|---|---|---|---|---|---|---|---|\n");
+    for row in told {
+        let [port, rhai] = row.sides;
+        for form in &row.forms {
+            let mark = if form.keeps { "" } else { " (beside)" };
+            let note = if form.agrees { "" } else { " CHECKSUMS DIFFER" };
+            let ratios = format!("{:.2} | {:.2}", form.taken.ns / rhai.ns, port.ns / form.taken.ns);
+            let times = format!("{} | {}", number(rhai.ns), number(port.ns));
+            let counts = [form.taken.instructions, rhai.instructions, port.instructions].map(cell).join(" | ");
+            let (name, what, ns) = (row.name, form.name, number(form.taken.ns));
+            let _ = writeln!(text, "| {name} | {what}{mark}{note} | {ns} | {ratios} | {times} | {counts} |");
+        }
+    }
+    text
+}
+
+/// A line a row: its least form that keeps the promises.
+fn floors(told: &[Told]) -> String {
+    let mut text = String::from("| row | port to rhai | floor to rhai | port to floor | rhai ns | floor ns | port ns | the floor's form |\n");
+    text.push_str("|---|---|---|---|---|---|---|---|\n");
+    for row in told {
+        let [port, rhai] = row.sides;
+        let Some(floor) = row.floor() else { continue };
+        let ns = floor.taken.ns;
+        let times = [rhai.ns, ns, port.ns].map(number).join(" | ");
+        let ratios = format!("{:.2} | {:.2} | {:.2}", port.ns / rhai.ns, ns / rhai.ns, port.ns / ns);
+        let _ = writeln!(text, "| {} | {ratios} | {times} | {} |", row.name, floor.name);
+    }
+    text
+}
+
+fn main() {
+    let args: Vec<String> = std::env::args().collect();
+    if let [_, one, side, which, rounds] = args.as_slice() {
+        if one == "one" {
+            return run_one(side, which.parse().expect("a number"), rounds.parse().expect("a number"));
+        }
+    }
+    let turns = args.get(1).and_then(|turns| turns.parse().ok()).expect("the number of turns");
+    let part = args.get(2).map_or("", String::as_str);
+    assert!(texts::hashes_alike("a text of more than two words"), "SipHash is not that of the standard library");
+    let forms = forms::all();
+    let mut told = Vec::new();
+    for row in ROWS.iter().filter(|row| row.name.contains(part)) {
+        told.extend(Told::of(row, &forms, turns));
+    }
+    count(&mut told);
+    println!("{}\n{}", table(&told), floors(&told));
+    let differ = told.iter().flat_map(|row| &row.forms).filter(|form| !form.agrees).count();
+    std::process::exit(i32::from(differ > 0));
+}

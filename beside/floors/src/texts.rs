@@ -1,0 +1,193 @@
+//! Texts: compared without the C library's `memcmp`, and hashed by SipHash-1-3 over whole words.
+
+use crate::given::sixteen;
+use crate::sip::Sip;
+use crate::value::{Text, Value};
+use std::cmp::Ordering;
+use std::hash::{DefaultHasher, Hash, Hasher};
+use std::hint::black_box;
+
+/// An order of bytes.
+pub type Order = fn(&[u8], &[u8]) -> Ordering;
+
+#[inline(always)]
+fn word_at(bytes: &[u8], at: usize) -> u64 {
+    bytes.get(at..).and_then(|rest| rest.first_chunk()).map_or(0, |word| u64::from_be_bytes(*word))
+}
+
+/// By words of eight bytes, of which the last one overlaps the one before.
+#[inline(always)]
+pub fn by_words(a: &[u8], b: &[u8]) -> Ordering {
+    let both = a.len().min(b.len());
+    if both < 8 {
+        return a[..both].iter().cmp(&b[..both]).then(a.len().cmp(&b.len()));
+    }
+    for (x, y) in a[..both].chunks_exact(8).zip(b[..both].chunks_exact(8)) {
+        let (x, y) = (word_at(x, 0), word_at(y, 0));
+        if x != y {
+            return x.cmp(&y);
+        }
+    }
+    word_at(a, both - 8).cmp(&word_at(b, both - 8)).then(a.len().cmp(&b.len()))
+}
+
+/// Bytes that are as many on both sides.
+#[inline(always)]
+fn order_of<const N: usize>(a: &[u8; N], b: &[u8; N]) -> Ordering {
+    for (x, y) in a.chunks_exact(8).zip(b.chunks_exact(8)) {
+        let (x, y) = (word_at(x, 0), word_at(y, 0));
+        if x != y {
+            return x.cmp(&y);
+        }
+    }
+    Ordering::Equal
+}
+
+/// By `N` bytes, which registers of 128 bits compare at once; the last of them overlap those before.
+#[inline(always)]
+pub fn by_lanes<const N: usize>(a: &[u8], b: &[u8]) -> Ordering {
+    let both = a.len().min(b.len());
+    let (Some(last), Some(other)) = (a[..both].last_chunk::<N>(), b[..both].last_chunk::<N>()) else {
+        return by_words(a, b);
+    };
+    for (x, y) in a[..both].chunks_exact(N).zip(b[..both].chunks_exact(N)) {
+        if let (Some(x), Some(y)) = (x.first_chunk::<N>(), y.first_chunk::<N>()) {
+            if x != y {
+                return order_of(x, y);
+            }
+        }
+    }
+    order_of(last, other).then(a.len().cmp(&b.len()))
+}
+
+/// By the C library's `memcmp`, which the port can't call.
+#[inline(always)]
+pub fn by_library(a: &[u8], b: &[u8]) -> Ordering {
+    a.cmp(b)
+}
+
+/// Row 84.
+#[inline(always)]
+pub fn order(n: usize, order: impl Fn(&[u8], &[u8]) -> Ordering) -> u64 {
+    let (texts, others) = (sixteen(100), sixteen(100));
+    let mut sum = 0_u64;
+    for i in 0..n {
+        if let (Some(text), Some(other)) = (texts.get(i & 15), others.get(i & 7)) {
+            if order(text.bytes(), other.bytes()).is_gt() {
+                sum = sum.wrapping_add(1);
+            }
+        }
+    }
+    sum
+}
+
+/// Row 85 by a hasher.
+#[inline(always)]
+pub fn hash<H: Hasher>(n: usize, new: impl Fn() -> H) -> u64 {
+    let texts = sixteen(100);
+    let mut sum = 0_u64;
+    for i in 0..n {
+        if let Some(text) = texts.get(i & 15) {
+            let mut hasher = new();
+            hasher.write(text.bytes());
+            hasher.write_u8(0xff);
+            sum ^= hasher.finish();
+        }
+    }
+    sum
+}
+
+/// The hash bytes of a text: its kind, its length and its bytes, in a block.
+#[inline(always)]
+fn hash_bytes(value: &Value) -> Option<Vec<u8>> {
+    let Value::Text(_, _, text) = value else {
+        return None;
+    };
+    let text = text.bytes();
+    let mut bytes = Vec::new();
+    bytes.try_reserve_exact(text.len() + 9).ok()?;
+    bytes.push(2);
+    bytes.extend_from_slice(&text.len().to_le_bytes());
+    bytes.extend_from_slice(text);
+    Some(bytes)
+}
+
+/// Row 151: the bytes are made, and then hashed.
+pub fn hash_value<H: Hasher>(n: usize, new: impl Fn() -> H) -> u64 {
+    let value = sixteen(100).pop().map_or(Value::UNIT, Value::text);
+    let mut sum = 0_u64;
+    for _ in 0..n {
+        if let Some(bytes) = hash_bytes(black_box(&value)) {
+            let mut hasher = new();
+            hasher.write(&bytes);
+            if hasher.finish() != 0 {
+                sum = sum.wrapping_add(1);
+            }
+        }
+    }
+    sum
+}
+
+/// Row 150: the nine bytes of an int take no block.
+pub fn hash_int<H: Hasher>(n: usize, new: impl Fn() -> H) -> u64 {
+    let value = Value::int(7);
+    let mut sum = 0_u64;
+    for _ in 0..n {
+        if let Some(int) = black_box(&value).own_int() {
+            let mut bytes = [4; 9];
+            bytes[1..].copy_from_slice(&int.to_le_bytes());
+            let mut hasher = new();
+            hasher.write(black_box(&bytes));
+            if hasher.finish() != 0 {
+                sum = sum.wrapping_add(1);
+            }
+        }
+    }
+    sum
+}
+
+#[must_use]
+pub fn sip() -> Sip {
+    Sip::new()
+}
+
+#[must_use]
+pub fn library() -> DefaultHasher {
+    DefaultHasher::new()
+}
+
+/// Row 81: a text of a hundred bytes takes a block for its count and one for its bytes.
+pub fn make_long(n: usize) -> u64 {
+    let given = "a".repeat(98) + "00";
+    let mut slots: Vec<Value> = (0..64).map(|_| Value::UNIT).collect();
+    for i in 0..n {
+        if let Some(slot) = slots.get_mut(i & 63) {
+            *slot = Value::text(Text::new(black_box(&given)));
+        }
+    }
+    slots.iter().map(|slot| if let Value::Text(_, _, text) = slot { text.bytes().len() as u64 } else { 0 }).sum()
+}
+
+/// Row 82.
+pub fn copy(n: usize) -> u64 {
+    let texts = sixteen(100);
+    let mut slots = sixteen(10);
+    for i in 0..n {
+        if let Some(text) = texts.get(i & 7) {
+            let copy = text.clone();
+            if let Some(slot) = slots.get_mut(i & 15) {
+                *slot = copy;
+            }
+        }
+    }
+    slots.iter().map(|text| text.bytes().len() as u64).sum()
+}
+
+/// Whether a text hashes as a `&str` does.
+#[must_use]
+pub fn hashes_alike(text: &str) -> bool {
+    let (mut ours, mut library) = (sip(), library());
+    text.hash(&mut ours);
+    text.hash(&mut library);
+    ours.finish() == library.finish()
+}

@@ -1,0 +1,185 @@
+//! Values, texts and cells as wide as the port's: what its promises leave.
+
+use std::rc::Rc;
+
+pub type Tag = i32;
+
+#[derive(Clone, Copy, PartialEq, Eq)]
+pub enum Mode {
+    ReadWrite,
+    ReadOnly,
+}
+
+/// A value of the host's own. Numbers of 128 bits are aligned to 16, and so is what holds one.
+#[derive(Clone, Copy)]
+pub enum Host {
+    U128(u128),
+    Range(i64, i64),
+}
+
+/// What a script holds: tag and mode, and then the content.
+#[repr(u8)]
+pub enum Value {
+    Unit(Tag, Mode),
+    Bool(Tag, Mode, bool),
+    Text(Tag, Mode, Text),
+    Char(Tag, Mode, char),
+    Int(Tag, Mode, i64),
+    Array(Tag, Mode, Vec<Value>),
+    Blob(Tag, Mode, Vec<u8>),
+    Host(Tag, Mode, Host),
+    Shared(Tag, Mode, usize),
+}
+
+const _: () = assert!(size_of::<Value>() == 48);
+
+/// An error of 48 bytes, as `EvalAltResult` has them, so that a result has 64.
+pub enum Fault {
+    Mismatch(&'static str, &'static str, (u32, u32)),
+    Arithmetic(u8, (u32, u32)),
+    TooLarge(u8, (u32, u32)),
+    Memory,
+}
+
+const _: () = assert!(size_of::<Result<Value, Fault>>() == 64);
+
+impl Value {
+    pub const UNIT: Value = Value::Unit(0, Mode::ReadWrite);
+
+    #[must_use]
+    pub const fn int(n: i64) -> Value {
+        Value::Int(0, Mode::ReadWrite, n)
+    }
+
+    #[must_use]
+    pub const fn bool(b: bool) -> Value {
+        Value::Bool(0, Mode::ReadWrite, b)
+    }
+
+    #[must_use]
+    pub const fn text(text: Text) -> Value {
+        Value::Text(0, Mode::ReadWrite, text)
+    }
+
+    /// The int that the value itself has.
+    #[must_use]
+    #[inline(always)]
+    pub fn own_int(&self) -> Option<i64> {
+        match self {
+            Value::Int(_, _, n) => Some(*n),
+            _ => None,
+        }
+    }
+
+    /// The int that is held, by the value itself or in its cell.
+    #[inline(always)]
+    pub fn held_int(&self, cells: &[Value]) -> Result<i64, &'static str> {
+        match self {
+            Value::Int(_, _, n) => Ok(*n),
+            Value::Shared(_, _, cell) => cells.get(*cell).and_then(Value::own_int).ok_or("i64"),
+            _ => Err("i64"),
+        }
+    }
+
+    /// A copy of its own, with mode ReadWrite; nothing where memory is refused.
+    #[must_use]
+    #[inline(always)]
+    pub fn copy(&self) -> Option<Value> {
+        match self {
+            Value::Int(tag, _, n) => Some(Value::Int(*tag, Mode::ReadWrite, *n)),
+            Value::Shared(tag, _, cell) => Some(Value::Shared(*tag, Mode::ReadWrite, *cell)),
+            Value::Text(tag, _, text) => Some(Value::Text(*tag, Mode::ReadWrite, text.clone())),
+            _ => self.copy_of_others(),
+        }
+    }
+
+    #[inline(never)]
+    fn copy_of_others(&self) -> Option<Value> {
+        Some(match self {
+            Value::Unit(tag, _) => Value::Unit(*tag, Mode::ReadWrite),
+            Value::Bool(tag, _, b) => Value::Bool(*tag, Mode::ReadWrite, *b),
+            Value::Text(tag, _, text) => Value::Text(*tag, Mode::ReadWrite, text.clone()),
+            Value::Char(tag, _, c) => Value::Char(*tag, Mode::ReadWrite, *c),
+            Value::Int(tag, _, n) => Value::Int(*tag, Mode::ReadWrite, *n),
+            Value::Array(tag, _, items) => Value::Array(*tag, Mode::ReadWrite, copied(items)?),
+            Value::Blob(tag, _, bytes) => {
+                let mut copy = Vec::new();
+                copy.try_reserve_exact(bytes.len()).ok()?;
+                copy.extend_from_slice(bytes);
+                Value::Blob(*tag, Mode::ReadWrite, copy)
+            }
+            Value::Host(tag, _, host) => Value::Host(*tag, Mode::ReadWrite, *host),
+            Value::Shared(tag, _, cell) => Value::Shared(*tag, Mode::ReadWrite, *cell),
+        })
+    }
+}
+
+fn copied(items: &[Value]) -> Option<Vec<Value>> {
+    let mut copies = Vec::new();
+    copies.try_reserve_exact(items.len()).ok()?;
+    for item in items {
+        copies.push(item.copy()?);
+    }
+    Some(copies)
+}
+
+impl Clone for Value {
+    /// The same where memory is there; refused memory ends the program, after the same test.
+    #[inline(always)]
+    fn clone(&self) -> Value {
+        self.copy().expect("memory")
+    }
+}
+
+/// A text of one pointer, whose copies share its bytes: up to 24 stand beside the count.
+#[derive(Clone)]
+pub struct Text {
+    bytes: Rc<Bytes>,
+}
+
+enum Bytes {
+    Short(u8, [u8; 24]),
+    Long(Box<[u8]>),
+}
+
+impl Text {
+    #[must_use]
+    #[inline(always)]
+    pub fn new(text: &str) -> Text {
+        let bytes = match text.len() {
+            len @ 0..=24 => {
+                let mut short = [0; 24];
+                short[..len].copy_from_slice(text.as_bytes());
+                Bytes::Short(len as u8, short)
+            }
+            _ => Bytes::Long(text.as_bytes().into()),
+        };
+        Text { bytes: Rc::new(bytes) }
+    }
+
+    /// The bytes of one text behind those of another; these are of texts, so they are one.
+    #[must_use]
+    #[inline(always)]
+    pub fn joined(&self, other: &Text) -> Text {
+        let (a, b) = (self.bytes(), other.bytes());
+        let len = a.len() + b.len();
+        let bytes = if len <= 24 {
+            let mut short = [0; 24];
+            short[..a.len()].copy_from_slice(a);
+            short[a.len()..len].copy_from_slice(b);
+            Bytes::Short(len as u8, short)
+        } else {
+            Bytes::Long([a, b].concat().into())
+        };
+        Text { bytes: Rc::new(bytes) }
+    }
+
+    #[must_use]
+    #[inline(always)]
+    pub fn bytes(&self) -> &[u8] {
+        match &*self.bytes {
+            Bytes::Short(len, bytes) => bytes.get(..usize::from(*len)).unwrap_or(&[]),
+            Bytes::Long(bytes) => bytes,
+        }
+    }
+}

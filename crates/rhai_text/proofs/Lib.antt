@@ -1,4 +1,6 @@
+mod Differs
 pub mod ForCallers
+mod Marked
 mod Minus
 mod Order
 mod Quotes

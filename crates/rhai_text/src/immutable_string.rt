@@ -8,6 +8,7 @@ ghost use Rattle.std.specs.Str.{chars, encode_utf8_all};
 ghost use Rattle.std.proofs.Common.{ap};
 ghost use Rattle.rhai_text.specs.Bytes.{text_bytes};
 
+use crate::bytes_order::{equal_texts, order_of_texts};
 use crate::text_bytes::TextBytes;
 use std::alloc::{AllocError, Global};
 use std::cmp::Ordering;
@@ -112,7 +113,7 @@ impl PartialEq for ImmutableString {
         ensures equal { IsTrue result ↔ (self.now ≡ other.now) }
         ensures decides { result ≡ pointwise nat_eq self.now other.now }
     {
-        self.as_str() == other.as_str()
+        equal_texts(self.as_str(), other.as_str())
     }
 }
 
@@ -141,7 +142,7 @@ impl Ord for ImmutableString {
     ghost matches_eq = { texts_ties };
 
     fn cmp(&self, other: &Self) -> Ordering {
-        self.as_str().cmp(other.as_str())
+        order_of_texts(self.as_str(), other.as_str())
     }
 }
 

@@ -2,6 +2,7 @@
 //! characters stand in quotation marks. Beside them the operators, places, limits and errors that all of the value's operations share.
 #![tactic(auto)]
 
+mod bytes_order;
 mod edits;
 mod error;
 mod immutable_string;

@@ -291,18 +291,6 @@ module _ (key : String Global) (es : List KeySlot) (ts us : List Slot) (old p ne
       swapped q true is = rw (same_nat q old is, apart_old) refl
       swapped q false is = refl
 
--- ---- a value that is taken back, its key having found no memory
-
-pub rows_back : (es : List KeySlot) (ts us : List Slot) (p next : ℕ) (v : Tree) → AreMatched es ts → IsStored ts us p v → rows es (set us p (Vacant next)) ≡ rows es ts
-rows_back es ts us p next v matched at = rows_other es us p (Vacant next) (stored_below ts us p v at) (unnamed es ts us p v matched at) ∙ rows_stored es ts us p v matched at
-
-pub matched_back : (es : List KeySlot) (ts us : List Slot) (p next : ℕ) (v : Tree) → AreMatched es ts → IsStored ts us p v → AreMatched es (set us p (Vacant next))
-matched_back es ts us p next v matched at = record { apart = matched.apart; same = λ q. taken_set us p q (Vacant next) (stored_below ts us p v at) ∙ back q (nat_eq q p) refl }
-  where
-    back : (q : ℕ) (b : Bool) → nat_eq q p ≡ b → cond b false (is_taken (slot_at us q)) ≡ is_named q es
-    back q true is = rw (same_nat q p is) (sym (unnamed es ts us p v matched at))
-    back q false is = taken_stored es ts us p v matched at q ∙ rw is refl
-
 -- ---- a key that is taken out
 
 -- the rows of the other entries stay

@@ -48,3 +48,4 @@ pub mod Walks
 pub mod Ways
 pub mod WrittenEnds
 pub mod Zips
+pub mod Fronts

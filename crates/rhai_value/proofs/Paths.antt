@@ -2,6 +2,7 @@
 use Rattle.std.proofs.Common.{◌≡◌, ℕ, Bool, true, false, cond, nat_eq, ◌||◌, List, [], ◌∷◌, ◌++◌, reverse, subst, Some, refl, sym, ap, ◌∙◌, arith, eqb-true}
 use Rattle.std.proofs.lemmas.List.{reverse-append}
 use Rattle.std.proofs.lemmas.Bool.Decides.{nat_tests}
+use Rattle.std.specs.List.{list_any}
 use Rattle.std.specs.Ordering.{nat_cmp, is_eq}
 use Rattle.std.specs.BTreeSet.{BTreeSet, contains, UpdatesBy}
 use Rattle.rhai_value.specs.declared.store.Cell.{Cell}
@@ -45,3 +46,23 @@ entry-read s path (node (leaf l) g m) u c b e f h = cc
 entry-read s path (node (branch k ts) g m) u c b e f h = cc
 entry-read s path (node (fields fs) g m) u c b e f h = cc
 entry-read s path (node (holder d) g m) u c b e f h = let same : c ≡ d = cc in rw (← same) (rw (← f, h) refl)
+
+-- ---- what is open, by its first cells and those after them
+
+or_among : (a b d : Bool) → (a || (b || d)) ≡ ((a || b) || d)
+or_among true b d = refl
+or_among false b d = refl
+
+open_append : (c : ℕ) (ps qs : List ℕ) → is_open c (ps ++ qs) ≡ (is_open c ps || is_open c qs)
+open_append c [] qs = refl
+open_append c (p ∷ ps) qs = ap (λ b. nat_eq c p || b) (open_append c ps qs) ∙ or_among (nat_eq c p) (is_open c ps) (is_open c qs)
+
+open_first : (c : ℕ) (first : List ℕ) → is_open c (reverse first) ≡ list_any (λ p. nat_eq p c) first
+open_first c [] = refl
+open_first c (p ∷ first) =
+    let h = open_first c first in
+    let e = ap (is_open c) (reverse-append (p ∷ []) first) ∙ open_append c (reverse first) (p ∷ []) in
+    e ∙ grind (arith, nat_tests)
+
+pub open_either : (c : ℕ) (deep first : List ℕ) → is_open c (deep ++ reverse first) ≡ (is_open c deep || list_any (λ p. nat_eq p c) first)
+open_either c deep first = open_append c deep (reverse first) ∙ ap (λ b. is_open c deep || b) (open_first c first)

@@ -1,14 +1,13 @@
 -- Slots, the keys that name them, and a write in one slot.
-use Rattle.std.proofs.Common.{◌≡◌, ℕ, zero, suc, ◌<◌, Bool, true, false, cond, ◌||◌, nat_eq, List, [], ◌∷◌, ◌++◌, length, set, get_or, Option, Some, Global, refl, ap, sym, subst, ◌∙◌, arith}
+use Rattle.std.proofs.Common.{◌≡◌, ℕ, zero, suc, ◌<◌, Bool, true, false, cond, ◌||◌, nat_eq, List, [], ◌∷◌, length, set, get_or, Option, Some, Global, refl, ap, sym, ◌∙◌, arith}
 use Rattle.std.proofs.lemmas.Bool.Decides.{nat_tests}
 use Rattle.std.proofs.lemmas.List.{get_or-set_same, get_or-set_other, get_or_default}
 use Rattle.std.specs.declared.boxed.Box.{Box}
-use Rattle.rhai_value.specs.Slots.{KeySlot, rows, rows_in, slot_at, is_named, is_taken, AreMatched, AreTaken, IsStored, IsWhole, IsWholeIn, rows_of}
+use Rattle.rhai_value.specs.Slots.{KeySlot, rows, rows_in, slot_at, is_named, is_taken, AreMatched, AreTaken, IsWhole, IsWholeIn, rows_of}
 use Rattle.rhai_value.specs.Falls.{same_nat}
-use Rattle.rhai_value.specs.Tree.{Tree}
 use Rattle.rhai_value.specs.declared.map.MapParts.{MapParts}
 use Rattle.rhai_value.specs.declared.map.Slot.{Slot}
-use Rattle.rhai_value.specs.declared.map.Slot.TheVariants.{Vacant, Taken}
+use Rattle.rhai_value.specs.declared.map.Slot.TheVariants.{Vacant}
 
 pub or_false : (a b : Bool) → a || b ≡ false → (a ≡ false) × (b ≡ false)
 or_false true b h = cc
@@ -91,33 +90,3 @@ parts_opened m b p some is whole = (rw is (ap rows_in some), rw is (matched_take
 
 pub whole_opened : (m : Option (Box MapParts Global)) (b : Box MapParts Global) (p : MapParts) → Some b ≡ m → p ≡ b.value → IsWholeIn m → (rows_of p ≡ rows_in m) × IsWhole p
 whole_opened m b p some is whole = (rw is (ap rows_in some), rw is (rw (sym some) at whole))
-
--- ---- a value that is stored in a vacant slot
-
-pub stored_set : (ts : List Slot) (p : ℕ) (t : Tree) → p < length ts → is_taken (slot_at ts p) ≡ false → IsStored ts (set ts p (Taken t)) p t
-stored_set ts p t lt vacant = record { vacant = vacant; here = slot_same ts p (Taken t) lt; others = λ q other. slot_other ts p q (Taken t) lt other }
-
-pub stored_last : (ts : List Slot) (t : Tree) → IsStored ts (ts ++ Taken t ∷ []) (length ts) t
-stored_last ts t = record { vacant = past ts; here = last ts (Taken t); others = λ q other. before ts (Taken t) q other }
-  where
-    past : (ts : List Slot) → is_taken (slot_at ts (length ts)) ≡ false
-    past [] = refl
-    past (s ∷ ts) = past ts
-
-    last : (ts : List Slot) (x : Slot) → slot_at (ts ++ x ∷ []) (length ts) ≡ x
-    last [] x = refl
-    last (s ∷ ts) x = last ts x
-
-    before : (ts : List Slot) (x : Slot) (q : ℕ) → nat_eq q (length ts) ≡ false → slot_at (ts ++ x ∷ []) q ≡ slot_at ts q
-    before [] x zero other = cc
-    before [] x (suc q) other = refl
-    before (s ∷ ts) x zero other = refl
-    before (s ∷ ts) x (suc q) other = before ts x q (grind (arith, nat_tests))
-
--- a vacant slot that is added, and then filled
-pub stored_new : (ts us : List Slot) (next : ℕ) (t : Tree) → us ≡ ts ++ Vacant next ∷ [] → IsStored ts (set us (length ts) (Taken t)) (length ts) t
-stored_new ts us next t is = subst (λ xs. IsStored ts xs (length ts) t) (sym (ap (λ xs. set xs (length ts) (Taken t)) is ∙ set_last ts (Vacant next) (Taken t))) (stored_last ts t)
-  where
-    set_last : (ts : List Slot) (x y : Slot) → set (ts ++ x ∷ []) (length ts) y ≡ ts ++ y ∷ []
-    set_last [] x y = refl
-    set_last (s ∷ ts) x y = ap (λ l. s ∷ l) (set_last ts x y)

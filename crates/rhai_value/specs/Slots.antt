@@ -1,5 +1,5 @@
 -- How a map holds its rows: each key has the number of a slot, and its value stands there.
-use Rattle.std.specs.Prelude.{◌≡◌, ℕ, ◌+◌, ◌*◌, Bool, true, false, ◌||◌, nat_eq, List, [], ◌∷◌, map, String, string_bytes, string_cmp, slice_index_or, Option, Some, None, ⊤}
+use Rattle.std.specs.Prelude.{◌≡◌, ℕ, ◌+◌, ◌*◌, ◌<◌, ◌≤◌, Bool, true, false, ◌||◌, nat_eq, List, [], ◌∷◌, map, length, Vec, vec_len, vec_capacity, String, string_bytes, string_cmp, slice_index_or, Option, Some, None, ⊤}
 use Rattle.std.specs.List.Sorted.{IsStrictlySortedBy}
 use Rattle.std.specs.Map.{keys_of, lookup}
 use Rattle.std.specs.Ordering.{is_eq}
@@ -89,6 +89,12 @@ IsWhole p = AreWhole p.index.entries p.slots.items
 abbrev pub IsWholeIn : Option (Box MapParts Global) → Type 0
 IsWholeIn None = ⊤
 IsWholeIn (Some p) = IsWhole p.value
+
+-- a value can be put in the slot p: it is vacant, or past the last one, with room for it
+pub record IsFree (v : Vec Slot Global) (p : ℕ) : Type 0 where
+  pub vacant : is_taken (slot_at v.items p) ≡ false
+  pub within : p ≤ length v.items
+  pub room : p ≡ length v.items → vec_len v < vec_capacity v
 
 -- the slots us are those of ts, but for t in the slot p, which was vacant
 pub record IsStored (ts us : List Slot) (p : ℕ) (t : Tree) : Type 0 where

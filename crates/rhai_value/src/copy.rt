@@ -10,6 +10,7 @@ use crate::copy_far::copied_far;
 use crate::dynamic::Dynamic;
 use crate::fn_ptr::FnPtr;
 use crate::map::{Map, MapParts, Slot};
+use crate::map_key::MapKey;
 use crate::map_parts::value_at;
 use crate::near::NEAR;
 use crate::union::Union;
@@ -268,7 +269,7 @@ fn slot_copy(slot: &Slot, alloc: Global, levels: u32) -> Result<Slot, AllocError
 // Inserts the keys in their order, so that each goes last.
 #[cycle(copy)]
 fn copied_entries(
-    index: &BTreeMap<String, usize>,
+    index: &BTreeMap<MapKey, usize>,
     slots: &Vec<Slot>,
     alloc: Global,
     levels: u32,
@@ -278,7 +279,7 @@ fn copied_entries(
 {
     let mut copies = Map::new(alloc);
     for (key, number) in index.iter() {
-        let key = String::from_str(alloc, key)?;
+        let key = String::from_str(alloc, key.as_str())?;
         let value = copied(value_at(slots, *number), alloc, levels)?;
         match copies.insert(key, value) {
             Ok(old) => drop(old),

@@ -93,6 +93,7 @@ impl Dynamic {
     /// Errors: memory is refused.
     /// Cost: the length of the text; memory for it.
     /// rhai: `FromStr` and `From<&str>` of `Dynamic`.
+    #[inline(always)]
     pub fn from_text(alloc: Global, value: &str) -> Result<Dynamic, AllocError>
         ensures { IfOk result (λ d. d ≡ fresh (text (chars value.now))) }
     {

@@ -8,6 +8,7 @@ ghost use Rattle.rhai_value.specs.Slots.{rows, rows_of, AreMatched, IsWhole};
 
 use crate::dynamic::Dynamic;
 use crate::map::{Map, MapParts, Slot};
+use crate::map_key::MapKey;
 use std::alloc::Global;
 use std::collections::BTreeMap;
 use std::mem;
@@ -45,7 +46,7 @@ fn exchange_parts(parts: &mut MapParts, values: &mut Vec<Dynamic>)
 }
 
 fn exchange_entries(
-    index: &BTreeMap<String, usize>,
+    index: &BTreeMap<MapKey, usize>,
     slots: &mut Vec<Slot>,
     values: &mut Vec<Dynamic>,
 ) -> usize

@@ -7,6 +7,7 @@ ghost use Rattle.rhai_value.specs.Tree.{cell_of, nodes, nodes_trees};
 
 use crate::dynamic::Dynamic;
 use crate::map::{Map, MapParts, Slot};
+use crate::map_key::MapKey;
 use crate::map_parts::value_at;
 use crate::near::NEAR;
 use crate::store::Store;
@@ -147,7 +148,7 @@ fn locks_map(map: &Map, store: &Store, levels: u32) -> bool
 
 #[cycle(locks)]
 fn locks_entries(
-    index: &BTreeMap<String, usize>,
+    index: &BTreeMap<MapKey, usize>,
     slots: &Vec<Slot>,
     store: &Store,
     levels: u32,

@@ -2,6 +2,7 @@
 
 use crate::dynamic::Dynamic;
 use crate::map_entries::{Entries, Keys, Values};
+use crate::map_key::MapKey;
 use std::alloc::Global;
 use std::collections::BTreeMap;
 use std::marker::Model;
@@ -22,7 +23,7 @@ pub struct Map {
 #[cycle(dynamic)]
 #[derive(Drop)]
 pub(crate) struct MapParts {
-    pub(crate) index: BTreeMap<String, usize>,
+    pub(crate) index: BTreeMap<MapKey, usize>,
     pub(crate) slots: Vec<Slot>,
     pub(crate) vacant: usize,
 }

@@ -2,6 +2,7 @@
 
 use crate::dynamic::Dynamic;
 use crate::map::{Map, MapParts, Slot};
+use crate::map_key::MapKey;
 use crate::map_parts::value_in;
 use std::collections::btree_map;
 use std::iter::{ExactSizeIterator, FusedIterator, IntoIterator, Iterator};
@@ -16,7 +17,7 @@ pub struct Entries<'a> {
 /// The keys that are left with the numbers of their slots, and all slots.
 #[derive(Drop)]
 pub(crate) struct Rest<'a> {
-    pub(crate) index: btree_map::Iter<'a, String, usize>,
+    pub(crate) index: btree_map::Iter<'a, MapKey, usize>,
     pub(crate) slots: &'a Vec<Slot>,
 }
 

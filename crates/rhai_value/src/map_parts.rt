@@ -1,12 +1,12 @@
 //! The index and the slots of a map that has had an entry.
 
-ghost use Rattle.std.specs.Prelude.{◌≡◌, ◌<◌, ◌+◌, true, [], ◌∷◌, None, length, option_copied, IfOk, IfErr, IfSome, IfNone, OnOk, OnErr, MatchOption, slice_set, string_bytes};
+ghost use Rattle.std.specs.Prelude.{◌≡◌, ◌<◌, ◌+◌, true, [], ◌∷◌, None, length, option_copied, IfOk, IfErr, IfSome, IfNone, OnOk, OnErr, MatchOption, slice_set, string_bytes, vec_len, vec_capacity, IsTrue};
 ghost use Rattle.std.specs.BTreeMap.{insert_entry, is_at};
 ghost use Rattle.std.specs.Borrow.{Lends, LendsIf, sem};
 ghost use Rattle.std.specs.Map.{lookup, remove_entry};
 ghost use Rattle.std.specs.Option.{option_copied_mut};
 ghost use Rattle.rhai_value.specs.Rows.{bytes_cmp, fields_of};
-ghost use Rattle.rhai_value.specs.Slots.{rows_of, with_value, with_value_at, IsWhole, IsStored, is_taken, tree_in, slot_at};
+ghost use Rattle.rhai_value.specs.Slots.{rows_of, with_value, with_value_at, IsFree, IsWhole, IsStored, is_taken, tree_in, slot_at};
 ghost use Rattle.rhai_value.specs.Tree.{Tree, nodes, nodes_fields};
 ghost use Rattle.rhai_value.specs.contracts.dynamic.Dynamic as dynamic_type;
 ghost use Rattle.rhai_value.specs.contracts.map.MapParts as parts_type;
@@ -15,6 +15,7 @@ ghost use Rattle.rhai_value.specs.declared.map.Slot.TheVariants.{Vacant, Taken};
 
 use crate::dynamic::Dynamic;
 use crate::map::{MapParts, Slot};
+use crate::map_key::{MapKey, Sought, number_of};
 use std::alloc::Global;
 use std::collections::BTreeMap;
 use std::mem;
@@ -108,8 +109,8 @@ impl MapParts {
         requires { IsWhole self.now }
         ensures { option_copied result ≡ lookup (is_at (bytes_cmp key.now)) (rows_of self.now) }
     {
-        match self.index.get(key) {
-            Some(number) => Some(value_at(&self.slots, *number)),
+        match number_of(&self.index, key) {
+            Some(number) => Some(value_at(&self.slots, number)),
             None => None,
         }
     }
@@ -119,23 +120,28 @@ impl MapParts {
         ensures* writes_back { sem 𝓛 (LendsIf parts_type.the_row dynamic_type.the_row self.entry result (with_value_at self.old key.now) self.old) }
         ensures value { option_copied_mut result ≡ lookup (is_at (bytes_cmp key.now)) (rows_of self.old) }
     {
-        match self.index.get(key) {
-            Some(number) => {
-                let number = *number;
-                Some(self.value_at_mut(number))
-            }
+        match number_of(&self.index, key) {
+            Some(number) => Some(self.value_at_mut(number)),
             None => None,
         }
     }
 
-    /// Finds the first vacant slot, or adds one, and answers its number, so that any value can be put there; `None` where memory for
-    /// a new slot is refused.
+    /// Makes room for one slot more. Most maps are small, so up to 16 slots come by fours.
+    fn grow(&mut self) -> bool
+        ensures room { IsTrue result → vec_len self.new.slots < vec_capacity self.new.slots }
+        ensures slots { self.new.slots.items ≡ self.old.slots.items }
+        ensures index { self.new.index ≡ self.old.index }
+    {
+        let len = self.slots.len();
+        let more = if len < 16 { 4 } else { len };
+        self.slots.reserve_exact(more).is_ok()
+    }
+
+    /// Finds the first vacant slot, or room for one past the last, and answers its number; `None` where memory for it is refused.
     #[inline(always)]
-    #[tactic(auto, using(crate::proofs::Slots::stored_set, crate::proofs::Slots::stored_new))]
     fn vacancy(&mut self) -> Option<usize>
-        ensures found { IfSome result (λ p. (p < length self.new.slots.items)
-            × ((t : Tree) → IsStored self.old.slots.items (slice_set self.new.slots.items p (Taken t)) p t)) }
-        ensures none { IfNone result (self.new.slots.items ≡ self.old.slots.items) }
+        ensures found { IfSome result (IsFree self.new.slots) }
+        ensures slots { self.new.slots.items ≡ self.old.slots.items }
         ensures index { self.new.index ≡ self.old.index }
     {
         let number = self.vacant;
@@ -143,20 +149,23 @@ impl MapParts {
             return Some(number);
         }
         let number = self.slots.len();
-        if self.slots.push(Slot::Vacant(usize::MAX)).is_err() {
-            return None;
+        if number < self.slots.capacity() || self.grow() {
+            return Some(number);
         }
-        self.vacant = number;
-        Some(number)
+        None
     }
 
-    /// Puts a value into a slot. The slot was the first vacant one, which the next one then is.
+    /// Puts a value into the first vacant slot, which the next one then is, or past the last slot.
     #[inline(always)]
     fn fill(&mut self, number: usize, value: Dynamic)
-        requires { number < length self.old.slots.items }
-        ensures slots { self.new.slots.items ≡ slice_set self.old.slots.items number (Taken value) }
+        requires { IsFree self.old.slots number }
+        ensures stored { IsStored self.old.slots.items self.new.slots.items number value }
         ensures index { self.new.index ≡ self.old.index }
     {
+        if number == self.slots.len() {
+            self.slots.push_reserved(Slot::Taken(value));
+            return;
+        }
         if let Slot::Vacant(next) = &self.slots[number] {
             self.vacant = *next;
         }
@@ -191,11 +200,16 @@ impl MapParts {
         let Some(number) = self.vacancy() else {
             return self.write_over(key, value);
         };
-        self.fill(number, value);
-        match self.index.insert(key, number) {
-            Ok(None) => Ok(None),
-            Ok(Some(before)) => Ok(Some(self.vacate(before))),
-            Err(failed) => Err((failed.value.0, self.vacate(number))),
+        match self.index.insert(MapKey::new(key), number) {
+            Ok(None) => {
+                self.fill(number, value);
+                return Ok(None);
+            }
+            Ok(Some(before)) => {
+                self.fill(number, value);
+                Ok(Some(self.vacate(before)))
+            }
+            Err(failed) => Err((failed.value.0.into_text(), value)),
         }
     }
 
@@ -212,11 +226,8 @@ impl MapParts {
         ensures absent { OnErr result (lookup (is_at (bytes_cmp (string_bytes key))) (rows_of self.old) ≡ None) }
         ensures whole { IsWhole self.new }
     {
-        match self.index.get(&key) {
-            Some(number) => {
-                let number = *number;
-                Ok(Some(self.exchange_at(number, Slot::Taken(value))))
-            }
+        match number_of(&self.index, key.as_str()) {
+            Some(number) => Ok(Some(self.exchange_at(number, Slot::Taken(value)))),
             None => Err((key, value)),
         }
     }
@@ -227,7 +238,7 @@ impl MapParts {
         ensures removed { rows_of self.new ≡ remove_entry (is_at (bytes_cmp key.now)) (rows_of self.old) }
         ensures whole { IsWhole self.new }
     {
-        match self.index.remove(key) {
+        match self.index.remove(&Sought::of(key)) {
             Some(number) => Some(self.vacate(number)),
             None => None,
         }
@@ -239,7 +250,7 @@ impl MapParts {
         ensures whole { IsWhole self.new }
     {
         match self.index.pop_first() {
-            Some((key, number)) => Some((key, self.vacate(number))),
+            Some((key, number)) => Some((key.into_text(), self.vacate(number))),
             None => None,
         }
     }

@@ -7,6 +7,7 @@ ghost use Rattle.rhai_value.specs.Slots.{rows_of, IsWhole};
 
 use crate::dynamic::Dynamic;
 use crate::map::{Map, MapParts, Slot};
+use crate::map_key::number_of;
 
 impl MapParts {
     /// Puts a value at a key that is there, in its slot; without one the value comes back.
@@ -18,11 +19,8 @@ impl MapParts {
         ensures absent { OnErr result (lookup (is_at (bytes_cmp key.now)) (rows_of self.old) ≡ None) }
         ensures whole { IsWhole self.new }
     {
-        match self.index.get(key) {
-            Some(number) => {
-                let number = *number;
-                Ok(self.exchange_at(number, Slot::Taken(value)))
-            }
+        match number_of(&self.index, key) {
+            Some(number) => Ok(self.exchange_at(number, Slot::Taken(value))),
             None => Err(value),
         }
     }

@@ -6,6 +6,7 @@ ghost use Rattle.rhai_value.specs.Slots.{rows, rows_of, AreMatched, IsWhole};
 
 use crate::dynamic::Dynamic;
 use crate::map::{Map, MapParts, Slot};
+use crate::map_key::MapKey;
 use std::collections::BTreeMap;
 
 /// What `Map::write_values` does with each value.
@@ -45,7 +46,7 @@ fn write_parts<W: ValueWriter>(parts: &mut MapParts, writer: &mut W)
 
 // The slots of the keys, in the order of these.
 fn write_entries<W: ValueWriter>(
-    index: &BTreeMap<String, usize>,
+    index: &BTreeMap<MapKey, usize>,
     slots: &mut Vec<Slot>,
     writer: &mut W,
 )

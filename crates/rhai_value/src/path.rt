@@ -1,31 +1,34 @@
 //! The cells that are open on a walk.
-ghost use Rattle.std.specs.Prelude.{◌≡◌, ◌<◌, ◌∷◌, [], length, drop, IfOk, IfSome, IfNone, IsOk, None, OnErr, option_copied};
+ghost use Rattle.std.specs.Prelude.{◌≡◌, ◌<◌, ◌∷◌, [], length, drop, not, IfOk, IfSome, IfNone, IsOk, None, OnErr, option_copied, if◌then◌else◌};
 ghost use Rattle.rhai_value.specs.End.{first};
-ghost use Rattle.rhai_value.specs.Walk.{entry};
+ghost use Rattle.rhai_value.specs.Walk.{entry, is_open};
 ghost use Rattle.rhai_value.specs.Tree.{cell_of};
 
+use crate::deep_cells::DeepCells;
 use crate::dynamic::Dynamic;
 use crate::store::Store;
+use arrayvec::ArrayVec;
 use std::alloc::{AllocError, Global};
-use std::collections::BTreeSet;
 use std::marker::Model;
+
+/// So many open cells are walked through, and take no memory.
+const FIRST_CELLS: usize = 8;
 
 /// The cells that are open on a walk over values, the one opened last first. It keeps a walk from following a loop for ever.
 #[derive(Drop)]
 pub struct Path {
-    order: Vec<usize>,
-    cells: BTreeSet<usize>,
+    first: ArrayVec<usize, FIRST_CELLS>,
+    deep: DeepCells,
 }
 
 impl Model for Path {
-    ghost use Rattle.std.specs.Prelude.{List, ℕ, reverse};
-    ghost use Rattle.rhai_value.specs.Opened.{IsOpened};
+    ghost use Rattle.std.specs.Prelude.{◌≡◌, ◌<◌, ◌++◌, List, ℕ, [], length, reverse};
 
     ghost Value = { List ℕ };
 
-    ghost view = { λ p. reverse p.order.items };
+    ghost view = { λ p. p.deep ++ reverse p.first.items };
 
-    ghost invariant = { λ p. IsOpened (reverse p.order.items) p.cells };
+    ghost invariant = { λ p. length p.first.items < 8 → p.deep ≡ [] };
 }
 
 impl Path {
@@ -35,14 +38,31 @@ impl Path {
         ensures { result ≡ [] }
     {
         Path {
-            order: Vec::new(alloc),
-            cells: BTreeSet::new(alloc),
+            first: ArrayVec::new(),
+            deep: DeepCells::new(alloc),
         }
+    }
+
+    /// Opens a cell, unless it is open, and tells whether it wasn't.
+    #[tactic(auto, using(crate::proofs::Paths::open_either))]
+    fn open(&mut self, cell: usize) -> Result<bool, AllocError>
+        ensures told { IfOk result (λ is_new. is_new ≡ not (is_open cell self.old)) }
+        ensures opened { IfOk result (λ is_new. self.new ≡ (if is_new then cell ∷ self.old else self.old)) }
+        ensures err { OnErr result (self.new ≡ self.old) }
+    {
+        if self.first.as_slice().contains(&cell) {
+            return Ok(false);
+        }
+        if self.first.is_full() {
+            return self.deep.open(cell);
+        }
+        self.first.push(cell);
+        Ok(true)
     }
 
     /// Opens the cell of a holder and lends its content; `None`, with nothing changed, for a value that is no holder and
     /// for a cell that is open, marked or no cell of the store.
-    /// Errors: memory for one more open cell is refused, and nothing changes.
+    /// Errors: memory for one more open cell is refused, and nothing changes. The first eight take none.
     /// Cost: the logarithm of the number of open cells.
     pub fn enter<'s>(
         &mut self,
@@ -63,12 +83,11 @@ impl Path {
         let Some(content) = store.read(cell) else {
             return Ok(None);
         };
-        self.order.reserve(1)?;
-        if !self.cells.insert(cell.index)? {
-            return Ok(None);
+        if self.open(cell.index)? {
+            Ok(Some(content))
+        } else {
+            Ok(None)
         }
-        self.order.push_reserved(cell.index);
-        Ok(Some(content))
     }
 
     /// Closes the cell that was opened last.
@@ -77,8 +96,8 @@ impl Path {
         requires { 0 < length self.old }
         ensures { self.new ≡ drop 1 self.old }
     {
-        if let Some(cell) = self.order.pop() {
-            let _ = self.cells.remove(&cell);
+        if !self.deep.close() {
+            let _ = self.first.pop();
         }
     }
 }

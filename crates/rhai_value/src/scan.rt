@@ -10,6 +10,7 @@ ghost use Rattle.rhai_value.specs.Tree.{nodes};
 use crate::dynamic::Dynamic;
 use crate::hollow::{Hollow, go_down};
 use crate::map::{Map, MapParts, Slot};
+use crate::map_key::MapKey;
 use crate::near::NEAR;
 use crate::union::Union;
 use std::alloc::Global;
@@ -130,7 +131,7 @@ fn scan_parts<V: Visitor>(parts: &mut MapParts, visitor: &mut V, levels: u32)
 // The slots of the keys, in the order of these.
 #[cycle(scan)]
 fn scan_entries<V: Visitor>(
-    index: &BTreeMap<String, usize>,
+    index: &BTreeMap<MapKey, usize>,
     slots: &mut Vec<Slot>,
     visitor: &mut V,
     levels: u32,

@@ -3,16 +3,19 @@ ghost use Rattle.std.specs.Prelude.{◌≡◌, true, IfOk, IfErr, IsOk, OnOk, On
 ghost use Rattle.rhai_value.specs.Store.{shared_value, shared_store};
 ghost use Rattle.rhai_value.specs.Tree.{cell_of};
 
+use crate::cell_ref::CellRef;
 use crate::dynamic::Dynamic;
-use crate::store::Store;
+use crate::store::{Cell, Store};
 use crate::union::Union;
 use std::alloc::AllocError;
+use std::mem;
 
 impl Dynamic {
     /// Moves the value into a new cell, and puts a holder of it with tag 0 and the value's mode in its place; the content
     /// keeps its tag and mode. A holder stays as it is.
     /// Errors: memory for the cell is refused, and nothing changes.
     /// Cost: constant, but where the store has to grow.
+    #[inline(always)]
     pub fn share_in_place(&mut self, store: &mut Store) -> Result<(), AllocError>
         ensures own { OnOk result (self.new ≡ shared_value store.old self.old) }
         ensures store { OnOk result (store.new ≡ shared_store store.old self.old) }
@@ -23,22 +26,22 @@ impl Dynamic {
             return Ok(());
         }
         let mode = self.access_mode();
-        match store.add(self.take()) {
-            Ok(cell) => {
-                self.union = Union::Shared(0, mode, cell);
-                Ok(())
-            }
-            Err(back) => {
-                *self = back;
-                Err(AllocError)
-            }
-        }
+        store.cells.reserve(1)?;
+        let index = store.cells.len();
+        let holder = Union::Shared(0, mode, CellRef { index });
+        let content = mem::replace(self, Dynamic { union: holder });
+        store.cells.push_reserved(Cell {
+            content,
+            is_marked: false,
+        });
+        Ok(())
     }
 
     /// Shares a value that is passed, as `share_in_place` does.
     /// Errors: the value comes back where memory for the cell is refused.
     /// Cost: that of `share_in_place`.
     /// rhai: `Dynamic::into_shared`.
+    #[inline(always)]
     pub fn into_shared(mut self, store: &mut Store) -> Result<Dynamic, Dynamic>
         ensures ok { IfOk result (λ d. (d ≡ shared_value store.old self)
             × (store.new ≡ shared_store store.old self)) }

@@ -24,7 +24,7 @@ copied_entries-loop-key-preserved t c =
     let e : KeySlot = (c.in-Some.key.now, c.in-Some.number.now) in
     let left = c.next.new.self in
     let all : c.args.index.now.entries ≡ i.done ++ e ∷ left = i.all ∙ ap (λ es. i.done ++ es) c.in-Some.ensures.steps in
-    let named : string_bytes c.in_ok-key.key ≡ string_bytes e.0 = c.in_ok-key.ensures.ok ∙ c.deref.ensures in
+    let named : string_bytes c.in_ok-key.key ≡ string_bytes e.0 = c.in_ok-key.ensures.ok ∙ c.as_str.ensures in
     let made : c.in_ok-value.value ≡ copy (tree_in (slot_at ts e.1)) = c.in_ok-value.ensures.value ∙ ap copy c.value_at.ensures in
     let last = copied_last _ i.done e left ts all c.iter-key-items.ensures.ordered in
     record {

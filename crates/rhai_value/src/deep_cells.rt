@@ -1,0 +1,64 @@
+// Cells that are open where many are.
+ghost use Rattle.std.specs.Prelude.{◌≡◌, ◌↔◌, ◌∷◌, [], drop, not, IfOk, OnErr, IsTrue, if◌then◌else◌};
+ghost use Rattle.rhai_value.specs.Walk.{is_open};
+
+use std::alloc::{AllocError, Global};
+use std::collections::BTreeSet;
+use std::marker::Model;
+
+/// The cells that a path has open past the first few: in the order of opening, and in a set, to look one up. Contracts see the one opened last first.
+#[derive(Drop)]
+pub(crate) struct DeepCells {
+    order: Vec<usize>,
+    cells: BTreeSet<usize>,
+}
+
+impl Model for DeepCells {
+    ghost use Rattle.std.specs.Prelude.{List, ℕ, reverse};
+    ghost use Rattle.rhai_value.specs.Opened.{IsOpened};
+
+    ghost Value = { List ℕ };
+
+    ghost view = { λ p. reverse p.order.items };
+
+    ghost invariant = { λ p. IsOpened (reverse p.order.items) p.cells };
+}
+
+impl DeepCells {
+    pub(crate) fn new(alloc: Global) -> DeepCells
+        ensures { result ≡ [] }
+    {
+        DeepCells {
+            order: Vec::new(alloc),
+            cells: BTreeSet::new(alloc),
+        }
+    }
+
+    /// Opens a cell, unless it is open, and tells whether it wasn't.
+    pub(crate) fn open(&mut self, cell: usize) -> Result<bool, AllocError>
+        ensures told { IfOk result (λ is_new. is_new ≡ not (is_open cell self.old)) }
+        ensures opened { IfOk result (λ is_new. self.new ≡ (if is_new then cell ∷ self.old else self.old)) }
+        ensures err { OnErr result (self.new ≡ self.old) }
+    {
+        self.order.reserve(1)?;
+        let is_new = self.cells.insert(cell)?;
+        if is_new {
+            self.order.push_reserved(cell);
+        }
+        Ok(is_new)
+    }
+
+    /// Closes the cell that was opened last, and tells whether there was one.
+    pub(crate) fn close(&mut self) -> bool
+        ensures told { IsTrue (not result) ↔ (self.old ≡ []) }
+        ensures closed { self.new ≡ drop 1 self.old }
+    {
+        match self.order.pop() {
+            Some(cell) => {
+                let _ = self.cells.remove(&cell);
+                true
+            }
+            None => false,
+        }
+    }
+}

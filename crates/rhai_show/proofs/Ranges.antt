@@ -19,10 +19,6 @@ pub on_then : {A E : Type 0} (r : Result A E) {P Q : Type 0} → (P → Q) → O
 on_then (Ok x) f h = f h
 on_then (Err e) f h = tt
 
-pub on_ok : {A E : Type 0} (r : Result A E) {P : Type 0} → P → OnOk r P
-on_ok (Ok x) h = h
-on_ok (Err e) h = tt
-
 -- a text of so many bytes is a name
 pub a_name : (bs : List ℕ) → IsUtf8 bs → IsCount (length bs) → IsName (chars bs)
 a_name bs u count = (scalars-chars bs u, subst (λ x. IsCount (length x)) (sym (encodes-chars bs u)) count)

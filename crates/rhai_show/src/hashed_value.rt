@@ -1,5 +1,5 @@
 //! Hash bytes.
-ghost use Rattle.std.specs.Prelude.{◌≡◌, ◌↔◌, IfOk, IsTrue, nat_eq};
+ghost use Rattle.std.specs.Prelude.{◌≡◌, ◌↔◌, drop, IfOk, IsTrue, nat_eq};
 ghost use Rattle.std.specs.Cmp.{partial_equiv_from_equiv};
 ghost use Rattle.std.specs.Cmp.Lexicographic.{bytes_decides, pointwise, nat_list_eq_equiv};
 ghost use Rattle.std.specs.Hash as fed;
@@ -9,19 +9,19 @@ ghost use Rattle.rhai_show.specs.HashBytes.{leaf_bytes};
 ghost use Rattle.rhai_show.specs.HashedBytes.{hashed_bytes};
 ghost use Rattle.rhai_show.specs.InRange.{IsLeaf};
 
-use arrayvec::ArrayVec;
 use rhai_value::INT;
 use std::alloc::{AllocError, Global};
 use std::hash::{Hash, Hasher};
 use std::marker::Model;
 
-/// How many hash bytes an int has.
-const INT_BYTES: usize = 9;
+/// Where the hash bytes of an int begin in two words: its kind is the last byte of the first.
+const INT_START: usize = 7;
 
 /// Where hash bytes stand: those of an int here, others in a block of memory.
 #[derive(Drop)]
 pub(crate) enum HashedBytes {
-    Short(ArrayVec<u8, INT_BYTES>),
+    /// The bytes from a place on in two words. They are moved by words, as they were written: else a move waits for the stores.
+    Short(usize, [u8; 16]),
     Long(Vec<u8>),
 }
 
@@ -55,11 +55,11 @@ impl Hashed {
         ensures bytes { result ≡ leaf_bytes (an_int value.now) }
         ensures range { IsLeaf (an_int value.now) }
     {
-        let mut bytes = ArrayVec::new();
-        bytes.push(4);
-        bytes.try_extend_from_slice(&value.to_le_bytes()).unwrap();
+        let [a, b, c, d, e, f, g, h] = value.to_le_bytes();
+        // the kind fills the first word, which is then written at once
+        let words = [4, 4, 4, 4, 4, 4, 4, 4, a, b, c, d, e, f, g, h];
         Hashed {
-            bytes: HashedBytes::Short(bytes),
+            bytes: HashedBytes::Short(INT_START, words),
         }
     }
 
@@ -68,7 +68,7 @@ impl Hashed {
         ensures { result.now ≡ self.now }
     {
         match &self.bytes {
-            HashedBytes::Short(bytes) => bytes.as_slice(),
+            HashedBytes::Short(start, words) => short_bytes(*start, words),
             HashedBytes::Long(bytes) => bytes.as_slice(),
         }
     }
@@ -79,14 +79,24 @@ impl Hashed {
         ensures { IfOk result (λ bytes. bytes.items ≡ self) }
     {
         match self.bytes {
-            HashedBytes::Short(short) => {
+            HashedBytes::Short(start, words) => {
                 let mut bytes = Vec::new(alloc);
-                bytes.extend_from_slice(short.as_slice())?;
+                bytes.extend_from_slice(short_bytes(start, &words))?;
                 Ok(bytes)
             }
             HashedBytes::Long(bytes) => Ok(bytes),
         }
     }
+}
+
+/// The bytes of the words from a place on.
+fn short_bytes(start: usize, words: &[u8; 16]) -> &[u8]
+    ensures { result.now ≡ drop start words.now }
+{
+    if words.len() < start {
+        return &[];
+    }
+    &words[start..]
 }
 
 impl PartialEq for Hashed {

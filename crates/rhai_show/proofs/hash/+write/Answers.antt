@@ -15,7 +15,7 @@ use Rattle.rhai_show.specs.InRange.{IsCount, IsName, IsLeaf, IsInRange, IsPlainI
 use Rattle.rhai_show.proofs.Measures.{left_in, left-entry, nodes_item}
 use Rattle.rhai_show.proofs.Plains.{plain-branch, plain-map}
 use Rattle.rhai_show.proofs.Pushed.{added_as, added_twice, added_more}
-use Rattle.rhai_show.proofs.Ranges.{on_ok, on_then, leaf_ranged, branch_ranged, map_ranged, one_more}
+use Rattle.rhai_show.proofs.Ranges.{on_then, leaf_ranged, branch_ranged, map_ranged, one_more}
 use Rattle.rhai_show.proofs.Hashes.{first_of_both, second_of_both, hashed-branch, hashed-map, added_hash, plain-content, each_step}
 use Rattle.rhai_show.proofs.hash.+write.Goals as goal
 

@@ -1,4 +1,4 @@
-use Rattle.std.proofs.Common.{rules, ap, subst, [], ◌∷◌, ◌++◌, ◌≡◌, ◌∙◌, OnOk}
+use Rattle.std.proofs.Common.{rules, get_or, ap, [], ◌∷◌, ◌∙◌}
 use Rattle.std.specs.Int.{w64, to_le_bytes, cast_unsigned}
 use Rattle.std.proofs.lemmas.Int.{to_z-of_z}
 use Rattle.rhai_show.specs.HashBytes.{int_bytes}
@@ -7,6 +7,5 @@ use Rattle.rhai_show.proofs.hashed_value.Hashed.of_int.Goals as goal
 pub returns-clause-bytes : goal.returns-clause-bytes
 unfolding int_bytes
 returns-clause-bytes c =
-    subst (λ r. OnOk r (c.try_extend_from_slice.new.self.items ≡ c.push.new.self.items ++ c.to_le_bytes.result)) c.unwrap.ensures c.try_extend_from_slice.ensures.ok
-    ∙ ap (λ xs. xs ++ c.to_le_bytes.result) (c.push.ensures.items ∙ ap (λ xs. xs ++ 4 ∷ []) c.new-bytes.ensures)
-    ∙ ap (λ n. 4 ∷ n) (c.to_le_bytes.ensures ∙ ap (λ z. to_le_bytes w64 (cast_unsigned w64 z)) (to_z-of_z w64 c.args.value.now (search rules)))
+    ap (λ bs. 4 ∷ get_or bs 0 0 ∷ get_or bs 1 0 ∷ get_or bs 2 0 ∷ get_or bs 3 0 ∷ get_or bs 4 0 ∷ get_or bs 5 0 ∷ get_or bs 6 0 ∷ get_or bs 7 0 ∷ [])
+    (c.to_le_bytes.ensures ∙ ap (λ z. to_le_bytes w64 (cast_unsigned w64 z)) (to_z-of_z w64 c.args.value.now (search rules)))

@@ -4,5 +4,6 @@ pub mod ForCallers
 pub mod Items
 pub mod Lasts
 pub mod Locks
+pub mod Plains
 pub mod Questions
 pub mod SameCasts

@@ -1,5 +1,5 @@
 -- The items of an array, or the bytes of a blob, as values of one type.
-use Rattle.std.specs.Prelude.{◌≡◌, ℕ, true, ◌||◌, List, [], ◌∷◌, map, Option, Some, None, option_map, is_some}
+use Rattle.std.specs.Prelude.{◌≡◌, ℕ, Bool, true, ◌||◌, List, [], ◌∷◌, map, Option, Some, None, option_map, is_some}
 use Rattle.rhai_value.specs.declared.host.Host.TheVariants as host_kind
 use Rattle.rhai_value.specs.declared.into.IntoError.{IntoError}
 use Rattle.rhai_value.specs.declared.into.IntoError.TheVariants.{Mismatch, Memory}
@@ -9,7 +9,7 @@ use Rattle.rhai_value.specs.declared.type_id.TypeId.TheVariants as id
 use Rattle.rhai_value.specs.End.{End, end, held_part, flattened, end_name, array_moved}
 use Rattle.rhai_value.specs.Parts.{array_of, blob_of}
 use Rattle.rhai_value.specs.Tree.{Tree, Trees, no_trees, tree_then, fresh, host}
-use Rattle.rhai_value.specs.Types.{tree_type, type_name}
+use Rattle.rhai_value.specs.Types.{is_host_type, tree_type, type_name}
 use Rattle.rhai_variant.specs.Reads.{read}
 
 -- one more item in front, if there are both
@@ -30,6 +30,14 @@ unread_or (Some x) t later = later
 abbrev pub first_unread : TypeId → List Cell → Trees → TypeId
 first_unread k s no_trees = id.Shared
 first_unread k s (tree_then t ts) = unread_or (read k (flattened s t)) t (first_unread k s ts)
+
+-- whether a type is one of those whose values are copied as they are, without memory: of leaves that are no text and no blob
+abbrev pub is_plain : TypeId → Bool
+is_plain id.Unit = true
+is_plain id.Bool = true
+is_plain id.Char = true
+is_plain id.Int = true
+is_plain k = is_host_type k
 
 -- Why not each item is read: nothing is read of one, and the name is that of the first such; or memory was refused, and there are
 -- items.

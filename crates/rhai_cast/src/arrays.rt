@@ -1,18 +1,19 @@
 //! Items of arrays and bytes of blobs as values of one type.
-ghost use Rattle.std.specs.Prelude.{◌≡◌, true, [], ◌∷◌, ◌++◌, Some, None, map, option_map, IfOk, IfErr, IsOk, OnOk};
+ghost use Rattle.std.specs.Prelude.{◌≡◌, ◌≤◌, true, List, [], ◌∷◌, ◌++◌, length, Some, None, map, option_map, vec_capacity, IfOk, IfErr, IsOk, IsTrue, OnOk};
+ghost use Rattle.rhai_value.specs.declared.store.Cell.{Cell};
 ghost use Rattle.rhai_value.specs.End.{end};
 ghost use Rattle.rhai_value.specs.Rows.{trees_of};
 ghost use Rattle.rhai_value.specs.Types.{is_type, tree_type};
 ghost use Rattle.rhai_value.specs.declared.type_id.TypeId.TheVariants as type_id;
-ghost use Rattle.rhai_cast.specs.Arrays.{byte_tree, bytes_at, read_all, IsUnread};
+ghost use Rattle.rhai_cast.specs.Arrays.{byte_tree, bytes_at, is_plain, read_all, IsUnread};
 
 use crate::cast::{DynamicCast, read_castable};
 use rhai_value::{Array, Blob, Dynamic, Host, IntoError, Store, TypeId};
 use rhai_variant::Variant;
 use std::alloc::{AllocError, Global};
 
-/// The items without their holders, read as one type. Room is taken once, and each item is moved.
-#[tactic(auto, using(crate::proofs::Items::none_read, crate::proofs::Items::unread_here, crate::proofs::Items::no_items))]
+/// The items without their holders, read as one type. Room is taken once, and each item is moved, or read where it lies.
+#[tactic(auto, using(crate::proofs::Items::no_items))]
 pub(crate) fn read_items<T: Variant>(
     items: Array,
     alloc: Global,
@@ -22,6 +23,74 @@ pub(crate) fn read_items<T: Variant>(
     ensures err { IfErr result (λ e. IsUnread T.KIND e store.now (trees_of items.items)) }
 {
     let mut xs = Vec::with_capacity(alloc, items.len())?;
+    if is_plain(T::KIND) && add_plain(&mut xs, &items, alloc) {
+        return Ok(xs);
+    }
+    xs.clear();
+    read_each(xs, items, alloc, store)
+}
+
+/// Whether what a value of the type has is copied as it is, without memory.
+fn is_plain(kind: TypeId) -> bool
+    ensures { result ≡ is_plain kind }
+{
+    match kind {
+        TypeId::Unit
+        | TypeId::Bool
+        | TypeId::Char
+        | TypeId::Int
+        | TypeId::U8
+        | TypeId::U16
+        | TypeId::U32
+        | TypeId::U64
+        | TypeId::U128
+        | TypeId::I8
+        | TypeId::I16
+        | TypeId::I32
+        | TypeId::I128
+        | TypeId::ExclusiveRange
+        | TypeId::InclusiveRange => true,
+        TypeId::String
+        | TypeId::ImmutableString
+        | TypeId::Array
+        | TypeId::Blob
+        | TypeId::Map
+        | TypeId::FnPtr
+        | TypeId::Dynamic
+        | TypeId::Shared => false,
+    }
+}
+
+/// Reads the items where they lie, if each is a value of the type itself and no holder.
+fn add_plain<T: Variant>(xs: &mut Vec<T>, items: &Array, alloc: Global) -> bool
+    requires kind { is_plain T.KIND ≡ true }
+    requires room { (xs.old.items ≡ []) × (length items.now.items ≤ vec_capacity xs.old) }
+    ensures { IsTrue result → (s : List Cell) → read_all T.KIND s (trees_of items.now.items) ≡ Some (map T.tree xs.new.items) }
+{
+    for item in items {
+        let Some(x) = T::view(item) else {
+            return false;
+        };
+        let Ok(x) = x.duplicate(alloc) else {
+            return false;
+        };
+        xs.push_reserved(x);
+    }
+    true
+}
+
+/// The items without their holders, read as one type, each moved.
+#[tactic(auto, using(crate::proofs::Items::none_read, crate::proofs::Items::unread_here, crate::proofs::Items::no_items))]
+fn read_each<T: Variant>(
+    mut xs: Vec<T>,
+    items: Array,
+    alloc: Global,
+    store: &Store,
+) -> Result<Vec<T>, IntoError>
+    requires { xs.items ≡ [] }
+    ensures ok { IfOk result (λ xs. read_all T.KIND store.now (trees_of items.items) ≡ Some (map T.tree xs.items)) }
+    ensures err { IfErr result (λ e. IsUnread T.KIND e store.now (trees_of items.items)) }
+{
     for item in items {
         let kind = own_type(&item, store);
         match item.try_cast::<T>(alloc, store)? {

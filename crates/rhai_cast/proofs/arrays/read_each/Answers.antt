@@ -6,7 +6,7 @@ use Rattle.rhai_value.specs.Rows.{trees_of}
 use Rattle.rhai_variant.specs.Reads.{read}
 use Rattle.rhai_cast.specs.Arrays.{read_all, first_unread}
 use Rattle.rhai_cast.proofs.Items.{empty, read_more, unread_more}
-use Rattle.rhai_cast.proofs.arrays.read_items.Goals as goal
+use Rattle.rhai_cast.proofs.arrays.read_each.Goals as goal
 
 pub loop-item-preserved : goal.loop-item-preserved
 loop-item-preserved g c =

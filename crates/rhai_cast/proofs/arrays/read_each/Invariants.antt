@@ -2,7 +2,7 @@ use Rattle.std.proofs.Common.{◌≡◌, ◌++◌, map, option_map}
 use Rattle.std.specs.Vec.Iter.{into_iter_items}
 use Rattle.rhai_value.specs.Rows.{trees_of}
 use Rattle.rhai_cast.specs.Arrays.{read_all, first_unread}
-use Rattle.rhai_cast.proofs.arrays.read_items.Given as goal
+use Rattle.rhai_cast.proofs.arrays.read_each.Given as goal
 
 -- those read so far, and those read of what is left, are those read of all
 abbrev pub invariant-loop-item : goal.invariant-loop-item

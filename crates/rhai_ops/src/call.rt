@@ -1,5 +1,5 @@
 //! Calls of rows.
-ghost use Rattle.std.specs.Prelude.{◌≡◌, IfOk, IfErr};
+ghost use Rattle.std.specs.Prelude.{◌≡◌, IfOk, IfErr, IfSome};
 ghost use Rattle.rhai_ops.specs.Outcome.{IsOutcome, answers};
 ghost use Rattle.rhai_ops.specs.Results.{MayWant, Suits, outcome};
 ghost use Rattle.rhai_ops.specs.Order.{row_order};
@@ -40,6 +40,9 @@ impl FnBuiltin {
         ensures store { IfOk result (λ d. store.new ≡ store_left (effect self.now) (outcome self.now limits.now store.old left.old right.old) store.old left.old) }
         ensures err { IfErr result (λ e. (left.new ≡ left.old) × (right.new ≡ right.old) × (store.new ≡ store.old)) }
     {
+        if let Some(answer) = self.own_answer(store, limits, left, right) {
+            return answer;
+        }
         if let FnBuiltin::IntAssign(t) = *self {
             if let Some(j) = own_int(right) {
                 return ints::assign_number(t, store, left, j);
@@ -71,7 +74,7 @@ impl FnBuiltin {
             | FnBuiltin::FirstCopy
             | FnBuiltin::SecondCopy
             | FnBuiltin::BlobChar
-            | FnBuiltin::RangeEqual(_, _) => return self.call_ref(
+            | FnBuiltin::RangeEqual(_, _) => return self.call_on_any(
                 alloc, store, limits, left, right,
             ),
             FnBuiltin::IntAssign(t) => ints::assign(t, store, left, right),
@@ -110,28 +113,26 @@ impl FnBuiltin {
         requires suits { Suits self.now store.now left.now right.now }
         ensures { IsOutcome (MayWant self.now left.now right.now) result (outcome self.now limits.now store.now left.now right.now) }
     {
-        // what operands have themselves, as most do, is read here; the rows on any operands follow
-        if let FnBuiltin::Int(t) = *self {
-            if let Some(i) = own_int(left) {
-                if let Some(j) = own_int(right) {
-                    return ints::answer_numbers(t, i, j);
-                }
-            }
+        if let Some(answer) = self.own_answer(store, limits, left, right) {
+            return answer;
         }
-        if let FnBuiltin::IntCompare(t) = *self {
-            if let Some(i) = own_int(left) {
-                if let Some(j) = own_int(right) {
-                    return ints::compare_numbers(t, i, j);
-                }
-            }
-        }
-        if let FnBuiltin::TextCompare(t) = *self {
-            if let Some(a) = own_text(left) {
-                if let Some(b) = own_text(right) {
-                    return texts::compare_two(t, a, b);
-                }
-            }
-        }
+        self.call_on_any(alloc, store, limits, left, right)
+    }
+
+    /// Calls the row of an operator on any operands.
+    #[inline(always)]
+    fn call_on_any(
+        &self,
+        alloc: Global,
+        store: &Store,
+        limits: &Limits,
+        left: &Dynamic,
+        right: &Dynamic,
+    ) -> Result<Dynamic, EvalAltResult>
+        requires operator { effect self.now ≡ operator }
+        requires suits { Suits self.now store.now left.now right.now }
+        ensures { IsOutcome (MayWant self.now left.now right.now) result (outcome self.now limits.now store.now left.now right.now) }
+    {
         match *self {
             FnBuiltin::Int(t) => ints::answer(t, store, left, right),
             FnBuiltin::IntCompare(t) => ints::compare(t, store, left, right),
@@ -189,6 +190,43 @@ impl FnBuiltin {
             | FnBuiltin::BlobCharAssign
             | FnBuiltin::BlobTextAssign => unreachable!(),
         }
+    }
+
+    /// What a row answers on what the operands have themselves, where these are ints or texts that it compares: most are.
+    #[inline(always)]
+    fn own_answer(
+        &self,
+        store: &Store,
+        limits: &Limits,
+        left: &Dynamic,
+        right: &Dynamic,
+    ) -> Option<Result<Dynamic, EvalAltResult>>
+        requires { Suits self.now store.now left.now right.now }
+        ensures outcome { IfSome result (λ answer. IsOutcome ⊥ answer (outcome self.now limits.now store.now left.now right.now)) }
+        ensures operator { IfSome result (λ _. effect self.now ≡ operator) }
+    {
+        if let FnBuiltin::Int(t) = *self {
+            if let Some(i) = own_int(left) {
+                if let Some(j) = own_int(right) {
+                    return Some(ints::answer_numbers(t, i, j));
+                }
+            }
+        }
+        if let FnBuiltin::IntCompare(t) = *self {
+            if let Some(i) = own_int(left) {
+                if let Some(j) = own_int(right) {
+                    return Some(ints::compare_numbers(t, i, j));
+                }
+            }
+        }
+        if let FnBuiltin::TextCompare(t) = *self {
+            if let Some(a) = own_text(left) {
+                if let Some(b) = own_text(right) {
+                    return Some(texts::compare_two(t, a, b));
+                }
+            }
+        }
+        None
     }
 
     /// The order by which a row compares; the other rows have none.

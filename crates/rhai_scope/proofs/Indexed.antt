@@ -1,9 +1,9 @@
 -- An index, once entries have come or gone.
 use Rattle.std.proofs.Common.{◌≡◌, ℕ, suc, ◌+◌, ◌-◌, ◌<◌, ◌≤◌, nat_eq, List, [], ◌∷◌, ◌++◌, length, take, drop, Option, Some, None, option_map, option_and_then, refl, sym, ap, ◌∙◌, subst, arith}
-use Rattle.std.proofs.lemmas.List.{length-append, length-drop, length-map, length-take, length-take-le, map-append, take-append-drop, take-append-le, take-map, take-take, take_all}
+use Rattle.std.proofs.lemmas.List.{length-append, length-map, length-take, length-take-le, map-append, take-append-drop, take-append-le, take-map, take-take, take_all}
 use Rattle.std.proofs.Math.Seq.{take-add, take-append-add}
 use Rattle.std.specs.Cmp.Lexicographic.{pointwise}
-use Rattle.std.specs.Prelude.{OnErr}
+use Rattle.std.specs.Prelude.{OnOk, OnErr}
 use Rattle.std.specs.Str.{IsUtf8, chars}
 use Rattle.std.specs.declared.result.Result.{Result}
 use Rattle.std.specs.declared.result.Result.TheVariants.{Ok, Err}
@@ -20,6 +20,11 @@ use Rattle.rhai_scope.proofs.LastTrue.{last_more}
 pub whatever : {T E P : Type 0} (r : Result T E) → P → OnErr r P
 whatever (Ok x) p = tt
 whatever (Err e) p = p
+
+-- what holds after both
+pub either : {T E P : Type 0} (r : Result T E) → OnOk r P → OnErr r P → P
+either (Ok x) ok err = ok
+either (Err e) ok err = err
 
 -- ---- the last entry of a name
 
@@ -53,31 +58,23 @@ earlier : (name : List ℕ) (es fs : List Entry) → last_position name fs ≡ N
 earlier name [] fs h = h
 earlier name (e ∷ es) fs h = ap (λ o. later_or_here o (pointwise nat_eq e.name name)) (earlier name es fs h)
 
--- what was found behind the first ones
-pub found_behind : (name : List ℕ) (es : List Entry) (i k : ℕ) → i ≤ length es → last_position name (drop i es) ≡ Some k → Some (i + k) ≡ last_position name es
-found_behind name es i k h is =
-    sym (ap (last_position name) (sym (take-append-drop i es)) ∙ later name (take i es) (drop i es) k is ∙ ap (λ n. Some (n + k)) (length-take-le i es h))
-
 pub within : (x : Index) (es : List Entry) → IsIndexOf x (names_of es) → x.indexed ≤ length es
 within x es index = subst (λ n. x.indexed ≤ n) (length-map es (λ e. e.name)) index.within
 
 pub few : (x : Index) (es : List Entry) → IsIndexOf x (names_of es) → length es ≤ x.indexed + most_walked
 few x es index = subst (λ n. n ≤ x.indexed + most_walked) (length-map es (λ e. e.name)) index.few
 
--- the first entries, and the end of a list as a slice has it
-pub end_of : {A : Type 0} (xs : List A) (i : ℕ) → take (length xs - i) (drop i xs) ≡ drop i xs
-end_of xs i = take_all (length xs - i) (drop i xs) (omega (arith, length-drop i xs))
-
+-- the first entries
 first_names : (x : Index) (es : List Entry) → IsIndexOf x (names_of es) → ListsNames x.places (names_of (take x.indexed es))
 first_names x es index = subst (ListsNames x.places) (take-map (λ e. e.name) x.indexed es) index.lists
 
 -- what the lists say where none of the others has the name
-pub found_listed : (x : Index) (es : List Entry) (text : List ℕ) → IsIndexOf x (names_of es) → IsUtf8 text → None ≡ last_position (chars text) (take (length es - x.indexed) (drop x.indexed es))
+pub found_listed : (x : Index) (es : List Entry) (text : List ℕ) → IsIndexOf x (names_of es) → IsUtf8 text → last_position (chars text) (drop x.indexed es) ≡ None
     → option_and_then last_item (listed x.places text) ≡ last_position (chars text) es
 found_listed x es text index u none =
     let name = chars text in
     last_listed x.places text (take x.indexed es) (first_names x es index) u
-    ∙ sym (ap (last_position name) (sym (take-append-drop x.indexed es)) ∙ earlier name (take x.indexed es) (drop x.indexed es) (sym (none ∙ ap (last_position name) (end_of es x.indexed))))
+    ∙ sym (ap (last_position name) (sym (take-append-drop x.indexed es)) ∙ earlier name (take x.indexed es) (drop x.indexed es) none)
 
 -- ---- names that come
 

@@ -22,4 +22,6 @@ pub mod Renumbered
 pub mod Rewound
 pub mod SameEntries
 pub mod SamePrints
+pub mod Seen
 pub mod Trues
+pub mod Words

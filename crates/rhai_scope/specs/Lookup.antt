@@ -1,5 +1,5 @@
 -- Names in a scope: an entry hides those of its name before it.
-use Rattle.std.specs.Prelude.{ℕ, zero, suc, nat_eq, Bool, if◌then◌else◌, List, [], ◌∷◌, ◌++◌, slice_get, Option, Some, None, option_map, option_and_then}
+use Rattle.std.specs.Prelude.{◌≡◌, ℕ, suc, nat_eq, Bool, if◌then◌else◌, List, [], ◌∷◌, ◌++◌, drop, slice_get, Option, Some, None, MatchOption, option_map, option_and_then}
 use Rattle.std.specs.Cmp.Lexicographic.{pointwise}
 use Rattle.rhai_value.specs.Tree.{Tree}
 use Rattle.rhai_scope.specs.Entry.{Entry, is_constant_entry, with_value}
@@ -14,6 +14,10 @@ later_or_here None here = if here then Some 0 else None
 abbrev pub last_position : List ℕ → List Entry → Option ℕ
 last_position name [] = None
 last_position name (e ∷ es) = later_or_here (last_position name es) (pointwise nat_eq e.name name)
+
+-- the position of the last entry of the name, where the first n aren't looked at: there is none where no other one has the name
+abbrev pub IsLastBehind : ℕ → List ℕ → List Entry → Option ℕ → Type 0
+IsLastBehind n name es o = MatchOption o (last_position name (drop n es) ≡ None) (λ i. last_position name es ≡ Some i)
 
 -- the last entry of the name
 abbrev pub last_entry : List ℕ → List Entry → Option Entry

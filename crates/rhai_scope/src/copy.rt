@@ -4,7 +4,7 @@ ghost use Rattle.rhai_scope.specs.Entry.{copied_value, copied_entry};
 
 use crate::alias::Alias;
 use crate::records::Record;
-use crate::scope::Scope;
+use crate::scope::{Scope, make_room};
 use rhai_value::Dynamic;
 use std::alloc::{AllocError, Global};
 
@@ -29,25 +29,30 @@ pub(crate) fn copied_list(alloc: Global, list: &[Alias]) -> Result<Vec<Alias>, A
     Ok(copied)
 }
 
-fn copy_of(alloc: Global, entries: &[Record]) -> Result<Scope, AllocError>
-    ensures { IfOk result (λ s. s ≡ map copied_entry entries.now) }
+/// Adds a copy of an entry behind the others.
+pub(crate) fn push_copy(
+    alloc: Global,
+    copies: &mut Vec<Record>,
+    entry: &Record,
+) -> Result<(), AllocError>
+    ensures { OnOk result (copies.new.items ≡ copies.old.items ++ copied_entry entry.now ∷ []) }
 {
-    let mut copied = Scope::with_capacity(alloc, entries.len())?;
+    make_room(copies)?;
+    copies.push_reserved(entry.copy(alloc)?);
+    Ok(())
+}
+
+fn copies_of(alloc: Global, entries: &[Record]) -> Result<Vec<Record>, AllocError>
+    ensures { IfOk result (λ v. v.items ≡ map copied_entry entries.now) }
+{
+    let mut copies = Vec::with_capacity(alloc, entries.len())?;
     for entry in entries {
-        copied.push_copy(entry)?;
+        push_copy(alloc, &mut copies, entry)?;
     }
-    Ok(copied)
+    Ok(copies)
 }
 
 impl Scope {
-    /// Adds a copy of an entry behind the others.
-    pub(crate) fn push_copy(&mut self, entry: &Record) -> Result<(), AllocError>
-        ensures { OnOk result (self.new ≡ self.old ++ copied_entry entry.now ∷ []) }
-    {
-        let entry = entry.copy(self.alloc)?;
-        self.push_record(entry)
-    }
-
     /// Copies the entries with their aliases. Each value is copied and painted with its own mode; the copy of a holder
     /// names the same cell. Names and aliases share their bytes.
     /// Errors: memory is refused.
@@ -56,6 +61,6 @@ impl Scope {
     pub fn copy(&self) -> Result<Scope, AllocError>
         ensures { IfOk result (λ s. s ≡ map copied_entry self.now) }
     {
-        copy_of(self.alloc, &self.records)
+        Scope::from_records(self.alloc, copies_of(self.alloc, &self.records)?)
     }
 }

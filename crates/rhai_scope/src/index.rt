@@ -1,8 +1,8 @@
 //! The index of names.
-ghost use Rattle.std.specs.Prelude.{◌≡◌, ◌+◌, ◌<◌, ◌^◌, ℕ, [], ◌∷◌, ◌++◌, List, length, take, map, OnOk, OnErr};
+ghost use Rattle.std.specs.Prelude.{◌≡◌, ◌+◌, ◌≤◌, ◌<◌, ◌^◌, ℕ, [], ◌∷◌, ◌++◌, List, length, take, map, IfOk, OnOk, OnErr};
 ghost use Rattle.std.specs.Str.{chars};
 ghost use Rattle.rhai_scope.specs.Index.{IsIndexOf, names_of};
-ghost use Rattle.rhai_scope.specs.Lookup.{last_position};
+ghost use Rattle.rhai_scope.specs.Lookup.{last_position, IsLastBehind};
 ghost use Rattle.rhai_scope.specs.NameIndex.{ListsNames};
 
 use crate::heading::Named;
@@ -22,14 +22,31 @@ pub(crate) struct Index {
     pub(crate) places: NameIndex,
 }
 
-/// The position of the last of these entries that has the name.
-fn last_of(entries: &[Record], name: &str) -> Option<usize>
-    ensures { result ≡ last_position (chars name.now) entries.now }
+/// The position of the last entry that has the name, where it isn't one of the first.
+fn last_behind(entries: &[Record], first: usize, name: &str) -> Option<usize>
+    requires { first ≤ length entries.now }
+    ensures { IsLastBehind first (chars name.now) entries.now result }
 {
     let mut i = entries.len();
-    while i > 0 {
+    while i > first {
         i -= 1;
         if entries[i].is_named(name) {
+            return Some(i);
+        }
+    }
+    None
+}
+
+/// The same for a name of four to eight bytes.
+fn last_short_behind(entries: &[Record], first: usize, name: &str) -> Option<usize>
+    requires within { first ≤ length entries.now }
+    requires short { (4 ≤ length name.now) × (length name.now ≤ 8) }
+    ensures { IsLastBehind first (chars name.now) entries.now result }
+{
+    let mut i = entries.len();
+    while i > first {
+        i -= 1;
+        if entries[i].has_short_name(name) {
             return Some(i);
         }
     }
@@ -46,6 +63,16 @@ impl Index {
         }
     }
 
+    /// Lists the names of entries but for the last ones, which are walked through.
+    pub(crate) fn of(alloc: Global, entries: &[Record]) -> Result<Index, AllocError>
+        ensures { IfOk result (λ x. IsIndexOf x (names_of entries.now)) }
+    {
+        let indexed = entries.len().saturating_sub(WALKED_ENTRIES);
+        let mut places = NameIndex::new(alloc);
+        places.push_all(alloc, 0, &entries[..indexed])?;
+        Ok(Index { indexed, places })
+    }
+
     pub(crate) fn clear(&mut self)
         ensures { IsIndexOf self.new [] }
     {
@@ -58,8 +85,23 @@ impl Index {
         requires { IsIndexOf self.now (names_of entries.now) }
         ensures { result ≡ last_position (chars name.now) entries.now }
     {
-        match last_of(&entries[self.indexed..], name) {
-            Some(place) => Some(self.indexed + place),
+        match name.len() {
+            4..=8 => match last_short_behind(entries, self.indexed, name) {
+                Some(place) => Some(place),
+                None => self.places.last(name),
+            },
+            _ => self.search_other(entries, name),
+        }
+    }
+
+    /// The same for any name; out of line, so that the walk for a short one keeps nothing on the stack.
+    #[inline(never)]
+    fn search_other(&self, entries: &[Record], name: &str) -> Option<usize>
+        requires { IsIndexOf self.now (names_of entries.now) }
+        ensures { result ≡ last_position (chars name.now) entries.now }
+    {
+        match last_behind(entries, self.indexed, name) {
+            Some(place) => Some(place),
             None => self.places.last(name),
         }
     }
@@ -67,8 +109,8 @@ impl Index {
     /// Lists the names of all entries where no more can come without. Where memory is refused, the index stays as it is.
     pub(crate) fn admit_one(&mut self, alloc: Global, entries: &[Record]) -> Result<(), AllocError>
         requires { IsIndexOf self.old (names_of entries.now) }
+        ensures index { IsIndexOf self.new (names_of entries.now) }
         ensures ok { OnOk result ((name : List ℕ) → IsIndexOf self.new (names_of entries.now ++ name ∷ [])) }
-        ensures err { OnErr result (IsIndexOf self.new (names_of entries.now)) }
     {
         let walked = entries.len() - self.indexed;
         if walked < WALKED_ENTRIES {
@@ -79,6 +121,7 @@ impl Index {
 
     /// Lists the names of all entries.
     #[cold]
+    #[inline(never)]
     fn list_all(&mut self, alloc: Global, entries: &[Record]) -> Result<(), AllocError>
         requires { IsIndexOf self.old (names_of entries.now) }
         ensures ok { OnOk result ((self.new.indexed ≡ length entries.now) × ListsNames self.new.places (names_of entries.now)) }

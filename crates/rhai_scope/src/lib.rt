@@ -22,6 +22,7 @@ mod reach;
 mod records;
 mod rest;
 mod scope;
+mod short;
 mod shown;
 mod typed;
 mod visible;

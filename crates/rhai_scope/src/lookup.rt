@@ -27,11 +27,12 @@ impl Scope {
     }
 
     /// The last entry of a name.
+    #[tactic(auto, using(crate::proofs::Found::position_within))]
     pub(crate) fn entry_named(&self, name: &str) -> Option<&Record>
         ensures { option_copied result ≡ last_entry (chars name.now) self.now }
     {
         match self.search(name) {
-            Some(i) => self.records.get(i),
+            Some(i) => Some(&self.records[i]),
             None => None,
         }
     }

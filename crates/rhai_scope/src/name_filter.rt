@@ -15,7 +15,7 @@ pub(crate) struct NameFilter {
 }
 
 /// Four bytes as a number.
-fn word_at(bytes: &[u8], i: usize) -> u32
+pub(crate) fn word_at(bytes: &[u8], i: usize) -> u32
     requires { i + 4 ≤ length bytes.now }
     ensures { result ≡ word_at bytes.now i }
 {

@@ -4,6 +4,7 @@ use crate::alias::{Alias, AliasList};
 use crate::aliases::add_once;
 use crate::copy::{copied_list, copied_value};
 use crate::heading::Named;
+use crate::short::is_same_short;
 use rhai_text::ImmutableString;
 use rhai_value::Dynamic;
 use smallvec::SmallVec;
@@ -39,7 +40,7 @@ impl Named for Record {
 }
 
 impl Record {
-    ghost use Rattle.std.specs.Prelude.{◌≡◌, nat_eq, IfOk, OnOk, OnErr};
+    ghost use Rattle.std.specs.Prelude.{◌≡◌, ◌≤◌, nat_eq, length, IfOk, OnOk, OnErr};
     ghost use Rattle.std.specs.Borrow.{Lends, sem};
     ghost use Rattle.std.specs.Cmp.Lexicographic.{pointwise};
     ghost use Rattle.std.specs.Str.{chars};
@@ -65,11 +66,12 @@ impl Record {
     pub(crate) fn copy(&self, alloc: Global) -> Result<Record, AllocError>
         ensures { IfOk result (λ e. e ≡ copied_entry self.now) }
     {
-        Ok(Record {
-            name: self.name.copy(alloc)?,
-            value: copied_value(alloc, &self.value)?,
-            aliases: copied_list(alloc, &self.aliases)?,
-        })
+        let name = self.name.copy(alloc)?;
+        let mut copied = Record::new(alloc, name, copied_value(alloc, &self.value)?);
+        if !self.aliases.is_empty() {
+            copied.aliases = copied_list(alloc, &self.aliases)?;
+        }
+        Ok(copied)
     }
 
     pub(crate) fn name(&self) -> &ImmutableString
@@ -108,6 +110,15 @@ impl Record {
         ensures { result ≡ pointwise nat_eq self.now.name (chars name.now) }
     {
         self.name.as_str() == name
+    }
+
+    /// Whether it has this name of four to eight bytes.
+    #[tactic(auto, using(crate::proofs::Names::same_bytes))]
+    pub(crate) fn has_short_name(&self, name: &str) -> bool
+        requires { (4 ≤ length name.now) × (length name.now ≤ 8) }
+        ensures { result ≡ pointwise nat_eq self.now.name (chars name.now) }
+    {
+        is_same_short(self.name.as_str(), name)
     }
 
     /// The value, to write to.

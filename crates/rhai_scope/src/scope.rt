@@ -45,7 +45,7 @@ impl Model for Scope {
 }
 
 /// Makes room for one more entry; where there is none yet, for the least number of a scope's entries.
-fn make_room(records: &mut Vec<Record>) -> Result<(), AllocError>
+pub(crate) fn make_room(records: &mut Vec<Record>) -> Result<(), AllocError>
     ensures items { records.new.items ≡ records.old.items }
     ensures room { OnOk result (vec_len records.new + 1 ≤ vec_capacity records.new) }
     ensures first { OnOk result (records.old.items ≡ [] → vec_len records.new + MIN_SCOPE_ENTRIES ≤ vec_capacity records.new) }
@@ -63,8 +63,8 @@ fn admit(alloc: Global, records: &mut Vec<Record>, index: &mut Index) -> Result<
     requires { IsIndexOf index.old (names_of records.old.items) }
     ensures items { records.new.items ≡ records.old.items }
     ensures room { OnOk result (vec_len records.new + 1 ≤ vec_capacity records.new) }
+    ensures index { IsIndexOf index.new (names_of records.old.items) }
     ensures ok { OnOk result ((name : List ℕ) → IsIndexOf index.new (names_of records.old.items ++ name ∷ [])) }
-    ensures err { OnErr result (IsIndexOf index.new (names_of records.old.items)) }
 {
     make_room(records)?;
     index.admit_one(alloc, records.as_slice())
@@ -113,6 +113,18 @@ impl Scope {
         let mut scope = Scope::new(alloc);
         scope.reserve(capacity)?;
         Ok(scope)
+    }
+
+    /// Makes a scope of these entries.
+    pub(crate) fn from_records(alloc: Global, records: Vec<Record>) -> Result<Scope, AllocError>
+        ensures { IfOk result (λ s. s ≡ records.items) }
+    {
+        let index = Index::of(alloc, records.as_slice())?;
+        Ok(Scope {
+            alloc,
+            records,
+            index,
+        })
     }
 
     /// Makes room for more entries.
@@ -173,20 +185,11 @@ impl Scope {
         }
     }
 
-    /// Adds an entry as it is behind the others.
-    pub(crate) fn push_record(&mut self, entry: Record) -> Result<(), AllocError>
-        ensures ok { OnOk result (self.new ≡ self.old ++ entry ∷ []) }
-        ensures err { OnErr result (self.new ≡ self.old) }
-    {
-        admit(self.alloc, &mut self.records, &mut self.index)?;
-        self.records.push_reserved(entry);
-        Ok(())
-    }
-
     /// Adds an entry behind the others. Its value is a constant where it was one.
     /// Errors: memory is refused; the scope is as it was, and the value is gone.
     /// Cost: that of `push_entry`, and the length of the name.
     /// rhai: `Scope::push_dynamic`.
+    #[inline(always)]
     pub fn push_dynamic(&mut self, name: &str, value: Dynamic) -> Result<(), AllocError>
         ensures ok { OnOk result (self.new ≡ pushed (mode_of value) (chars name.now) value self.old) }
         ensures err { OnErr result (self.new ≡ self.old) }
@@ -206,6 +209,7 @@ impl Scope {
         self.push_named(name, AccessMode::ReadOnly, value)
     }
 
+    #[inline(always)]
     pub(crate) fn push_named(
         &mut self,
         name: &str,
@@ -215,11 +219,12 @@ impl Scope {
         ensures ok { OnOk result (self.new ≡ pushed access (chars name.now) value self.old) }
         ensures err { OnErr result (self.new ≡ self.old) }
     {
-        let name = ImmutableString::from_str(self.alloc, name)?;
-        match self.push_entry(name, access, value) {
-            Ok(()) => Ok(()),
-            Err(_) => Err(AllocError),
-        }
+        // Room is made before the name, so that the value goes straight to its place.
+        let alloc = self.alloc;
+        admit(alloc, &mut self.records, &mut self.index)?;
+        let name = ImmutableString::from_str(alloc, name)?;
+        push_in_room(alloc, &mut self.records, name, access, value);
+        Ok(())
     }
 
     /// Drops the last entry with its aliases.

@@ -1,5 +1,5 @@
 use Rattle.std.proofs.Common.{◌∷◌, [], ◌++◌, subst, ◌∙◌}
-use Rattle.std.proofs.lemmas.Result.{on_ok_weaker, on_err_weaker}
+use Rattle.std.proofs.lemmas.Result.{on_ok_weaker}
 use Rattle.rhai_scope.specs.Index.{IsIndexOf, names_of}
 use Rattle.rhai_scope.proofs.scope.admit.Goals as goal
 
@@ -9,5 +9,5 @@ returns-clause-ok c =
     (λ new name. subst (λ es. IsIndexOf c.admit_one.new.self (names_of es ++ name ∷ [])) (c.as_slice.ensures.value ∙ c.make_room.ensures.items) (new name))
     c.admit_one.ensures.ok
 
-pub returns-clause-err : goal.returns-clause-err
-returns-clause-err c = on_err_weaker c.admit_one.result (λ new. subst (λ es. IsIndexOf c.admit_one.new.self (names_of es)) (c.as_slice.ensures.value ∙ c.make_room.ensures.items) new) c.admit_one.ensures.err
+pub returns-clause-index : goal.returns-clause-index
+returns-clause-index c = subst (λ es. IsIndexOf c.admit_one.new.self (names_of es)) (c.as_slice.ensures.value ∙ c.make_room.ensures.items) c.admit_one.ensures.index

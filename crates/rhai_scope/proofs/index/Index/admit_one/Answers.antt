@@ -1,7 +1,7 @@
 use Rattle.std.proofs.Common.{[], ◌∷◌, sym, ◌∙◌, arith}
 use Rattle.std.proofs.lemmas.Result.{on_ok_weaker}
 use Rattle.rhai_scope.specs.Index.{names_of}
-use Rattle.rhai_scope.proofs.Indexed.{listed_with, walked_with}
+use Rattle.rhai_scope.proofs.Indexed.{all_listed, either, listed_with, walked_with}
 use Rattle.rhai_scope.proofs.EntryNames.{length_names}
 use Rattle.rhai_scope.proofs.index.Index.admit_one.Goals as goal
 
@@ -16,3 +16,9 @@ returns-clause-ok c =
     on_ok_weaker c.list_all.result
     (λ all name. listed_with c.list_all.new.self.indexed c.list_all.new.self.places (names_of c.args.entries.now) (name ∷ []) (all.0 ∙ sym (length_names c.args.entries.now)) all.1 (omega arith))
     c.list_all.ensures.ok
+
+pub returns-clause-index : goal.returns-clause-index
+returns-clause-index c =
+    either c.list_all.result
+    (on_ok_weaker c.list_all.result (λ all. all_listed c.list_all.new.self.indexed c.list_all.new.self.places (names_of c.args.entries.now) (all.0 ∙ sym (length_names c.args.entries.now)) all.1) c.list_all.ensures.ok)
+    c.list_all.ensures.err

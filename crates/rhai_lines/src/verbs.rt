@@ -1,4 +1,6 @@
 //! The verbs: what a line with each says, and the line of each command.
+#![tactic(auto, using(crate::proofs::Lookups::says_word), unfolding(crate::specs::Verbs::said_by, crate::specs::Memory::takes_by))]
+
 ghost use Rattle.std.specs.Prelude.{◌≡◌, length, IfOk, OnErr, string_bytes};
 ghost use Rattle.rhai_run.specs.declared.command.Command.TheVariants.{Put};
 ghost use Rattle.rhai_lines.specs.Verbs.{command_of};
@@ -16,7 +18,6 @@ use rhai_value::{ExclusiveRange, InclusiveRange};
 use std::alloc::{AllocError, Global};
 
 /// The command of a verb of three letters.
-#[tactic(auto, using(crate::proofs::Lookups::says_word), unfolding(crate::specs::Verbs::said_by, crate::specs::Memory::takes_by))]
 fn three_letters(alloc: Global, verb: &str, left: &Option<&str>) -> Result<Command, NoCommand>
     requires { length verb.now ≡ 3 }
     ensures { Says result verb.now (left_in left.now) }
@@ -37,7 +38,6 @@ fn three_letters(alloc: Global, verb: &str, left: &Option<&str>) -> Result<Comma
 }
 
 /// The command of a verb of four letters.
-#[tactic(auto, using(crate::proofs::Lookups::says_word), unfolding(crate::specs::Verbs::said_by, crate::specs::Memory::takes_by))]
 fn four_letters(alloc: Global, verb: &str, left: &Option<&str>) -> Result<Command, NoCommand>
     requires { length verb.now ≡ 4 }
     ensures { Says result verb.now (left_in left.now) }
@@ -65,7 +65,6 @@ fn four_letters(alloc: Global, verb: &str, left: &Option<&str>) -> Result<Comman
 }
 
 /// The command of a verb of five letters.
-#[tactic(auto, using(crate::proofs::Lookups::says_word), unfolding(crate::specs::Verbs::said_by, crate::specs::Memory::takes_by))]
 fn five_letters(alloc: Global, verb: &str, left: &Option<&str>) -> Result<Command, NoCommand>
     requires { length verb.now ≡ 5 }
     ensures { Says result verb.now (left_in left.now) }
@@ -98,7 +97,6 @@ fn five_letters(alloc: Global, verb: &str, left: &Option<&str>) -> Result<Comman
 }
 
 /// The command of a verb of six letters.
-#[tactic(auto, using(crate::proofs::Lookups::says_word), unfolding(crate::specs::Verbs::said_by, crate::specs::Memory::takes_by))]
 fn six_letters(alloc: Global, verb: &str, left: &Option<&str>) -> Result<Command, NoCommand>
     requires { length verb.now ≡ 6 }
     ensures { Says result verb.now (left_in left.now) }
@@ -118,7 +116,6 @@ fn six_letters(alloc: Global, verb: &str, left: &Option<&str>) -> Result<Command
 }
 
 /// The command of a verb of seven letters.
-#[tactic(auto, using(crate::proofs::Lookups::says_word), unfolding(crate::specs::Verbs::said_by, crate::specs::Memory::takes_by))]
 fn seven_letters(alloc: Global, verb: &str, left: &Option<&str>) -> Result<Command, NoCommand>
     requires { length verb.now ≡ 7 }
     ensures { Says result verb.now (left_in left.now) }
@@ -143,7 +140,6 @@ fn seven_letters(alloc: Global, verb: &str, left: &Option<&str>) -> Result<Comma
 }
 
 /// The command of a verb of eight letters.
-#[tactic(auto, using(crate::proofs::Lookups::says_word), unfolding(crate::specs::Verbs::said_by, crate::specs::Memory::takes_by))]
 fn eight_letters(alloc: Global, verb: &str, left: &Option<&str>) -> Result<Command, NoCommand>
     requires { length verb.now ≡ 8 }
     ensures { Says result verb.now (left_in left.now) }
@@ -158,7 +154,6 @@ fn eight_letters(alloc: Global, verb: &str, left: &Option<&str>) -> Result<Comma
 }
 
 /// The command of a verb of nine letters.
-#[tactic(auto, using(crate::proofs::Lookups::says_word), unfolding(crate::specs::Verbs::said_by, crate::specs::Memory::takes_by))]
 fn nine_letters(alloc: Global, verb: &str, left: &Option<&str>) -> Result<Command, NoCommand>
     requires { length verb.now ≡ 9 }
     ensures { Says result verb.now (left_in left.now) }
@@ -175,7 +170,6 @@ fn nine_letters(alloc: Global, verb: &str, left: &Option<&str>) -> Result<Comman
 }
 
 /// The command of a verb and of what is left behind it. By the length of the verb first, so that texts are compared as numbers.
-#[tactic(auto, using(crate::proofs::Lookups::says_word), unfolding(crate::specs::Verbs::said_by, crate::specs::Memory::takes_by))]
 fn read(alloc: Global, verb: &str, left: &Option<&str>) -> Result<Command, NoCommand>
     ensures { Says result verb.now (left_in left.now) }
 {

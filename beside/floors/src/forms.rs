@@ -50,18 +50,29 @@ macro_rules! large_maps {
     };
 }
 
-const SINGLES: [Form; 6] = [
+const SINGLES: [Form; 12] = [
     form(4, "own int first", singles::as_int),
     form(5, "write", singles::set_int),
     form(5, "exchange", singles::exchange_int),
     form(9, "one match for both", singles::tag_get_set),
     form(30, "own int first", singles::array_sum),
+    form(41, "own int first", singles::held_own_first),
+    form(41, "cell first", singles::held_cell_first),
+    form(41, "marks apart", singles::held_marks_apart),
     form(162, "ints moved out", singles::typed_array),
+    form(163, "one by one", singles::array_one_by_one),
+    form(163, "extended", singles::array_extended),
+    form(163, "written over units", singles::array_written_over),
 ];
 
-const TEXTS: [Form; 13] = [
+const TEXTS: [Form; 18] = [
     form(81, "two blocks", texts::make_long),
     form(82, "a count", texts::copy),
+    form(83, "by words", |n| texts::equal(n, |a, b| texts::by_words(a, b).is_eq())),
+    form(83, "by 16 bytes", |n| texts::equal(n, texts::same_by::<16>)),
+    form(83, "by 32 bytes", |n| texts::equal(n, texts::same_by::<32>)),
+    form(83, "by 64 bytes", |n| texts::equal(n, texts::same_by::<64>)),
+    beside(83, "memcmp", |n| texts::equal(n, |a, b| a == b)),
     form(84, "by words", |n| texts::order(n, texts::by_words)),
     form(84, "by 16 bytes", |n| texts::order(n, texts::by_lanes::<16>)),
     form(84, "by 32 bytes", |n| texts::order(n, texts::by_lanes::<32>)),

@@ -119,6 +119,118 @@ pub fn array_sum(n: usize) -> u64 {
     sum
 }
 
+/// A cell, and whether it is marked for a write.
+struct Cell {
+    content: Value,
+    is_marked: bool,
+}
+
+/// Row 41: ints in cells of their own, read through their holders.
+#[inline(always)]
+fn held_ints(n: usize, held: impl Fn(&Value) -> Option<i64>) -> u64 {
+    let values: Vec<Value> = (0..64).map(|i| Value::Shared(0, Mode::ReadWrite, i)).collect();
+    let mut sum = 0_u64;
+    for i in 0..n {
+        if let Some(int) = values.get(i & 63).and_then(&held) {
+            sum = sum.wrapping_add(int as u64);
+        }
+    }
+    sum
+}
+
+fn cells() -> Vec<Cell> {
+    ints(64).into_iter().map(|content| Cell { content, is_marked: false }).collect()
+}
+
+#[inline(always)]
+fn in_cell(cells: &[Cell], cell: usize) -> Option<i64> {
+    cells.get(cell).filter(|cell| !cell.is_marked).and_then(|cell| cell.content.own_int())
+}
+
+pub fn held_own_first(n: usize) -> u64 {
+    let cells = black_box(cells());
+    held_ints(n, |value| match value {
+        Value::Int(_, _, n) => Some(*n),
+        Value::Shared(_, _, cell) => in_cell(&cells, *cell),
+        _ => None,
+    })
+}
+
+pub fn held_cell_first(n: usize) -> u64 {
+    let cells = black_box(cells());
+    held_ints(n, |value| match value {
+        Value::Shared(_, _, cell) => in_cell(&cells, *cell),
+        value => value.own_int(),
+    })
+}
+
+/// Cells of 48 bytes, and their marks in words of 64.
+pub fn held_marks_apart(n: usize) -> u64 {
+    let (cells, marks) = black_box((ints(64), vec![0_u64; 1]));
+    held_ints(n, |value| match value {
+        Value::Int(_, _, n) => Some(*n),
+        Value::Shared(_, _, cell) => {
+            let content = cells.get(*cell)?;
+            let is_marked = marks.get(*cell / 64)? >> (*cell % 64) & 1 == 1;
+            if is_marked { None } else { content.own_int() }
+        }
+        _ => None,
+    })
+}
+
+fn thousand() -> Vec<i64> {
+    let mut numbers = Vec::with_capacity(1000);
+    for i in 0..1000 {
+        numbers.push(i);
+    }
+    black_box(numbers)
+}
+
+/// Row 163: an array of a thousand numbers.
+#[inline(always)]
+fn arrays(n: usize, array: impl Fn(Vec<i64>) -> Option<Vec<Value>>) -> u64 {
+    let mut sum = 0_u64;
+    for _ in 0..n {
+        if let Some(items) = array(thousand()) {
+            sum = sum.wrapping_add(black_box(items).len() as u64);
+        }
+    }
+    sum
+}
+
+pub fn array_one_by_one(n: usize) -> u64 {
+    arrays(n, |numbers| {
+        let mut items = Vec::new();
+        items.try_reserve_exact(numbers.len()).ok()?;
+        for n in numbers {
+            items.push(Value::int(n));
+        }
+        Some(items)
+    })
+}
+
+pub fn array_extended(n: usize) -> u64 {
+    arrays(n, |numbers| {
+        let mut items = Vec::new();
+        items.try_reserve_exact(numbers.len()).ok()?;
+        items.extend(numbers.into_iter().map(Value::int));
+        Some(items)
+    })
+}
+
+/// Units first, which are then written over.
+pub fn array_written_over(n: usize) -> u64 {
+    arrays(n, |numbers| {
+        let mut items = Vec::new();
+        items.try_reserve_exact(numbers.len()).ok()?;
+        items.resize_with(numbers.len(), || Value::UNIT);
+        for (item, n) in items.iter_mut().zip(numbers) {
+            *item = Value::int(n);
+        }
+        Some(items)
+    })
+}
+
 /// Row 162: the array is made, and each int moved out of it.
 pub fn typed_array(n: usize) -> u64 {
     let mut sum = 0_u64;

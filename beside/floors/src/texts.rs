@@ -60,6 +60,34 @@ pub fn by_lanes<const N: usize>(a: &[u8], b: &[u8]) -> Ordering {
     order_of(last, other).then(a.len().cmp(&b.len()))
 }
 
+/// Whether bytes are the same, by `N` at once; the last of them overlap those before.
+#[inline(always)]
+pub fn same_by<const N: usize>(a: &[u8], b: &[u8]) -> bool {
+    if a.len() != b.len() {
+        return false;
+    }
+    let (Some(last), Some(other)) = (a.last_chunk::<N>(), b.last_chunk::<N>()) else {
+        return by_words(a, b).is_eq();
+    };
+    let mut pairs = a.chunks_exact(N).zip(b.chunks_exact(N));
+    last == other && pairs.all(|(x, y)| x.first_chunk::<N>() == y.first_chunk::<N>())
+}
+
+/// Row 83.
+#[inline(always)]
+pub fn equal(n: usize, same: impl Fn(&[u8], &[u8]) -> bool) -> u64 {
+    let (texts, others) = (sixteen(100), sixteen(100));
+    let mut sum = 0_u64;
+    for i in 0..n {
+        if let (Some(text), Some(other)) = (texts.get(i & 15), others.get(i & 7)) {
+            if same(text.bytes(), other.bytes()) {
+                sum = sum.wrapping_add(1);
+            }
+        }
+    }
+    sum
+}
+
 /// By the C library's `memcmp`, which the port can't call.
 #[inline(always)]
 pub fn by_library(a: &[u8], b: &[u8]) -> Ordering {

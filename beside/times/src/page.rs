@@ -28,12 +28,15 @@ pub fn mean(of: &[f64]) -> f64 {
     (of.iter().map(|n| n.ln()).sum::<f64>() / of.len().max(1) as f64).exp()
 }
 
-/// The cells of each row of the page's tables, by the first one.
+/// The cells of each row of the page's tables, by the first one. Of rows that begin alike the first counts: later tables tell of them again.
 #[must_use]
 pub fn rows_of(page: &str) -> HashMap<String, Vec<String>> {
     let cells = |line: &str| line.trim_matches(['|', ' ']).split('|').map(|cell| cell.trim().to_string()).collect::<Vec<_>>();
-    let rows = page.lines().filter(|line| line.starts_with("| ")).map(cells);
-    rows.filter(|row| row.len() > 2).map(|row| (row[0].clone(), row)).collect()
+    let mut rows = HashMap::new();
+    for row in page.lines().filter(|line| line.starts_with("| ")).map(cells).filter(|row| row.len() > 2) {
+        rows.entry(row[0].clone()).or_insert(row);
+    }
+    rows
 }
 
 /// The page with this text between the marks of the name.

@@ -17,11 +17,13 @@ fn copies(alloc: Global, value: &Dynamic, n: usize) -> Result<u64, AllocError> {
     Ok(sum)
 }
 
+#[inline(never)]
 pub(crate) fn copy_ints(alloc: Global, n: usize) -> Result<u64, AllocError> {
     let value = ints(alloc, 1000)?;
     copies(alloc, &value, n)
 }
 
+#[inline(never)]
 pub(crate) fn copy_nested(alloc: Global, n: usize) -> Result<u64, AllocError> {
     let value = nested(alloc, 4)?;
     copies(alloc, &value, n)
@@ -37,11 +39,13 @@ fn texts(alloc: Global) -> Result<Dynamic, AllocError> {
     Ok(Dynamic::from_array(items))
 }
 
+#[inline(never)]
 pub(crate) fn copy_texts(alloc: Global, n: usize) -> Result<u64, AllocError> {
     let value = texts(alloc)?;
     copies(alloc, &value, n)
 }
 
+#[inline(never)]
 pub(crate) fn push_1000(alloc: Global, n: usize) -> Result<u64, AllocError> {
     let mut store = Store::new(alloc);
     let mut sum = 0_u64;
@@ -59,6 +63,7 @@ pub(crate) fn push_1000(alloc: Global, n: usize) -> Result<u64, AllocError> {
     Ok(sum)
 }
 
+#[inline(never)]
 pub(crate) fn sum_ints(alloc: Global, n: usize) -> Result<u64, AllocError> {
     let store = Store::new(alloc);
     let value = ints(alloc, 1000)?;
@@ -75,6 +80,7 @@ pub(crate) fn sum_ints(alloc: Global, n: usize) -> Result<u64, AllocError> {
     Ok(sum)
 }
 
+#[inline(never)]
 pub(crate) fn is_locked_nested(alloc: Global, n: usize) -> Result<u64, AllocError> {
     let store = Store::new(alloc);
     let mut value = nested(alloc, 4)?;
@@ -90,6 +96,7 @@ pub(crate) fn is_locked_nested(alloc: Global, n: usize) -> Result<u64, AllocErro
     Ok(sum)
 }
 
+#[inline(never)]
 pub(crate) fn set_mode_1000(alloc: Global, n: usize) -> Result<u64, AllocError> {
     let mut value = ints(alloc, 1000)?;
     for i in 0..n {
@@ -125,27 +132,32 @@ fn debugs(alloc: Global, value: &Dynamic, n: usize) -> Result<u64, AllocError> {
     Ok(sum)
 }
 
+#[inline(never)]
 pub(crate) fn display_ints(alloc: Global, n: usize) -> Result<u64, AllocError> {
     let value = ints(alloc, 100)?;
     displays(alloc, &value, n)
 }
 
+#[inline(never)]
 pub(crate) fn debug_nested(alloc: Global, n: usize) -> Result<u64, AllocError> {
     let value = nested(alloc, 4)?;
     debugs(alloc, &value, n)
 }
 
+#[inline(never)]
 pub(crate) fn debug_texts(alloc: Global, n: usize) -> Result<u64, AllocError> {
     let value = texts(alloc)?;
     debugs(alloc, &value, n)
 }
 
+#[inline(never)]
 pub(crate) fn display_map(alloc: Global, n: usize) -> Result<u64, AllocError> {
     let keys = keys(alloc, 100)?;
     let map = map_of(alloc, &keys)?;
     displays(alloc, &Dynamic::from_map(map), n)
 }
 
+#[inline(never)]
 pub(crate) fn hold_ints(alloc: Global, n: usize) -> Result<u64, AllocError> {
     let store = Store::new(alloc);
     let value = ints(alloc, n)?;
@@ -155,6 +167,7 @@ pub(crate) fn hold_ints(alloc: Global, n: usize) -> Result<u64, AllocError> {
     }
 }
 
+#[inline(never)]
 pub(crate) fn hold_nested(alloc: Global, n: usize) -> Result<u64, AllocError> {
     let store = Store::new(alloc);
     let value = nested(alloc, n)?;

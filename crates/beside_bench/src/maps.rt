@@ -4,6 +4,7 @@ use crate::given::{keys, map_of};
 use rhai_value::{Dynamic, Store};
 use std::alloc::{AllocError, Global};
 
+#[inline(never)]
 pub(crate) fn insert(alloc: Global, n: usize, count: u32) -> Result<u64, AllocError> {
     let keys = keys(alloc, count)?;
     let mut sum = 0_u64;
@@ -13,6 +14,7 @@ pub(crate) fn insert(alloc: Global, n: usize, count: u32) -> Result<u64, AllocEr
     Ok(sum)
 }
 
+#[inline(never)]
 pub(crate) fn get(alloc: Global, n: usize, count: u32) -> Result<u64, AllocError> {
     let store = Store::new(alloc);
     let keys = keys(alloc, count)?;
@@ -30,6 +32,7 @@ pub(crate) fn get(alloc: Global, n: usize, count: u32) -> Result<u64, AllocError
     Ok(sum)
 }
 
+#[inline(never)]
 pub(crate) fn get_through(alloc: Global, n: usize, count: u32) -> Result<u64, AllocError> {
     let store = Store::new(alloc);
     let keys = keys(alloc, count)?;
@@ -49,6 +52,7 @@ pub(crate) fn get_through(alloc: Global, n: usize, count: u32) -> Result<u64, Al
     Ok(sum)
 }
 
+#[inline(never)]
 pub(crate) fn remove_insert(alloc: Global, n: usize, count: u32) -> Result<u64, AllocError> {
     let keys = keys(alloc, count)?;
     let mut map = map_of(alloc, &keys)?;
@@ -66,6 +70,7 @@ pub(crate) fn remove_insert(alloc: Global, n: usize, count: u32) -> Result<u64, 
     Ok(map.len() as u64)
 }
 
+#[inline(never)]
 pub(crate) fn iterate(alloc: Global, n: usize, count: u32) -> Result<u64, AllocError> {
     let store = Store::new(alloc);
     let keys = keys(alloc, count)?;
@@ -82,6 +87,7 @@ pub(crate) fn iterate(alloc: Global, n: usize, count: u32) -> Result<u64, AllocE
     Ok(sum)
 }
 
+#[inline(never)]
 pub(crate) fn copy(alloc: Global, n: usize, count: u32) -> Result<u64, AllocError> {
     let store = Store::new(alloc);
     let keys = keys(alloc, count)?;

@@ -11,16 +11,20 @@ use std::alloc::{AllocError, Global};
 const UNLIMITED: Limits = Limits { text: 0, items: 0 };
 
 /// What an operator answers; unit where it has no row or refuses.
+#[inline(always)]
 fn operate(op: Token, alloc: Global, m: &mut Store, x: &mut Dynamic, y: &mut Dynamic) -> Dynamic {
     let Some(row) = get_builtin_binary_op_fn(&op, x, y, m) else {
         return Dynamic::UNIT;
     };
     rows_suit();
-    row.call(alloc, m, &UNLIMITED, x, y)
-        .unwrap_or(Dynamic::UNIT)
+    match row.call(alloc, m, &UNLIMITED, x, y) {
+        Ok(answer) => answer,
+        Err(_) => Dynamic::UNIT,
+    }
 }
 
 /// Does an assignment, and answers whether it was done.
+#[inline(always)]
 fn assign(op: Token, alloc: Global, m: &mut Store, x: &mut Dynamic, y: &mut Dynamic) -> bool {
     let Some(row) = get_builtin_op_assignment_fn(&op, x, y) else {
         return false;
@@ -30,6 +34,7 @@ fn assign(op: Token, alloc: Global, m: &mut Store, x: &mut Dynamic, y: &mut Dyna
 }
 
 /// Looks up four operators in turn on these values, each with the next one.
+#[inline(never)]
 pub(crate) fn lookups(store: &Store, values: &[Dynamic], n: usize) -> u64 {
     let ops = [
         Token::Plus,
@@ -71,6 +76,7 @@ fn on_all(op: Token, alloc: Global, xs: &mut Vec<Dynamic>, ys: &mut Vec<Dynamic>
     sum
 }
 
+#[inline(never)]
 pub(crate) fn on_ints(op: Token, alloc: Global, n: usize) -> Result<u64, AllocError> {
     Ok(on_all(
         op,
@@ -89,6 +95,7 @@ fn text_values(alloc: Global, length: usize) -> Result<Vec<Dynamic>, AllocError>
     Ok(values)
 }
 
+#[inline(never)]
 pub(crate) fn on_texts(
     op: Token,
     alloc: Global,
@@ -101,6 +108,7 @@ pub(crate) fn on_texts(
 }
 
 /// A sum in which each addition takes the answer of the last.
+#[inline(never)]
 pub(crate) fn add_chain(alloc: Global, n: usize) -> Result<u64, AllocError> {
     let mut store = Store::new(alloc);
     let mut values = sixty_four(alloc)?;
@@ -113,6 +121,7 @@ pub(crate) fn add_chain(alloc: Global, n: usize) -> Result<u64, AllocError> {
     Ok(sum_of(&[sum], &store))
 }
 
+#[inline(never)]
 pub(crate) fn assign_ints(alloc: Global, n: usize) -> Result<u64, AllocError> {
     let mut store = Store::new(alloc);
     let mut sums = sixty_four(alloc)?;
@@ -131,6 +140,7 @@ pub(crate) fn assign_ints(alloc: Global, n: usize) -> Result<u64, AllocError> {
 }
 
 /// A thousand ints onto an array or a blob that starts empty.
+#[inline(never)]
 pub(crate) fn push_1000(alloc: Global, to_blob: bool, n: usize) -> Result<u64, AllocError> {
     let mut store = Store::new(alloc);
     let mut sum = 0_u64;
@@ -156,6 +166,7 @@ pub(crate) fn push_1000(alloc: Global, to_blob: bool, n: usize) -> Result<u64, A
 }
 
 /// Ten items onto an array or a blob that starts empty, a hundred times.
+#[inline(never)]
 pub(crate) fn append_1000(alloc: Global, to_blob: bool, n: usize) -> Result<u64, AllocError> {
     let mut store = Store::new(alloc);
     let more = if to_blob {
@@ -195,6 +206,7 @@ fn eight(alloc: Global) -> Result<Scope, AllocError> {
 }
 
 /// `x += y * 2`, as a tree walker does it.
+#[inline(never)]
 pub(crate) fn evaluate(alloc: Global, n: usize) -> Result<u64, AllocError> {
     let mut store = Store::new(alloc);
     let mut scope = eight(alloc)?;

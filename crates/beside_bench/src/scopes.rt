@@ -17,6 +17,7 @@ fn scope_of(alloc: Global, names: &[ImmutableString]) -> Result<Scope, AllocErro
     Ok(scope)
 }
 
+#[inline(never)]
 pub(crate) fn push_rewind(alloc: Global, n: usize) -> Result<u64, AllocError> {
     let names = variables(alloc, 10)?;
     let mut scope = Scope::new(alloc);
@@ -32,6 +33,7 @@ pub(crate) fn push_rewind(alloc: Global, n: usize) -> Result<u64, AllocError> {
 }
 
 /// The same with names that are texts already.
+#[inline(never)]
 pub(crate) fn push_entries(alloc: Global, n: usize) -> Result<u64, AllocError> {
     let names = variables(alloc, 10)?;
     let mut scope = Scope::new(alloc);
@@ -50,6 +52,7 @@ pub(crate) fn push_entries(alloc: Global, n: usize) -> Result<u64, AllocError> {
     Ok(sum)
 }
 
+#[inline(never)]
 pub(crate) fn push_pop(alloc: Global, n: usize) -> Result<u64, AllocError> {
     let names = variables(alloc, 10)?;
     let mut scope = Scope::new(alloc);
@@ -69,6 +72,7 @@ pub(crate) fn push_pop(alloc: Global, n: usize) -> Result<u64, AllocError> {
 }
 
 /// Gets the entry at a place and the one beside it in turn.
+#[inline(never)]
 pub(crate) fn get(alloc: Global, n: usize, count: u32, place: usize) -> Result<u64, AllocError> {
     let store = Store::new(alloc);
     let names = variables(alloc, count)?;
@@ -86,6 +90,7 @@ pub(crate) fn get(alloc: Global, n: usize, count: u32, place: usize) -> Result<u
     Ok(sum)
 }
 
+#[inline(never)]
 pub(crate) fn contains_miss(alloc: Global, n: usize) -> Result<u64, AllocError> {
     let names = variables(alloc, 108)?;
     let mut scope = scope_of(alloc, &names)?;
@@ -101,6 +106,7 @@ pub(crate) fn contains_miss(alloc: Global, n: usize) -> Result<u64, AllocError> 
     Ok(sum)
 }
 
+#[inline(never)]
 pub(crate) fn set_or_push(alloc: Global, n: usize) -> Result<u64, AllocError> {
     let store = Store::new(alloc);
     let names = variables(alloc, 10)?;
@@ -117,6 +123,7 @@ pub(crate) fn set_or_push(alloc: Global, n: usize) -> Result<u64, AllocError> {
     Ok(sum)
 }
 
+#[inline(never)]
 pub(crate) fn clone_visible(alloc: Global, n: usize) -> Result<u64, AllocError> {
     let names = variables(alloc, 100)?;
     let scope = scope_of(alloc, &names)?;
@@ -127,6 +134,7 @@ pub(crate) fn clone_visible(alloc: Global, n: usize) -> Result<u64, AllocError> 
     Ok(sum)
 }
 
+#[inline(never)]
 pub(crate) fn iterate(alloc: Global, n: usize) -> Result<u64, AllocError> {
     let store = Store::new(alloc);
     let names = variables(alloc, 100)?;
@@ -144,6 +152,7 @@ pub(crate) fn iterate(alloc: Global, n: usize) -> Result<u64, AllocError> {
     Ok(sum)
 }
 
+#[inline(never)]
 pub(crate) fn iterate_raw(alloc: Global, n: usize) -> Result<u64, AllocError> {
     let store = Store::new(alloc);
     let names = variables(alloc, 100)?;

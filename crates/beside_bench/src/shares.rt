@@ -4,6 +4,7 @@ use crate::given::{holders, ints, sixty_four, slots, sum_of};
 use rhai_value::{Dynamic, InStore, Store, Union};
 use std::alloc::{AllocError, Global};
 
+#[inline(never)]
 pub(crate) fn share_copy_drop(alloc: Global, n: usize) -> Result<u64, AllocError> {
     let mut sum = 0_u64;
     let mut store = Store::new(alloc);
@@ -24,6 +25,7 @@ pub(crate) fn share_copy_drop(alloc: Global, n: usize) -> Result<u64, AllocError
     Ok(sum)
 }
 
+#[inline(never)]
 pub(crate) fn as_int(alloc: Global, n: usize) -> Result<u64, AllocError> {
     let mut store = Store::new(alloc);
     let values = holders(alloc, &mut store)?;
@@ -38,6 +40,7 @@ pub(crate) fn as_int(alloc: Global, n: usize) -> Result<u64, AllocError> {
     Ok(sum)
 }
 
+#[inline(never)]
 pub(crate) fn set_int(alloc: Global, n: usize) -> Result<u64, AllocError> {
     let mut store = Store::new(alloc);
     let mut values = holders(alloc, &mut store)?;
@@ -49,6 +52,7 @@ pub(crate) fn set_int(alloc: Global, n: usize) -> Result<u64, AllocError> {
     Ok(sum_of(&values, &store))
 }
 
+#[inline(never)]
 pub(crate) fn add_one(alloc: Global, n: usize) -> Result<u64, AllocError> {
     let mut store = Store::new(alloc);
     let mut values = holders(alloc, &mut store)?;
@@ -68,6 +72,7 @@ pub(crate) fn add_one(alloc: Global, n: usize) -> Result<u64, AllocError> {
     Ok(sum_of(&values, &store))
 }
 
+#[inline(never)]
 pub(crate) fn copy_holder(alloc: Global, n: usize) -> Result<u64, AllocError> {
     let mut store = Store::new(alloc);
     let values = holders(alloc, &mut store)?;
@@ -83,6 +88,7 @@ pub(crate) fn copy_holder(alloc: Global, n: usize) -> Result<u64, AllocError> {
     Ok(sum_of(&slots, &store))
 }
 
+#[inline(never)]
 pub(crate) fn flatten_clone_100(alloc: Global, n: usize) -> Result<u64, AllocError> {
     let mut store = Store::new(alloc);
     let Ok(holder) = ints(alloc, 100)?.into_shared(&mut store) else {
@@ -113,18 +119,21 @@ fn flattens(alloc: Global, values: &[Dynamic], store: &Store, n: usize) -> Resul
     Ok(sum_of(&slots, store))
 }
 
+#[inline(never)]
 pub(crate) fn flatten_own(alloc: Global, n: usize) -> Result<u64, AllocError> {
     let store = Store::new(alloc);
     let values = sixty_four(alloc)?;
     flattens(alloc, &values, &store, n)
 }
 
+#[inline(never)]
 pub(crate) fn flatten_held(alloc: Global, n: usize) -> Result<u64, AllocError> {
     let mut store = Store::new(alloc);
     let values = holders(alloc, &mut store)?;
     flattens(alloc, &values, &store, n)
 }
 
+#[inline(never)]
 pub(crate) fn push_through(alloc: Global, n: usize) -> Result<u64, AllocError> {
     let mut sum = 0_u64;
     for _ in 0..n {

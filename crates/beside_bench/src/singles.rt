@@ -4,6 +4,7 @@ use crate::given::{mixed, sixteen, sixty_four, slots, sum_of};
 use rhai_value::{Dynamic, Store, TypeId};
 use std::alloc::{AllocError, Global};
 
+#[inline(never)]
 pub(crate) fn make_int(alloc: Global, n: usize) -> Result<u64, AllocError> {
     let store = Store::new(alloc);
     let mut slots = slots(alloc)?;
@@ -15,6 +16,7 @@ pub(crate) fn make_int(alloc: Global, n: usize) -> Result<u64, AllocError> {
     Ok(sum_of(&slots, &store))
 }
 
+#[inline(never)]
 pub(crate) fn make_bool(alloc: Global, n: usize) -> Result<u64, AllocError> {
     let store = Store::new(alloc);
     let mut slots = slots(alloc)?;
@@ -32,6 +34,7 @@ pub(crate) fn make_bool(alloc: Global, n: usize) -> Result<u64, AllocError> {
     Ok(sum)
 }
 
+#[inline(never)]
 pub(crate) fn copy_int(alloc: Global, n: usize) -> Result<u64, AllocError> {
     let store = Store::new(alloc);
     let values = sixty_four(alloc)?;
@@ -47,6 +50,7 @@ pub(crate) fn copy_int(alloc: Global, n: usize) -> Result<u64, AllocError> {
     Ok(sum_of(&slots, &store))
 }
 
+#[inline(never)]
 pub(crate) fn copy_text(alloc: Global, n: usize) -> Result<u64, AllocError> {
     let texts = sixteen(alloc, 5)?;
     let mut values = Vec::with_capacity(alloc, 16)?;
@@ -72,6 +76,7 @@ pub(crate) fn copy_text(alloc: Global, n: usize) -> Result<u64, AllocError> {
     Ok(sum)
 }
 
+#[inline(never)]
 pub(crate) fn as_int_own(alloc: Global, n: usize) -> Result<u64, AllocError> {
     let store = Store::new(alloc);
     let values = sixty_four(alloc)?;
@@ -86,6 +91,7 @@ pub(crate) fn as_int_own(alloc: Global, n: usize) -> Result<u64, AllocError> {
     Ok(sum)
 }
 
+#[inline(never)]
 pub(crate) fn set_int_own(alloc: Global, n: usize) -> Result<u64, AllocError> {
     let mut store = Store::new(alloc);
     let mut values = sixty_four(alloc)?;
@@ -97,6 +103,7 @@ pub(crate) fn set_int_own(alloc: Global, n: usize) -> Result<u64, AllocError> {
     Ok(sum_of(&values, &store))
 }
 
+#[inline(never)]
 pub(crate) fn type_name_mixed(alloc: Global, n: usize) -> Result<u64, AllocError> {
     let mut store = Store::new(alloc);
     let values = mixed(alloc, &mut store)?;
@@ -109,6 +116,7 @@ pub(crate) fn type_name_mixed(alloc: Global, n: usize) -> Result<u64, AllocError
     Ok(sum)
 }
 
+#[inline(never)]
 pub(crate) fn type_id_mixed(alloc: Global, n: usize) -> Result<u64, AllocError> {
     let mut store = Store::new(alloc);
     let values = mixed(alloc, &mut store)?;
@@ -123,6 +131,7 @@ pub(crate) fn type_id_mixed(alloc: Global, n: usize) -> Result<u64, AllocError> 
     Ok(sum)
 }
 
+#[inline(never)]
 pub(crate) fn is_int_mixed(alloc: Global, n: usize) -> Result<u64, AllocError> {
     let mut store = Store::new(alloc);
     let values = mixed(alloc, &mut store)?;
@@ -137,6 +146,7 @@ pub(crate) fn is_int_mixed(alloc: Global, n: usize) -> Result<u64, AllocError> {
     Ok(sum)
 }
 
+#[inline(never)]
 pub(crate) fn tag_set_get(alloc: Global, n: usize) -> Result<u64, AllocError> {
     let mut store = Store::new(alloc);
     let mut values = mixed(alloc, &mut store)?;

@@ -23,6 +23,7 @@ fn makes(alloc: Global, text: &str, n: usize) -> Result<u64, AllocError> {
     Ok(sum)
 }
 
+#[inline(never)]
 pub(crate) fn make_short(alloc: Global, n: usize) -> Result<u64, AllocError> {
     let texts = sixteen(alloc, 5)?;
     match texts.first() {
@@ -31,6 +32,7 @@ pub(crate) fn make_short(alloc: Global, n: usize) -> Result<u64, AllocError> {
     }
 }
 
+#[inline(never)]
 pub(crate) fn make_long(alloc: Global, n: usize) -> Result<u64, AllocError> {
     let texts = sixteen(alloc, 100)?;
     match texts.first() {
@@ -39,6 +41,7 @@ pub(crate) fn make_long(alloc: Global, n: usize) -> Result<u64, AllocError> {
     }
 }
 
+#[inline(never)]
 pub(crate) fn copy(alloc: Global, n: usize) -> Result<u64, AllocError> {
     let texts = sixteen(alloc, 100)?;
     let mut slots = sixteen(alloc, 10)?;
@@ -57,6 +60,7 @@ pub(crate) fn copy(alloc: Global, n: usize) -> Result<u64, AllocError> {
     Ok(sum)
 }
 
+#[inline(never)]
 pub(crate) fn equal(alloc: Global, n: usize) -> Result<u64, AllocError> {
     let texts = sixteen(alloc, 100)?;
     let others = sixteen(alloc, 100)?;
@@ -71,6 +75,7 @@ pub(crate) fn equal(alloc: Global, n: usize) -> Result<u64, AllocError> {
     Ok(sum)
 }
 
+#[inline(never)]
 pub(crate) fn order(alloc: Global, n: usize) -> Result<u64, AllocError> {
     let texts = sixteen(alloc, 100)?;
     let others = sixteen(alloc, 100)?;
@@ -85,6 +90,7 @@ pub(crate) fn order(alloc: Global, n: usize) -> Result<u64, AllocError> {
     Ok(sum)
 }
 
+#[inline(never)]
 pub(crate) fn hash(alloc: Global, n: usize) -> Result<u64, AllocError> {
     let texts = sixteen(alloc, 100)?;
     let mut sum = 0_u64;
@@ -115,16 +121,19 @@ fn concats(alloc: Global, texts: &[ImmutableString], n: usize) -> Result<u64, Al
     Ok(sum)
 }
 
+#[inline(never)]
 pub(crate) fn concat_short(alloc: Global, n: usize) -> Result<u64, AllocError> {
     let texts = sixteen(alloc, 5)?;
     concats(alloc, &texts, n)
 }
 
+#[inline(never)]
 pub(crate) fn concat_long(alloc: Global, n: usize) -> Result<u64, AllocError> {
     let texts = sixteen(alloc, 100)?;
     concats(alloc, &texts, n)
 }
 
+#[inline(never)]
 pub(crate) fn minus(alloc: Global, n: usize) -> Result<u64, AllocError> {
     let texts = sixteen(alloc, 100)?;
     let mut sum = 0_u64;
@@ -136,6 +145,7 @@ pub(crate) fn minus(alloc: Global, n: usize) -> Result<u64, AllocError> {
     Ok(sum)
 }
 
+#[inline(never)]
 pub(crate) fn minus_char(alloc: Global, n: usize) -> Result<u64, AllocError> {
     let texts = sixteen(alloc, 100)?;
     let mut sum = 0_u64;
@@ -147,6 +157,7 @@ pub(crate) fn minus_char(alloc: Global, n: usize) -> Result<u64, AllocError> {
     Ok(sum)
 }
 
+#[inline(never)]
 pub(crate) fn with_char(alloc: Global, n: usize) -> Result<u64, AllocError> {
     let texts = sixteen(alloc, 1000)?;
     let mut sum = 0_u64;

@@ -14,21 +14,27 @@ fn hashes(alloc: Global, value: &Dynamic, n: usize) -> Result<u64, AllocError> {
     let store = Store::new(alloc);
     let mut sum = 0_u64;
     for _ in 0..n {
-        if let Some(bytes) = hashed(alloc, value, &store)? {
-            let mut hasher = DefaultHasher::new();
-            hasher.write(bytes.bytes());
-            if hasher.finish() != 0 {
-                sum = sum.wrapping_add(1);
+        match &hashed(alloc, value, &store) {
+            Ok(Some(bytes)) => {
+                let mut hasher = DefaultHasher::new();
+                hasher.write(bytes.bytes());
+                if hasher.finish() != 0 {
+                    sum = sum.wrapping_add(1);
+                }
             }
+            Ok(None) => {}
+            Err(_) => return Err(AllocError),
         }
     }
     Ok(sum)
 }
 
+#[inline(never)]
 pub(crate) fn hash_int(alloc: Global, n: usize) -> Result<u64, AllocError> {
     hashes(alloc, &Dynamic::from_int(7), n)
 }
 
+#[inline(never)]
 pub(crate) fn hash_text(alloc: Global, n: usize) -> Result<u64, AllocError> {
     let mut sum = 0_u64;
     if let Some(text) = sixteen(alloc, 100)?.pop() {
@@ -37,12 +43,14 @@ pub(crate) fn hash_text(alloc: Global, n: usize) -> Result<u64, AllocError> {
     Ok(sum)
 }
 
+#[inline(never)]
 pub(crate) fn hash_ints(alloc: Global, n: usize) -> Result<u64, AllocError> {
     let value = ints(alloc, 1000)?;
     hashes(alloc, &value, n)
 }
 
 /// A map of ten maps of ten ints.
+#[inline(never)]
 pub(crate) fn hash_maps(alloc: Global, n: usize) -> Result<u64, AllocError> {
     let keys = keys(alloc, 10)?;
     let mut outer = Map::new(alloc);
@@ -80,6 +88,7 @@ impl Visitor for Zeros {
     }
 }
 
+#[inline(never)]
 pub(crate) fn scan_ints(alloc: Global, n: usize) -> Result<u64, AllocError> {
     let mut value = ints(alloc, 1000)?;
     let mut zeros = Zeros { visits: 0 };
@@ -89,6 +98,7 @@ pub(crate) fn scan_ints(alloc: Global, n: usize) -> Result<u64, AllocError> {
     Ok(zeros.visits)
 }
 
+#[inline(never)]
 pub(crate) fn clone_cast(alloc: Global, n: usize) -> Result<u64, AllocError> {
     let store = Store::new(alloc);
     let values = sixty_four(alloc)?;
@@ -103,6 +113,7 @@ pub(crate) fn clone_cast(alloc: Global, n: usize) -> Result<u64, AllocError> {
     Ok(sum)
 }
 
+#[inline(never)]
 pub(crate) fn try_cast_text(alloc: Global, n: usize) -> Result<u64, AllocError> {
     let store = Store::new(alloc);
     let texts = sixteen(alloc, 10)?;
@@ -126,6 +137,7 @@ fn numbers(alloc: Global) -> Result<Vec<INT>, AllocError> {
     Ok(numbers)
 }
 
+#[inline(never)]
 pub(crate) fn from_vec(alloc: Global, n: usize) -> Result<u64, AllocError> {
     let store = Store::new(alloc);
     let mut sum = 0_u64;
@@ -139,6 +151,7 @@ pub(crate) fn from_vec(alloc: Global, n: usize) -> Result<u64, AllocError> {
 }
 
 /// The array is made anew each time.
+#[inline(never)]
 pub(crate) fn typed_array(alloc: Global, n: usize) -> Result<u64, AllocError> {
     let store = Store::new(alloc);
     let mut sum = 0_u64;
@@ -150,6 +163,7 @@ pub(crate) fn typed_array(alloc: Global, n: usize) -> Result<u64, AllocError> {
     Ok(sum)
 }
 
+#[inline(never)]
 pub(crate) fn write_char(alloc: Global, n: usize) -> Result<u64, AllocError> {
     let mut store = Store::new(alloc);
     let mut sum = 0_u64;
@@ -175,6 +189,7 @@ pub(crate) fn write_char(alloc: Global, n: usize) -> Result<u64, AllocError> {
     Ok(sum)
 }
 
+#[inline(never)]
 pub(crate) fn write_byte(alloc: Global, n: usize) -> Result<u64, AllocError> {
     let mut store = Store::new(alloc);
     let mut source = blob(alloc, 1000)?;
@@ -200,6 +215,7 @@ pub(crate) fn write_byte(alloc: Global, n: usize) -> Result<u64, AllocError> {
     }
 }
 
+#[inline(never)]
 pub(crate) fn write_bit(alloc: Global, n: usize) -> Result<u64, AllocError> {
     let mut store = Store::new(alloc);
     let mut source = Dynamic::from_int(0);
@@ -218,6 +234,7 @@ pub(crate) fn write_bit(alloc: Global, n: usize) -> Result<u64, AllocError> {
 }
 
 /// A target of a shared value, written and released.
+#[inline(never)]
 pub(crate) fn write_shared(alloc: Global, n: usize) -> Result<u64, AllocError> {
     let mut store = Store::new(alloc);
     let mut values = holders(alloc, &mut store)?;

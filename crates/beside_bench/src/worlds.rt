@@ -98,6 +98,7 @@ fn ran(world: &mut World, commands: &[Command], n: usize) -> Result<u64, AllocEr
 }
 
 /// Applies the commands one by one.
+#[inline(never)]
 pub(crate) fn apply_all(alloc: Global, kind: u32, n: usize) -> Result<u64, AllocError> {
     let commands = commands(alloc, kind)?;
     let mut world = World::new(alloc, Limits { text: 0, items: 0 });
@@ -107,6 +108,7 @@ pub(crate) fn apply_all(alloc: Global, kind: u32, n: usize) -> Result<u64, Alloc
 }
 
 /// Runs the commands as a list.
+#[inline(never)]
 pub(crate) fn run_all(alloc: Global, kind: u32, n: usize) -> Result<u64, AllocError> {
     let commands = commands(alloc, kind)?;
     let mut world = World::new(alloc, Limits { text: 0, items: 0 });

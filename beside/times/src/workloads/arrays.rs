@@ -3,6 +3,7 @@
 use super::given::*;
 use rhai::*;
 
+#[inline(never)]
 pub fn copies(value: &Dynamic, n: usize) -> u64 {
     let mut sum = 0_u64;
     for _ in 0..n {
@@ -11,6 +12,7 @@ pub fn copies(value: &Dynamic, n: usize) -> u64 {
     }
     sum
 }
+#[inline(never)]
 pub fn texts() -> Dynamic {
     let mut items = Vec::with_capacity(96);
     for _ in 0..6 {
@@ -20,6 +22,7 @@ pub fn texts() -> Dynamic {
     }
     Dynamic::from_array(items)
 }
+#[inline(never)]
 pub fn push_1000(n: usize) -> u64 {
     let mut sum = 0_u64;
     for _ in 0..n {
@@ -33,6 +36,7 @@ pub fn push_1000(n: usize) -> u64 {
     }
     sum
 }
+#[inline(never)]
 pub fn sum_ints(n: usize) -> u64 {
     let value = ints(1000);
     let mut sum = 0_u64;
@@ -47,6 +51,7 @@ pub fn sum_ints(n: usize) -> u64 {
     }
     sum
 }
+#[inline(never)]
 pub fn is_locked_nested(n: usize) -> u64 {
     let mut value = nested(4);
     let mut sum = 0_u64;
@@ -60,6 +65,7 @@ pub fn is_locked_nested(n: usize) -> u64 {
     }
     sum
 }
+#[inline(never)]
 pub fn set_mode_1000(n: usize) -> u64 {
     let mut value = ints(1000);
     for i in 0..n {
@@ -71,6 +77,7 @@ pub fn set_mode_1000(n: usize) -> u64 {
     }
     u64::from(value.is_read_only())
 }
+#[inline(never)]
 pub fn displays(value: &Dynamic, n: usize) -> u64 {
     let mut sum = 0_u64;
     for _ in 0..n {
@@ -78,6 +85,7 @@ pub fn displays(value: &Dynamic, n: usize) -> u64 {
     }
     sum
 }
+#[inline(never)]
 pub fn debugs(value: &Dynamic, n: usize) -> u64 {
     let mut sum = 0_u64;
     for _ in 0..n {

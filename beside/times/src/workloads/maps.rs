@@ -3,6 +3,7 @@
 use super::given::*;
 use rhai::*;
 
+#[inline(never)]
 pub fn insert(n: usize, count: u32) -> u64 {
     let keys = keys(count);
     let mut sum = 0_u64;
@@ -11,6 +12,7 @@ pub fn insert(n: usize, count: u32) -> u64 {
     }
     sum
 }
+#[inline(never)]
 pub fn get(n: usize, count: u32) -> u64 {
     let keys = keys(count);
     let map = map_of(&keys);
@@ -26,6 +28,7 @@ pub fn get(n: usize, count: u32) -> u64 {
     }
     sum
 }
+#[inline(never)]
 pub fn get_through(n: usize, count: u32) -> u64 {
     let keys = keys(count);
     let value = Dynamic::from_map(map_of(&keys));
@@ -43,6 +46,7 @@ pub fn get_through(n: usize, count: u32) -> u64 {
     }
     sum
 }
+#[inline(never)]
 pub fn remove_insert(n: usize, count: u32) -> u64 {
     let keys = keys(count);
     let mut map = map_of(&keys);
@@ -55,6 +59,7 @@ pub fn remove_insert(n: usize, count: u32) -> u64 {
     }
     map.len() as u64
 }
+#[inline(never)]
 pub fn iterate(n: usize, count: u32) -> u64 {
     let keys = keys(count);
     let map = map_of(&keys);
@@ -69,6 +74,7 @@ pub fn iterate(n: usize, count: u32) -> u64 {
     }
     sum
 }
+#[inline(never)]
 pub fn copy_map(n: usize, count: u32) -> u64 {
     let value = Dynamic::from_map(map_of(&keys(count)));
     let mut sum = 0_u64;

@@ -8,18 +8,21 @@ const ENGINE: &Engine = &Engine::new();
 pub fn context(wanted: bool) -> Option<NativeCallContext<'static>> {
     wanted.then(|| NativeCallContext::new(ENGINE))
 }
+#[inline(always)]
 pub fn operate(op: Token, x: &mut Dynamic, y: &mut Dynamic) -> Dynamic {
     let Some((row, limited)) = get_builtin_binary_op_fn(&op, x, y) else {
         return Dynamic::UNIT;
     };
     row(context(limited), &mut [x, y]).unwrap_or(Dynamic::UNIT)
 }
+#[inline(always)]
 pub fn assign(op: Token, x: &mut Dynamic, y: &mut Dynamic) -> bool {
     let Some((row, limited)) = get_builtin_op_assignment_fn(&op, x, y) else {
         return false;
     };
     row(context(limited), &mut [x, y]).is_ok()
 }
+#[inline(never)]
 pub fn lookups(values: &[Dynamic], n: usize) -> u64 {
     let ops = [Token::Plus, Token::LessThan, Token::Multiply, Token::EqualsTo];
     let mut sum = 0_u64;
@@ -32,6 +35,7 @@ pub fn lookups(values: &[Dynamic], n: usize) -> u64 {
     }
     sum
 }
+#[inline(never)]
 pub fn on_all(op: Token, mut xs: Vec<Dynamic>, mut ys: Vec<Dynamic>, n: usize) -> u64 {
     let mut sum = 0_u64;
     for i in 0..n {
@@ -48,13 +52,16 @@ pub fn on_all(op: Token, mut xs: Vec<Dynamic>, mut ys: Vec<Dynamic>, n: usize) -
     }
     sum
 }
+#[inline(never)]
 pub fn on_ints(op: Token, n: usize) -> u64 {
     on_all(op, sixty_four(), sixty_four(), n)
 }
+#[inline(never)]
 pub fn on_texts(op: Token, length: usize, n: usize) -> u64 {
     let values = || sixteen(length).into_iter().map(Dynamic::from).collect();
     on_all(op, values(), values(), n)
 }
+#[inline(never)]
 pub fn add_chain(n: usize) -> u64 {
     let mut values = sixty_four();
     let mut sum = Dynamic::ZERO;
@@ -65,6 +72,7 @@ pub fn add_chain(n: usize) -> u64 {
     }
     sum_of(&[sum])
 }
+#[inline(never)]
 pub fn assign_ints(n: usize) -> u64 {
     let mut sums = sixty_four();
     for i in 0..n {
@@ -74,6 +82,7 @@ pub fn assign_ints(n: usize) -> u64 {
     }
     sum_of(&sums)
 }
+#[inline(never)]
 pub fn push_1000_by_operator(to_blob: bool, n: usize) -> u64 {
     let mut sum = 0_u64;
     for _ in 0..n {
@@ -86,6 +95,7 @@ pub fn push_1000_by_operator(to_blob: bool, n: usize) -> u64 {
     }
     sum
 }
+#[inline(never)]
 pub fn append_1000(to_blob: bool, n: usize) -> u64 {
     let more = if to_blob { blob(10) } else { ints(10) };
     let mut sum = 0_u64;
@@ -99,6 +109,7 @@ pub fn append_1000(to_blob: bool, n: usize) -> u64 {
     }
     sum
 }
+#[inline(never)]
 pub fn evaluate(n: usize) -> u64 {
     let mut scope = Scope::new();
     for name in ["index", "total", "x", "limit", "y", "flag", "step", "name"] {

@@ -2,9 +2,11 @@
 
 use rhai::*;
 
+#[inline(never)]
 pub fn variables(count: u32) -> Vec<ImmutableString> {
     (0..count).map(|i| ImmutableString::from(format!("var{i:04}"))).collect()
 }
+#[inline(never)]
 pub fn scope_of(names: &[ImmutableString]) -> Scope<'static> {
     let mut scope = Scope::new();
     let mut i = 0_i64;
@@ -14,6 +16,7 @@ pub fn scope_of(names: &[ImmutableString]) -> Scope<'static> {
     }
     scope
 }
+#[inline(never)]
 pub fn push_rewind(n: usize) -> u64 {
     let names = variables(10);
     let mut scope = Scope::new();
@@ -28,6 +31,7 @@ pub fn push_rewind(n: usize) -> u64 {
     sum
 }
 /// The same with names that are texts already.
+#[inline(never)]
 pub fn push_entries(n: usize) -> u64 {
     let names = variables(10);
     let mut scope = Scope::new();
@@ -41,6 +45,7 @@ pub fn push_entries(n: usize) -> u64 {
     }
     sum
 }
+#[inline(never)]
 pub fn push_pop(n: usize) -> u64 {
     let names = variables(10);
     let mut scope = Scope::new();
@@ -58,6 +63,7 @@ pub fn push_pop(n: usize) -> u64 {
     }
     sum
 }
+#[inline(never)]
 pub fn get_entry(n: usize, count: u32, place: usize) -> u64 {
     let names = variables(count);
     let scope = scope_of(&names);
@@ -73,6 +79,7 @@ pub fn get_entry(n: usize, count: u32, place: usize) -> u64 {
     }
     sum
 }
+#[inline(never)]
 pub fn contains_miss(n: usize) -> u64 {
     let names = variables(108);
     let mut scope = scope_of(&names);
@@ -87,6 +94,7 @@ pub fn contains_miss(n: usize) -> u64 {
     }
     sum
 }
+#[inline(never)]
 pub fn set_or_push(n: usize) -> u64 {
     let names = variables(10);
     let mut scope = scope_of(&names);
@@ -101,6 +109,7 @@ pub fn set_or_push(n: usize) -> u64 {
     }
     sum
 }
+#[inline(never)]
 pub fn clone_visible(n: usize) -> u64 {
     let scope = scope_of(&variables(100));
     let mut sum = 0_u64;
@@ -109,6 +118,7 @@ pub fn clone_visible(n: usize) -> u64 {
     }
     sum
 }
+#[inline(never)]
 pub fn iterate_scope(n: usize) -> u64 {
     let scope = scope_of(&variables(100));
     let mut sum = 0_u64;
@@ -122,6 +132,7 @@ pub fn iterate_scope(n: usize) -> u64 {
     }
     sum
 }
+#[inline(never)]
 pub fn iterate_raw(n: usize) -> u64 {
     let scope = scope_of(&variables(100));
     let mut sum = 0_u64;

@@ -3,6 +3,7 @@
 use super::given::*;
 use rhai::*;
 
+#[inline(never)]
 pub fn share_copy_drop(n: usize) -> u64 {
     let mut sum = 0_u64;
     for i in 0..n {
@@ -14,6 +15,7 @@ pub fn share_copy_drop(n: usize) -> u64 {
     }
     sum
 }
+#[inline(never)]
 pub fn as_int(n: usize) -> u64 {
     let values = holders();
     let mut sum = 0_u64;
@@ -26,6 +28,7 @@ pub fn as_int(n: usize) -> u64 {
     }
     sum
 }
+#[inline(never)]
 pub fn set_int(n: usize) -> u64 {
     let mut values = holders();
     for i in 0..n {
@@ -37,6 +40,7 @@ pub fn set_int(n: usize) -> u64 {
     }
     sum_of(&values)
 }
+#[inline(never)]
 pub fn add_one(n: usize) -> u64 {
     let mut values = holders();
     for i in 0..n {
@@ -48,6 +52,7 @@ pub fn add_one(n: usize) -> u64 {
     }
     sum_of(&values)
 }
+#[inline(never)]
 pub fn copy_holder(n: usize) -> u64 {
     let values = holders();
     let mut slots = slots();
@@ -61,6 +66,7 @@ pub fn copy_holder(n: usize) -> u64 {
     }
     sum_of(&slots)
 }
+#[inline(never)]
 pub fn flatten_clone_100(n: usize) -> u64 {
     let holder = ints(100).into_shared();
     let mut sum = 0_u64;
@@ -70,6 +76,7 @@ pub fn flatten_clone_100(n: usize) -> u64 {
     }
     sum
 }
+#[inline(never)]
 pub fn flattens(values: &[Dynamic], n: usize) -> u64 {
     let mut slots = slots();
     for i in 0..n {
@@ -82,6 +89,7 @@ pub fn flattens(values: &[Dynamic], n: usize) -> u64 {
     }
     sum_of(&slots)
 }
+#[inline(never)]
 pub fn push_through(n: usize) -> u64 {
     let mut sum = 0_u64;
     for _ in 0..n {

@@ -3,6 +3,7 @@
 use super::given::*;
 use rhai::*;
 
+#[inline(never)]
 pub fn make_int(n: usize) -> u64 {
     let mut slots = slots();
     for i in 0..n {
@@ -12,6 +13,7 @@ pub fn make_int(n: usize) -> u64 {
     }
     sum_of(&slots)
 }
+#[inline(never)]
 pub fn make_bool(n: usize) -> u64 {
     let mut slots = slots();
     for i in 0..n {
@@ -21,6 +23,7 @@ pub fn make_bool(n: usize) -> u64 {
     }
     slots.iter().filter(|s| s.as_bool() == Ok(true)).count() as u64
 }
+#[inline(never)]
 pub fn copy_int(n: usize) -> u64 {
     let values = sixty_four();
     let mut slots = slots();
@@ -34,6 +37,7 @@ pub fn copy_int(n: usize) -> u64 {
     }
     sum_of(&slots)
 }
+#[inline(never)]
 pub fn copy_text(n: usize) -> u64 {
     let values: Vec<Dynamic> = sixteen(5).into_iter().map(Dynamic::from).collect();
     let mut slots = slots();
@@ -47,6 +51,7 @@ pub fn copy_text(n: usize) -> u64 {
     }
     slots.iter().filter(|s| s.is_string()).count() as u64
 }
+#[inline(never)]
 pub fn as_int_own(n: usize) -> u64 {
     let values = sixty_four();
     let mut sum = 0_u64;
@@ -59,6 +64,7 @@ pub fn as_int_own(n: usize) -> u64 {
     }
     sum
 }
+#[inline(never)]
 pub fn set_int_own(n: usize) -> u64 {
     let mut values = sixty_four();
     for i in 0..n {
@@ -70,6 +76,7 @@ pub fn set_int_own(n: usize) -> u64 {
     }
     sum_of(&values)
 }
+#[inline(never)]
 pub fn type_name_mixed(n: usize) -> u64 {
     let values = mixed();
     let mut sum = 0_u64;
@@ -80,6 +87,7 @@ pub fn type_name_mixed(n: usize) -> u64 {
     }
     sum
 }
+#[inline(never)]
 pub fn type_id_mixed(n: usize) -> u64 {
     let values = mixed();
     let mut sum = 0_u64;
@@ -92,6 +100,7 @@ pub fn type_id_mixed(n: usize) -> u64 {
     }
     sum
 }
+#[inline(never)]
 pub fn is_int_mixed(n: usize) -> u64 {
     let values = mixed();
     let mut sum = 0_u64;
@@ -104,6 +113,7 @@ pub fn is_int_mixed(n: usize) -> u64 {
     }
     sum
 }
+#[inline(never)]
 pub fn tag_set_get(n: usize) -> u64 {
     let mut values = mixed();
     let mut sum = 0_u64;

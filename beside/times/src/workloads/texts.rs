@@ -5,6 +5,7 @@ use rhai::*;
 use std::collections::hash_map::DefaultHasher;
 use std::hash::{Hash, Hasher};
 
+#[inline(never)]
 pub fn makes(text: &str, n: usize) -> u64 {
     let mut slots = slots();
     for i in 0..n {
@@ -24,6 +25,7 @@ pub fn makes(text: &str, n: usize) -> u64 {
     }
     sum
 }
+#[inline(never)]
 pub fn text_copy(n: usize) -> u64 {
     let texts = sixteen(100);
     let mut slots = sixteen(10);
@@ -37,6 +39,7 @@ pub fn text_copy(n: usize) -> u64 {
     }
     slots.iter().map(|s| s.len() as u64).sum()
 }
+#[inline(never)]
 pub fn equal(n: usize) -> u64 {
     let texts = sixteen(100);
     let others = sixteen(100);
@@ -50,6 +53,7 @@ pub fn equal(n: usize) -> u64 {
     }
     sum
 }
+#[inline(never)]
 pub fn order(n: usize) -> u64 {
     let texts = sixteen(100);
     let others = sixteen(100);
@@ -63,6 +67,7 @@ pub fn order(n: usize) -> u64 {
     }
     sum
 }
+#[inline(never)]
 pub fn hash(n: usize) -> u64 {
     let texts = sixteen(100);
     let mut sum = 0_u64;
@@ -75,6 +80,7 @@ pub fn hash(n: usize) -> u64 {
     }
     sum
 }
+#[inline(never)]
 pub fn concats(texts: &[ImmutableString], n: usize) -> u64 {
     let mut slots = sixteen(10);
     for i in 0..n {
@@ -87,6 +93,7 @@ pub fn concats(texts: &[ImmutableString], n: usize) -> u64 {
     }
     slots.iter().map(|s| s.len() as u64).sum()
 }
+#[inline(never)]
 pub fn minus(n: usize) -> u64 {
     let texts = sixteen(100);
     let pattern = ImmutableString::from("a1");
@@ -98,6 +105,7 @@ pub fn minus(n: usize) -> u64 {
     }
     sum
 }
+#[inline(never)]
 pub fn minus_char(n: usize) -> u64 {
     let texts = sixteen(100);
     let mut sum = 0_u64;
@@ -109,6 +117,7 @@ pub fn minus_char(n: usize) -> u64 {
     sum
 }
 /// rhai has no call for this: the write through an index, on a copy of the text.
+#[inline(never)]
 pub fn with_char(n: usize) -> u64 {
     let texts = sixteen(1000);
     let mut sum = 0_u64;

@@ -5,6 +5,7 @@ use rhai::*;
 use std::collections::hash_map::DefaultHasher;
 use std::hash::{Hash, Hasher};
 
+#[inline(never)]
 pub fn hashes(value: &Dynamic, n: usize) -> u64 {
     let mut sum = 0_u64;
     for _ in 0..n {
@@ -18,6 +19,7 @@ pub fn hashes(value: &Dynamic, n: usize) -> u64 {
     }
     sum
 }
+#[inline(never)]
 pub fn maps() -> Dynamic {
     let keys = keys(10);
     let mut outer = Map::new();
@@ -26,6 +28,7 @@ pub fn maps() -> Dynamic {
     }
     Dynamic::from_map(outer)
 }
+#[inline(never)]
 pub fn scan_ints(n: usize) -> u64 {
     let mut value = ints(1000);
     let mut visits = 0_u64;
@@ -39,6 +42,7 @@ pub fn scan_ints(n: usize) -> u64 {
     }
     visits
 }
+#[inline(never)]
 pub fn clone_cast(n: usize) -> u64 {
     let values = sixty_four();
     let mut sum = 0_u64;
@@ -51,6 +55,7 @@ pub fn clone_cast(n: usize) -> u64 {
     }
     sum
 }
+#[inline(never)]
 pub fn try_cast_text(n: usize) -> u64 {
     let texts = sixteen(10);
     let mut sum = 0_u64;
@@ -64,6 +69,7 @@ pub fn try_cast_text(n: usize) -> u64 {
     }
     sum
 }
+#[inline(never)]
 pub fn typed_array(n: usize) -> u64 {
     let mut sum = 0_u64;
     for _ in 0..n {
@@ -73,6 +79,7 @@ pub fn typed_array(n: usize) -> u64 {
     }
     sum
 }
+#[inline(never)]
 pub fn from_vec(n: usize) -> u64 {
     let mut sum = 0_u64;
     for _ in 0..n {
@@ -84,6 +91,7 @@ pub fn from_vec(n: usize) -> u64 {
     }
     sum
 }
+#[inline(never)]
 pub fn write_char(n: usize) -> u64 {
     let mut sum = 0_u64;
     if let Some(text) = sixteen(1000).pop() {
@@ -99,6 +107,7 @@ pub fn write_char(n: usize) -> u64 {
     }
     sum
 }
+#[inline(never)]
 pub fn write_byte(n: usize) -> u64 {
     let mut source = blob(1000);
     for i in 0..n {
@@ -111,6 +120,7 @@ pub fn write_byte(n: usize) -> u64 {
     }
     source.as_blob_ref().map_or(0, |bytes| u64::from(bytes[0]))
 }
+#[inline(never)]
 pub fn write_bit(n: usize) -> u64 {
     let mut source = Dynamic::from_int(0);
     for i in 0..n {
@@ -121,6 +131,7 @@ pub fn write_bit(n: usize) -> u64 {
     }
     source.as_int().unwrap_or(0) as u64
 }
+#[inline(never)]
 pub fn write_shared(n: usize) -> u64 {
     let mut values = holders();
     for i in 0..n {

@@ -59,10 +59,10 @@ module _ (xs ys : List ℕ) where
   ]
 
   -- up to j they are known to be equal, and the rest is marked by m, where some of what is known may be tested again
-  pub equal_last : length xs ≡ length ys → (i j n m : ℕ) → HoldsNowhere (differ xs ys) 0 j → Marks (differ xs ys) i n m → i ≤ j → i + n ≡ length xs → nat_eq m 0 ≡ pointwise nat_eq xs ys
-  equal_last e i j n m h marks le end =
+  pub equal_front : length xs ≡ length ys → (i n m : ℕ) → Marks (differ xs ys) 0 n m → HoldsNowhere (differ xs ys) i (length xs) → i ≤ n → n ≤ length xs → nat_eq m 0 ≡ pointwise nat_eq xs ys
+  equal_front e i n m marks h le fits =
       elim (cases_Bool (nat_eq m 0)) [
-        | inl none ↦ none ∙ equal_all e (λ k l g. elim (cases_lt k j) [ inl known ↦ h k l known | inr further ↦ marks.none (eqb-true m 0 none) k (omega arith) (omega arith) ])
+        | inl none ↦ none ∙ equal_all e (λ k l g. elim (cases_lt k n) [ inl near ↦ marks.none (eqb-true m 0 none) k l (omega arith) | inr further ↦ h k (omega arith) g ])
         | inr some ↦
             let lowest = marks.lowest (omega (arith, eqb-false m 0 some)) in
             let within = lowest.0 in

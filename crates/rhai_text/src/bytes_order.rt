@@ -33,19 +33,19 @@ pub(crate) fn equal_texts(a: &str, b: &str) -> bool
     equal_bytes(a.as_bytes(), b.as_bytes())
 }
 
-// Two runs, which may overlap, are all of texts that are not much longer.
+// Two runs, which may overlap, are all of texts that are not much longer. Texts that begin alike mostly differ at the end.
 fn equal_bytes(a: &[u8], b: &[u8]) -> bool
     requires { (MANY ≤ length a.now) × (length a.now ≡ length b.now) }
     ensures { result ≡ pointwise nat_eq a.now b.now }
 {
     let len = a.len();
-    if 2 * MANY < len {
-        return first_apart(a, b, len) == len;
-    }
-    if marks::<MANY>(a, b, 0) != 0 {
+    if marks::<MANY>(a, b, len - MANY) != 0 {
         return false;
     }
-    marks::<MANY>(a, b, len - MANY) == 0
+    if len <= 2 * MANY {
+        return marks::<MANY>(a, b, 0) == 0;
+    }
+    first_apart(a, b, len) == len
 }
 
 pub(crate) fn order_of_texts(a: &str, b: &str) -> Ordering

@@ -4,7 +4,7 @@ ghost use Rattle.std.specs.Str.{chars, encode_utf8_all};
 ghost use Rattle.rhai_text.specs.Text.{minus, minus_char, slice_of, with_slice};
 
 use crate::immutable_string::ImmutableString;
-use crate::text_bytes::{TextBytes, three_in_a_row};
+use crate::text_bytes::TextBytes;
 use std::alloc::{AllocError, Global};
 
 impl ImmutableString {
@@ -109,7 +109,7 @@ impl ImmutableString {
     }
 }
 
-// The three texts in a row. In each caller of its own, so that an empty one costs nothing.
+// The three texts in a row.
 #[inline(always)]
 fn joined(
     alloc: Global,
@@ -119,8 +119,7 @@ fn joined(
 ) -> Result<ImmutableString, AllocError>
     ensures { IfOk result (λ t. t ≡ chars front.now ++ (chars middle.now ++ chars back.now)) }
 {
-    let bytes = three_in_a_row(alloc, front, middle, back)?;
-    ImmutableString::from_bytes(alloc, bytes)
+    ImmutableString::of_three(alloc, front, middle, back)
 }
 
 // The first `count` characters of the text, or all where it has fewer, and the rest.

@@ -1,5 +1,5 @@
 // A text that is never changed in place, its reads and its comparisons.
-ghost use Rattle.std.specs.Prelude.{◌≡◌, ◌↔◌, [], length, IfOk, IsTrue, Some, nat_eq, refl};
+ghost use Rattle.std.specs.Prelude.{◌≡◌, ◌↔◌, ◌++◌, [], length, IfOk, IsTrue, Some, nat_eq, refl};
 ghost use Rattle.std.specs.Cmp.{partial_equiv_from_equiv};
 ghost use Rattle.std.specs.Cmp.Lexicographic.{bytes_decides, pointwise, slice_cmp, nat_list_eq_equiv, nat_list_cmp_total, texts_po, texts_ties};
 ghost use Rattle.std.specs.Hash as fed;
@@ -9,7 +9,8 @@ ghost use Rattle.std.proofs.Common.{ap};
 ghost use Rattle.rhai_text.specs.Bytes.{text_bytes};
 
 use crate::bytes_order::{equal_texts, order_of_texts};
-use crate::text_bytes::TextBytes;
+use crate::text_bytes::{SHORT_BYTES, TextBytes};
+use arrayvec::ArrayString;
 use std::alloc::{AllocError, Global};
 use std::cmp::Ordering;
 use std::hash::{Hash, Hasher};
@@ -44,8 +45,39 @@ impl ImmutableString {
         ensures characters { IfOk result (λ t. t ≡ chars text.now) }
         ensures bytes { IfOk result (λ t. encode_utf8_all t ≡ text.now) }
     {
-        let bytes = TextBytes::from_str(alloc, text)?;
-        ImmutableString::from_bytes(alloc, bytes)
+        ImmutableString::of_three(alloc, text, "", "")
+    }
+
+    // Three texts in a row, for which room is made once: few bytes are written where they stay. In each caller of its own, so
+    // that an empty one costs nothing.
+    #[inline(always)]
+    pub(crate) fn of_three(
+        alloc: Global,
+        front: &str,
+        middle: &str,
+        back: &str,
+    ) -> Result<ImmutableString, AllocError>
+        ensures { IfOk result (λ t. t ≡ chars (front.now ++ (middle.now ++ back.now))) }
+    {
+        let len = front
+            .len()
+            .saturating_add(middle.len())
+            .saturating_add(back.len());
+        if len <= SHORT_BYTES {
+            let Ok(mut bytes) = Rc::new(alloc, TextBytes::Short(ArrayString::new())) else {
+                return Err(AllocError);
+            };
+            if let Some(place) = Rc::get_mut(&mut bytes) {
+                if place.fill(front, middle, back) {
+                    return Ok(ImmutableString { bytes });
+                }
+            }
+        }
+        let mut long = String::with_capacity(alloc, len)?;
+        long.push_str(front)?;
+        long.push_str(middle)?;
+        long.push_str(back)?;
+        ImmutableString::from_bytes(alloc, TextBytes::Long(long))
     }
 
     // The text of these bytes. It takes memory for a count of the copies, beside which few bytes stand.

@@ -1,9 +1,8 @@
 // Where the bytes of a text stand.
-ghost use Rattle.std.specs.Prelude.{◌≡◌, ◌++◌, ◌≤◌, ◌+◌, length, string_bytes, IfOk};
+ghost use Rattle.std.specs.Prelude.{◌≡◌, ◌++◌, ◌+◌, ◌≤◌, length, IsTrue};
 ghost use Rattle.rhai_text.specs.Bytes.{text_bytes};
 
 use arrayvec::ArrayString;
-use std::alloc::{AllocError, Global};
 
 /// How many bytes a text has at the most that needs no second block of memory: a name mostly has fewer.
 pub(crate) const SHORT_BYTES: usize = 24;
@@ -16,13 +15,21 @@ pub(crate) enum TextBytes {
 }
 
 impl TextBytes {
+    /// Puts three texts in a row in the place of a short one, where they stay, and tells whether it is short.
     #[inline(always)]
-    pub(crate) fn from_str(alloc: Global, text: &str) -> Result<TextBytes, AllocError>
-        ensures { IfOk result (λ bytes. text_bytes bytes ≡ text.now) }
+    pub(crate) fn fill(&mut self, front: &str, middle: &str, back: &str) -> bool
+        requires { length front.now + (length middle.now + length back.now) ≤ SHORT_BYTES }
+        ensures { IsTrue result → text_bytes self.new ≡ front.now ++ (middle.now ++ back.now) }
     {
-        match ArrayString::from(text) {
-            Ok(short) => Ok(TextBytes::Short(short)),
-            Err(_) => Ok(TextBytes::Long(String::from_str(alloc, text)?)),
+        match self {
+            TextBytes::Short(short) => {
+                short.clear();
+                short.push_str(front);
+                short.push_str(middle);
+                short.push_str(back);
+                true
+            }
+            TextBytes::Long(_) => false,
         }
     }
 
@@ -35,32 +42,4 @@ impl TextBytes {
             TextBytes::Long(long) => long.as_str(),
         }
     }
-}
-
-/// Three texts in a row, for which room is made once.
-#[inline(always)]
-pub(crate) fn three_in_a_row(
-    alloc: Global,
-    front: &str,
-    middle: &str,
-    back: &str,
-) -> Result<TextBytes, AllocError>
-    ensures { IfOk result (λ bytes. text_bytes bytes ≡ front.now ++ (middle.now ++ back.now)) }
-{
-    let len = front
-        .len()
-        .saturating_add(middle.len())
-        .saturating_add(back.len());
-    if len <= SHORT_BYTES {
-        let mut short = ArrayString::new();
-        short.push_str(front);
-        short.push_str(middle);
-        short.push_str(back);
-        return Ok(TextBytes::Short(short));
-    }
-    let mut long = String::with_capacity(alloc, len)?;
-    long.push_str(front)?;
-    long.push_str(middle)?;
-    long.push_str(back)?;
-    Ok(TextBytes::Long(long))
 }

@@ -1,13 +1,12 @@
-use Rattle.std.proofs.Common.{◌≡◌, ◌∙◌, ap}
+use Rattle.std.proofs.Common.{◌≡◌, ◌++◌, [], ◌∙◌, ap}
+use Rattle.std.proofs.lemmas.List.{append-nil}
 use Rattle.std.proofs.lemmas.Result.{IfOk-weaker}
 use Rattle.std.proofs.lemmas.Str.{encodes-chars}
 use Rattle.std.specs.Str.{chars, encode_utf8_all}
-use Rattle.rhai_text.specs.Bytes.{text_bytes}
 use Rattle.rhai_text.proofs.immutable_string.ImmutableString.from_str.Goals as goal
 
 pub returns-clause-bytes : goal.returns-clause-bytes
 returns-clause-bytes c =
-    let bytes = c.in_ok-bytes.bytes in
-    IfOk-weaker c.from_bytes.result (λ t. t ≡ chars (text_bytes bytes)) (λ t. encode_utf8_all t ≡ c.args.text.now)
-    (λ t e. ap encode_utf8_all e ∙ ap (λ bs. encode_utf8_all (chars bs)) c.in_ok-bytes.ensures ∙ encodes-chars c.args.text.now c.utf8.text)
-    c.from_bytes.ensures
+    IfOk-weaker c.of_three.result (λ t. t ≡ chars (c.args.text.now ++ [])) (λ t. encode_utf8_all t ≡ c.args.text.now)
+    (λ t e. ap encode_utf8_all e ∙ ap (λ bs. encode_utf8_all (chars bs)) (append-nil c.args.text.now) ∙ encodes-chars c.args.text.now c.utf8.text)
+    c.of_three.ensures

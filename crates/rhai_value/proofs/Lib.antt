@@ -10,6 +10,7 @@ pub mod Edits
 pub mod Ends
 pub mod Flags
 pub mod ForCallers
+pub mod Fronts
 pub mod Grow
 pub mod Hollows
 pub mod InStores
@@ -48,4 +49,3 @@ pub mod Walks
 pub mod Ways
 pub mod WrittenEnds
 pub mod Zips
-pub mod Fronts

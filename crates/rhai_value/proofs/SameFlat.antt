@@ -8,7 +8,7 @@ use Rattle.rhai_value.specs.Seen.{flat_source}
 use Rattle.rhai_value.specs.declared.chain.Site.TheVariants.{Here, InCell}
 use Rattle.rhai_value.specs.Locked.{is_locked, is_one_locked, is_field_locked}
 use Rattle.rhai_value.specs.Relation.{Renaming, paired, Related, Alike, IsOneToOne, RelatedCells, RelatedEnds}
-use Rattle.rhai_value.proofs.Chains.{end_near}
+use Rattle.rhai_value.proofs.Chains.{end_alone, end_barred, end_near}
 use Rattle.rhai_value.proofs.RelatedCells.{by_ends, get_unchanged, same_put, length_changed}
 use Rattle.rhai_value.proofs.SameTrees.{by_related, by_trees, same_copy}
 use Rattle.rhai_value.proofs.SameWalks.{same_at, same_end}
@@ -73,6 +73,20 @@ barred_source s (node (leaf l) g m) q = refl
 barred_source s (node (branch k ts) g m) q = refl
 barred_source s (node (fields fs) g m) q = refl
 barred_source s (node (holder d) g m) q = rw (sym q) refl
+
+-- what is flat is the copy of the source, and of the value itself where it has none
+flat_at : (s : List Cell) (t u : Tree) (e : End) → unwrap_or (value_ahead e) t ≡ u → end s [] t ≡ e → flat s t ≡ copy u
+flat_at s t u e h p = ap (λ e. copy (unwrap_or (value_ahead e) t)) p ∙ ap copy h
+
+pub flat_by_source : (s : List Cell) (t : Tree) → flat s t ≡ copy (unwrap_or (flat_source s t) t)
+flat_by_source s (node (leaf l) g m) = flat_at s (node (leaf l) g m) _ _ refl (sym (end_alone s (node (leaf l) g m) refl))
+flat_by_source s (node (branch k ts) g m) = flat_at s (node (branch k ts) g m) _ _ refl (sym (end_alone s (node (branch k ts) g m) refl))
+flat_by_source s (node (fields fs) g m) = flat_at s (node (fields fs) g m) _ _ refl (sym (end_alone s (node (fields fs) g m) refl))
+flat_by_source s (node (holder c) g m) = by_cell (at s c) refl
+  where
+    by_cell : (o : Option Tree) → at s c ≡ o → flat s (node (holder c) g m) ≡ copy (unwrap_or (option_and_then (λ x. value_ahead (end s [] (node (holder c) g m))) (at s c)) (node (holder c) g m))
+    by_cell None e = rw e (flat_at s (node (holder c) g m) _ _ refl (sym (end_barred s (node (holder c) g m) (sym e))))
+    by_cell (Some x) e = rw e refl
 
 -- a value is flattened by the copy of its source, and stays where it has none
 kept_holder : (o : Option Tree) (e : End) (t : Tree) → None ≡ option_and_then (λ x. value_ahead e) o → t ≡ flattened_holder o e t

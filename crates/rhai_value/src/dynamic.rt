@@ -253,11 +253,18 @@ impl Dynamic {
     /// Moves the value out, and leaves unit with tag 0 and mode ReadWrite.
     /// Cost: constant; no memory.
     /// rhai: `Dynamic::take`.
+    #[inline(always)]
     pub fn take(&mut self) -> Dynamic
         ensures value { result ≡ self.old }
         ensures left { self.new ≡ fresh unit }
     {
-        std::mem::replace(self, Dynamic::default())
+        // An int by its parts: read as a whole, one that was made just now would wait for them.
+        if let Union::Int(tag, mode, n) = &self.union {
+            let union = Union::Int(*tag, *mode, *n);
+            *self = Dynamic::UNIT;
+            return Dynamic { union };
+        }
+        std::mem::replace(self, Dynamic::UNIT)
     }
 
     /// Tells whether the value is of one of the host's types.

@@ -14,14 +14,14 @@ impl Dynamic {
     /// Errors: memory for the copy is refused.
     /// Cost: that of `held` and of `copy`.
     /// rhai: `Dynamic::flatten_clone`, which looks at one cell.
+    #[inline(always)]
+    #[tactic(auto, using(crate::proofs::SameFlat::flat_by_source))]
     pub fn flatten_clone(&self, alloc: Global, store: &Store) -> Result<Dynamic, AllocError>
         ensures value { IfOk result (λ d. d ≡ flat store.now self.now) }
         ensures free { TakesNoMemory (flat store.now self.now) → IsOk result }
     {
-        match self.value_ahead(store) {
-            Some(value) => value.copy(alloc),
-            None => self.copy(alloc),
-        }
+        let source = self.flat_source(store).unwrap_or(self);
+        source.copy(alloc)
     }
 
     /// Takes the value's holders off: it becomes what `flatten_clone` answers, or stays, modes kept, if it is no holder, if

@@ -73,7 +73,7 @@ pub use marks::WriteToken;
 pub use near::NEAR;
 pub use part::Part;
 pub use part_host::HostPart;
-pub use path::Path;
+pub use path::{FIRST_CELLS, Path};
 pub use place::Place;
 pub use reach::{Kept, Reach};
 pub use roots::Roots;

@@ -203,6 +203,7 @@ impl MapParts {
         match self.index.insert(MapKey::new(key), number) {
             Ok(None) => {
                 self.fill(number, value);
+                // by `return`, as a new key is what is inserted most: it leaves without the answer of the other arms (`map_insert_100`)
                 return Ok(None);
             }
             Ok(Some(before)) => {

@@ -11,8 +11,8 @@ use arrayvec::ArrayVec;
 use std::alloc::{AllocError, Global};
 use std::marker::Model;
 
-/// So many open cells are walked through, and take no memory.
-const FIRST_CELLS: usize = 8;
+/// So many open cells take no memory.
+pub const FIRST_CELLS: usize = 8;
 
 /// The cells that are open on a walk over values, the one opened last first. It keeps a walk from following a loop for ever.
 #[derive(Drop)]
@@ -23,12 +23,13 @@ pub struct Path {
 
 impl Model for Path {
     ghost use Rattle.std.specs.Prelude.{◌≡◌, ◌<◌, ◌++◌, List, ℕ, [], length, reverse};
+    ghost use Rattle.rhai_value.specs.declared.path.TheConstants.{FIRST_CELLS};
 
     ghost Value = { List ℕ };
 
     ghost view = { λ p. p.deep ++ reverse p.first.items };
 
-    ghost invariant = { λ p. length p.first.items < 8 → p.deep ≡ [] };
+    ghost invariant = { λ p. length p.first.items < FIRST_CELLS → p.deep ≡ [] };
 }
 
 impl Path {
@@ -49,6 +50,7 @@ impl Path {
         ensures told { IfOk result (λ is_new. is_new ≡ not (is_open cell self.old)) }
         ensures opened { IfOk result (λ is_new. self.new ≡ (if is_new then cell ∷ self.old else self.old)) }
         ensures err { OnErr result (self.new ≡ self.old) }
+        ensures near { length self.old < FIRST_CELLS → IsOk result }
     {
         if self.first.as_slice().contains(&cell) {
             return Ok(false);
@@ -62,7 +64,7 @@ impl Path {
 
     /// Opens the cell of a holder and lends its content; `None`, with nothing changed, for a value that is no holder and
     /// for a cell that is open, marked or no cell of the store.
-    /// Errors: memory for one more open cell is refused, and nothing changes. The first eight take none.
+    /// Errors: memory for one more open cell is refused, and nothing changes.
     /// Cost: the logarithm of the number of open cells.
     pub fn enter<'s>(
         &mut self,
@@ -76,6 +78,7 @@ impl Path {
         ensures err { OnErr result (self.new ≡ self.old) }
         ensures free { cell_of value.now ≡ None → IsOk result }
         ensures barred { first store.now value.now ≡ None → IsOk result }
+        ensures near { length self.old < FIRST_CELLS → IsOk result }
     {
         let Some(cell) = value.cell() else {
             return Ok(None);

@@ -1,6 +1,6 @@
 //! The types of values.
 ghost use Rattle.std.specs.Prelude.{◌≡◌};
-ghost use Rattle.rhai_value.specs.Types.{type_name};
+ghost use Rattle.rhai_value.specs.Types.{is_host_type, type_name};
 
 /// A type that a value may be of, and the type of what can't be looked into.
 /// rhai: `TypeId` of `std::any`.
@@ -82,6 +82,37 @@ impl TypeId {
             TypeId::InclusiveRange => "core::ops::range::RangeInclusive<i64>",
             TypeId::Dynamic => "Dynamic",
             TypeId::Shared => "<shared>",
+        }
+    }
+
+    /// Tells whether it is one of the host's own types: a number that is no `i64`, or a range.
+    pub fn is_host(self) -> bool
+        ensures { result ≡ is_host_type self }
+    {
+        match self {
+            TypeId::U8
+            | TypeId::U16
+            | TypeId::U32
+            | TypeId::U64
+            | TypeId::U128
+            | TypeId::I8
+            | TypeId::I16
+            | TypeId::I32
+            | TypeId::I128
+            | TypeId::ExclusiveRange
+            | TypeId::InclusiveRange => true,
+            TypeId::Unit
+            | TypeId::Bool
+            | TypeId::Char
+            | TypeId::Int
+            | TypeId::String
+            | TypeId::ImmutableString
+            | TypeId::Array
+            | TypeId::Blob
+            | TypeId::Map
+            | TypeId::FnPtr
+            | TypeId::Dynamic
+            | TypeId::Shared => false,
         }
     }
 }

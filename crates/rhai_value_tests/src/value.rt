@@ -83,6 +83,17 @@ fn a_path_opens_a_cell_once(rt: HostRuntime) {
     assert!(rt; opens_once(&mut path, &store, &holder));
 }
 
+#[test]
+fn a_path_opens_more_cells_than_it_has_room_for(rt: HostRuntime) {
+    let mut store = Store::new(rt.alloc());
+    let mut path = Path::new(rt.alloc());
+    for i in 0..20 {
+        let holder = shared(Dynamic::from_int(i), &mut store);
+        assert!(rt; opens(&mut path, &store, &holder));
+        assert!(rt; !opens(&mut path, &store, &holder));
+    }
+}
+
 /// Whether a holder is closed to a store that its cell isn't in.
 fn is_foreign(holder: &Dynamic, store: &Store) -> bool {
     holder.read_whole(store).is_none()

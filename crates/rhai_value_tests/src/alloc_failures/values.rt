@@ -89,18 +89,26 @@ fn inserts(rt: &impl Eprint, alloc: Global) -> Result<bool, AllocError> {
     Ok(true)
 }
 
-/// Whether a cell opens on a path; where memory is refused it isn't open, and opens then.
+/// Whether nine cells open on a path, the first eight of them without memory; where it is refused a cell isn't open, and opens then.
 fn enters(rt: &impl Eprint, alloc: Global) -> Result<bool, AllocError> {
     let mut store = Store::new(alloc);
-    let holder = Dynamic::ONE
-        .into_shared(&mut store)
-        .map_err(|_| AllocError)?;
     let mut path = Path::new(alloc);
-    match path.enter(&store, &holder) {
-        Ok(opened) => return Ok(opened.is_some()),
-        Err(_) => tell(rt, "Path::enter"),
+    for i in 0..9 {
+        let holder = Dynamic::from_int(i)
+            .into_shared(&mut store)
+            .map_err(|_| AllocError)?;
+        let opened = match path.enter(&store, &holder) {
+            Ok(opened) => opened.is_some(),
+            Err(_) => {
+                tell(rt, "Path::enter");
+                i == 8 && path.enter(&store, &holder)?.is_some()
+            }
+        };
+        if !opened || path.enter(&store, &holder)?.is_some() {
+            return Ok(false);
+        }
     }
-    Ok(path.enter(&store, &holder)?.is_some() && path.enter(&store, &holder)?.is_none())
+    Ok(true)
 }
 
 /// Whether a value is as before where a copy of it, with its holders or without, is refused memory.

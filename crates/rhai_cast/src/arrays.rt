@@ -34,31 +34,11 @@ pub(crate) fn read_items<T: Variant>(
 fn is_plain(kind: TypeId) -> bool
     ensures { result ≡ is_plain kind }
 {
-    match kind {
-        TypeId::Unit
-        | TypeId::Bool
-        | TypeId::Char
-        | TypeId::Int
-        | TypeId::U8
-        | TypeId::U16
-        | TypeId::U32
-        | TypeId::U64
-        | TypeId::U128
-        | TypeId::I8
-        | TypeId::I16
-        | TypeId::I32
-        | TypeId::I128
-        | TypeId::ExclusiveRange
-        | TypeId::InclusiveRange => true,
-        TypeId::String
-        | TypeId::ImmutableString
-        | TypeId::Array
-        | TypeId::Blob
-        | TypeId::Map
-        | TypeId::FnPtr
-        | TypeId::Dynamic
-        | TypeId::Shared => false,
-    }
+    kind.is_host()
+        || matches!(
+            kind,
+            TypeId::Unit | TypeId::Bool | TypeId::Char | TypeId::Int
+        )
 }
 
 /// Reads the items where they lie, if each is a value of the type itself and no holder.

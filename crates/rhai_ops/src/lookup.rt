@@ -180,19 +180,7 @@ fn type_row(t: Token, a: TypeId, b: TypeId) -> Option<FnBuiltin>
 fn is_numeric(a: TypeId) -> bool
     ensures { result ≡ table.is_numeric a }
 {
-    matches!(
-        a,
-        TypeId::Int
-            | TypeId::U8
-            | TypeId::U16
-            | TypeId::U32
-            | TypeId::U64
-            | TypeId::U128
-            | TypeId::I8
-            | TypeId::I16
-            | TypeId::I32
-            | TypeId::I128
-    )
+    a == TypeId::Int || (a.is_host() && !is_range_type(a))
 }
 
 fn is_range_type(a: TypeId) -> bool

@@ -6,6 +6,7 @@ pub mod Index
 pub mod Items
 pub mod Lookup
 pub mod NameFilter
+pub mod NameLength
 pub mod NamesText
 pub mod NameIndex
 pub mod Pushes

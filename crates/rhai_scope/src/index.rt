@@ -4,9 +4,11 @@ ghost use Rattle.std.specs.Str.{chars};
 ghost use Rattle.rhai_scope.specs.Index.{IsIndexOf, names_of};
 ghost use Rattle.rhai_scope.specs.Lookup.{last_position, IsLastBehind};
 ghost use Rattle.rhai_scope.specs.NameIndex.{ListsNames};
+ghost use Rattle.rhai_scope.specs.NameLength.{HasLength};
 
 use crate::heading::Named;
 use crate::name_index::NameIndex;
+use crate::name_length::NameLength;
 use crate::records::Record;
 use std::alloc::{AllocError, Global};
 
@@ -23,30 +25,16 @@ pub(crate) struct Index {
 }
 
 /// The position of the last entry that has the name, where it isn't one of the first.
-fn last_behind(entries: &[Record], first: usize, name: &str) -> Option<usize>
-    requires { first ≤ length entries.now }
-    ensures { IsLastBehind first (chars name.now) entries.now result }
-{
-    let mut i = entries.len();
-    while i > first {
-        i -= 1;
-        if entries[i].is_named(name) {
-            return Some(i);
-        }
-    }
-    None
-}
-
-/// The same for a name of four to eight bytes.
-fn last_short_behind(entries: &[Record], first: usize, name: &str) -> Option<usize>
+#[inline(always)]
+fn last_behind(entries: &[Record], first: usize, name: &str, len: NameLength) -> Option<usize>
     requires within { first ≤ length entries.now }
-    requires short { (4 ≤ length name.now) × (length name.now ≤ 8) }
+    requires len { HasLength len name.now }
     ensures { IsLastBehind first (chars name.now) entries.now result }
 {
     let mut i = entries.len();
     while i > first {
         i -= 1;
-        if entries[i].has_short_name(name) {
+        if entries[i].is_named(name, len) {
             return Some(i);
         }
     }
@@ -86,21 +74,31 @@ impl Index {
         ensures { result ≡ last_position (chars name.now) entries.now }
     {
         match name.len() {
-            4..=8 => match last_short_behind(entries, self.indexed, name) {
-                Some(place) => Some(place),
-                None => self.places.last(name),
-            },
+            4..=8 => self.search_by(entries, name, NameLength::Short),
             _ => self.search_other(entries, name),
         }
     }
 
-    /// The same for any name; out of line, so that the walk for a short one keeps nothing on the stack.
+    /// The same for any name; out of line, so that the walk for one of four to eight bytes keeps nothing on the stack.
     #[inline(never)]
     fn search_other(&self, entries: &[Record], name: &str) -> Option<usize>
         requires { IsIndexOf self.now (names_of entries.now) }
         ensures { result ≡ last_position (chars name.now) entries.now }
     {
-        match last_behind(entries, self.indexed, name) {
+        match name.len() {
+            1..=3 => self.search_by(entries, name, NameLength::Few),
+            _ => self.search_by(entries, name, NameLength::Any),
+        }
+    }
+
+    /// The same for a name of this length.
+    #[inline(always)]
+    fn search_by(&self, entries: &[Record], name: &str, len: NameLength) -> Option<usize>
+        requires index { IsIndexOf self.now (names_of entries.now) }
+        requires len { HasLength len name.now }
+        ensures { result ≡ last_position (chars name.now) entries.now }
+    {
+        match last_behind(entries, self.indexed, name, len) {
             Some(place) => Some(place),
             None => self.places.last(name),
         }

@@ -4,7 +4,7 @@ use crate::alias::{Alias, AliasList};
 use crate::aliases::add_once;
 use crate::copy::{copied_list, copied_value};
 use crate::heading::Named;
-use crate::short::is_same_short;
+use crate::name_length::{NameLength, is_same};
 use rhai_text::ImmutableString;
 use rhai_value::Dynamic;
 use smallvec::SmallVec;
@@ -40,7 +40,7 @@ impl Named for Record {
 }
 
 impl Record {
-    ghost use Rattle.std.specs.Prelude.{◌≡◌, ◌≤◌, nat_eq, length, IfOk, OnOk, OnErr};
+    ghost use Rattle.std.specs.Prelude.{◌≡◌, nat_eq, IfOk, OnOk, OnErr};
     ghost use Rattle.std.specs.Borrow.{Lends, sem};
     ghost use Rattle.std.specs.Cmp.Lexicographic.{pointwise};
     ghost use Rattle.std.specs.Str.{chars};
@@ -48,6 +48,7 @@ impl Record {
     ghost use Rattle.rhai_scope.specs.Alias.{aliased};
     ghost use Rattle.rhai_scope.specs.Entry.{new_entry, copied_entry, with_value};
     ghost use Rattle.rhai_scope.specs.Items.{moved_entry};
+    ghost use Rattle.rhai_scope.specs.NameLength.{HasLength};
     ghost use Rattle.rhai_scope.specs.Records.{entry_of};
     ghost use Rattle.rhai_scope.specs.contracts.records.Record as record_type;
 
@@ -104,21 +105,14 @@ impl Record {
         (self.name, self.value, SmallVec::from_vec(self.aliases))
     }
 
-    /// Whether it has this name; lengths are compared first.
+    /// Whether it has this name, which has this length.
+    #[inline(always)]
     #[tactic(auto, using(crate::proofs::Names::same_bytes))]
-    pub(crate) fn is_named(&self, name: &str) -> bool
+    pub(crate) fn is_named(&self, name: &str, len: NameLength) -> bool
+        requires { HasLength len name.now }
         ensures { result ≡ pointwise nat_eq self.now.name (chars name.now) }
     {
-        self.name.as_str() == name
-    }
-
-    /// Whether it has this name of four to eight bytes.
-    #[tactic(auto, using(crate::proofs::Names::same_bytes))]
-    pub(crate) fn has_short_name(&self, name: &str) -> bool
-        requires { (4 ≤ length name.now) × (length name.now ≤ 8) }
-        ensures { result ≡ pointwise nat_eq self.now.name (chars name.now) }
-    {
-        is_same_short(self.name.as_str(), name)
+        is_same(self.name.as_str(), name, len)
     }
 
     /// The value, to write to.

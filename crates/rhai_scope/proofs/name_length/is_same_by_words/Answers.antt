@@ -1,7 +1,7 @@
 use Rattle.std.proofs.Common.{◌≡◌, ◌-◌, nat_eq, length, ap₂, sym, ◌∙◌, arith}
 use Rattle.rhai_scope.specs.NameFilter.{word_at}
 use Rattle.rhai_scope.proofs.Words.{first_tell}
-use Rattle.rhai_scope.proofs.short.is_same_by_words.Goals as goal
+use Rattle.rhai_scope.proofs.name_length.is_same_by_words.Goals as goal
 
 pub returns-then-word_at : goal.returns-then-word_at
 returns-then-word_at c =

@@ -19,6 +19,11 @@ impl WorldState {
         ensures { Does result self.old self.new (step self.old (command.Put literal.now)) }
     {
         self.hand.reserve(1)?;
+        // most are ints: made beside the others, one would be put together of pieces (`apply_put_copy_drop`)
+        if let Literal::Int(value) = literal {
+            self.hand.push_reserved(Dynamic::from_int(*value));
+            return Ok(Answer::Done);
+        }
         self.hand.push_reserved(match literal {
             Literal::Unit => Dynamic::UNIT,
             Literal::Bool(value) => Dynamic::from_bool(*value),

@@ -65,6 +65,16 @@ impl From<std::collections::TryReserveError> for Stopped {
     }
 }
 
+/// A copy of an int or of a holder.
+#[inline(always)]
+fn light_copy(value: &Value) -> Option<Value> {
+    match value {
+        Value::Int(tag, _, n) => Some(Value::Int(*tag, Mode::ReadWrite, *n)),
+        Value::Shared(tag, _, cell) => Some(Value::Shared(*tag, Mode::ReadWrite, *cell)),
+        _ => None,
+    }
+}
+
 const NO_VALUE: Result<Answer, Stopped> = Ok(Answer::Refused(Refusal::NoValue));
 
 impl World {
@@ -73,6 +83,14 @@ impl World {
         self.hand.try_reserve(1)?;
         self.hand.push(value);
         Ok(Answer::Done)
+    }
+
+    #[inline(always)]
+    fn append_and_tell(&mut self, value: Value, answer: &mut Answer) -> Result<(), Stopped> {
+        self.hand.try_reserve(1)?;
+        self.hand.push(value);
+        *answer = Answer::Done;
+        Ok(())
     }
 
     #[inline(always)]
@@ -231,47 +249,108 @@ fn apply_called(world: &mut World, command: &Command) -> Result<Answer, Stopped>
     world.apply(command)
 }
 
-fn applied(kind: u32, n: usize, apply: impl Fn(&mut World, &Command) -> Result<Answer, Stopped>) -> Result<u64, Stopped> {
+/// The answer is written over the one that is there: an int or that it is done by itself, others as a whole.
+#[inline(never)]
+fn apply_into(world: &mut World, command: &Command, answer: &mut Answer) -> Result<(), Stopped> {
+    match command {
+        Command::Put(Literal::Int(n)) => world.append_and_tell(Value::int(*n), answer)?,
+        Command::Copy(i) => match world.hand.get(*i).and_then(light_copy) {
+            Some(value) => world.append_and_tell(value, answer)?,
+            None => *answer = world.copy(*i)?,
+        },
+        Command::Drop => match world.hand.pop() {
+            Some(_) => *answer = Answer::Done,
+            None => *answer = Answer::Refused(Refusal::NoValue),
+        },
+        Command::AskInt(i) => *answer = world.ask(*i),
+        Command::WriteInt(i, n) => *answer = world.write(*i, *n),
+        _ => *answer = world.apply(command)?,
+    }
+    Ok(())
+}
+
+fn after(sum: u64, world: &World) -> u64 {
+    sum.wrapping_add(u64::from(world.entries.iter().any(Entry::says_alias)))
+}
+
+#[inline(always)]
+fn applied(kind: u32, n: usize, mut apply: impl FnMut(&mut World, &Command) -> Result<u64, Stopped>) -> Result<u64, Stopped> {
     let (commands, mut world) = (commands(kind), world()?);
     let mut sum = 0_u64;
     for _ in 0..n {
         for command in black_box(&commands) {
-            sum = sum.wrapping_add(told(&apply(&mut world, command)?));
+            sum = sum.wrapping_add(apply(&mut world, command)?);
         }
     }
-    Ok(sum + u64::from(world.entries.iter().any(Entry::says_alias)))
+    Ok(after(sum, &world))
 }
 
-fn ran(kind: u32, n: usize, apply: impl Fn(&mut World, &Command) -> Result<Answer, Stopped>) -> Result<u64, Stopped> {
+#[inline(always)]
+fn ran(
+    kind: u32,
+    n: usize,
+    run: impl Fn(&mut World, &[Command], &mut Vec<Answer>) -> Result<(), Stopped>,
+) -> Result<u64, Stopped> {
     let (commands, mut world) = (commands(kind), world()?);
     let mut sum = 0_u64;
     for _ in 0..n {
         let mut answers = Vec::new();
         answers.try_reserve_exact(commands.len())?;
-        for command in black_box(&commands) {
-            answers.push(apply(&mut world, command)?);
-        }
+        run(&mut world, black_box(&commands), &mut answers)?;
         sum = answers.iter().fold(sum, |sum, answer| sum.wrapping_add(told(answer)));
     }
-    Ok(sum + u64::from(world.entries.iter().any(Entry::says_alias)))
+    Ok(after(sum, &world))
 }
 
 /// Rows 1000 to 1003, the commands inlined.
 pub fn apply_inlined(kind: u32, n: usize) -> u64 {
-    applied(kind, n, |world, command| world.apply(command)).unwrap_or(u64::MAX)
+    applied(kind, n, |world, command| world.apply(command).map(|answer| told(&answer))).unwrap_or(u64::MAX)
 }
 
 /// The same by calls, which hand each answer over.
 pub fn apply_by_calls(kind: u32, n: usize) -> u64 {
-    applied(kind, n, apply_called).unwrap_or(u64::MAX)
+    applied(kind, n, |world, command| apply_called(world, command).map(|answer| told(&answer))).unwrap_or(u64::MAX)
+}
+
+/// The same by calls, which write each answer into one place.
+pub fn apply_into_place(kind: u32, n: usize) -> u64 {
+    let mut answer = Answer::Done;
+    let apply = |world: &mut World, command: &Command| apply_into(world, command, &mut answer).map(|()| told(&answer));
+    applied(kind, n, apply).unwrap_or(u64::MAX)
 }
 
 /// Rows 1100 and 1101: all answers are kept.
 pub fn run_inlined(kind: u32, n: usize) -> u64 {
-    ran(kind, n, |world, command| world.apply(command)).unwrap_or(u64::MAX)
+    let run = |world: &mut World, commands: &[Command], answers: &mut Vec<Answer>| {
+        commands.iter().try_for_each(|command| world.apply(command).map(|answer| answers.push(answer)))
+    };
+    ran(kind, n, run).unwrap_or(u64::MAX)
 }
 
 /// The same by calls.
 pub fn run_by_calls(kind: u32, n: usize) -> u64 {
-    ran(kind, n, apply_called).unwrap_or(u64::MAX)
+    let run = |world: &mut World, commands: &[Command], answers: &mut Vec<Answer>| {
+        commands.iter().try_for_each(|command| apply_called(world, command).map(|answer| answers.push(answer)))
+    };
+    ran(kind, n, run).unwrap_or(u64::MAX)
+}
+
+/// All places are filled first, and then written over, by calls.
+pub fn run_into_places(kind: u32, n: usize) -> u64 {
+    let run = |world: &mut World, commands: &[Command], answers: &mut Vec<Answer>| {
+        answers.resize_with(commands.len(), || Answer::Done);
+        answers.iter_mut().zip(commands).try_for_each(|(answer, command)| apply_into(world, command, answer))
+    };
+    ran(kind, n, run).unwrap_or(u64::MAX)
+}
+
+/// A place is filled when it is its command's turn, and then written over, by calls.
+pub fn run_into_next_place(kind: u32, n: usize) -> u64 {
+    let run = |world: &mut World, commands: &[Command], answers: &mut Vec<Answer>| {
+        commands.iter().try_for_each(|command| {
+            answers.push(Answer::Done);
+            answers.last_mut().map_or(Ok(()), |answer| apply_into(world, command, answer))
+        })
+    };
+    ran(kind, n, run).unwrap_or(u64::MAX)
 }

@@ -8,19 +8,27 @@
 //! | `pop_first` hands a key out and takes no memory | keys are strings with blocks of their own |
 //! | a copy of a text shares its bytes, and is one pointer wide | a count before the bytes; a text of a hundred takes two blocks |
 //! | `hashed` answers the hash bytes | they are made, and then hashed |
+//! | `clone_visible` takes memory for the copies alone | no set of names |
 //! | no call of the C library but for memory | bytes are compared in registers, not by `memcmp` |
 //!
 //! A form marked `(beside)` breaks one, and stands there for comparison. Where memory is refused, some forms end the program, after the test
 //! that others answer by.
 
+pub mod assigns;
 pub mod commands;
+pub mod evaluates;
 pub mod forms;
 pub mod given;
+pub mod hashes;
+pub mod ints;
 pub mod maps;
 pub mod measured;
 pub mod operators;
+pub mod prints;
 pub mod scopes;
 pub mod singles;
 pub mod sip;
+pub mod text;
 pub mod texts;
 pub mod value;
+pub mod visible;

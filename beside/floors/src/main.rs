@@ -3,10 +3,13 @@
 //! Usage: floors TURNS [PART]: the rows whose names have PART, the least of so many turns.
 
 use floors::measured::{count, run_one, Told};
-use floors::{forms, texts};
+use floors::{forms, hashes};
 use std::fmt::Write as _;
 use times::page::number;
 use times::rows::ROWS;
+
+/// SipHash is tried on the starts of this text.
+const TEXT: &str = "a text of more than three words";
 
 fn cell(n: Option<f64>) -> String {
     n.map_or("-".into(), number)
@@ -33,15 +36,28 @@ fn table(told: &[Told]) -> String {
 
 /// A line a row: its least form that keeps the promises.
 fn floors(told: &[Told]) -> String {
-    let mut text = String::from("| row | port to rhai | floor to rhai | port to floor | rhai ns | floor ns | port ns | the floor's form |\n");
+    let mut text = String::from(
+        "| row | port to rhai | floor to rhai | port to floor | rhai ns | floor ns | port ns | the floor's form |\n",
+    );
     text.push_str("|---|---|---|---|---|---|---|---|\n");
     for row in told {
         let [port, rhai] = row.sides;
-        let Some(floor) = row.floor() else { continue };
+        let kept = row.kept();
+        let Some(floor) = kept.first() else { continue };
         let ns = floor.taken.ns;
         let times = [rhai.ns, ns, port.ns].map(number).join(" | ");
-        let ratios = format!("{:.2} | {:.2} | {:.2}", port.ns / rhai.ns, ns / rhai.ns, port.ns / ns);
+        let ratios = format!("{:.2} | {:.2} | {:.2}", row.ratio(), ns / rhai.ns, port.ns / ns);
         let _ = writeln!(text, "| {} | {ratios} | {times} | {} |", row.name, floor.name);
+    }
+    text
+}
+
+/// A line a row that is behind: its forms that keep the promises, the fastest first.
+fn forms_of_rows_behind(told: &[Told]) -> String {
+    let mut text = String::from("| row | to rhai | forms: ns |\n|---|---|---|\n");
+    for row in told.iter().filter(|row| row.is_behind()) {
+        let forms: Vec<String> = row.kept().iter().map(|form| format!("{} {}", form.name, number(form.taken.ns))).collect();
+        let _ = writeln!(text, "| {} | {:.2} | {} |", row.name, row.ratio(), forms.join(", "));
     }
     text
 }
@@ -55,14 +71,15 @@ fn main() {
     }
     let turns = args.get(1).and_then(|turns| turns.parse().ok()).expect("the number of turns");
     let part = args.get(2).map_or("", String::as_str);
-    assert!(texts::hashes_alike("a text of more than two words"), "SipHash is not that of the standard library");
+    let alike = (0..=TEXT.len()).all(|end| hashes::hashes_alike(&TEXT[..end]));
+    assert!(alike, "SipHash is not that of the standard library");
     let forms = forms::all();
     let mut told = Vec::new();
     for row in ROWS.iter().filter(|row| row.name.contains(part)) {
         told.extend(Told::of(row, &forms, turns));
     }
     count(&mut told);
-    println!("{}\n{}", table(&told), floors(&told));
+    println!("{}\n{}\n{}", table(&told), floors(&told), forms_of_rows_behind(&told));
     let differ = told.iter().flat_map(|row| &row.forms).filter(|form| !form.agrees).count();
     std::process::exit(i32::from(differ > 0));
 }

@@ -9,6 +9,9 @@ use times::rows::{calibrated, timed, Row, Side};
 /// How long the rounds that are counted would take, in nanoseconds.
 const COUNTED: f64 = 200_000.0;
 
+/// Rows of fewer nanoseconds than these have another aim.
+const SHORT: f64 = 3.0;
+
 /// What an operation takes.
 #[derive(Clone, Copy)]
 pub struct Taken {
@@ -84,9 +87,30 @@ impl Told {
         Some(Told { row, name: row.name, sides: [taken(times[0]), taken(times[1])], forms })
     }
 
-    /// The least form that keeps the promises.
-    pub fn floor(&self) -> Option<&FormTold> {
-        self.forms.iter().filter(|form| form.keeps).min_by(|a, b| a.taken.ns.total_cmp(&b.taken.ns))
+    /// The forms that keep the promises, the fastest first.
+    #[must_use]
+    pub fn kept(&self) -> Vec<&FormTold> {
+        let mut kept: Vec<&FormTold> = self.forms.iter().filter(|form| form.keeps).collect();
+        kept.sort_by(|a, b| a.taken.ns.total_cmp(&b.taken.ns));
+        kept
+    }
+
+    /// What the port takes to what the released files take.
+    #[must_use]
+    pub fn ratio(&self) -> f64 {
+        let [port, rhai] = self.sides;
+        port.ns / rhai.ns
+    }
+
+    /// Whether the port takes more than the row's aim.
+    #[must_use]
+    pub fn is_behind(&self) -> bool {
+        let aim = match self.name {
+            "evaluate_x_plus_y_times_2" => 0.8,
+            _ if self.sides[0].ns < SHORT => 1.1,
+            _ => 1.0,
+        };
+        self.ratio() > aim
     }
 
     /// Counts the instructions of an operation by each side and each form.

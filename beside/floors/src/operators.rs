@@ -1,9 +1,8 @@
 //! Operators: a row is looked up by the operator and both operands, and then called; a result has 64 bytes.
 
 use crate::given::{ints, sixteen};
-use crate::scopes::Scope;
 use crate::texts::by_lanes;
-use crate::value::{Fault, Mode, Text, Value};
+use crate::value::{Fault, Value};
 use std::cmp::Ordering;
 use std::hint::black_box;
 
@@ -38,9 +37,9 @@ pub enum Row {
     TextJoin,
 }
 
-const NO_PLACE: (u32, u32) = (0, 0);
+pub const NO_PLACE: (u32, u32) = (0, 0);
 
-const fn is_number(op: Token) -> bool {
+pub const fn is_number(op: Token) -> bool {
     (op as u8) <= Token::Xor as u8
 }
 
@@ -49,7 +48,7 @@ const fn is_comparison(op: Token) -> bool {
 }
 
 #[inline(always)]
-fn row_of(op: Token, x: &Value, y: &Value) -> Option<Row> {
+pub fn row_of(op: Token, x: &Value, y: &Value) -> Option<Row> {
     match (x, y) {
         (Value::Int(..), Value::Int(..)) if is_number(op) => Some(Row::Ints(op)),
         (Value::Int(..), Value::Int(..)) if is_comparison(op) => Some(Row::IntCompare(op)),
@@ -60,7 +59,7 @@ fn row_of(op: Token, x: &Value, y: &Value) -> Option<Row> {
 }
 
 #[inline(always)]
-fn number(op: Token, x: i64, y: i64) -> Option<i64> {
+pub fn number(op: Token, x: i64, y: i64) -> Option<i64> {
     match op {
         Token::Plus => x.checked_add(y),
         Token::Minus => x.checked_sub(y),
@@ -106,7 +105,7 @@ fn on_others(row: Row, x: &Value, y: &Value) -> Result<Value, Fault> {
 
 impl Row {
     #[inline(always)]
-    fn call(self, x: &Value, y: &Value) -> Result<Value, Fault> {
+    pub fn call(self, x: &Value, y: &Value) -> Result<Value, Fault> {
         match (self, x, y) {
             (Row::Ints(op), Value::Int(_, _, x), Value::Int(_, _, y)) => {
                 number(op, *x, *y).map(Value::int).ok_or(Fault::Arithmetic(0, NO_PLACE))
@@ -122,7 +121,7 @@ impl Row {
 
 /// The result stays where the caller wants it.
 #[inline(always)]
-fn inlined(op: Token, x: &mut Value, y: &mut Value) -> Value {
+pub fn inlined(op: Token, x: &mut Value, y: &mut Value) -> Value {
     let Some(row) = row_of(op, x, y) else {
         return Value::UNIT;
     };
@@ -136,7 +135,7 @@ fn row_called(row: Row, x: &Value, y: &Value) -> Result<Value, Fault> {
 }
 
 #[inline(always)]
-fn called(op: Token, x: &mut Value, y: &mut Value) -> Value {
+pub fn called(op: Token, x: &mut Value, y: &mut Value) -> Value {
     let Some(row) = row_of(op, x, y) else {
         return Value::UNIT;
     };
@@ -212,100 +211,4 @@ pub fn chain_inlined(n: usize) -> u64 {
 
 pub fn chain_called(n: usize) -> u64 {
     chain(n, called)
-}
-
-/// The item behind the array, and unit where it was; the limits are asked.
-#[inline(never)]
-fn push_item(limit: usize, x: &mut Value, y: &mut Value) -> Result<Value, Fault> {
-    let Value::Array(_, _, items) = x else {
-        return Err(Fault::Mismatch("array", "()", NO_PLACE));
-    };
-    if limit > 0 && items.len() >= limit {
-        return Err(Fault::TooLarge(1, NO_PLACE));
-    }
-    items.try_reserve(1).map_err(|_| Fault::Memory)?;
-    items.push(std::mem::replace(y, Value::UNIT));
-    Ok(Value::UNIT)
-}
-
-/// Row 110.
-pub fn array_push(n: usize) -> u64 {
-    let limit = black_box(0);
-    let mut sum = 0_u64;
-    for _ in 0..n {
-        let mut x = Value::Array(0, Mode::ReadWrite, Vec::new());
-        for i in 0..1000 {
-            if push_item(limit, black_box(&mut x), &mut Value::int(i)).is_ok() {
-                sum = sum.wrapping_add(1);
-            }
-        }
-    }
-    sum
-}
-
-/// The bytes behind the blob.
-#[inline(never)]
-fn append_bytes(limit: usize, x: &mut Value, y: &mut Value) -> Result<Value, Fault> {
-    let (Value::Blob(_, _, bytes), Value::Blob(_, _, more)) = (x, y) else {
-        return Err(Fault::Mismatch("blob", "()", NO_PLACE));
-    };
-    if limit > 0 && bytes.len() + more.len() > limit {
-        return Err(Fault::TooLarge(1, NO_PLACE));
-    }
-    bytes.try_reserve(more.len()).map_err(|_| Fault::Memory)?;
-    bytes.append(more);
-    Ok(Value::UNIT)
-}
-
-/// Row 113: the blob that is appended is copied each time.
-pub fn blob_append(n: usize) -> u64 {
-    let limit = black_box(0);
-    let more = Value::Blob(0, Mode::ReadWrite, vec![0; 10]);
-    let mut sum = 0_u64;
-    for _ in 0..n {
-        let mut x = Value::Blob(0, Mode::ReadWrite, Vec::new());
-        for _ in 0..100 {
-            if let Some(mut more) = black_box(&more).copy() {
-                sum = sum.wrapping_add(u64::from(append_bytes(limit, black_box(&mut x), &mut more).is_ok()));
-            }
-        }
-    }
-    sum
-}
-
-/// The operator on the int of a place and on another int.
-#[inline(always)]
-fn assign(op: Token, place: &mut Value, y: &Value) -> Result<Value, Fault> {
-    match (place, y) {
-        (Value::Int(_, _, x), Value::Int(_, _, y)) => {
-            *x = number(op, *x, *y).ok_or(Fault::Arithmetic(0, NO_PLACE))?;
-            Ok(Value::UNIT)
-        }
-        (place, y) => on_others(Row::Ints(op), place, y),
-    }
-}
-
-/// Row 114: `x += y * 2` on a scope of eight names.
-pub fn evaluate(n: usize) -> u64 {
-    let (plus, times) = (black_box(Token::Plus), black_box(Token::Multiply));
-    let mut scope = Scope::default();
-    for name in ["index", "total", "x", "limit", "y", "flag", "step", "name"] {
-        if scope.push(name, Value::int(3)).is_none() {
-            return u64::MAX;
-        }
-    }
-    let (x, y) = (Text::new("x"), Text::new("y"));
-    let two = Value::int(2);
-    for _ in 0..n {
-        if let Some(mut left) = scope.get(y.bytes()).and_then(Value::copy) {
-            let Some(mut right) = two.copy() else {
-                return u64::MAX;
-            };
-            let product = inlined(times, &mut left, &mut right);
-            if let Some(place) = scope.get_mut(x.bytes()) {
-                black_box(assign(plus, place, &product)).ok();
-            }
-        }
-    }
-    scope.get(x.bytes()).and_then(Value::own_int).unwrap_or(0) as u64
 }

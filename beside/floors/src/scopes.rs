@@ -1,21 +1,22 @@
 //! Scopes: records of a name, a value and a list of aliases, in order. The newest record of a name is the one that is found.
 
 use crate::given::names;
+use crate::sip::short_word;
+use crate::texts::same_by;
 use crate::value::{Mode, Text, Value};
-use std::collections::HashSet;
 use std::hint::black_box;
 
-struct Record {
-    name: Text,
-    value: Value,
-    aliases: Vec<Text>,
+pub struct Record {
+    pub name: Text,
+    pub value: Value,
+    pub aliases: Vec<Text>,
 }
 
 const _: () = assert!(size_of::<Record>() == 80);
 
 #[derive(Default)]
 pub struct Scope {
-    records: Vec<Record>,
+    pub records: Vec<Record>,
 }
 
 /// How many records there is room for at first.
@@ -35,10 +36,44 @@ impl Scope {
         self.records.iter().rev().find(|record| same(record.name.bytes(), name)).map(|record| &record.value)
     }
 
+    /// By numbers, where the name has up to eight bytes.
+    #[inline(always)]
+    pub fn get_by_number(&self, name: &[u8]) -> Option<&Value> {
+        let Some(numbers) = numbers(name) else {
+            return self.get(name);
+        };
+        self.records.iter().rev().find(|record| record.name.is(numbers)).map(|record| &record.value)
+    }
+
+    #[inline(always)]
+    pub fn get_bytewise(&self, name: &[u8]) -> Option<&Value> {
+        let is_named = |record: &&Record| record.name.bytes().len() == name.len() && record.name.bytes().iter().eq(name);
+        self.records.iter().rev().find(is_named).map(|record| &record.value)
+    }
+
+    #[inline(always)]
+    pub fn get_mut_by_number(&mut self, name: &[u8]) -> Option<&mut Value> {
+        let Some(numbers) = numbers(name) else {
+            return self.get_mut(name);
+        };
+        self.records.iter_mut().rev().find(|record| record.name.is(numbers)).map(|record| &mut record.value)
+    }
+
     #[inline(always)]
     pub fn get_mut(&mut self, name: &[u8]) -> Option<&mut Value> {
         self.records.iter_mut().rev().find(|record| same(record.name.bytes(), name)).map(|record| &mut record.value)
     }
+}
+
+/// Length and bytes of a name of up to eight bytes.
+#[inline(always)]
+fn numbers(name: &[u8]) -> Option<(u8, u64)> {
+    let word = match name.len() {
+        0..=7 => short_word(name),
+        8 => u64::from_le_bytes(*name.first_chunk()?),
+        _ => return None,
+    };
+    Some((name.len() as u8, word))
 }
 
 #[inline(always)]
@@ -51,15 +86,16 @@ fn back(bytes: &[u8]) -> Option<u32> {
     bytes.last_chunk().map(|four| u32::from_le_bytes(*four))
 }
 
-/// Whether names are the same: up to eight bytes are two words that may overlap.
+/// Whether names are the same: four to eight bytes are two words that may overlap.
 #[inline(always)]
-fn same(a: &[u8], b: &[u8]) -> bool {
+pub fn same(a: &[u8], b: &[u8]) -> bool {
     if a.len() != b.len() {
         return false;
     }
     match a.len() {
+        0..=3 => short_word(a) == short_word(b),
         4..=8 => front(a) == front(b) && back(a) == back(b),
-        _ => a == b,
+        _ => same_by::<16>(a, b),
     }
 }
 
@@ -71,7 +107,7 @@ fn strings(count: u32) -> Vec<String> {
     (0..count).map(|i| format!("var{i:04}")).collect()
 }
 
-fn scope_of(count: u32) -> Option<Scope> {
+pub fn scope_of(count: u32) -> Option<Scope> {
     let mut scope = Scope::default();
     for (i, name) in strings(count).iter().enumerate() {
         scope.push(name, Value::int(i as i64))?;
@@ -108,15 +144,19 @@ pub fn push_pop(n: usize) -> u64 {
     pushed(n, pop_ten).unwrap_or(u64::MAX)
 }
 
+/// How a name is sought.
+pub type Get = for<'a> fn(&'a Scope, &[u8]) -> Option<&'a Value>;
+
 /// Rows 133 to 135: of the last two names in turn.
-pub fn get_last(n: usize, count: u32) -> u64 {
+#[inline(always)]
+pub fn get_last(n: usize, count: u32, get: Get) -> u64 {
     let (names, place) = (names(count), count as usize - 1);
     let Some(scope) = scope_of(count) else {
         return u64::MAX;
     };
     let mut sum = 0_u64;
     for i in 0..n {
-        if let Some(value) = names.get(place ^ (i & 1)).and_then(|name| scope.get(name.bytes())) {
+        if let Some(value) = names.get(place ^ (i & 1)).and_then(|name| get(&scope, name.bytes())) {
             sum = told(sum, value);
         }
     }
@@ -153,23 +193,4 @@ pub fn iterate(n: usize) -> u64 {
         }
     }
     sum
-}
-
-fn visible(scope: &Scope) -> Option<Scope> {
-    let mut seen = HashSet::with_capacity(scope.records.len());
-    let mut records = Vec::new();
-    records.try_reserve_exact(scope.records.len()).ok()?;
-    for record in scope.records.iter().rev().filter(|record| seen.insert(record.name.bytes())) {
-        records.push(Record { name: record.name.clone(), value: record.value.copy()?, aliases: record.aliases.clone() });
-    }
-    records.reverse();
-    Some(Scope { records })
-}
-
-/// Row 141, by a hashed set of the names that are there already.
-pub fn clone_visible(n: usize) -> u64 {
-    let Some(scope) = scope_of(100) else {
-        return u64::MAX;
-    };
-    (0..n).filter_map(|_| visible(&scope)).fold(0, |sum, visible| sum.wrapping_add(visible.records.len() as u64))
 }

@@ -4,64 +4,6 @@ use crate::given::{ints, sixteen};
 use crate::value::{Mode, Tag, Text, Value};
 use std::hint::black_box;
 
-fn sum_of(values: &[Value]) -> u64 {
-    values.iter().filter_map(Value::own_int).fold(0, |sum, n| sum.wrapping_add(n as u64))
-}
-
-/// Row 4. A holder's cell would be asked next.
-pub fn as_int(n: usize) -> u64 {
-    let (cells, values) = (Vec::new(), ints(64));
-    let mut sum = 0_u64;
-    for i in 0..n {
-        if let Some(value) = values.get(i & 63) {
-            if let Ok(int) = value.held_int(&cells) {
-                sum = sum.wrapping_add(int as u64);
-            }
-        }
-    }
-    sum
-}
-
-#[inline(never)]
-fn set_held(value: &mut Value, cells: &mut [Value], n: i64) -> Result<i64, i64> {
-    let Value::Shared(_, _, cell) = value else {
-        return Err(n);
-    };
-    match cells.get_mut(*cell) {
-        Some(Value::Int(_, _, own)) => Ok(std::mem::replace(own, n)),
-        _ => Err(n),
-    }
-}
-
-/// Row 5.
-pub fn set_int(n: usize) -> u64 {
-    let (mut cells, mut values) = (Vec::new(), ints(64));
-    for i in 0..n {
-        if let Some(value) = values.get_mut(i & 63) {
-            match value {
-                Value::Int(_, _, own) => *own = i as i64,
-                _ => _ = set_held(value, &mut cells, i as i64),
-            }
-        }
-    }
-    sum_of(&values)
-}
-
-/// Row 5, as an exchange that answers what was there.
-pub fn exchange_int(n: usize) -> u64 {
-    let (mut cells, mut values) = (Vec::new(), ints(64));
-    for i in 0..n {
-        if let Some(value) = values.get_mut(i & 63) {
-            let old = match value {
-                Value::Int(_, _, own) => Ok(std::mem::replace(own, i as i64)),
-                _ => set_held(value, &mut cells, i as i64),
-            };
-            black_box(old).ok();
-        }
-    }
-    sum_of(&values)
-}
-
 fn mixed() -> Vec<Value> {
     let mixed = |i| match i % 4 {
         0 | 2 => Value::int(i),
@@ -88,35 +30,93 @@ impl Value {
     }
 }
 
-/// Row 9.
-pub fn tag_get_set(n: usize) -> u64 {
+/// Row 9 by how a tag is exchanged for another.
+#[inline(always)]
+pub fn tag_get_set(n: usize, exchange: impl Fn(&mut Value, Tag) -> Tag) -> u64 {
     let mut values = mixed();
     let (mut sum, mut tag) = (0_u64, 0_i32);
     for i in 0..n {
         if let Some(value) = values.get_mut(i & 63) {
-            let own = value.tag_mut();
-            sum = sum.wrapping_add(i64::from(*own) as u64);
-            *own = tag;
+            sum = sum.wrapping_add(i64::from(exchange(value, tag)) as u64);
             tag = tag.wrapping_add(1);
         }
     }
     sum
 }
 
-/// Row 30.
-pub fn array_sum(n: usize) -> u64 {
-    let (cells, value) = (Vec::new(), Value::Array(0, Mode::ReadWrite, ints(1000)));
-    let mut sum = 0_u64;
-    for _ in 0..n {
-        if let Value::Array(_, _, items) = black_box(&value) {
-            for item in items {
-                if let Ok(int) = item.held_int(&cells) {
-                    sum = sum.rotate_left(1) ^ int as u64;
-                }
+pub fn tag_by_one_match(n: usize) -> u64 {
+    tag_get_set(n, |value, tag| std::mem::replace(value.tag_mut(), tag))
+}
+
+/// The tag's place is found by a call.
+pub fn tag_by_call(n: usize) -> u64 {
+    tag_get_set(n, |value, tag| std::mem::replace(tag_called(value), tag))
+}
+
+#[inline(never)]
+fn tag_called(value: &mut Value) -> &mut Tag {
+    value.tag_mut()
+}
+
+/// The tag is asked by one call, and set by another.
+pub fn tag_by_two_calls(n: usize) -> u64 {
+    tag_get_set(n, |value, tag| {
+        let old = *tag_called(value);
+        set_tag(value, tag);
+        old
+    })
+}
+
+#[inline(never)]
+fn set_tag(value: &mut Value, tag: Tag) {
+    *value.tag_mut() = tag;
+}
+
+/// Row 46 by how a copy is flattened: what a holder's cell has would stand in its place.
+#[inline(always)]
+pub fn flattened(n: usize, flat: impl Fn(&Value, &[Value]) -> Option<Value>) -> u64 {
+    let (cells, values) = (black_box(Vec::new()), ints(64));
+    let mut slots: Vec<Value> = (0..64).map(|_| Value::UNIT).collect();
+    for i in 0..n {
+        if let Some(flat) = values.get(i & 31).and_then(|value| flat(value, &cells)) {
+            if let Some(slot) = slots.get_mut(i & 63) {
+                *slot = flat;
             }
         }
     }
-    sum
+    slots.iter().filter_map(Value::own_int).fold(0, |sum, n| sum.wrapping_add(n as u64))
+}
+
+#[inline(always)]
+fn flatten(value: Value, cells: &[Value]) -> Option<Value> {
+    match value {
+        Value::Shared(_, _, cell) => cells.get(cell)?.copy(),
+        own => Some(own),
+    }
+}
+
+#[inline(never)]
+fn flatten_called(value: Value, cells: &[Value]) -> Option<Value> {
+    flatten(value, cells)
+}
+
+#[inline(always)]
+pub fn copy_and_flatten(value: &Value, cells: &[Value]) -> Option<Value> {
+    flatten(value.copy()?, cells)
+}
+
+#[inline(always)]
+pub fn copy_and_flatten_by_call(value: &Value, cells: &[Value]) -> Option<Value> {
+    flatten_called(value.copy()?, cells)
+}
+
+/// One copy, of what is held.
+#[inline(always)]
+pub fn copy_flat(value: &Value, cells: &[Value]) -> Option<Value> {
+    match value {
+        Value::Shared(_, _, cell) => cells.get(*cell)?.copy(),
+        own => own.copy(),
+    }
 }
 
 /// A cell, and whether it is marked for a write.
@@ -172,7 +172,11 @@ pub fn held_marks_apart(n: usize) -> u64 {
         Value::Shared(_, _, cell) => {
             let content = cells.get(*cell)?;
             let is_marked = marks.get(*cell / 64)? >> (*cell % 64) & 1 == 1;
-            if is_marked { None } else { content.own_int() }
+            if is_marked {
+                None
+            } else {
+                content.own_int()
+            }
         }
         _ => None,
     })
@@ -257,4 +261,50 @@ pub fn copy_text(n: usize) -> u64 {
         }
     }
     slots.iter().filter(|slot| matches!(slot, Value::Text(..))).count() as u64
+}
+
+/// Row 8: how a value or the content of its cell is asked for an int.
+#[inline(always)]
+fn ints_among(n: usize, is_int: impl Fn(&Value, &[Value]) -> bool) -> u64 {
+    let values = mixed();
+    let cells: Vec<Value> = (0..16).map(|_| Value::text(Text::new("mixed"))).collect();
+    let cells = black_box(cells);
+    let mut sum = 0_u64;
+    for i in 0..n {
+        if values.get(i & 63).is_some_and(|value| is_int(value, &cells)) {
+            sum = sum.wrapping_add(1);
+        }
+    }
+    sum
+}
+
+fn is_int_in(cells: &[Value], cell: usize) -> bool {
+    cells.get(cell).is_some_and(|content| content.own_int().is_some())
+}
+
+pub fn is_int_own_first(n: usize) -> u64 {
+    ints_among(n, |value, cells| match value {
+        Value::Int(..) => true,
+        Value::Shared(_, _, cell) => is_int_in(cells, *cell),
+        _ => false,
+    })
+}
+
+pub fn is_int_content_first(n: usize) -> u64 {
+    ints_among(n, |value, cells| {
+        let content = match value {
+            Value::Shared(_, _, cell) => cells.get(*cell),
+            own => Some(own),
+        };
+        content.is_some_and(|content| content.own_int().is_some())
+    })
+}
+
+#[inline(never)]
+fn is_held_int(value: &Value, cells: &[Value]) -> bool {
+    matches!(value, Value::Shared(_, _, cell) if is_int_in(cells, *cell))
+}
+
+pub fn is_int_by_call(n: usize) -> u64 {
+    ints_among(n, |value, cells| matches!(value, Value::Int(..)) || is_held_int(value, cells))
 }

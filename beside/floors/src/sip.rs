@@ -1,20 +1,49 @@
 //! SipHash-1-3 with both keys 0, as the standard library's `DefaultHasher::new()`; whole words are read at once, and so is what is left.
 
 use std::hash::Hasher;
+use std::marker::PhantomData;
 
-pub struct Sip {
-    v0: u64,
-    v1: u64,
-    v2: u64,
-    v3: u64,
-    /// The bytes since the last whole word, the first of them lowest, and above them zeros.
-    tail: u64,
-    length: usize,
+/// How the bytes behind the last whole word are read, the first of them lowest.
+pub trait Tail {
+    fn word(all: &[u8], rest: &[u8]) -> u64;
+}
+
+/// Four of them, two and one.
+pub struct Parts;
+
+/// One by one.
+pub struct Bytewise;
+
+/// In the last word of all, which is shifted.
+pub struct LastWord;
+
+impl Tail for Parts {
+    #[inline(always)]
+    fn word(_: &[u8], rest: &[u8]) -> u64 {
+        short_word(rest)
+    }
+}
+
+impl Tail for Bytewise {
+    #[inline(always)]
+    fn word(_: &[u8], rest: &[u8]) -> u64 {
+        rest.iter().rev().fold(0, |word, byte| word << 8 | u64::from(*byte))
+    }
+}
+
+impl Tail for LastWord {
+    #[inline(always)]
+    fn word(all: &[u8], rest: &[u8]) -> u64 {
+        match all.last_chunk() {
+            Some(last) => u64::from_le_bytes(*last).checked_shr(64 - 8 * rest.len() as u32).unwrap_or(0),
+            None => short_word(rest),
+        }
+    }
 }
 
 /// The bytes of less than a word, the first of them lowest.
 #[inline(always)]
-fn short_word(bytes: &[u8]) -> u64 {
+pub fn short_word(bytes: &[u8]) -> u64 {
     let (len, mut word, mut at) = (bytes.len(), 0, 0);
     if let Some(four) = bytes.first_chunk::<4>() {
         word = u64::from(u32::from_le_bytes(*four));
@@ -30,14 +59,17 @@ fn short_word(bytes: &[u8]) -> u64 {
     word
 }
 
-impl Sip {
-    #[must_use]
-    #[inline(always)]
-    pub fn new() -> Sip {
-        let (v0, v1) = (0x736f_6d65_7073_6575, 0x646f_7261_6e64_6f6d);
-        let (v2, v3) = (0x6c79_6765_6e65_7261, 0x7465_6462_7974_6573);
-        Sip { v0, v1, v2, v3, tail: 0, length: 0 }
-    }
+#[derive(Clone, Copy)]
+struct State {
+    v0: u64,
+    v1: u64,
+    v2: u64,
+    v3: u64,
+}
+
+impl State {
+    const NEW: State =
+        State { v0: 0x736f_6d65_7073_6575, v1: 0x646f_7261_6e64_6f6d, v2: 0x6c79_6765_6e65_7261, v3: 0x7465_6462_7974_6573 };
 
     #[inline(always)]
     fn round(&mut self) {
@@ -59,15 +91,42 @@ impl Sip {
         self.round();
         self.v0 ^= word;
     }
+
+    /// The hash, once the last word of the bytes is known.
+    #[inline(always)]
+    fn hash(mut self, tail: u64, length: usize) -> u64 {
+        self.word((length as u64 & 0xff) << 56 | tail);
+        self.v2 ^= 0xff;
+        self.round();
+        self.round();
+        self.round();
+        self.v0 ^ self.v1 ^ self.v2 ^ self.v3
+    }
 }
 
-impl Default for Sip {
+pub struct Sip<T = Parts> {
+    state: State,
+    /// The bytes since the last whole word, the first of them lowest, and above them zeros.
+    tail: u64,
+    length: usize,
+    how: PhantomData<T>,
+}
+
+impl<T> Sip<T> {
+    #[must_use]
+    #[inline(always)]
+    pub fn new() -> Sip<T> {
+        Sip { state: State::NEW, tail: 0, length: 0, how: PhantomData }
+    }
+}
+
+impl<T> Default for Sip<T> {
     fn default() -> Self {
         Sip::new()
     }
 }
 
-impl Hasher for Sip {
+impl<T: Tail> Hasher for Sip<T> {
     /// Words are put together of the tail and of what comes, by a shift.
     #[inline(always)]
     fn write(&mut self, bytes: &[u8]) {
@@ -76,25 +135,51 @@ impl Hasher for Sip {
         let mut words = bytes.chunks_exact(8);
         for word in &mut words {
             let word = word.first_chunk().map_or(0, |word| u64::from_le_bytes(*word));
-            self.word(self.tail | word << shift);
+            self.state.word(self.tail | word << shift);
             self.tail = if shift == 0 { 0 } else { word >> (64 - shift) };
         }
-        let (rest, left) = (words.remainder(), short_word(words.remainder()));
+        let (rest, left) = (words.remainder(), T::word(bytes, words.remainder()));
         self.tail |= left << shift;
         if shift as usize + 8 * rest.len() >= 64 {
-            self.word(self.tail);
+            self.state.word(self.tail);
             self.tail = if shift == 0 { 0 } else { left >> (64 - shift) };
         }
     }
 
     #[inline(always)]
     fn finish(&self) -> u64 {
-        let mut end = Sip { ..*self };
-        end.word((self.length as u64 & 0xff) << 56 | self.tail);
-        end.v2 ^= 0xff;
-        end.round();
-        end.round();
-        end.round();
-        end.v0 ^ end.v1 ^ end.v2 ^ end.v3
+        self.state.hash(self.tail, self.length)
+    }
+}
+
+/// The hash of bytes that are there all at once.
+#[must_use]
+#[inline(always)]
+pub fn hash_of(bytes: &[u8]) -> u64 {
+    let mut state = State::NEW;
+    let mut words = bytes.chunks_exact(8);
+    for word in &mut words {
+        state.word(word.first_chunk().map_or(0, |word| u64::from_le_bytes(*word)));
+    }
+    state.hash(LastWord::word(bytes, words.remainder()), bytes.len())
+}
+
+/// The hash of a text: of its bytes, and of one that ends it.
+#[must_use]
+#[inline(always)]
+pub fn hash_of_text(bytes: &[u8]) -> u64 {
+    let mut state = State::NEW;
+    let mut words = bytes.chunks_exact(8);
+    for word in &mut words {
+        state.word(word.first_chunk().map_or(0, |word| u64::from_le_bytes(*word)));
+    }
+    let rest = words.remainder();
+    let tail = LastWord::word(bytes, rest) | 0xff << (8 * rest.len());
+    match rest.len() {
+        7 => {
+            state.word(tail);
+            state.hash(0, bytes.len() + 1)
+        }
+        _ => state.hash(tail, bytes.len() + 1),
     }
 }

@@ -1,11 +1,10 @@
-//! Texts: compared without the C library's `memcmp`, and hashed by SipHash-1-3 over whole words.
+//! Texts: compared without the C library's `memcmp`.
 
 use crate::given::sixteen;
-use crate::sip::Sip;
 use crate::value::{Text, Value};
 use std::cmp::Ordering;
-use std::hash::{DefaultHasher, Hash, Hasher};
 use std::hint::black_box;
+use std::rc::Rc;
 
 /// An order of bytes.
 pub type Order = fn(&[u8], &[u8]) -> Ordering;
@@ -109,113 +108,40 @@ pub fn order(n: usize, order: impl Fn(&[u8], &[u8]) -> Ordering) -> u64 {
     sum
 }
 
-/// Row 85 by a hasher.
+/// Rows 80 and 81: a text of a hundred bytes takes a block for its count and one for its bytes.
 #[inline(always)]
-pub fn hash<H: Hasher>(n: usize, new: impl Fn() -> H) -> u64 {
-    let texts = sixteen(100);
-    let mut sum = 0_u64;
-    for i in 0..n {
-        if let Some(text) = texts.get(i & 15) {
-            let mut hasher = new();
-            hasher.write(text.bytes());
-            hasher.write_u8(0xff);
-            sum ^= hasher.finish();
-        }
-    }
-    sum
-}
-
-/// The hash bytes of a text: its kind, its length and its bytes, in a block.
-#[inline(always)]
-fn hash_bytes(value: &Value) -> Option<Vec<u8>> {
-    let Value::Text(_, _, text) = value else {
-        return None;
-    };
-    let text = text.bytes();
-    let mut bytes = Vec::new();
-    bytes.try_reserve_exact(text.len() + 9).ok()?;
-    bytes.push(2);
-    bytes.extend_from_slice(&text.len().to_le_bytes());
-    bytes.extend_from_slice(text);
-    Some(bytes)
-}
-
-/// Row 151: the bytes are made, and then hashed.
-pub fn hash_value<H: Hasher>(n: usize, new: impl Fn() -> H) -> u64 {
-    let value = sixteen(100).pop().map_or(Value::UNIT, Value::text);
-    let mut sum = 0_u64;
-    for _ in 0..n {
-        if let Some(bytes) = hash_bytes(black_box(&value)) {
-            let mut hasher = new();
-            hasher.write(&bytes);
-            if hasher.finish() != 0 {
-                sum = sum.wrapping_add(1);
-            }
-        }
-    }
-    sum
-}
-
-/// Row 150: the nine bytes of an int take no block.
-pub fn hash_int<H: Hasher>(n: usize, new: impl Fn() -> H) -> u64 {
-    let value = Value::int(7);
-    let mut sum = 0_u64;
-    for _ in 0..n {
-        if let Some(int) = black_box(&value).own_int() {
-            let mut bytes = [4; 9];
-            bytes[1..].copy_from_slice(&int.to_le_bytes());
-            let mut hasher = new();
-            hasher.write(black_box(&bytes));
-            if hasher.finish() != 0 {
-                sum = sum.wrapping_add(1);
-            }
-        }
-    }
-    sum
-}
-
-#[must_use]
-pub fn sip() -> Sip {
-    Sip::new()
-}
-
-#[must_use]
-pub fn library() -> DefaultHasher {
-    DefaultHasher::new()
-}
-
-/// Row 81: a text of a hundred bytes takes a block for its count and one for its bytes.
-pub fn make_long(n: usize) -> u64 {
-    let given = "a".repeat(98) + "00";
+pub fn make(n: usize, length: usize, make: impl Fn(&str) -> Option<Text>) -> u64 {
+    let given = "a".repeat(length - 2) + "00";
     let mut slots: Vec<Value> = (0..64).map(|_| Value::UNIT).collect();
     for i in 0..n {
-        if let Some(slot) = slots.get_mut(i & 63) {
-            *slot = Value::text(Text::new(black_box(&given)));
+        if let (Some(slot), Some(text)) = (slots.get_mut(i & 63), make(black_box(&given))) {
+            *slot = Value::text(text);
         }
     }
     slots.iter().map(|slot| if let Value::Text(_, _, text) = slot { text.bytes().len() as u64 } else { 0 }).sum()
 }
 
-/// Row 82.
-pub fn copy(n: usize) -> u64 {
+/// Row 81 with texts of two words: one block has count and bytes.
+pub fn make_in_one_block(n: usize) -> u64 {
+    let given = "a".repeat(98) + "00";
+    let mut slots: Vec<Option<Rc<str>>> = vec![None; 64];
+    for i in 0..n {
+        if let Some(slot) = slots.get_mut(i & 63) {
+            *slot = Some(black_box(&given).as_str().into());
+        }
+    }
+    slots.iter().flatten().map(|text| text.len() as u64).sum()
+}
+
+/// Row 82 by how a copy is put into a slot.
+#[inline(always)]
+pub fn copy(n: usize, put: impl Fn(&mut Text, &Text)) -> u64 {
     let texts = sixteen(100);
     let mut slots = sixteen(10);
     for i in 0..n {
-        if let Some(text) = texts.get(i & 7) {
-            let copy = text.clone();
-            if let Some(slot) = slots.get_mut(i & 15) {
-                *slot = copy;
-            }
+        if let (Some(text), Some(slot)) = (texts.get(i & 7), slots.get_mut(i & 15)) {
+            put(slot, text);
         }
     }
     slots.iter().map(|text| text.bytes().len() as u64).sum()
-}
-
-/// Whether a text hashes as a `&str` does.
-#[must_use]
-pub fn hashes_alike(text: &str) -> bool {
-    let (mut ours, mut library) = (sip(), library());
-    text.hash(&mut ours);
-    text.hash(&mut library);
-    ours.finish() == library.finish()
 }

@@ -1,6 +1,6 @@
 //! Values, texts and cells as wide as the port's: what its promises leave.
 
-use std::rc::Rc;
+pub use crate::text::Text;
 
 pub type Tag = i32;
 
@@ -59,6 +59,21 @@ impl Value {
     #[must_use]
     pub const fn text(text: Text) -> Value {
         Value::Text(0, Mode::ReadWrite, text)
+    }
+
+    #[must_use]
+    pub fn type_name(&self) -> &'static str {
+        match self {
+            Value::Unit(..) => "()",
+            Value::Bool(..) => "bool",
+            Value::Text(..) => "string",
+            Value::Char(..) => "char",
+            Value::Int(..) => "i64",
+            Value::Array(..) => "array",
+            Value::Blob(..) => "blob",
+            Value::Host(..) => "host",
+            Value::Shared(..) => "<shared>",
+        }
     }
 
     /// The int that the value itself has.
@@ -128,58 +143,5 @@ impl Clone for Value {
     #[inline(always)]
     fn clone(&self) -> Value {
         self.copy().expect("memory")
-    }
-}
-
-/// A text of one pointer, whose copies share its bytes: up to 24 stand beside the count.
-#[derive(Clone)]
-pub struct Text {
-    bytes: Rc<Bytes>,
-}
-
-enum Bytes {
-    Short(u8, [u8; 24]),
-    Long(Box<[u8]>),
-}
-
-impl Text {
-    #[must_use]
-    #[inline(always)]
-    pub fn new(text: &str) -> Text {
-        let bytes = match text.len() {
-            len @ 0..=24 => {
-                let mut short = [0; 24];
-                short[..len].copy_from_slice(text.as_bytes());
-                Bytes::Short(len as u8, short)
-            }
-            _ => Bytes::Long(text.as_bytes().into()),
-        };
-        Text { bytes: Rc::new(bytes) }
-    }
-
-    /// The bytes of one text behind those of another; these are of texts, so they are one.
-    #[must_use]
-    #[inline(always)]
-    pub fn joined(&self, other: &Text) -> Text {
-        let (a, b) = (self.bytes(), other.bytes());
-        let len = a.len() + b.len();
-        let bytes = if len <= 24 {
-            let mut short = [0; 24];
-            short[..a.len()].copy_from_slice(a);
-            short[a.len()..len].copy_from_slice(b);
-            Bytes::Short(len as u8, short)
-        } else {
-            Bytes::Long([a, b].concat().into())
-        };
-        Text { bytes: Rc::new(bytes) }
-    }
-
-    #[must_use]
-    #[inline(always)]
-    pub fn bytes(&self) -> &[u8] {
-        match &*self.bytes {
-            Bytes::Short(len, bytes) => bytes.get(..usize::from(*len)).unwrap_or(&[]),
-            Bytes::Long(bytes) => bytes,
-        }
     }
 }

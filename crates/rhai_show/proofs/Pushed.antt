@@ -1,13 +1,15 @@
 -- Texts that are added to a text.
-use Rattle.std.proofs.Common.{◌≡◌, ◌++◌, ◌&&◌, ◌<◌, ◌/◌, ◌%◌, ◌^◌, ℤ, pos, negsuc, ◌∷◌, [], zero, suc, Bool, true, false, cond, List, ℕ, Result, Ok, Err, OnOk, is_ok, refl, ap, ◌∙◌, subst, append_assoc, arith}
+use Rattle.std.proofs.Common.{◌≡◌, ◌++◌, ◌&&◌, ◌<◌, ◌≤◌, ◌/◌, ◌%◌, ◌^◌, ℤ, pos, negsuc, ◌∷◌, [], zero, suc, Bool, true, false, cond, List, ℕ, Result, Ok, Err, OnOk, is_ok, refl, ap, sym, ◌∙◌, subst, append_assoc, arith}
 use Rattle.std.specs.Prelude.{nat_lt}
 use Rattle.std.specs.List.{list_all}
 use Rattle.std.specs.Fmt.{decimal, digit_glyph, signed_decimal}
 use Rattle.std.specs.Str.{chars, IsUtf8, IsAscii}
 use Rattle.std.proofs.lemmas.Bool.Decides.{nat_tests}
-use Rattle.std.proofs.lemmas.Fmt.{IsAscii-decimal_wide}
+use Rattle.std.proofs.lemmas.Fmt.{IsAscii-decimal_wide, decimal_step}
+pub use Rattle.std.proofs.lemmas.Fmt.{decimal_digit}
 use Rattle.std.proofs.lemmas.Str.{chars-append, chars-IsAscii}
-use lib.Signed.{mag}
+use lib.IntN.{nat_abs}
+use lib.Signed.{le_z, mag}
 use Rattle.rhai_show.specs.Leaves.{hex_digits}
 
 -- a text is pushed, and one in ASCII
@@ -74,3 +76,12 @@ pub enclosed : {A E : Type 0} (r : Result A E) (new mid start old opens inner en
     → start ≡ old ++ chars opens → mid ≡ start ++ inner → OnOk r (new ≡ mid ++ chars ends) → OnOk r (new ≡ old ++ (opens ++ inner ++ ends))
 enclosed r new mid start old opens inner ends p q e f =
     added_twice r new mid old (opens ++ inner) (chars ends) (opens ++ inner ++ ends) (added_more mid start old opens inner (added_fixed start old opens p e) f) (ap (λ x. opens ++ inner ++ x) (fixed ends q))
+
+-- the digits of a number are those of its tens, and the last
+pub two_digits : (n : ℕ) → 10 ≤ n → n < 2 ^ 64 → decimal (n / 10) ++ decimal (n % 10) ≡ decimal n
+two_digits n lo hi = ap (λ ds. decimal (n / 10) ++ ds) (decimal_digit (n % 10) (omega arith)) ∙ sym (decimal_step n lo hi)
+
+-- an int that isn't negative has the digits of a number
+pub digits_of : (z : ℤ) → le_z (pos 0) z ≡ true → decimal (nat_abs z) ≡ signed_decimal z
+digits_of (pos n) h = refl
+digits_of (negsuc n) h = cc

@@ -1,7 +1,7 @@
 //! The texts of values that hold no other value.
-ghost use Rattle.std.specs.Prelude.{◌≡◌, ◌++◌, OnOk, string_bytes};
+ghost use Rattle.std.specs.Prelude.{◌≡◌, ◌++◌, ◌<◌, OnOk, string_bytes};
 ghost use Rattle.std.specs.Str.{chars};
-ghost use Rattle.std.specs.Fmt.{signed_decimal};
+ghost use Rattle.std.specs.Fmt.{decimal, signed_decimal};
 ghost use Rattle.rhai_value.specs.Tree.{unit, char as a_char, text as a_text};
 ghost use Rattle.rhai_show.specs.Leaves.{bool_text, leaf_printed};
 ghost use Rattle.rhai_show.specs.Shape.{leaf_of};
@@ -64,7 +64,30 @@ pub(crate) fn add_int(out: &mut String, value: &INT) -> Result<(), AllocError>
 {
     let _before = out.as_str();
     let value = *value;
+    if 0 <= value && value < 100 {
+        return add_short(out, value as u8);
+    }
     write!(out, "{value}")
+}
+
+/// Adds one digit or two as characters: digits from a buffer are waited for.
+fn add_short(out: &mut String, number: u8) -> Result<(), AllocError>
+    requires { number < 100 }
+    ensures { OnOk result (string_bytes out.new ≡ string_bytes out.old ++ decimal number) }
+{
+    if number < 10 {
+        return add_digit(out, number);
+    }
+    add_digit(out, number / 10)?;
+    add_digit(out, number % 10)
+}
+
+#[tactic(auto, using(crate::proofs::Pushed::decimal_digit))]
+fn add_digit(out: &mut String, digit: u8) -> Result<(), AllocError>
+    requires { digit < 10 }
+    ensures { OnOk result (string_bytes out.new ≡ string_bytes out.old ++ decimal digit) }
+{
+    out.push((b'0' + digit) as char)
 }
 
 fn add_char(out: &mut String, value: char, form: Form) -> Result<(), AllocError>

@@ -7,6 +7,7 @@ pub mod Copies
 pub mod Distinct
 pub mod ForCallers
 pub mod Frames
+pub mod Fronts
 pub mod Hashes
 pub mod HashRests
 pub mod Heads

@@ -1,5 +1,5 @@
 -- The bytes by which a value is hashed.
-use Rattle.std.specs.Prelude.{ℕ, suc, ℤ, cond, List, [], ◌∷◌, ◌++◌, length, Option, Some, None}
+use Rattle.std.specs.Prelude.{ℕ, suc, ℤ, cond, List, [], ◌∷◌, ◌++◌, length, Option}
 use Rattle.std.specs.Option.{option_map_or}
 use Rattle.std.specs.Int.{w16, w32, w64, w128, w8, to_le_bytes, cast_unsigned}
 use Rattle.std.specs.Str.{encode_utf8_all}

@@ -180,6 +180,21 @@ pub fn hashed(alloc: Global, value: &Dynamic, store: &Store) -> Result<Option<Ha
     if let Some(number) = INT::own(content) {
         return Ok(Some(Hashed::of_int(number)));
     }
+    hashed_content(alloc, content, value, store)
+}
+
+/// The hash bytes of a value whose first content is at hand.
+#[inline(never)]
+fn hashed_content(
+    alloc: Global,
+    content: &Dynamic,
+    value: &Dynamic,
+    store: &Store,
+) -> Result<Option<Hashed>, AllocError>
+    requires { Some content.now ≡ first store.now value.now }
+    ensures bytes { IfOk result (λ o. o ≡ option_map plain_bytes (plain store.now [] value.now)) }
+    ensures told { IfOk result (λ o. IfSome o (IsHashed store.now value.now)) }
+{
     let Shape::Leaf(leaf) = shape_of(content) else {
         return hashed_below(alloc, value, store);
     };

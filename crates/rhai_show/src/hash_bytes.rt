@@ -1,6 +1,7 @@
 //! The hash bytes of values that hold no other value, and of names and counts. Room for the bytes of a value is made at once.
-ghost use Rattle.std.specs.Prelude.{◌≡◌, ◌++◌, ◌∷◌, length, FitsSigned, OnOk};
-ghost use Rattle.std.specs.Int.{w64};
+ghost use Rattle.std.specs.Prelude.{◌≡◌, ◌++◌, ◌∷◌, ◌+◌, ◌*◌, ◌%◌, length, take, FitsSigned, OnOk};
+ghost use Rattle.std.specs.Int.{w64, to_le_bytes};
+ghost use Rattle.std.specs.List.{flat_map};
 ghost use Rattle.std.specs.Str.{chars};
 ghost use Rattle.rhai_value.specs.Tree.{bool as a_bool, char as a_char, int as an_int, text as a_text, blob as a_blob, host as a_host};
 ghost use Rattle.rhai_show.specs.HashBytes.{count_bytes, int_bytes, sized, name_bytes, leaf_bytes};
@@ -11,6 +12,39 @@ use crate::shape::Leaf;
 use rhai_text::ImmutableString;
 use rhai_value::{Host, INT};
 use std::alloc::AllocError;
+
+/// How many bytes a kind has with a number behind it.
+pub(crate) const FRONT_BYTES: usize = 9;
+
+/// What the last byte of a number of eight is worth.
+const LAST_BYTE: u64 = 0x100_0000_0000_0000;
+
+/// Makes the bytes of a kind and of a number behind it, and then zeros, as two words.
+pub(crate) fn front(kind: u8, number: u64) -> [[u8; 8]; 2]
+    ensures { take FRONT_BYTES (flat_map (λ w. w) result) ≡ kind ∷ to_le_bytes w64 number }
+{
+    let last = (number / LAST_BYTE) as u8;
+    [
+        word(kind, number).to_le_bytes(),
+        word(last, 0).to_le_bytes(),
+    ]
+}
+
+/// A byte, and behind it all of a number but its last byte. It is called, so that they are written at once, as a hasher reads
+/// them: else it waits.
+#[inline(never)]
+fn word(first: u8, number: u64) -> u64
+    ensures { result ≡ number % LAST_BYTE * 256 + first }
+{
+    number % LAST_BYTE * 256 + first as u64
+}
+
+/// Adds a kind and a number behind it.
+fn add_front(out: &mut Vec<u8>, kind: u8, number: u64) -> Result<(), AllocError>
+    ensures { OnOk result (out.new.items ≡ out.old.items ++ kind ∷ to_le_bytes w64 number) }
+{
+    add_bytes(out, &front(kind, number).as_flattened()[..FRONT_BYTES])
+}
 
 /// Adds the hash bytes of a leaf.
 #[inline(always)]
@@ -83,9 +117,9 @@ fn add_kind_sized(out: &mut Vec<u8>, kind: u8, bytes: &[u8]) -> Result<(), Alloc
     ensures bytes { OnOk result (out.new.items ≡ out.old.items ++ kind ∷ sized bytes.now) }
     ensures range { OnOk result (IsCount (length bytes.now)) }
 {
-    out.reserve(bytes.len() + 9)?;
-    out.push_reserved(kind);
-    add_sized(out, bytes)
+    out.reserve(bytes.len() + FRONT_BYTES)?;
+    add_front(out, kind, bytes.len() as u64)?;
+    add_bytes(out, bytes)
 }
 
 /// Adds bytes behind their number.

@@ -1,27 +1,26 @@
 //! Hash bytes.
-ghost use Rattle.std.specs.Prelude.{◌≡◌, ◌↔◌, drop, IfOk, IsTrue, nat_eq};
+ghost use Rattle.std.specs.Prelude.{◌≡◌, ◌↔◌, take, IfOk, IsTrue, nat_eq};
 ghost use Rattle.std.specs.Cmp.{partial_equiv_from_equiv};
 ghost use Rattle.std.specs.Cmp.Lexicographic.{bytes_decides, pointwise, nat_list_eq_equiv};
 ghost use Rattle.std.specs.Hash as fed;
+ghost use Rattle.std.specs.List.{flat_map};
 ghost use Rattle.std.proofs.Common.{ap};
 ghost use Rattle.rhai_value.specs.Tree.{int as an_int};
 ghost use Rattle.rhai_show.specs.HashBytes.{leaf_bytes};
 ghost use Rattle.rhai_show.specs.HashedBytes.{hashed_bytes};
 ghost use Rattle.rhai_show.specs.InRange.{IsLeaf};
 
+use crate::hash_bytes::{FRONT_BYTES, front};
 use rhai_value::INT;
 use std::alloc::{AllocError, Global};
 use std::hash::{Hash, Hasher};
 use std::marker::Model;
 
-/// Where the hash bytes of an int begin in two words: its kind is the last byte of the first.
-const INT_START: usize = 7;
-
 /// Where hash bytes stand: those of an int here, others in a block of memory.
 #[derive(Drop)]
 pub(crate) enum HashedBytes {
-    /// The bytes from a place on in two words. They are moved by words, as they were written: else a move waits for the stores.
-    Short(usize, [u8; 16]),
+    /// How many are used, and the bytes, as two words.
+    Short(usize, [[u8; 8]; 2]),
     Long(Vec<u8>),
 }
 
@@ -55,11 +54,8 @@ impl Hashed {
         ensures bytes { result ≡ leaf_bytes (an_int value.now) }
         ensures range { IsLeaf (an_int value.now) }
     {
-        let [a, b, c, d, e, f, g, h] = value.to_le_bytes();
-        // the kind fills the first word, which is then written at once
-        let words = [4, 4, 4, 4, 4, 4, 4, 4, a, b, c, d, e, f, g, h];
         Hashed {
-            bytes: HashedBytes::Short(INT_START, words),
+            bytes: HashedBytes::Short(FRONT_BYTES, front(4, value.cast_unsigned())),
         }
     }
 
@@ -68,7 +64,7 @@ impl Hashed {
         ensures { result.now ≡ self.now }
     {
         match &self.bytes {
-            HashedBytes::Short(start, words) => short_bytes(*start, words),
+            HashedBytes::Short(len, words) => short_bytes(*len, words),
             HashedBytes::Long(bytes) => bytes.as_slice(),
         }
     }
@@ -79,24 +75,18 @@ impl Hashed {
         ensures { IfOk result (λ bytes. bytes.items ≡ self) }
     {
         match self.bytes {
-            HashedBytes::Short(start, words) => {
-                let mut bytes = Vec::new(alloc);
-                bytes.extend_from_slice(short_bytes(start, &words))?;
-                Ok(bytes)
-            }
+            HashedBytes::Short(len, words) => Vec::from_slice(alloc, short_bytes(len, &words)),
             HashedBytes::Long(bytes) => Ok(bytes),
         }
     }
 }
 
-/// The bytes of the words from a place on.
-fn short_bytes(start: usize, words: &[u8; 16]) -> &[u8]
-    ensures { result.now ≡ drop start words.now }
+/// The first bytes of all.
+fn short_bytes(len: usize, words: &[[u8; 8]; 2]) -> &[u8]
+    ensures { result.now ≡ take len (flat_map (λ w. w) words.now) }
 {
-    if words.len() < start {
-        return &[];
-    }
-    &words[start..]
+    let bytes = words.as_flattened();
+    &bytes[..len.min(bytes.len())]
 }
 
 impl PartialEq for Hashed {

@@ -9,9 +9,9 @@ use Rattle.rhai_value.specs.Tree.{nodes, nodes_trees, nodes_fields, array, funct
 use Rattle.rhai_show.specs.Shape.{leaf_of}
 use Rattle.rhai_show.specs.Plain.{plain}
 use Rattle.rhai_show.specs.Clean.{are_plain, values_in}
-use Rattle.rhai_show.specs.HashBytes.{count_bytes, leaf_bytes, name_bytes, some_bytes, hash_bytes}
+use Rattle.rhai_show.specs.HashBytes.{count_bytes, name_bytes, some_bytes, hash_bytes}
 use Rattle.rhai_show.specs.HashRows.{row_bytes}
-use Rattle.rhai_show.specs.InRange.{IsCount, IsName, IsLeaf, IsInRange, IsPlainInRange, IsRowInRange}
+use Rattle.rhai_show.specs.InRange.{IsCount, IsName, IsInRange, IsPlainInRange, IsRowInRange}
 use Rattle.rhai_show.proofs.Measures.{left_in, left-entry, nodes_item}
 use Rattle.rhai_show.proofs.Plains.{plain-branch, plain-map}
 use Rattle.rhai_show.proofs.Pushed.{added_as, added_twice, added_more}

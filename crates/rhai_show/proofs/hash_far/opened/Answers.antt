@@ -1,13 +1,13 @@
-use Rattle.std.proofs.Common.{◌++◌, ℕ, [], ◌∷◌, length, Vec, Global, refl, sym, ap, ◌∙◌, subst, arith}
+use Rattle.std.proofs.Common.{◌++◌, [], ◌∷◌, length, refl, sym, ap, ◌∙◌, subst, arith}
 use Rattle.std.specs.List.{All, flat_map}
 use Rattle.rhai_value.specs.Rows.{trees_of, fields_of}
 use Rattle.rhai_value.specs.Tree.{array, function}
 use Rattle.rhai_show.specs.Shape.{leaf_of}
 use Rattle.rhai_show.specs.Clean.{are_plain, values_in}
-use Rattle.rhai_show.specs.HashBytes.{count_bytes, leaf_bytes, name_bytes, hash_bytes}
+use Rattle.rhai_show.specs.HashBytes.{count_bytes, name_bytes, hash_bytes}
 use Rattle.rhai_show.specs.HashRests.{rest_bytes}
 use Rattle.rhai_show.specs.HashRows.{row_bytes}
-use Rattle.rhai_show.specs.InRange.{IsCount, IsName, IsLeaf, IsPlainInRange, IsRowInRange}
+use Rattle.rhai_show.specs.InRange.{IsCount, IsName, IsPlainInRange, IsRowInRange}
 use Rattle.rhai_show.specs.Rests.{items_keyed, rows_keyed, rest_weight}
 use Rattle.rhai_show.specs.Weights.{weight}
 use Rattle.rhai_show.proofs.Hashes.{leaf_hashed, hashed-branch, hashed-map}

@@ -8,7 +8,7 @@ use Rattle.rhai_value.specs.Tree.{Tree, nodes, nodes_fields, cell_of}
 use Rattle.rhai_value.specs.Walk.{entry}
 use Rattle.rhai_show.specs.Shape.{leaf_of}
 use Rattle.rhai_show.specs.declared.form.Form.TheVariants.{Debug}
-use Rattle.rhai_show.specs.Leaves.{in_debug, blob_printed}
+use Rattle.rhai_show.specs.Leaves.{in_debug}
 use Rattle.rhai_show.specs.Listed.{row_printed}
 use Rattle.rhai_show.specs.Text.{joined, further, name_printed, content_form, printed}
 use Rattle.rhai_show.proofs.Commas.{listed_step, listed_turn, listed_all, listed_end}

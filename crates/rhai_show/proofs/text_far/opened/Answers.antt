@@ -1,10 +1,9 @@
-use Rattle.std.proofs.Common.{◌++◌, Some, None, codes, string_bytes, refl, sym, ap, ◌∙◌, arith}
+use Rattle.std.proofs.Common.{◌++◌, Some, None, codes, string_bytes, refl, ap, ◌∙◌, arith}
 use Rattle.std.specs.Str.{chars}
 use Rattle.rhai_value.specs.Tree.{array, function}
 use Rattle.rhai_show.specs.Shape.{leaf_of}
 use Rattle.rhai_show.specs.declared.form.Form.TheVariants.{Debug}
 use Rattle.rhai_show.specs.Frames.{keyed_printed}
-use Rattle.rhai_show.specs.Leaves.{blob_printed}
 use Rattle.rhai_show.specs.Listed.{row_printed}
 use Rattle.rhai_show.specs.Rests.{items_keyed, rows_keyed, rest_weight}
 use Rattle.rhai_show.specs.Text.{joined, further, name_printed, printed}

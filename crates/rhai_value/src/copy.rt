@@ -44,6 +44,11 @@ impl Dynamic {
             let union = Union::Str(*tag, mode, text);
             return Ok(Dynamic { union });
         }
+        if let Union::Blob(tag, _, bytes) = &self.union {
+            let bytes = Vec::from_slice(alloc, bytes)?;
+            let union = Union::Blob(*tag, mode, bytes);
+            return Ok(Dynamic { union });
+        }
         copied(self, alloc, NEAR)
     }
 }

@@ -55,7 +55,7 @@ fn push(limits: &Limits, items: &mut Array, right: &mut Dynamic) -> Result<Dynam
         return Err(EvalAltResult::ErrorDataTooLarge(SizeKind::Items, Position::NONE));
     }
     items.reserve(1)?;
-    items.push_reserved(right.take());
+    items.push_reserved(std::mem::replace(right, Dynamic::UNIT));
     Ok(Dynamic::UNIT)
 }
 

@@ -82,7 +82,7 @@ const SINGLES: [Form; 14] = [
     form(163, "written over units", singles::array_written_over),
 ];
 
-const TEXTS: [Form; 20] = [
+const TEXTS: [Form; 23] = [
     form(80, "copied into zeros", |n| texts::make(n, 5, |text| Some(Text::new(text)))),
     form(80, "a number", |n| texts::make(n, 5, Text::of_number)),
     form(80, "its block first", |n| texts::make(n, 5, Text::count_first)),
@@ -94,6 +94,9 @@ const TEXTS: [Form; 20] = [
     form(82, "assigned", |n| texts::copy(n, |slot, text| *slot = text.clone())),
     form(82, "refused when full", |n| texts::copy(n, |slot, text| _ = text.counted().map(|copy| *slot = copy))),
     form(82, "exchanged", |n| texts::copy(n, |slot, text| drop(std::mem::replace(slot, text.clone())))),
+    form(86, "copied into zeros", |n| texts::joined(n, |a, b| Some(a.joined(b)))),
+    form(86, "its block first", |n| texts::joined(n, Text::joined_in_place)),
+    form(86, "by a list", |n| texts::joined(n, Text::joined_by_list)),
     form(83, "by words", |n| texts::equal(n, |a, b| texts::by_words(a, b).is_eq())),
     form(83, "by 16 bytes", |n| texts::equal(n, texts::same_by::<16>)),
     form(83, "by 32 bytes", |n| texts::equal(n, texts::same_by::<32>)),

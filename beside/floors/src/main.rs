@@ -1,11 +1,11 @@
 //! Measures the forms beside the port and the released files.
 //!
-//! Usage: floors TURNS [PART]: the rows whose names have PART, the least of so many turns.
+//! Usage: floors TURNS PART PAGE: the rows whose names have PART, the least of so many turns. PAGE is docs/SPEED.md, or nothing.
 
 use floors::measured::{count, run_one, Told};
 use floors::{forms, hashes};
 use std::fmt::Write as _;
-use times::page::number;
+use times::page::{number, rows_of};
 use times::rows::ROWS;
 
 /// SipHash is tried on the starts of this text.
@@ -52,10 +52,13 @@ fn floors(told: &[Told]) -> String {
     text
 }
 
-/// A line a row that is behind: its forms that keep the promises, the fastest first.
-fn forms_of_rows_behind(told: &[Told]) -> String {
+/// A line a row that is behind here or on the page: its forms that keep the promises, the fastest first.
+fn forms_of_rows_behind(told: &[Told], page: &str) -> String {
+    let rows = rows_of(page);
+    let on_page = |row: &Told| rows.get(row.name).and_then(|cells| cells.get(2)?.parse().ok());
+    let is_behind = |row: &Told| row.is_behind(row.ratio()) || on_page(row).is_some_and(|ratio| row.is_behind(ratio));
     let mut text = String::from("| row | to rhai | forms: ns |\n|---|---|---|\n");
-    for row in told.iter().filter(|row| row.is_behind()) {
+    for row in told.iter().filter(|row| is_behind(row)) {
         let forms: Vec<String> = row.kept().iter().map(|form| format!("{} {}", form.name, number(form.taken.ns))).collect();
         let _ = writeln!(text, "| {} | {:.2} | {} |", row.name, row.ratio(), forms.join(", "));
     }
@@ -71,6 +74,7 @@ fn main() {
     }
     let turns = args.get(1).and_then(|turns| turns.parse().ok()).expect("the number of turns");
     let part = args.get(2).map_or("", String::as_str);
+    let page = args.get(3).and_then(|page| std::fs::read_to_string(page).ok()).unwrap_or_default();
     let alike = (0..=TEXT.len()).all(|end| hashes::hashes_alike(&TEXT[..end]));
     assert!(alike, "SipHash is not that of the standard library");
     let forms = forms::all();
@@ -79,7 +83,7 @@ fn main() {
         told.extend(Told::of(row, &forms, turns));
     }
     count(&mut told);
-    println!("{}\n{}\n{}", table(&told), floors(&told), forms_of_rows_behind(&told));
+    println!("{}\n{}\n{}", table(&told), floors(&told), forms_of_rows_behind(&told, &page));
     let differ = told.iter().flat_map(|row| &row.forms).filter(|form| !form.agrees).count();
     std::process::exit(i32::from(differ > 0));
 }

@@ -102,15 +102,15 @@ impl Told {
         port.ns / rhai.ns
     }
 
-    /// Whether the port takes more than the row's aim.
+    /// Whether a ratio of the port's time to rhai's is above the row's aim.
     #[must_use]
-    pub fn is_behind(&self) -> bool {
+    pub fn is_behind(&self, ratio: f64) -> bool {
         let aim = match self.name {
             "evaluate_x_plus_y_times_2" => 0.8,
             _ if self.sides[0].ns < SHORT => 1.1,
             _ => 1.0,
         };
-        self.ratio() > aim
+        ratio > aim
     }
 
     /// Counts the instructions of an operation by each side and each form.

@@ -110,6 +110,29 @@ impl Text {
         Text { bytes: Rc::new(bytes) }
     }
 
+    /// The same of few bytes, written where they stay.
+    #[must_use]
+    #[inline(always)]
+    pub fn joined_in_place(&self, other: &Text) -> Option<Text> {
+        let mut bytes = Rc::new(Bytes::Short(0, [0; 24]));
+        let (a, b) = (self.bytes(), other.bytes());
+        let Bytes::Short(len, short) = Rc::get_mut(&mut bytes)? else {
+            return None;
+        };
+        let (front, behind) = short.split_at_mut_checked(a.len())?;
+        front.copy_from_slice(a);
+        behind.get_mut(..b.len())?.copy_from_slice(b);
+        *len = (a.len() + b.len()) as u8;
+        Some(Text { bytes })
+    }
+
+    /// The same by a list of the bytes.
+    #[must_use]
+    #[inline(always)]
+    pub fn joined_by_list(&self, other: &Text) -> Option<Text> {
+        Some(Text { bytes: Rc::new(short(&[self.bytes(), other.bytes()].concat())?) })
+    }
+
     /// Length and bytes of a text of up to eight, as two numbers.
     #[must_use]
     #[inline(always)]

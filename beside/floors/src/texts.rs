@@ -145,3 +145,17 @@ pub fn copy(n: usize, put: impl Fn(&mut Text, &Text)) -> u64 {
     }
     slots.iter().map(|text| text.bytes().len() as u64).sum()
 }
+
+/// Row 86: texts of five bytes, joined two by two.
+#[inline(always)]
+pub fn joined(n: usize, join: impl Fn(&Text, &Text) -> Option<Text>) -> u64 {
+    let (texts, mut slots) = (sixteen(5), sixteen(10));
+    for i in 0..n {
+        if let (Some(text), Some(other)) = (texts.get(i & 15), texts.get(i & 7)) {
+            if let (Some(joined), Some(slot)) = (join(text, other), slots.get_mut(i & 15)) {
+                *slot = joined;
+            }
+        }
+    }
+    slots.iter().map(|slot| slot.bytes().len() as u64).sum()
+}

@@ -2,6 +2,16 @@
 
 use std::collections::HashMap;
 
+/// A ratio with two places, and with three where it is very small: none is printed as nothing.
+#[must_use]
+pub fn ratio(n: f64) -> String {
+    if n < 0.01 {
+        format!("{n:.3}")
+    } else {
+        format!("{n:.2}")
+    }
+}
+
 /// A number with three digits or so, and commas between thousands.
 #[must_use]
 pub fn number(n: f64) -> String {

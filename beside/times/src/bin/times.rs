@@ -4,7 +4,7 @@
 
 use std::fmt::Write as _;
 use std::thread;
-use times::page::{mean, number, rows_of, with_part};
+use times::page::{mean, number, ratio, rows_of, with_part};
 use times::rows::{Row, Taken, ROWS};
 use times::{instructions, sizes};
 
@@ -119,8 +119,8 @@ fn rows_text(told: &[Told], page: &str) -> String {
         let note = if row.taken.agrees { "" } else { " CHECKSUMS DIFFER" };
         let times = [row.taken.port, row.taken.release].map(number).join(" | ");
         let counts = row.instructions.map_or("- | -".into(), |counts| counts.map(number).join(" | "));
-        let ratio = row.ratio_of_instructions().map_or("-".into(), |ratio| format!("{ratio:.2}"));
-        let _ = writeln!(text, "| {}{note} | {was} | {:.2} | {times} | {counts} | {ratio} |", row.name, row.ratio());
+        let instructions = row.ratio_of_instructions().map_or("-".into(), ratio);
+        let _ = writeln!(text, "| {}{note} | {was} | {} | {times} | {counts} | {instructions} |", row.name, ratio(row.ratio()));
     }
     text
 }

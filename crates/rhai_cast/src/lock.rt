@@ -1,8 +1,8 @@
 //! What is held in a store, to write.
-ghost use Rattle.std.specs.Prelude.{◌≡◌, ◌<◌, length, option_map, option_and_then, IfSome};
+ghost use Rattle.std.specs.Prelude.{◌≡◌, option_map, option_and_then};
 ghost use Rattle.std.specs.Borrow.{sem, LendsIf};
 ghost use Rattle.std.specs.Option.{ghost_name_of};
-ghost use Rattle.rhai_value.specs.Lent.{either_of, content_in, edit_in};
+ghost use Rattle.rhai_value.specs.Lent.{either_of, content_in, edit_in, IsOpen};
 ghost use Rattle.rhai_value.specs.Writes.{in_store_row};
 ghost use Rattle.rhai_value.specs.contracts.dynamic.Dynamic as dynamic_type;
 ghost use Rattle.rhai_value.specs.contracts.store.Store as store_type;
@@ -64,7 +64,7 @@ pub fn lent_lock<'s, T: Variant>(
 fn lock_place<T: Variant>(is_first: bool, value: &mut Dynamic, store: &mut Store) -> Place
     requires { is_first ≡ is_type T.KIND type_id.Dynamic }
     ensures place { result ≡ lock_cell T.KIND store.old value.old }
-    ensures within { IfSome result (λ c. c < length store.old) }
+    ensures open { IsOpen store.old result }
     ensures value { value.new ≡ value.old }
     ensures store { store.new ≡ store.old }
 {
@@ -90,7 +90,7 @@ fn own_view<T: Variant>(value: &mut Dynamic) -> Option<&mut T>
 /// What the content of a cell has of this type, to write, if there is one.
 #[inline(always)]
 fn view_at<T: Variant>(store: &mut Store, place: Place) -> Option<&mut T>
-    requires { IfSome place (λ c. c < length store.old) }
+    requires { IsOpen store.old place }
     ensures* writes_back { sem 𝓛 (LendsIf store_type.the_row T.row store.entry result (λ w. edit_in place (written_as T.KIND (T.tree w)) store.old) store.old) }
     ensures value { option_map (λ x. T.tree x.now) result ≡ option_and_then (viewed T.KIND) (content_in place store.old) }
 {

@@ -10,8 +10,7 @@ pub(crate) fn part<'s, T: Part>(value: &'s Dynamic, store: &'s Store) -> &'s T
     requires { Holds T.part_of store.now value.now }
     ensures { part_in T.part_of store.now value.now ≡ Some (T.meaning result.now) }
 {
-    // Rows are public and take any operator and operands: which ones suit is said by the `requires` of their call, and by no type.
-    value.held_part::<T>(store).unwrap()
+    value.known_part::<T>(store)
 }
 
 /// The same, of what is passed by value.

@@ -1,4 +1,4 @@
--- Values of another type than is wanted.
+-- Values of another type than is wanted, and memory that is refused.
 use Rattle.std.specs.Prelude.{◌≡◌, ℕ, List}
 use Rattle.rhai_text.specs.declared.error.EvalAltResult.{EvalAltResult}
 use Rattle.rhai_text.specs.declared.error.EvalAltResult.TheVariants.{ErrorMismatchDataType, ErrorDataRace, ErrorArithmetic, ErrorDataTooLarge, ErrorMemory}
@@ -13,3 +13,11 @@ IsMismatch wanted held (ErrorDataTooLarge k p) = ⊥
 IsMismatch wanted held (ErrorMemory e) = ⊥
 IsMismatch wanted held (ErrorDataRace p) = ⊥
 IsMismatch wanted held (ErrorArithmetic f p) = ⊥
+
+-- the error says that memory was refused
+abbrev pub IsMemory : EvalAltResult → Type 0
+IsMemory (ErrorMemory e) = Unit {0}
+IsMemory (ErrorMismatchDataType w h p) = ⊥
+IsMemory (ErrorDataTooLarge k p) = ⊥
+IsMemory (ErrorDataRace p) = ⊥
+IsMemory (ErrorArithmetic f p) = ⊥

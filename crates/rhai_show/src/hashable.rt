@@ -205,7 +205,7 @@ fn is_map_clean(
 /// a loop.
 /// Errors: memory is refused; never for a value in which no holder stands.
 /// Cost: the number of values inside and in the cells, each cell being looked into once; for each holder the logarithm of
-/// the number of cells that were reached, with which memory grows. Levels below the 64th ask for a list, and go on by calls
+/// the number of cells that were reached, with which memory grows. Below 64 levels it asks for a list, and goes on by calls
 /// for another 64 levels where that is refused.
 /// rhai: `Dynamic::is_hashable`, which is private.
 pub fn is_hashable(alloc: Global, value: &Dynamic, store: &Store) -> Result<bool, AllocError>

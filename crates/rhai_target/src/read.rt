@@ -20,7 +20,7 @@ pub fn read_bit(source: &Dynamic, store: &Store, bit: u8) -> bool
     requires held { is_some (held_part int_of (end store.now [] source.now)) ≡ true }
     ensures { option_map (λ n. bit_in n bit) (held_part int_of (end store.now [] source.now)) ≡ Some result }
 {
-    let number = source.held_part::<INT>(store).unwrap();
+    let number = source.known_part::<INT>(store);
     bit_of(*number, bit)
 }
 
@@ -32,7 +32,7 @@ pub fn read_field(source: &Dynamic, store: &Store, mask: INT, shift: u8) -> INT
     requires held { is_some (held_part int_of (end store.now [] source.now)) ≡ true }
     ensures { option_map (λ n. field mask shift n) (held_part int_of (end store.now [] source.now)) ≡ Some result }
 {
-    let number = source.held_part::<INT>(store).unwrap();
+    let number = source.known_part::<INT>(store);
     field_of(*number, mask, shift)
 }
 
@@ -42,7 +42,7 @@ pub fn read_byte(source: &Dynamic, store: &Store, index: usize) -> u8
     requires place { MatchOption (held_part blob_of (end store.now [] source.now)) ⊥ (λ bytes. index < length bytes) }
     ensures { option_and_then (λ bytes. slice_get bytes index) (held_part blob_of (end store.now [] source.now)) ≡ Some result }
 {
-    let bytes = source.held_part::<Blob>(store).unwrap();
+    let bytes = source.known_part::<Blob>(store);
     bytes[index]
 }
 
@@ -52,7 +52,7 @@ pub fn read_char(source: &Dynamic, store: &Store, index: usize) -> Option<char>
     requires { is_some (held_part text_of (end store.now [] source.now)) ≡ true }
     ensures { option_and_then (λ cs. slice_get cs index) (held_part text_of (end store.now [] source.now)) ≡ result }
 {
-    let text = source.held_part::<ImmutableString>(store).unwrap();
+    let text = source.known_part::<ImmutableString>(store);
     char_in(text.as_str(), index)
 }
 
@@ -68,7 +68,7 @@ pub fn read_slice(
     requires { is_some (held_part text_of (end store.now [] source.now)) ≡ true }
     ensures { IfOk result (λ t. option_map (slice_in slice) (held_part text_of (end store.now [] source.now)) ≡ Some t) }
 {
-    let text = source.held_part::<ImmutableString>(store).unwrap();
+    let text = source.known_part::<ImmutableString>(store);
     text.slice(alloc, slice.start, slice.end, slice.exclusive)
 }
 

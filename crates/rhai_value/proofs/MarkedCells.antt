@@ -1,11 +1,12 @@
 -- Marks that are set and cleared.
-use Rattle.std.proofs.Common.{◌≡◌, ℕ, zero, suc, ◌<◌, Bool, true, false, List, [], ◌∷◌, length, get_or, slice_set, Option, Some, None, is_some, option_map, refl, sym, ap, ◌∙◌, arith}
+use Rattle.std.proofs.Common.{◌≡◌, ℕ, zero, suc, ◌<◌, Bool, true, false, List, [], ◌∷◌, length, get_or, slice_set, Option, Some, None, is_some, option_map, IfSome, refl, sym, ap, ◌∙◌, arith}
 use Rattle.std.specs.Option.{option_map_or}
 use Rattle.rhai_value.specs.declared.chain.Site.{Site}
 use Rattle.rhai_value.specs.declared.chain.Site.TheVariants.{Here, InCell}
 use Rattle.rhai_value.specs.declared.store.Cell.{Cell}
 use Rattle.rhai_value.specs.Tree.{Tree, node, leaf, branch, fields, holder, cell_of}
 use Rattle.rhai_value.specs.Store.{at, unmarked, put, is_marked_at, set_mark, shared_store}
+use Rattle.rhai_value.specs.Lent.{IsOpen}
 use Rattle.rhai_value.specs.End.{End, held, stuck, closed, end, site_of, site_cell, first_cell, held_cell, IsWithin, first, first_site, store_with_first}
 use Rattle.rhai_value.proofs.Ends.{stands}
 use Rattle.rhai_value.proofs.InStores.{cell_within}
@@ -105,3 +106,22 @@ held_read_at s t c closed is h = cc
 
 pub held_read : (s : List Cell) (t : Tree) (c : ℕ) → held_cell (end s [] t) ≡ Some c → is_some (at s c) ≡ true
 held_read s t c h = held_read_at s t c (end s [] t) refl h
+
+open_at : (s : List Cell) (o x : Option ℕ) → x ≡ o → ((c : ℕ) → o ≡ Some c → is_some (at s c) ≡ true) → IsOpen s x
+open_at s o None e h = tt
+open_at s o (Some c) e h = h c (sym e)
+
+pub first_open : (s : List Cell) (t : Tree) (x : Option ℕ) → x ≡ first_cell s t → IsOpen s x
+first_open s t x e = open_at s (first_cell s t) x e (first_read s t)
+
+pub held_open : (s : List Cell) (t : Tree) (x : Option ℕ) → x ≡ held_cell (end s [] t) → IsOpen s x
+held_open s t x e = open_at s (held_cell (end s [] t)) x e (held_read s t)
+
+-- an unmarked cell is one of the store's
+within_if : (s : List Cell) (c : ℕ) (o : Option Tree) → at s c ≡ o → is_some o ≡ true → c < length s
+within_if s c None e h = cc
+within_if s c (Some t) e h = at_within s c t e
+
+pub open_within : (s : List Cell) (x : Option ℕ) → IsOpen s x → IfSome x (λ k. k < length s)
+open_within s None h = tt
+open_within s (Some c) h = within_if s c (at s c) refl h

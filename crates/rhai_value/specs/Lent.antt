@@ -1,12 +1,12 @@
 -- What is left of a value and its store, where a reference for writing may have been lent from the one or from the other.
-use Rattle.std.specs.Prelude.{ℕ, List, [], Option, Some, None, slice_get, option_map, option_and_then}
+use Rattle.std.specs.Prelude.{◌≡◌, ℕ, List, [], Option, Some, None, slice_get, option_map, option_and_then, is_some, true, IfSome}
 use Rattle.std.specs.Borrow.{MutBor, GName, Fml, RattleType, fsep, follows_if}
 use mathlib.Core.Option as maybe
 use Rattle.rhai_value.specs.declared.store.Cell.{Cell}
 use Rattle.rhai_value.specs.contracts.dynamic.Dynamic as dynamic
 use Rattle.rhai_value.specs.contracts.store.Store as store
 use Rattle.rhai_value.specs.Tree.{Tree, cell_of}
-use Rattle.rhai_value.specs.Store.{put}
+use Rattle.rhai_value.specs.Store.{at, put}
 use Rattle.rhai_value.specs.End.{end, value_after, store_after, value_with_first, store_with_first}
 
 -- The name of what is lent, where the value itself lends it, which is no holder; and where its store lends it.
@@ -41,6 +41,10 @@ own_ref v = own_at (cell_of v.now) v
 abbrev pub either_of : {A : Type 0} → Option A → Option A → Option A
 either_of (Some x) o = Some x
 either_of None o = o
+
+-- where something stands in a cell, that is a cell of the store and isn't marked
+abbrev pub IsOpen : List Cell → Option ℕ → Type 0
+IsOpen s o = IfSome o (λ c. is_some (at s c) ≡ true)
 
 -- what a cell has, and a store once w was written there
 abbrev pub content_in : Option ℕ → List Cell → Option Tree

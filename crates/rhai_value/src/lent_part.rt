@@ -96,7 +96,7 @@ fn content_part_of<T: Part>(store: &mut Store, found: HeldPlace) -> Option<&mut 
     ensures* writes_back { sem 𝓛 (LendsIf store_type.the_row T.row store.entry result (λ w. edit_in found.place (with_content (T.content (T.meaning w))) store.old) store.old) }
     ensures value { option_map (λ r. T.meaning r.now) result ≡ option_and_then T.part_of (content_in found.place store.old) }
 {
-    match T::own_mut(store.content_at_mut(found.place)?) {
+    match T::own_mut(store.cell_content_mut(found.place)?) {
         Some(part) => Some(part),
         None => None,
     }

@@ -19,8 +19,8 @@ use std::collections::BTreeMap;
 impl Dynamic {
     /// Tells whether the value is, or has inside it at any depth, a holder of a cell that is marked or no cell of the
     /// store. What is in a cell isn't looked at.
-    /// Cost: the number of values inside; no memory for values of up to 64 levels, and below that without it where it is
-    /// refused.
+    /// Cost: the number of values inside; no memory for values of up to 64 levels. Below them it asks for a list, and goes on
+    /// by calls for another 64 levels where that is refused.
     /// rhai: `Dynamic::is_locked`.
     pub fn is_locked(&self, store: &Store) -> bool
         ensures { result ≡ is_locked store.now self.now }

@@ -15,8 +15,8 @@ use crate::union::Union;
 impl Dynamic {
     /// Sets the mode of the value and of all that it holds through arrays and maps. Curried values keep their modes, and so
     /// does what is in a cell.
-    /// Cost: the number of values inside, and of the slots of maps; no memory for values of up to 64 levels, and below that
-    /// without it where it is refused.
+    /// Cost: the number of values inside, and of the slots of maps; no memory for values of up to 64 levels. Below them it
+    /// asks for a list, and goes on by calls for another 64 levels where that is refused.
     /// rhai: `Dynamic::set_access_mode`.
     pub fn set_access_mode(&mut self, mode: AccessMode)
         ensures { self.new ≡ paint mode self.old }

@@ -117,6 +117,17 @@ impl Dynamic {
         }
     }
 
+    /// Lends what is held, which is of this kind.
+    /// Cost: that of `Dynamic::held`; no memory.
+    #[inline(always)]
+    pub fn known_part<'s, T: Part>(&'s self, store: &'s Store) -> &'s T
+        requires { is_some (held_part T.part_of (end store.now [] self.now)) ≡ true }
+        ensures { held_part T.part_of (end store.now [] self.now) ≡ Some (T.meaning result.now) }
+    {
+        // Which values have a part is said by the `requires`, and by no type: what a chain leads to is known by the store's content alone.
+        self.held_part::<T>(store).unwrap()
+    }
+
     /// Lends what is held, if it is of this kind.
     /// Errors: the name of the held type.
     /// Cost: that of `Dynamic::held`; no memory.

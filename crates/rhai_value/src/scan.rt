@@ -36,8 +36,8 @@ impl Dynamic {
     /// Visits the value, and then the children of what came out, each with all that it holds: the items of an array, the
     /// values of a map in the order of the keys, the curried values of a function pointer, from left to right. A holder is
     /// visited, its cell isn't entered.
-    /// Cost: the number of values that are visited; no memory for values of up to 64 levels, and below that without it
-    /// where it is refused.
+    /// Cost: the number of values that are visited; no memory for values of up to 64 levels. Below them it asks for a list,
+    /// and goes on by calls for another 64 levels where that is refused.
     /// rhai: `Dynamic::deep_scan`, which takes a closure.
     pub fn deep_scan<V: Visitor>(&mut self, visitor: &mut V)
         ensures { (visitor.new, self.new) ≡ scan V.visited visitor.old self.old }

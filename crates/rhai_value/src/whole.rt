@@ -59,7 +59,7 @@ impl Dynamic {
     {
         let place = first_place_of(self, store);
         let own = own_mut(self);
-        let far = store.content_at_mut(place);
+        let far = store.cell_content_mut(place);
         either(own, far)
     }
 
@@ -76,7 +76,7 @@ impl Dynamic {
     {
         let place = held_place_of(self, store);
         let own = own_mut(self);
-        let far = store.content_at_mut(place);
+        let far = store.cell_content_mut(place);
         either(own, far)
     }
 

@@ -1,5 +1,5 @@
 -- `lent_lock` lends from the value or from its store; the other is settled as it was.
-use Rattle.std.proofs.Common.{◌≡◌, ◌<◌, ℕ, [], ◌∷◌, Option, option_map, option_and_then, IfSome, length, refl, sym, ap, ◌∙◌, MutBor}
+use Rattle.std.proofs.Common.{◌≡◌, ℕ, [], ◌∷◌, Option, option_map, option_and_then, refl, sym, ap, ◌∙◌, MutBor}
 use Rattle.std.proofs.raw_atomic.Walks.{proved}
 use base.Fraction.{full_share, left, right}
 use base.Logic.{emp, id⊢}
@@ -43,7 +43,7 @@ use Rattle.rhai_value.specs.contracts.place.Place as place
 use Rattle.rhai_value.proofs.place.Place.TheLaws as place_laws
 use Rattle.rhai_value.specs.declared.type_id.TypeId.TheVariants as id
 use Rattle.rhai_value.specs.Types.{is_type}
-use Rattle.rhai_value.specs.Lent.{either_of, content_in, edit_in}
+use Rattle.rhai_value.specs.Lent.{either_of, content_in, edit_in, IsOpen}
 use Rattle.rhai_variant.specs.Reads.{viewed, written_as}
 use Rattle.rhai_cast.specs.Casts.{lock_cell, own_viewed}
 use Rattle.rhai_cast.proofs.Locks.{OwnLock, FarLock, IsLent, own_lock, far_lock, lock_found}
@@ -107,7 +107,7 @@ lent_lock_spec {M = M} 𝓤 𝓛 𝓜 𝓡 wired T L P dP dD metP metD =
     use0 𝓛 (raw (fact 𝓤 (b ≡ is_type P.KIND id.Dynamic))) (fact_i 𝓤 _ (emp 𝓤) is_first) $ use0 𝓛 (raw (fact 𝓤 (τ ⊑ T.lives))) (fact_i 𝓤 _ (emp 𝓤) within) $ join ! $ move ! (1 ∷ 0 ∷ []) $ use2 𝓛 (raw (G₁.pre z₁)) (id⊢ 𝓤 _) $
     calls_at ! Fr G₁ (place_met.met 𝓤 𝓛 𝓜 𝓡 (code.calls-rhai_cast::lock::lock_place 𝓡.env wired) T L P dP dD metP metD) z₁ (and_then ! (get ! refl) (and_then ! (get ! refl) (and_then ! (get ! refl) (no_more !)))) (λ v₁.
     use1 𝓛 (later (some (λ (x : Option ℕ). ((‵ (flft (α ∷ []) (left full_share)) ⊛ ‵ (flft (α ∷ []) (right full_share)) ⊛ ‵ (flft τ r) ⊛ ‵ ftrue) ⊛ ‵ (place.the_row.own_val x (v₁ ∷ []))) ⊛
-    some (λ (ws : Lasts (g₁.ended T P dP dD) z₁.0.0 z₁.0.3). ‵ (lasts (g₁.ended T P dP dD) z₁.0.0 z₁.0.3 ws) ⊛ raw (fact 𝓤 (x ≡ lock_cell P.KIND m.now d.now)) ⊛ raw (fact 𝓤 (IfSome x (λ k. k < length m.now)))
+    some (λ (ws : Lasts (g₁.ended T P dP dD) z₁.0.0 z₁.0.3). ‵ (lasts (g₁.ended T P dP dD) z₁.0.0 z₁.0.3 ws) ⊛ raw (fact 𝓤 (x ≡ lock_cell P.KIND m.now d.now)) ⊛ raw (fact 𝓤 (IsOpen m.now x))
     ⊛ raw (fact 𝓤 (ws.1.0 ≡ d.now)) ⊛ raw (fact 𝓤 (ws.1.1.0 ≡ m.now)))))) (id⊢ 𝓤 _) $
     await ! tt $ pick ! (λ x. split ! $ split ! $ split3 ! $ use2 𝓛 (‵ (flft (α ∷ []) full_share)) (𝓛.lfts.lft_join (α ∷ []) full_share) $ lft_end ! tt $ move ! (1 ∷ []) $ split ! $ move ! (3 ∷ 2 ∷ 1 ∷ 4 ∷ 5 ∷ 6 ∷ []) $
     peeks ! place.the_row _ (shows 𝓛 place.the_row) x (v₁ ∷ []) (λ is₁. lands_as ! refl refl ((place_laws.the_row_laws.lawful 𝓛).typed x (v₁ ∷ []) is₁).0 $
@@ -142,7 +142,7 @@ lent_lock_spec {M = M} 𝓤 𝓛 𝓜 𝓡 wired T L P dP dD metP metD =
     let G₃ = triple_of 𝓛 (g₃.signature T) (g₃.spec T P dP dD 𝓛 𝓜.mem 𝓡.returns) in
     let z₃ : G₃.Ghost = ((κs, qs, bounds, (m, (x, tt)), (ms, (v₁ ∷ [], tt))), tt) in
     nothing ! $ move ! (7 ∷ 0 ∷ []) $ join ! $ move ! (6 ∷ 0 ∷ []) $ join ! $ nothing ! $ move ! (5 ∷ 0 ∷ []) $ join ! $ move ! (4 ∷ 0 ∷ []) $ join ! $ join ! $
-    use0 𝓛 (raw (fact 𝓤 (IfSome x (λ k. k < length m.now)))) (fact_i 𝓤 _ (emp 𝓤) inside) $
+    use0 𝓛 (raw (fact 𝓤 (IsOpen m.now x))) (fact_i 𝓤 _ (emp 𝓤) inside) $
     use0 𝓛 (raw (fact 𝓤 (τ ⊑ T.lives))) (fact_i 𝓤 _ (emp 𝓤) within) $ join ! $ move ! (1 ∷ 0 ∷ []) $ use2 𝓛 (raw (G₃.pre z₃)) (id⊢ 𝓤 _) $
     calls_at ! Fr G₃ (far_met.met 𝓤 𝓛 𝓜 𝓡 (code.calls-rhai_cast::lock::view_at 𝓡.env wired) T L P dP dD metP metD) z₃ (and_then ! (get ! refl) (and_then ! (get ! refl) (no_more !))) (λ v₃.
     use1 𝓛 (later (some (λ (u : Option (MutBor T.Denot)). ((‵ (flft κ q) ⊛ ‵ (flft τ r) ⊛ ‵ ftrue) ⊛ ‵ ((RefOf T κ).own_val u (v₃ ∷ []))) ⊛

@@ -50,8 +50,8 @@ use Rattle.rhai_value.specs.contracts.whole.held_place_of as g₁
 use Rattle.rhai_value.proofs.whole.held_place_of.Met as place_met
 use Rattle.rhai_value.specs.contracts.whole.own_mut as g₂
 use Rattle.rhai_value.proofs.whole.own_mut.Met as own_met
-use Rattle.rhai_value.specs.contracts.store.Store.content_at_mut as g₃
-use Rattle.rhai_value.proofs.store.Store.content_at_mut.Met as far_met
+use Rattle.rhai_value.specs.contracts.store.Store.cell_content_mut as g₃
+use Rattle.rhai_value.proofs.store.Store.cell_content_mut.Met as far_met
 use Rattle.rhai_value.specs.contracts.whole.either as g₄
 use Rattle.rhai_value.proofs.whole.either.Met as either_met
 use Rattle.rhai_value.specs.contracts.dynamic.Dynamic.held_mut as f
@@ -140,7 +140,7 @@ held_mut_spec 𝓤 𝓛 𝓜 𝓡 wired =
     let z₃ : G₃.Ghost = (((κ, tt), (q, tt), tt, (m, (x, tt)), (ms, (v₁ ∷ [], tt))), tt) in
     nothing ! $ move ! (9 ∷ 0 ∷ []) $ join ! $ move ! (5 ∷ 0 ∷ []) $ join ! $ nothing ! $ move ! (4 ∷ 0 ∷ []) $ join ! $ join ! $
     use0 𝓛 (raw (fact 𝓤 (IfSome x (λ k. k < length m.now)))) (fact_i 𝓤 _ (emp 𝓤) (held_within m.now d.now x cell)) $ move ! (1 ∷ 0 ∷ []) $ use2 𝓛 (raw (G₃.pre z₃)) (id⊢ 𝓤 _) $
-    calls_at ! Fr G₃ (far_met.met 𝓤 𝓛 𝓜 𝓡 (code.calls-rhai_value::store::Store::content_at_mut 𝓡.env wired)) z₃ (and_then ! (get ! refl) (and_then ! (get ! refl) (no_more !))) (λ v₃.
+    calls_at ! Fr G₃ (far_met.met 𝓤 𝓛 𝓜 𝓡 (code.calls-rhai_value::store::Store::cell_content_mut 𝓡.env wired)) z₃ (and_then ! (get ! refl) (and_then ! (get ! refl) (no_more !))) (λ v₃.
     use1 𝓛 (later (some (λ (r : Option (MutBor Tree)). ((‵ (flft κ q) ⊛ ‵ ftrue) ⊛ ‵ ((RefOf κ).own_val r (v₃ ∷ []))) ⊛
     some (λ (ls : Lasts g₃.ended z₃.0.0 z₃.0.3). ‵ (lasts g₃.ended z₃.0.0 z₃.0.3 ls) ⊛ ‵ (follows_if sto dyn m.ghost_name (ghost_name_of r) (put_in x m.now) m.now)
     ⊛ raw (fact 𝓤 (option_map (λ e. e.now) r ≡ content_in x m.now)))))) (id⊢ 𝓤 _) $

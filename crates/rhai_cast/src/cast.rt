@@ -28,6 +28,11 @@ pub trait DynamicCast: Sized {
     // What contracts see of a value.
     ghost tree: { Self → Tree };
 
+    // The value once this was written over what it has of a type.
+    ghost written: { TypeId → Tree → Self → Self };
+
+    ghost is_written: { (kind : TypeId) (w : Tree) (x : Self) → tree (written kind w x) ≡ written_as kind w (tree x) };
+
     /// Makes a value of one of Rust's, with tag 0 and mode ReadWrite; a `Dynamic` is itself.
     /// Errors: a `String` comes back where memory is refused.
     /// Cost: constant; of a `String` the length of its text, which is copied.
@@ -111,6 +116,7 @@ pub trait DynamicCast: Sized {
     /// Cost: constant; no memory.
     /// rhai: `Dynamic::downcast_mut`, which is private.
     fn downcast_mut<T: Variant>(&mut self) -> Option<&mut T>
+        ensures* writes_back { sem 𝓛 (LendsIf Self.row T.row self.entry result (λ w. written T.KIND (T.tree w) self.old) self.old) }
         ensures value { option_map (λ x. T.tree x.now) result ≡ viewed T.KIND (tree self.old) };
 
     /// Moves the items of an array out, each cast by `try_cast`; those in a cell are copied first. Of a blob its bytes, as
@@ -192,6 +198,10 @@ pub trait DynamicCast: Sized {
 impl DynamicCast for Dynamic {
     ghost tree = { λ t. t };
 
+    ghost written = { written_as };
+
+    ghost is_written = { λ kind w x. refl };
+
     fn of<T: Variant>(alloc: Global, x: T) -> Result<Dynamic, T> {
         x.into_dynamic(alloc)
     }
@@ -258,10 +268,7 @@ impl DynamicCast for Dynamic {
         T::view(self)
     }
 
-    fn downcast_mut<T: Variant>(&mut self) -> Option<&mut T>
-        ensures* writes_back { sem 𝓛 (LendsIf dynamic_type.the_row T.row self.entry result (λ w. written_as T.KIND (T.tree w) self.old) self.old) }
-        ensures value { option_map (λ x. T.tree x.now) result ≡ viewed T.KIND self.old }
-    {
+    fn downcast_mut<T: Variant>(&mut self) -> Option<&mut T> {
         T::view_mut(self)
     }
 

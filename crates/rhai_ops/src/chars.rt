@@ -9,7 +9,7 @@ ghost use Rattle.rhai_ops.specs.Results.{joined_to_char, text_order};
 ghost use Rattle.rhai_ops.specs.Tokens.{is_cmp};
 
 use crate::answer::is_allowed;
-use crate::compare::compared;
+use crate::compare::holds;
 use rhai_text::laws::byte_order_is_character_order;
 use rhai_text::{EvalAltResult, ImmutableString, Limits, Position, SizeKind, Token};
 use rhai_value::Dynamic;
@@ -54,12 +54,11 @@ pub(crate) fn append(alloc: Global, a: char, b: char) -> Result<Dynamic, EvalAlt
 }
 
 /// A comparison of two characters.
-#[tactic(auto, using(crate::proofs::Questions::some_order))]
 pub(crate) fn compare(op: Token, a: char, b: char) -> Result<Dynamic, EvalAltResult>
     requires { IsTrue (is_cmp op) }
     ensures { IsOutcome ⊥ result (bool_answer (specs.compared op (nat_cmp a b))) }
 {
-    Ok(Dynamic::from_bool(compared(op, a.cmp(&b)).unwrap()))
+    Ok(Dynamic::from_bool(holds(op, a.cmp(&b))))
 }
 
 /// A text behind a character.
@@ -96,7 +95,6 @@ pub(crate) fn append_text(
 }
 
 /// A comparison of a character, as the text of it alone, with a text.
-#[tactic(auto, using(crate::proofs::Questions::some_order))]
 pub(crate) fn compare_text(
     op: Token,
     a: char,
@@ -105,7 +103,7 @@ pub(crate) fn compare_text(
     requires { IsTrue (is_cmp op) }
     ensures { IsOutcome ⊥ result (bool_answer (specs.compared op (text_order (a ∷ []) b.now))) }
 {
-    Ok(Dynamic::from_bool(compared(op, text_order_of(a, b)).unwrap()))
+    Ok(Dynamic::from_bool(holds(op, text_order_of(a, b))))
 }
 
 /// The order of a character, as the text of it alone, and a text.

@@ -1,6 +1,7 @@
 //! What a comparison says of the order of two contents.
-ghost use Rattle.std.specs.Prelude.{◌≡◌};
+ghost use Rattle.std.specs.Prelude.{◌≡◌, IsTrue, Some};
 ghost use Rattle.rhai_ops.specs.Numbers as specs;
+ghost use Rattle.rhai_ops.specs.Tokens.{is_cmp};
 
 use rhai_text::Token;
 use std::cmp::Ordering;
@@ -43,4 +44,15 @@ pub fn compared(op: Token, order: Ordering) -> Option<bool>
         | Token::OrAssign
         | Token::XOrAssign => None,
     }
+}
+
+/// Whether a comparison holds of two contents that stand in this order.
+#[inline(always)]
+#[tactic(auto, using(crate::proofs::Questions::some_order))]
+pub(crate) fn holds(op: Token, order: Ordering) -> bool
+    requires { IsTrue (is_cmp op) }
+    ensures { Some result ≡ specs.compared op order }
+{
+    // Rows name any operator, as the tables do: which ones suit is said by the `requires` of their call, and by no type.
+    compared(op, order).unwrap()
 }

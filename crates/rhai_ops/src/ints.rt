@@ -13,7 +13,7 @@ ghost use Rattle.rhai_ops.specs.Tokens as asked;
 ghost use Rattle.rhai_ops.specs.Tokens.{is_assignment, is_cmp, is_number};
 
 use crate::answer::value;
-use crate::compare::compared;
+use crate::compare::holds;
 use crate::tokens::without_assign;
 use rhai_text::{ArithmeticFault, EvalAltResult, Position, Token};
 use rhai_value::{Dynamic, INT, InStore, Store};
@@ -36,12 +36,11 @@ pub(crate) fn answer(
 
 /// The same of two numbers.
 #[inline(always)]
-#[tactic(auto, using(crate::proofs::Questions::some_number))]
 pub(crate) fn answer_numbers(op: Token, i: INT, j: INT) -> Result<Dynamic, EvalAltResult>
     requires { IsTrue (is_number op) }
     ensures { IsOutcome ⊥ result (number_answer (specs.number op i j)) }
 {
-    match int_answer(op, i, j).unwrap() {
+    match number(op, i, j) {
         Ok(n) => Ok(Dynamic::from_int(n)),
         Err(fault) => Err(EvalAltResult::ErrorArithmetic(fault, Position::NONE)),
     }
@@ -65,12 +64,11 @@ pub(crate) fn compare(
 
 /// The same of two numbers.
 #[inline(always)]
-#[tactic(auto, using(crate::proofs::Questions::some_order))]
 pub(crate) fn compare_numbers(op: Token, i: INT, j: INT) -> Result<Dynamic, EvalAltResult>
     requires { IsTrue (is_cmp op) }
     ensures { IsOutcome ⊥ result (bool_answer (specs.compared op (int_cmp i j))) }
 {
-    Ok(Dynamic::from_bool(compared(op, i.cmp(&j)).unwrap()))
+    Ok(Dynamic::from_bool(holds(op, i.cmp(&j))))
 }
 
 /// An assignment of one of these operators to the int at a place. The place and the second operand are each looked up once.
@@ -109,20 +107,30 @@ pub(crate) fn assign_number(
 
 /// The same of an int that is held and a number.
 #[inline(always)]
-#[tactic(auto, using(crate::proofs::Questions::some_number))]
 fn write_number(op: Token, held: &mut INT, y: INT) -> Result<Dynamic, EvalAltResult>
     requires { IsTrue (is_number op) }
     ensures result { IsOutcome ⊥ result (answered (assignment stays) (number_answer (specs.number op held.old y))) }
     ensures ok { OnOk result (number_answer (specs.number op held.old y) ≡ answers (fresh (int held.new))) }
     ensures err { OnErr result (held.new ≡ held.old) }
 {
-    match int_answer(op, *held, y).unwrap() {
+    match number(op, *held, y) {
         Ok(n) => {
             *held = n;
             Ok(Dynamic::UNIT)
         }
         Err(fault) => Err(EvalAltResult::ErrorArithmetic(fault, Position::NONE)),
     }
+}
+
+/// What an operator makes of two ints that makes an int of any two.
+#[inline(always)]
+#[tactic(auto, using(crate::proofs::Questions::some_number))]
+fn number(op: Token, x: INT, y: INT) -> Result<INT, ArithmeticFault>
+    requires { IsTrue (is_number op) }
+    ensures { Some result ≡ specs.number op x y }
+{
+    // As of comparisons: that the operator suits is said by the `requires` of a row's call.
+    int_answer(op, x, y).unwrap()
 }
 
 /// Answers what an operator makes of two ints; nothing of an operator that makes no int of them.

@@ -10,7 +10,7 @@ ghost use Rattle.rhai_ops.specs.Tokens.{is_cmp};
 
 use crate::answer::{is_allowed, part, value};
 use crate::chars::spelled;
-use crate::compare::compared;
+use crate::compare::holds;
 use rhai_text::laws::byte_order_is_character_order;
 use rhai_text::{EvalAltResult, ImmutableString, Limits, Position, SizeKind, Token};
 use rhai_value::{Dynamic, Store};
@@ -104,7 +104,6 @@ pub(crate) fn compare(
 
 /// The same of what the operands have.
 #[inline(always)]
-#[tactic(auto, using(crate::proofs::Questions::some_order))]
 pub(crate) fn compare_two(
     op: Token,
     a: &ImmutableString,
@@ -113,19 +112,20 @@ pub(crate) fn compare_two(
     requires { IsTrue (is_cmp op) }
     ensures { IsOutcome ⊥ result (bool_answer (specs.compared op (text_order a.now b.now))) }
 {
-    Ok(Dynamic::from_bool(compared_texts(op, a, b).unwrap()))
+    Ok(Dynamic::from_bool(compared_texts(op, a, b)))
 }
 
 /// Whether the comparison holds of two texts. Whether they are equal is told by their lengths first.
 #[inline(never)]
 #[tactic(auto, using(crate::proofs::Characters::equal_by_order))]
-fn compared_texts(op: Token, a: &ImmutableString, b: &ImmutableString) -> Option<bool>
-    ensures { result ≡ specs.compared op (text_order a.now b.now) }
+fn compared_texts(op: Token, a: &ImmutableString, b: &ImmutableString) -> bool
+    requires { IsTrue (is_cmp op) }
+    ensures { Some result ≡ specs.compared op (text_order a.now b.now) }
 {
     if op == Token::EqualsTo {
-        return Some(a == b);
+        return a == b;
     }
-    compared(op, a.cmp(b))
+    holds(op, a.cmp(b))
 }
 
 /// A character behind a text.
@@ -166,7 +166,6 @@ pub(crate) fn minus_char(
 }
 
 /// A comparison of a text with a character, as the text of it alone.
-#[tactic(auto, using(crate::proofs::Questions::some_order))]
 pub(crate) fn compare_char(
     op: Token,
     store: &Store,
@@ -179,7 +178,7 @@ pub(crate) fn compare_char(
     ensures { IsOutcome ⊥ result (both (λ v d. bool_answer (specs.compared op (text_order v (d ∷ [])))) (part_in text_of store.now left.now) (part_in char_of store.now right.now)) }
 {
     let order = char_order_of(part(left, store), value(right, store));
-    Ok(Dynamic::from_bool(compared(op, order).unwrap()))
+    Ok(Dynamic::from_bool(holds(op, order)))
 }
 
 /// The order of a text and a character, as the text of it alone.

@@ -1,5 +1,5 @@
 //! Hash bytes.
-ghost use Rattle.std.specs.Prelude.{◌≡◌, ◌↔◌, take, IfOk, IsTrue, nat_eq};
+ghost use Rattle.std.specs.Prelude.{◌≡◌, ◌↔◌, take, IfOk, OnErr, IsTrue, nat_eq};
 ghost use Rattle.std.specs.Cmp.{partial_equiv_from_equiv};
 ghost use Rattle.std.specs.Cmp.Lexicographic.{bytes_decides, pointwise, nat_list_eq_equiv};
 ghost use Rattle.std.specs.Hash as fed;
@@ -7,7 +7,7 @@ ghost use Rattle.std.specs.List.{flat_map};
 ghost use Rattle.std.proofs.Common.{ap};
 ghost use Rattle.rhai_value.specs.Tree.{int as an_int};
 ghost use Rattle.rhai_show.specs.HashBytes.{leaf_bytes};
-ghost use Rattle.rhai_show.specs.HashedBytes.{hashed_bytes};
+ghost use Rattle.rhai_show.specs.HashedBytes.{hashed_bytes, AreOfInt};
 ghost use Rattle.rhai_show.specs.InRange.{IsLeaf};
 
 use crate::hash_bytes::{FRONT_BYTES, front};
@@ -32,11 +32,13 @@ pub struct Hashed {
 
 impl Model for Hashed {
     ghost use Rattle.std.specs.Prelude.{List, ℕ};
-    ghost use Rattle.rhai_show.specs.HashedBytes.{hashed_bytes};
+    ghost use Rattle.rhai_show.specs.HashedBytes.{hashed_bytes, IsShortOfInt};
 
     ghost Value = { List ℕ };
 
     ghost view = { λ h. hashed_bytes h.bytes };
+
+    ghost invariant = { λ h. IsShortOfInt h.bytes };
 }
 
 impl Hashed {
@@ -72,7 +74,8 @@ impl Hashed {
     /// Moves the bytes out.
     /// Errors: memory is refused; it is asked for those of an int alone, which stand in no block of memory.
     pub fn into_bytes(self, alloc: Global) -> Result<Vec<u8>, AllocError>
-        ensures { IfOk result (λ bytes. bytes.items ≡ self) }
+        ensures ok { IfOk result (λ bytes. bytes.items ≡ self) }
+        ensures err { OnErr result (AreOfInt self) }
     {
         match self.bytes {
             HashedBytes::Short(len, words) => Vec::from_slice(alloc, short_bytes(len, &words)),

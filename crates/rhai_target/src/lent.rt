@@ -95,6 +95,7 @@ fn one_of<'s>(own: Option<&'s mut Dynamic>, far: Option<&'s mut Dynamic>) -> &'s
 {
     match own {
         Some(value) => value,
+        // That one of the two is lent is known by the kind of the target, which both ask; no type says it of two calls.
         None => far.unwrap(),
     }
 }

@@ -97,8 +97,7 @@ fn sliced(
 
 /// A text becomes another, tag and mode staying.
 fn put_text(held: &mut Dynamic, new: ImmutableString)
-    requires { is_some (text_of held.old) ≡ true }
     ensures { held.new ≡ with_content (leaf (text new)) held.old }
 {
-    *held.own_part_mut::<ImmutableString>() = new;
+    *held = Dynamic::from(new).labelled(held.tag(), held.access_mode());
 }

@@ -81,12 +81,9 @@ fn what_is_held_is_written(rt: HostRuntime) {
 
 /// The int that a value itself is, which is then doubled there.
 fn doubled(value: &mut Dynamic) -> Option<INT> {
-    let Union::Int(_, _, _) = value.parts() else {
-        return None;
-    };
-    let own = value.own_part_mut::<INT>();
+    let own = INT::own_mut(value)?;
     *own = own.wrapping_mul(2);
-    Some(*value.own_part::<INT>())
+    Some(*own)
 }
 
 #[test]

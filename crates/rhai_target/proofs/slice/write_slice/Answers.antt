@@ -11,9 +11,6 @@ use Rattle.rhai_target.proofs.slice.write_slice.Goals as goal
 pub sliced-requires : goal.sliced-requires
 sliced-requires c = (own_text (record { value = c.args.source; store = c.args.store }) c.requires.held c.in-None.ensures.which).0
 
-pub put_text-requires : goal.put_text-requires
-put_text-requires c = (own_text (record { value = c.args.source; store = c.args.store }) c.requires.held c.in-None.ensures.which).0
-
 pub returns-in_ok-text-in-None-clause-own : goal.returns-in_ok-text-in-None-clause-own
 returns-in_ok-text-in-None-clause-own c =
     let h : InStore = record { value = c.args.source; store = c.args.store } in

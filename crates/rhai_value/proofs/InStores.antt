@@ -150,15 +150,6 @@ part_alone part (node (branch k ts) g m) a none h = refl
 part_alone part (node (fields fs) g m) a none h = refl
 part_alone part (node (holder c) g m) a none h = let e : None ≡ Some a = sym (none c g m) ∙ h in cc
 
--- the same where the value is lent with its store
-written_own : {A : Type 0} (part : Tree → Option A) (d : Content) (h : InStore) (a : A) → ((c : ℕ) (g : ℤ) (m : AccessMode) → part (node (holder c) g m) ≡ None) → part h.value.now ≡ Some a
-    → record { value = record (h.value) { now = with_content d h.value.now }; store = h.store } ≡ written h (with_content d)
-written_own part d h a none e = rw (end_own h.store.now [] h.value.now (sym (part_alone part h.value.now a none e))) refl
-
-pub own_part_written : {A : Type 0} (content : A → Content) (part : Tree → Option A) (k : TypeId) → is_content_type k ≡ true → ((t : Tree) → option_map content (part t) ≡ typed_content k t)
-    → (d : Content) (h : InStore) (a : A) → part h.value.now ≡ Some a → record { value = record (h.value) { now = with_content d h.value.now }; store = h.store } ≡ written h (with_content d)
-own_part_written content part k constructs reads d h a e = written_own part d h a (none_of_holder content part k constructs reads) e
-
 -- the cell in which a first content stands has it
 pub first_in_cell : (s : List Cell) (t u : Tree) (c : ℕ) → Some (InCell c) ≡ first_site s t → IfSome (slice_get s c) (λ x. u ≡ x.content) → (Some u ≡ at s c) × (Some u ≡ first s t)
 first_in_cell s (node (leaf l) g m) u c p e = cc

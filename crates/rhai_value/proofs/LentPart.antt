@@ -13,7 +13,7 @@ use Rattle.rhai_value.specs.contracts.store.Store as store
 use Rattle.rhai_value.specs.Tree.{Tree, node, Content, content_of, leaf, branch, fields, holder, cell_of}
 use Rattle.rhai_value.specs.Store.{at, put, unmarked}
 use Rattle.rhai_value.specs.Types.{is_type, tree_type, is_content_type, typed_content, type_name}
-use Rattle.rhai_value.specs.End.{End, end, held, stuck, closed, held_in, held_cell, held_part, end_type, end_name, value_after, store_after}
+use Rattle.rhai_value.specs.End.{End, end, held, stuck, closed, held_in, held_cell, held_part, site_of, end_type, end_name, value_after, store_after}
 use Rattle.rhai_value.specs.Kinds.{one_type}
 use Rattle.rhai_value.specs.Lent.{own_lent, far_lent, either_of, content_in, put_in, edited, edit_in}
 use Rattle.rhai_value.proofs.Chains.{end_alone}
@@ -49,19 +49,19 @@ far_content s t (held (InCell c) v) q h = read_at s c v (stands s t (InCell c) v
 far_content s t (stuck v) q h = refl
 far_content s t closed q h = refl
 
--- a value that has a part stands in no cell, and is of the part's type
-own_place_at : (s : List Cell) (t : Tree) (k : TypeId) → None ≡ cell_of t → k ≡ tree_type t → (None ≡ held_cell (end s [] t)) × (k ≡ end_type (end s [] t))
-own_place_at s t k alone same = (ap held_cell (end_alone s t alone), same ∙ ap end_type (end_alone s t alone))
+-- a value that has a part is held where it stands itself, and is of the part's type
+own_place_at : (s : List Cell) (t : Tree) (k : TypeId) → None ≡ cell_of t → k ≡ tree_type t → (Some Here ≡ site_of (end s [] t)) × (k ≡ end_type (end s [] t))
+own_place_at s t k alone same = (ap site_of (end_alone s t alone), same ∙ ap end_type (end_alone s t alone))
 
 pub own_place : {A : Type 0} (content : A → Content) (part : Tree → Option A) (k : TypeId) → is_content_type k ≡ true → ((t : Tree) → option_map content (part t) ≡ typed_content k t)
-    → (s : List Cell) (t : Tree) → is_some (part t) ≡ true → (None ≡ held_cell (end s [] t)) × (k ≡ end_type (end s [] t))
+    → (s : List Cell) (t : Tree) → is_some (part t) ≡ true → (Some Here ≡ site_of (end s [] t)) × (k ≡ end_type (end s [] t))
 own_place {A = A} content part k constructs reads s t has = here (part t) refl has
   where
     same_type : (a : A) (b : Bool) → is_type k (tree_type t) ≡ b → Some (content a) ≡ (if b then Some (content_of t) else None) → k ≡ tree_type t
     same_type a true same e = one_type k (tree_type t) same
     same_type a false other e = cc
 
-    here : (o : Option A) → part t ≡ o → is_some o ≡ true → (None ≡ held_cell (end s [] t)) × (k ≡ end_type (end s [] t))
+    here : (o : Option A) → part t ≡ o → is_some o ≡ true → (Some Here ≡ site_of (end s [] t)) × (k ≡ end_type (end s [] t))
     here None e p = cc
     here (Some a) e p =
         own_place_at s t k (part_alone part t a (none_of_holder content part k constructs reads) e) (same_type a (is_type k (tree_type t)) refl (sym (ap (option_map content) e) ∙ reads t))

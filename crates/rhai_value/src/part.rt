@@ -3,7 +3,7 @@ ghost use Rattle.std.specs.Prelude.{◌≡◌, [], true, Option, Some, None, opt
 ghost use Rattle.std.specs.Borrow.{sem, Lends, LendsIf, LendsIfOk};
 ghost use Rattle.rhai_value.specs.contracts.dynamic.Dynamic as dynamic_type;
 ghost use Rattle.rhai_value.specs.declared.type_id.TypeId.{TypeId};
-ghost use Rattle.rhai_value.specs.End.{end, held_part, site_of, value_after, store_after, end_name};
+ghost use Rattle.rhai_value.specs.End.{end, end_type, held_part, site_of, value_after, store_after, end_name};
 ghost use Rattle.rhai_value.specs.Parts.{with_content, with_part};
 ghost use Rattle.rhai_value.specs.Tree.{Tree, Content, TakesNoMemory, made, copy_content};
 ghost use Rattle.rhai_value.specs.Types.{is_content_type, typed_content};
@@ -71,30 +71,19 @@ pub trait Part: Sized + Drop {
     ghost reads: { (t : Tree) → option_map content (part_of t) ≡ typed_content KIND t };
 }
 
-/// What the value itself has, which is of one kind. Each takes no memory.
+/// What the value itself has or holds, if it is of one kind.
 impl Dynamic {
     /// Lends what the value itself has, which is of this kind.
+    /// Cost: constant; no memory.
     #[inline(always)]
     pub fn own_part<T: Part>(&self) -> &T
         requires { is_some (T.part_of self.now) ≡ true }
         ensures { T.part_of self.now ≡ Some (T.meaning result.now) }
     {
+        // Which values have a part is said by the `requires`, and by no type.
         T::own(self).unwrap()
     }
 
-    /// Lends what the value itself has, which is of this kind, to write.
-    #[inline(always)]
-    pub fn own_part_mut<T: Part>(&mut self) -> &mut T
-        requires { is_some (T.part_of self.old) ≡ true }
-        ensures* writes_back { sem 𝓛 (Lends dynamic_type.the_row T.row self.entry result (λ w. with_content (T.content (T.meaning w)) self.old)) }
-        ensures value { T.part_of self.old ≡ Some (T.meaning result.now) }
-    {
-        T::own_mut(self).unwrap()
-    }
-}
-
-/// What is held, if it is of one kind.
-impl Dynamic {
     /// Lends what is held, if it is of this kind. What the value itself has is found without a look at its holders.
     /// Cost: that of `Dynamic::held`; no memory.
     #[inline(always)]
@@ -124,7 +113,7 @@ impl Dynamic {
         requires { is_some (held_part T.part_of (end store.now [] self.now)) ≡ true }
         ensures { held_part T.part_of (end store.now [] self.now) ≡ Some (T.meaning result.now) }
     {
-        // Which values have a part is said by the `requires`, and by no type: what a chain leads to is known by the store's content alone.
+        // Which values have a part is said by the `requires`, and by no type: the store's content alone tells where a chain leads.
         self.held_part::<T>(store).unwrap()
     }
 
@@ -241,9 +230,10 @@ impl<'a> InStore<'a> {
         ensures err { IfErr result (λ name. (held_part T.part_of (end self.old.store.now [] self.old.value.now) ≡ None)
             × (name.now ≡ end_name (end self.old.store.now [] self.old.value.now))) }
     {
-        match T::own(self.value) {
-            Some(_) => Ok(self.own_part_mut::<T>()),
-            None => self.far_part_mut::<T>(),
+        let (site, kind) = site_with_part::<T>(self.value, self.store);
+        match self.part_at_mut::<T>(site) {
+            Some(part) => Ok(part),
+            None => Err(kind.name()),
         }
     }
 
@@ -257,37 +247,12 @@ impl<'a> InStore<'a> {
     {
         match self.part_mut::<T>() {
             Ok(part) => part,
-            // What a chain of holders leads to is known by the store's content alone.
+            // The store's content alone tells where a chain leads.
             Err(_) => unreachable!(),
         }
     }
 
-    /// The same of what the value itself has.
     #[inline(always)]
-    fn own_part_mut<T: Part>(&mut self) -> &mut T
-        requires { IsSome (T.part_of self.old.value.now) }
-        ensures* writes_back { sem 𝓛 (Lends in_store_row T.row self.entry result (λ w. written self.old (with_content (T.content (T.meaning w))))) }
-        ensures value { held_part T.part_of (end self.old.store.now [] self.old.value.now) ≡ Some (T.meaning result.now) }
-    {
-        self.value.own_part_mut::<T>()
-    }
-
-    /// The same where a chain of holders is followed, in a function of its own, so that writes to what the value itself has stay
-    /// short.
-    #[inline(never)]
-    fn far_part_mut<T: Part>(&mut self) -> Result<&mut T, &'static str>
-        ensures* writes_back { sem 𝓛 (LendsIfOk in_store_row T.row self.entry result (λ w. written self.old (with_content (T.content (T.meaning w)))) self.old) }
-        ensures ok { IfOk result (λ v. held_part T.part_of (end self.old.store.now [] self.old.value.now) ≡ Some (T.meaning v.now)) }
-        ensures err { IfErr result (λ name. (held_part T.part_of (end self.old.store.now [] self.old.value.now) ≡ None)
-            × (name.now ≡ end_name (end self.old.store.now [] self.old.value.now))) }
-    {
-        let (site, kind) = self.value.held_site_and_type(self.store);
-        match self.part_at_mut::<T>(site) {
-            Some(part) => Ok(part),
-            None => Err(kind.name()),
-        }
-    }
-
     fn part_at_mut<T: Part>(&mut self, site: Option<Site>) -> Option<&mut T>
         requires { site ≡ site_of (end self.old.store.now [] self.old.value.now) }
         ensures* writes_back { sem 𝓛 (LendsIf in_store_row T.row self.entry result (λ w. written self.old (with_content (T.content (T.meaning w)))) self.old) }
@@ -298,4 +263,26 @@ impl<'a> InStore<'a> {
             None => None,
         }
     }
+}
+
+/// Where what is held stands, and its type. No chain is followed where the value itself has such a part, so that writes to it
+/// stay short.
+#[inline(always)]
+fn site_with_part<T: Part>(value: &Dynamic, store: &Store) -> (Option<Site>, TypeId)
+    ensures site { result.0 ≡ site_of (end store.now [] value.now) }
+    ensures kind { result.1 ≡ end_type (end store.now [] value.now) }
+{
+    match T::own(value) {
+        Some(_) => (Some(Site::Here), T::KIND),
+        None => far_site(value, store),
+    }
+}
+
+/// The same where the chain is followed.
+#[inline(never)]
+fn far_site(value: &Dynamic, store: &Store) -> (Option<Site>, TypeId)
+    ensures site { result.0 ≡ site_of (end store.now [] value.now) }
+    ensures kind { result.1 ≡ end_type (end store.now [] value.now) }
+{
+    value.held_site_and_type(store)
 }

@@ -5,7 +5,7 @@ mod readme;
 
 // Tests.
 mod lent;
-mod parts;
+pub(crate) mod parts;
 mod reads;
 mod shared_values;
 mod ways_out;

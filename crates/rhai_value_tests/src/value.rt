@@ -17,13 +17,14 @@ mod scan;
 mod written;
 
 use crate::values::{chain, holds, is_locked, is_named, is_shared, ring, shared};
-use rhai_value::{AccessMode, Dynamic, INT, Path, Store, Union};
+use rhai_value::{AccessMode, Cell, Dynamic, INT, Path, Store, Union};
 use std::alloc::Global;
 use std::mem::size_of;
 
 #[test]
 fn a_value_is_small(rt: HostRuntime) {
-    assert!(rt; size_of::<Dynamic>() <= 48);
+    assert!(rt; size_of::<Dynamic>() == 48);
+    assert!(rt; size_of::<Cell>() == 64);
 }
 
 /// Whether a constant is this int, with no tag and no constancy of its own.

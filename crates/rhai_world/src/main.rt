@@ -31,5 +31,10 @@ fn status(outcome: &Result<(), LinesFault>) -> u8
 }
 
 fn main(rt: HostRuntime) -> ExitCode {
-    ExitCode::from(status(&answer_standard_input(&rt)))
+    let outcome = answer_standard_input(&rt);
+    if let Err(fault) = &outcome {
+        // where standard error fails too, the exit status is all that is left to say
+        let _ = eprintln!(rt; "{fault}");
+    }
+    ExitCode::from(status(&outcome))
 }

@@ -1,6 +1,7 @@
 //! Calls that take no memory: they answer also where all of it is refused.
 use super::is_text;
 use crate::ops::readme::{assign, operate};
+use crate::target::parts::{has_byte, propagated};
 use rhai_scope::Scope;
 use rhai_target::{Target, calc_index, calc_offset_len, write_bit, write_byte, write_field};
 use rhai_text::{Limits, Position, Token};
@@ -123,6 +124,92 @@ fn is_compared(
         Ok(Some(answer)) => answer.as_bool(store) == Ok(wanted),
         Ok(None) | Err(_) => false,
     }
+}
+
+/// Whether a bit, some bits and a byte are written back.
+fn is_propagated(alloc: Global, int: &mut Dynamic, blob: &mut Dynamic, store: &mut Store) -> bool {
+    if !int.is_int(store) {
+        return false;
+    }
+    let bit = Target::Bit {
+        source: int,
+        value: Dynamic::TRUE,
+        bit: 0,
+    };
+    if propagated(bit, alloc, store).is_err() || !int.is_int(store) {
+        return false;
+    }
+    let field = Target::BitField {
+        source: int,
+        value: Dynamic::ONE,
+        mask: 240,
+        shift: 4,
+    };
+    if propagated(field, alloc, store).is_err() || int.as_int(store) != Ok(17) {
+        return false;
+    }
+    if !has_byte(blob, store, 1) {
+        return false;
+    }
+    let byte = Target::BlobByte {
+        source: blob,
+        value: Dynamic::TEN,
+        index: 1,
+    };
+    propagated(byte, alloc, store).is_ok()
+}
+
+/// Whether a range is made of two ints, and is of one of the host's types.
+fn is_ranged(alloc: Global, store: &mut Store, token: Token) -> bool {
+    let (mut first, mut last) = (Dynamic::ONE, Dynamic::TEN);
+    match operate(token, alloc, store, &UNLIMITED, &mut first, &mut last) {
+        Ok(Some(range)) => range.is_variant() && !first.is_variant(),
+        Ok(None) | Err(_) => false,
+    }
+}
+
+/// Whether a boolean becomes this by an assignment of `true`.
+fn is_assigned(alloc: Global, store: &mut Store, token: Token, wanted: bool) -> bool {
+    let (mut truth, mut other) = (Dynamic::TRUE, Dynamic::TRUE);
+    matches!(
+        assign(token, alloc, store, &UNLIMITED, &mut truth, &mut other),
+        Ok(true)
+    ) && truth.as_bool(store) == Ok(wanted)
+}
+
+#[test]
+fn parts_ranges_and_booleans_take_no_memory(rt: HostRuntime) -> Result<(), Fail> {
+    let alloc = rt.alloc();
+    let mut store = Store::new(alloc);
+    let mut blob = Dynamic::from_blob(Blob::from_slice(alloc, &[1, 2])?);
+    let mut text = Dynamic::from_text(alloc, "hé")?;
+    let mut int = Dynamic::from_int(0);
+    assert!(rt; is_propagated(alloc, &mut int, &mut blob, &mut store));
+    assert!(rt; is_ranged(alloc, &mut store, Token::ExclusiveRange));
+    assert!(rt; is_ranged(alloc, &mut store, Token::InclusiveRange));
+    assert!(rt; is_assigned(alloc, &mut store, Token::AndAssign, true));
+    assert!(rt; is_assigned(alloc, &mut store, Token::OrAssign, true));
+    assert!(rt; is_assigned(alloc, &mut store, Token::XOrAssign, false));
+    assert!(rt; text.as_immutable_string_mut(&mut store).is_ok());
+    Ok(())
+}
+
+/// Whether the entry `x` has one alias, `y`.
+fn has_one_alias(scope: &Scope) -> bool {
+    match scope.aliases("x") {
+        Some(aliases) => aliases.len() == 1 && aliases[0].as_str() == "y",
+        None => false,
+    }
+}
+
+#[test]
+fn an_alias_that_is_there_stays_the_only_one(rt: HostRuntime) -> Result<(), Fail> {
+    let mut scope = Scope::new(rt.alloc());
+    scope.push("x", 3i64)?;
+    scope.set_alias("x", "y")?;
+    scope.set_alias("x", "y")?;
+    assert!(rt; has_one_alias(&scope));
+    Ok(())
 }
 
 #[test]

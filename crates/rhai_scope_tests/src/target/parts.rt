@@ -8,7 +8,7 @@ ghost use Rattle.rhai_target.specs.Target.{HasPart, IsMarkedIn};
 use super::*;
 
 /// Writes the working value back, spends the target, and answers how it went.
-pub(super) fn propagated<'a>(
+pub(crate) fn propagated<'a>(
     target: Target<'a>,
     alloc: Global,
     store: &mut Store,
@@ -23,7 +23,7 @@ pub(super) fn propagated<'a>(
 }
 
 /// Whether a blob is held that reaches so far.
-pub(super) fn has_byte(value: &Dynamic, store: &Store, index: usize) -> bool
+pub(crate) fn has_byte(value: &Dynamic, store: &Store, index: usize) -> bool
     ensures { OnTrue result (MatchOption (held_part blob_of (end store.now [] value.now)) ⊥ (λ bytes. index < length bytes)) }
 {
     match value.as_blob_ref(store) {

@@ -1,6 +1,6 @@
 //! Values that are flattened, shared and written where they stand.
 use crate::values::{chain, closed, holds, is_shared};
-use rhai_value::{AccessMode, Dynamic, INT, InStore, Store, Union};
+use rhai_value::{AccessMode, Dynamic, INT, InStore, Part, Store, Union};
 use std::alloc::Global;
 
 /// Whether a value is flattened, and is this int then.

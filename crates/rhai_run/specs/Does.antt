@@ -11,6 +11,7 @@ use Rattle.rhai_run.specs.State.{State, appended}
 use Rattle.rhai_run.specs.declared.answer.Refusal.{Refusal}
 use Rattle.rhai_run.specs.declared.answer.Answer.TheVariants as answer
 use Rattle.rhai_run.specs.Outcome.{Outcome, growing, refuse}
+use Rattle.std.specs.declared.alloc.AllocError.{AllocError}
 use Rattle.rhai_run.specs.Entries.{appended_or_nothing}
 
 -- Not done: that is the refusal, and nothing has changed; or memory was refused where it may be wanted.
@@ -57,3 +58,8 @@ abbrev pub Does : Result Answer NotDone → State → State → Outcome → Type
 Does (Ok a) old new o = (a ≡ o.reply) × (new ≡ o.after)
 Does (Err (Refused why)) old new o = (answer.Refused why ≡ o.reply) × (new ≡ o.after)
 Does (Err Memory) old new o = (o.wants ≡ true) × (new ≡ old)
+
+-- The same of a method of a world: a refusal is an answer.
+abbrev pub Steps : Result Answer AllocError → State → State → Outcome → Type 0
+Steps (Ok a) old new o = (a ≡ o.reply) × (new ≡ o.after)
+Steps (Err e) old new o = (o.wants ≡ true) × (new ≡ old)

@@ -8,8 +8,15 @@ use Rattle.rhai_scope.specs.Lookup.{last_entry, changed_named}
 use Rattle.rhai_run.specs.declared.answer.Refusal.TheVariants.{NoEntry, ConstantEntry}
 use Rattle.rhai_run.specs.declared.command.Place.{Place}
 use Rattle.rhai_run.specs.declared.command.Place.TheVariants as place
+use Rattle.rhai_run.specs.declared.command.PlaceRef.{PlaceRef}
+use Rattle.rhai_run.specs.declared.command.PlaceRef.TheVariants as lent
 use Rattle.rhai_run.specs.State.{State, with_cells}
 use Rattle.rhai_run.specs.Outcome.{Outcome, given, unless, with_value}
+
+-- the place whose name is lent
+abbrev pub place_of : PlaceRef → Place
+place_of (lent.Hand i) = place.Hand i
+place_of (lent.Entry name) = place.Entry name.now
 
 -- what is done with the value at a place, where it may be written: that of an entry is there, and no constant
 abbrev pub with_place : State → Place → (Tree → Outcome) → Outcome

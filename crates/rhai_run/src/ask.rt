@@ -4,7 +4,7 @@ ghost use Rattle.std.specs.Str.{chars};
 ghost use Rattle.rhai_show.specs.declared.form.Form.TheVariants.{Debug};
 ghost use Rattle.rhai_run.specs.Ask.{asked};
 ghost use Rattle.rhai_run.specs.declared.answer.Answer.TheVariants as answer;
-ghost use Rattle.rhai_run.specs.Does.{Does};
+ghost use Rattle.rhai_run.specs.Does.{Steps, Does};
 ghost use Rattle.rhai_run.specs.declared.command.Command.TheVariants as command;
 ghost use Rattle.rhai_run.specs.Step.{step};
 
@@ -13,6 +13,7 @@ use crate::cast::is_value_of;
 use crate::command::Question;
 use crate::lists::Bytes;
 use crate::not_done::NotDone;
+use crate::world::{World, replied};
 use crate::world_state::WorldState;
 use rhai_show::{Shown, debug_text, display_text, hashed, is_hashable};
 use rhai_value::Dynamic;
@@ -87,4 +88,42 @@ fn text_answer(alloc: Global, text: &str) -> Result<Answer, AllocError>
 {
     let text = String::from_str(alloc, text)?;
     Ok(Answer::Text(Shown::from_text(text)))
+}
+
+impl World {
+    /// Asks a question of the value at the hand position.
+    /// Errors: memory was refused, and all is as before.
+    #[inline(always)]
+    pub fn ask(&self, i: usize, question: &Question) -> Result<Answer, AllocError>
+        ensures { Steps result self.now self.now (step self.now (command.Ask i question.now)) }
+    {
+        replied(self.state.ask(i, question))
+    }
+
+    /// Answers the text of the value at the hand position, as it is displayed.
+    /// Errors: memory was refused, and all is as before.
+    #[inline(always)]
+    pub fn show(&self, i: usize) -> Result<Answer, AllocError>
+        ensures { Steps result self.now self.now (step self.now (command.Show i)) }
+    {
+        replied(self.state.show(i))
+    }
+
+    /// Answers the text of the value at the hand position, as it is debugged.
+    /// Errors: memory was refused, and all is as before.
+    #[inline(always)]
+    pub fn debug(&self, i: usize) -> Result<Answer, AllocError>
+        ensures { Steps result self.now self.now (step self.now (command.Debug i)) }
+    {
+        replied(self.state.debug(i))
+    }
+
+    /// Answers the hash bytes of the value at the hand position.
+    /// Errors: memory was refused, and all is as before.
+    #[inline(always)]
+    pub fn hash(&self, i: usize) -> Result<Answer, AllocError>
+        ensures { Steps result self.now self.now (step self.now (command.Hash i)) }
+    {
+        replied(self.state.hash(i))
+    }
 }

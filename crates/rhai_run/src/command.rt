@@ -3,6 +3,7 @@ ghost use Rattle.std.specs.Prelude.{◌≡◌, ℕ, ℤ, Bool, List, IfOk};
 ghost use Rattle.rhai_run.specs.declared.command.Command.TheVariants as command;
 ghost use Rattle.rhai_run.specs.declared.command.Place.{Place};
 ghost use Rattle.rhai_run.specs.declared.command.Scanner.{Scanner};
+ghost use Rattle.rhai_run.specs.Places.{place_of};
 ghost use Rattle.rhai_run.specs.Stop.{NeverWants};
 ghost use Rattle.rhai_run.specs.Step.{step};
 ghost use Rattle.rhai_run.specs.Fits.{Fits};
@@ -109,6 +110,26 @@ pub enum Place {
     Hand(usize),
     /// The value of the last entry of a name. A constant is refused.
     Entry(ImmutableString),
+}
+
+/// A place whose name is lent.
+#[derive(Copy, Clone)]
+pub enum PlaceRef<'a> {
+    /// The value at a hand position.
+    Hand(usize),
+    /// The value of the last entry of a name. A constant is refused.
+    Entry(&'a ImmutableString),
+}
+
+impl Place {
+    pub(crate) fn lend(&self) -> PlaceRef<'_>
+        ensures { place_of result ≡ self.now }
+    {
+        match self {
+            Place::Hand(i) => PlaceRef::Hand(*i),
+            Place::Entry(name) => PlaceRef::Entry(name),
+        }
+    }
 }
 
 /// One command. Hand positions count from 0, and new values go to the end of the hand.
@@ -272,7 +293,7 @@ impl WorldState {
             Command::WriteInt(i, value) => self.write_int(*i, *value),
             Command::Write(i, j) => self.write(*i, *j),
             Command::Binary(op, i, j) => self.binary(*op, *i, *j),
-            Command::Assign(op, place, j) => self.assign(*op, place, *j),
+            Command::Assign(op, place, j) => self.assign(*op, place.lend(), *j),
             Command::Scan(i, scanner) => self.scan(*i, *scanner),
             Command::Push(name, i) => self.push_as(name, AccessMode::ReadWrite, *i),
             Command::PushDynamic(name, i) => self.push_dynamic(name, *i),
@@ -293,7 +314,7 @@ impl WorldState {
             Command::GetRef(name, kind) => self.get_ref(name, *kind),
             Command::SetRef(name, value) => self.set_ref(name, *value),
             Command::Remove(name, kind) => self.remove(name, *kind),
-            Command::SetAlias(name, alias) => self.set_alias(name, alias),
+            Command::SetAlias(name, alias) => self.set_alias(name, alias.as_str()),
             Command::Aliases(name) => self.aliases(name),
             Command::KeepVisible => self.keep_visible(),
             Command::CopyScope => self.copy_scope(),
@@ -303,18 +324,18 @@ impl WorldState {
             Command::ExtendFlagged(names) => self.extend_flagged(names),
             Command::ShowScope => self.show_scope(),
             Command::HashScope => self.hash_scope(),
-            Command::Mark(place) => self.mark(place),
+            Command::Mark(place) => self.mark(place.lend()),
             Command::Unmark(k) => self.unmark(*k),
             Command::WriteMarked(k, i) => self.write_marked(*k, *i),
             Command::ReadMarked(k) => self.read_marked(*k),
-            Command::WriteBit(place, bit, j) => self.write_bit(place, *bit, *j),
+            Command::WriteBit(place, bit, j) => self.write_bit(place.lend(), *bit, *j),
             Command::WriteField(place, mask, shift, j) => {
-                self.write_field(place, *mask, *shift, *j)
+                self.write_field(place.lend(), *mask, *shift, *j)
             }
-            Command::WriteByte(place, index, j) => self.write_byte(place, *index, *j),
-            Command::WriteChar(place, index, j) => self.write_char(place, *index, *j),
+            Command::WriteByte(place, index, j) => self.write_byte(place.lend(), *index, *j),
+            Command::WriteChar(place, index, j) => self.write_char(place.lend(), *index, *j),
             Command::WriteSlice(place, start, end, exclusive, j) => {
-                self.write_slice(place, *start, *end, *exclusive, *j)
+                self.write_slice(place.lend(), *start, *end, *exclusive, *j)
             }
             Command::Offset(length, start, len) => self.offset(*length, *start, *len),
             Command::Index(length, index, from_end) => self.index(*length, *index, *from_end),

@@ -1,5 +1,6 @@
 //! Commands on the last entry of a name.
 ghost use Rattle.std.specs.Prelude.{◌≡◌, ◌<◌, true, false, is_some, length, option_map, remove, slice_get, IfSome, IfOk, OnOk, OnErr};
+ghost use Rattle.std.specs.Str.{chars};
 ghost use Rattle.rhai_value.specs.End.{flattened};
 ghost use Rattle.rhai_value.specs.Tree.{fresh, int};
 ghost use Rattle.rhai_value.specs.declared.type_id.TypeId.TheVariants as type_id;
@@ -7,14 +8,16 @@ ghost use Rattle.rhai_variant.specs.Reads.{viewed, written_as};
 ghost use Rattle.rhai_scope.specs.Entry.{with_value as holding};
 ghost use Rattle.rhai_scope.specs.Lookup.{changed_at};
 ghost use Rattle.rhai_run.specs.State.{with_scope, moved_from};
-ghost use Rattle.rhai_run.specs.Does.{Does, GivesIfAny};
+ghost use Rattle.rhai_run.specs.Does.{Steps, Does, GivesIfAny};
 ghost use Rattle.rhai_run.specs.declared.command.Command.TheVariants as command;
 ghost use Rattle.rhai_run.specs.Step.{step};
 
 use crate::answer::{Answer, Refusal};
 use crate::cast::{can_cast, can_move, cast_to, moved_as};
+use crate::laws;
 use crate::not_done::NotDone;
 use crate::vectors::replace_at;
+use crate::world::{World, replied};
 use crate::world_state::WorldState;
 use rhai_scope::{Scope, aliases_shown};
 use rhai_show::Shown;
@@ -205,11 +208,11 @@ impl WorldState {
     pub(crate) fn set_alias(
         &mut self,
         name: &ImmutableString,
-        alias: &ImmutableString,
+        alias: &str,
     ) -> Result<Answer, NotDone>
-        ensures { Does result self.old self.new (step self.old (command.SetAlias name.now alias.now)) }
+        ensures { Does result self.old self.new (step self.old (command.SetAlias name.now (chars alias.now))) }
     {
-        self.scope.set_alias(name.as_str(), alias.as_str())?;
+        self.scope.set_alias(name.as_str(), alias)?;
         Ok(Answer::Done)
     }
 
@@ -219,5 +222,108 @@ impl WorldState {
         let aliases = self.scope.aliases(name.as_str()).ok_or(Refusal::NoEntry)?;
         let text = aliases_shown(self.alloc, aliases)?.into_text();
         Ok(Answer::Text(Shown::from_text(text)))
+    }
+}
+
+impl World {
+    /// Moves the value at the hand position over the value of the last entry of the name, and leaves unit.
+    /// Errors: none, since no memory is wanted.
+    #[inline(always)]
+    pub fn set_entry(&mut self, name: &ImmutableString, i: usize) -> Result<Answer, AllocError>
+        ensures { Steps result self.old self.new (step self.old (command.SetEntry name.now i)) }
+    {
+        laws::methods_fit();
+        replied(self.state.set_entry(name, i))
+    }
+
+    /// Moves the value at the hand position over the value of the last entry of the name, and leaves unit; where there is no such entry
+    /// that may be written, the value goes into a new one.
+    /// Errors: memory was refused, and all is as before.
+    #[inline(always)]
+    pub fn set_or_push(&mut self, name: &ImmutableString, i: usize) -> Result<Answer, AllocError>
+        ensures { Steps result self.old self.new (step self.old (command.SetOrPush name.now i)) }
+    {
+        laws::methods_fit();
+        replied(self.state.set_or_push(name, i))
+    }
+
+    /// Moves the value at the hand position over the value of the last entry of the name, and leaves unit; where there is no such entry,
+    /// the value goes into a new one.
+    /// Errors: memory was refused, and all is as before.
+    #[inline(always)]
+    pub fn set_value(&mut self, name: &ImmutableString, i: usize) -> Result<Answer, AllocError>
+        ensures { Steps result self.old self.new (step self.old (command.SetValue name.now i)) }
+    {
+        laws::methods_fit();
+        replied(self.state.set_value(name, i))
+    }
+
+    /// Appends a copy of the value of the last entry of the name.
+    /// Errors: memory was refused, and all is as before.
+    #[inline(always)]
+    pub fn get(&mut self, name: &ImmutableString) -> Result<Answer, AllocError>
+        ensures { Steps result self.old self.new (step self.old (command.Get name.now)) }
+    {
+        laws::methods_fit();
+        replied(self.state.get(name))
+    }
+
+    /// Appends what the value of the last entry of the name is as this type, copied without its holders; or answers nothing.
+    /// Errors: memory was refused, and all is as before.
+    #[inline(always)]
+    pub fn get_value(&mut self, name: &ImmutableString, kind: TypeId) -> Result<Answer, AllocError>
+        ensures { Steps result self.old self.new (step self.old (command.GetValue name.now kind)) }
+    {
+        laws::methods_fit();
+        replied(self.state.get_value(name, kind))
+    }
+
+    /// Appends a copy of what the last entry of the name itself is as this type, by reference; or answers nothing.
+    /// Errors: memory was refused, and all is as before.
+    #[inline(always)]
+    pub fn get_ref(&mut self, name: &ImmutableString, kind: TypeId) -> Result<Answer, AllocError>
+        ensures { Steps result self.old self.new (step self.old (command.GetRef name.now kind)) }
+    {
+        laws::methods_fit();
+        replied(self.state.get_ref(name, kind))
+    }
+
+    /// Writes over the int that the last entry of the name itself is; or answers nothing.
+    /// Errors: none, since no memory is wanted.
+    #[inline(always)]
+    pub fn set_ref(&mut self, name: &ImmutableString, value: INT) -> Result<Answer, AllocError>
+        ensures { Steps result self.old self.new (step self.old (command.SetRef name.now value)) }
+    {
+        laws::methods_fit();
+        replied(self.state.set_ref(name, value))
+    }
+
+    /// Takes the last entry of the name out, and appends what its value is as this type, without its holders; or answers nothing.
+    /// Errors: memory was refused, and all is as before.
+    #[inline(always)]
+    pub fn remove(&mut self, name: &ImmutableString, kind: TypeId) -> Result<Answer, AllocError>
+        ensures { Steps result self.old self.new (step self.old (command.Remove name.now kind)) }
+    {
+        laws::methods_fit();
+        replied(self.state.remove(name, kind))
+    }
+
+    /// Gives the last entry of the name the alias, if it hasn't got it; an empty alias means the name.
+    /// Errors: memory was refused, and all is as before.
+    #[inline(always)]
+    pub fn set_alias(&mut self, name: &ImmutableString, alias: &str) -> Result<Answer, AllocError>
+        ensures { Steps result self.old self.new (step self.old (command.SetAlias name.now (chars alias.now))) }
+    {
+        laws::methods_fit();
+        replied(self.state.set_alias(name, alias))
+    }
+
+    /// Answers the aliases of the last entry of the name, each with a line feed.
+    /// Errors: memory was refused, and all is as before.
+    #[inline(always)]
+    pub fn aliases(&self, name: &ImmutableString) -> Result<Answer, AllocError>
+        ensures { Steps result self.now self.now (step self.now (command.Aliases name.now)) }
+    {
+        replied(self.state.aliases(name))
     }
 }

@@ -1,13 +1,15 @@
 //! Commands that add entries for names in a list, and those that list the entries.
 ghost use Rattle.std.specs.Prelude.{◌≡◌, IfOk};
-ghost use Rattle.rhai_run.specs.Does.{Does};
+ghost use Rattle.rhai_run.specs.Does.{Steps, Does};
 ghost use Rattle.rhai_run.specs.declared.command.Command.TheVariants as command;
 ghost use Rattle.rhai_run.specs.Step.{step};
 
 use crate::answer::Answer;
+use crate::laws;
 use crate::lists::{FlaggedNames, Names};
 use crate::not_done::NotDone;
 use crate::vectors::{append_in_room, split_last};
+use crate::world::{World, replied};
 use crate::world_state::WorldState;
 use rhai_show::Shown;
 use rhai_text::ImmutableString;
@@ -83,5 +85,48 @@ impl WorldState {
             return Err(NotDone::Memory);
         }
         Ok(Answer::Done)
+    }
+}
+
+impl World {
+    /// Appends copies of the values of all entries, without their holders.
+    /// Errors: memory was refused, and all is as before.
+    #[inline(always)]
+    pub fn entries(&mut self) -> Result<Answer, AllocError>
+        ensures { Steps result self.old self.new (step self.old command.Entries) }
+    {
+        laws::methods_fit();
+        replied(self.state.entries())
+    }
+
+    /// Answers the names of the entries, the newest first, each with a line feed, and with `const ` before that of a constant.
+    /// Errors: memory was refused, and all is as before.
+    #[inline(always)]
+    pub fn names(&self) -> Result<Answer, AllocError>
+        ensures { Steps result self.now self.now (step self.now command.Names) }
+    {
+        replied(self.state.names())
+    }
+
+    /// Takes as many values off the end of the hand as there are names, and adds an entry of each name with its value, which may be
+    /// written.
+    /// Errors: memory was refused, and all is as before.
+    #[inline(always)]
+    pub fn extend(&mut self, names: &Names) -> Result<Answer, AllocError>
+        ensures { Steps result self.old self.new (step self.old (command.Extend names.now)) }
+    {
+        laws::methods_fit();
+        replied(self.state.extend(names))
+    }
+
+    /// Takes as many values off the end of the hand as there are names, and adds an entry of each name with its value, which is a constant
+    /// where its name is flagged.
+    /// Errors: memory was refused, and all is as before.
+    #[inline(always)]
+    pub fn extend_flagged(&mut self, names: &FlaggedNames) -> Result<Answer, AllocError>
+        ensures { Steps result self.old self.new (step self.old (command.ExtendFlagged names.now)) }
+    {
+        laws::methods_fit();
+        replied(self.state.extend_flagged(names))
     }
 }

@@ -1,18 +1,21 @@
 //! Commands that put values into the hand, and move them there.
-ghost use Rattle.rhai_run.specs.Does.{Does};
+ghost use Rattle.rhai_run.specs.Does.{Steps, Does};
 ghost use Rattle.rhai_run.specs.declared.command.Command.TheVariants as command;
 ghost use Rattle.rhai_run.specs.Step.{step};
 
 use crate::answer::{Answer, Refusal, mismatch};
 use crate::cast::{can_cast, cast_to};
 use crate::command::Literal;
+use crate::laws;
 use crate::lists::Names;
 use crate::maps::{map_of_keys, move_to_keys};
 use crate::not_done::NotDone;
 use crate::vectors::{replace_at, take_last};
+use crate::world::{World, replied};
 use crate::world_state::WorldState;
 use rhai_text::ImmutableString;
 use rhai_value::{Dynamic, FnPtr, TypeId};
+use std::alloc::AllocError;
 
 impl WorldState {
     pub(crate) fn put(&mut self, literal: &Literal) -> Result<Answer, NotDone>
@@ -125,5 +128,98 @@ impl WorldState {
         // in its place: a value that is popped moves first
         self.hand.truncate(len - 1);
         Ok(Answer::Done)
+    }
+}
+
+impl World {
+    /// Appends a value that is made anew.
+    /// Errors: memory was refused, and all is as before.
+    #[inline(always)]
+    pub fn put(&mut self, literal: &Literal) -> Result<Answer, AllocError>
+        ensures { Steps result self.old self.new (step self.old (command.Put literal.now)) }
+    {
+        laws::methods_fit();
+        replied(self.state.put(literal))
+    }
+
+    /// Takes this many values off the end of the hand, and appends the array of them in order.
+    /// Errors: memory was refused, and all is as before.
+    #[inline(always)]
+    pub fn make_array(&mut self, n: usize) -> Result<Answer, AllocError>
+        ensures { Steps result self.old self.new (step self.old (command.MakeArray n)) }
+    {
+        laws::methods_fit();
+        replied(self.state.make_array(n))
+    }
+
+    /// Takes as many values off the end of the hand as there are keys, and appends the map of these to those in order; of equal keys the
+    /// last value stands.
+    /// Errors: memory was refused, and all is as before.
+    #[inline(always)]
+    pub fn make_map(&mut self, keys: &Names) -> Result<Answer, AllocError>
+        ensures { Steps result self.old self.new (step self.old (command.MakeMap keys.now)) }
+    {
+        laws::methods_fit();
+        replied(self.state.make_map(keys))
+    }
+
+    /// Takes this many values off the end of the hand, and appends the function pointer of the name with these curried in order.
+    /// Errors: memory was refused, and all is as before.
+    #[inline(always)]
+    pub fn make_fn(&mut self, name: &ImmutableString, n: usize) -> Result<Answer, AllocError>
+        ensures { Steps result self.old self.new (step self.old (command.MakeFn name.now n)) }
+    {
+        laws::methods_fit();
+        replied(self.state.make_fn(name, n))
+    }
+
+    /// Appends a copy of the value at the hand position.
+    /// Errors: memory was refused, and all is as before.
+    #[inline(always)]
+    pub fn copy(&mut self, i: usize) -> Result<Answer, AllocError>
+        ensures { Steps result self.old self.new (step self.old (command.Copy i)) }
+    {
+        laws::methods_fit();
+        replied(self.state.copy(i))
+    }
+
+    /// Moves the value at the hand position to the end, and leaves unit.
+    /// Errors: memory was refused, and all is as before.
+    #[inline(always)]
+    pub fn take(&mut self, i: usize) -> Result<Answer, AllocError>
+        ensures { Steps result self.old self.new (step self.old (command.Take i)) }
+    {
+        laws::methods_fit();
+        replied(self.state.take(i))
+    }
+
+    /// Drops the last value.
+    /// Errors: none, since no memory is wanted.
+    #[inline(always)]
+    pub fn drop_last(&mut self) -> Result<Answer, AllocError>
+        ensures { Steps result self.old self.new (step self.old command.Drop) }
+    {
+        laws::methods_fit();
+        replied(self.state.drop_last())
+    }
+
+    /// Appends a copy of the value at the hand position without its holders.
+    /// Errors: memory was refused, and all is as before.
+    #[inline(always)]
+    pub fn flatten_clone(&mut self, i: usize) -> Result<Answer, AllocError>
+        ensures { Steps result self.old self.new (step self.old (command.FlattenClone i)) }
+    {
+        laws::methods_fit();
+        replied(self.state.flatten_clone(i))
+    }
+
+    /// Appends what the value at the hand position is as this type, copied without its holders.
+    /// Errors: memory was refused, and all is as before.
+    #[inline(always)]
+    pub fn cast(&mut self, i: usize, kind: TypeId) -> Result<Answer, AllocError>
+        ensures { Steps result self.old self.new (step self.old (command.Cast i kind)) }
+    {
+        laws::methods_fit();
+        replied(self.state.cast(i, kind))
     }
 }

@@ -1,13 +1,15 @@
 //! Questions about places in lists.
-ghost use Rattle.rhai_run.specs.Does.{Does};
+ghost use Rattle.rhai_run.specs.Does.{Steps, Does};
 ghost use Rattle.rhai_run.specs.declared.command.Command.TheVariants as command;
 ghost use Rattle.rhai_run.specs.Step.{step};
 
 use crate::answer::Answer;
 use crate::not_done::NotDone;
+use crate::world::{World, replied};
 use crate::world_state::WorldState;
 use rhai_target::{calc_index, calc_offset_len};
 use rhai_value::INT;
+use std::alloc::AllocError;
 
 impl WorldState {
     pub(crate) fn offset(&self, length: usize, start: INT, len: INT) -> Result<Answer, NotDone>
@@ -24,5 +26,25 @@ impl WorldState {
             Some(place) => Ok(Answer::Int(place as i128)),
             None => Ok(Answer::Nothing),
         }
+    }
+}
+
+impl World {
+    /// Answers where a slice of a list of this length starts and how many items it has, for a start and a number of items.
+    /// Errors: none, since no memory is wanted.
+    #[inline(always)]
+    pub fn offset(&self, length: usize, start: INT, len: INT) -> Result<Answer, AllocError>
+        ensures { Steps result self.now self.now (step self.now (command.Offset length start len)) }
+    {
+        replied(self.state.offset(length, start, len))
+    }
+
+    /// Answers the place of an item of a list of this length, or nothing; with the flag a negative index counts from the end.
+    /// Errors: none, since no memory is wanted.
+    #[inline(always)]
+    pub fn index(&self, length: usize, index: INT, from_end: bool) -> Result<Answer, AllocError>
+        ensures { Steps result self.now self.now (step self.now (command.Index length index from_end)) }
+    {
+        replied(self.state.index(length, index, from_end))
     }
 }

@@ -1,5 +1,5 @@
 //! Laws of the machine: each is the contract of a function that does nothing.
-ghost use Rattle.std.specs.Prelude.{◌≡◌, ℕ, ◌+◌, ◌<◌, ◌↔◌, Bool, nat_eq, List, [], ◌∷◌, ◌++◌, length, drop, map, reverse, Some, None, option_map, true, false, Vec, Box};
+ghost use Rattle.std.specs.Prelude.{◌≡◌, ℕ, ◌+◌, ◌<◌, ◌↔◌, Bool, nat_eq, List, [], ◌∷◌, ◌++◌, length, drop, map, reverse, Some, None, option_map, true, false, Result, Vec, Box};
 ghost use Rattle.std.specs.declared.alloc.Global.{Global};
 ghost use Rattle.std.specs.BTreeMap.{is_at};
 ghost use Rattle.std.specs.List.{Contains, IsDistinct, zip};
@@ -33,6 +33,8 @@ ghost use Rattle.rhai_run.specs.declared.answer.Answer.{Answer};
 ghost use Rattle.rhai_run.specs.declared.answer.Answer.TheVariants.{Refused};
 ghost use Rattle.rhai_run.specs.declared.answer.Refusal.{Refusal};
 ghost use Rattle.rhai_run.specs.declared.answer.Refusal.TheVariants.{Fault, NotHashable};
+ghost use Rattle.rhai_run.specs.Does.{Does};
+ghost use Rattle.rhai_run.specs.declared.not_done.NotDone.{NotDone};
 ghost use Rattle.rhai_run.specs.Step.{step};
 ghost use Rattle.rhai_run.specs.Machine.{replies, state_after};
 ghost use Rattle.rhai_run.specs.Stop.{StopsAfter};
@@ -49,6 +51,11 @@ pub fn empty_state_fits()
 /// Each command keeps a state fitting.
 pub fn steps_fit()
     ensures { (w : State) (c : Command) → Fits w → Fits (step w c).after }
+{}
+
+/// A method of the state that makes a command's step keeps it fitting.
+pub(crate) fn methods_fit()
+    ensures { (done : Result Answer NotDone) (old new : State) (c : Command) → Fits old → Does done old new (step old c) → Fits new }
 {}
 
 /// A refused command leaves the state as it was, and wants no memory but where a hash is asked for of what has none; want of memory

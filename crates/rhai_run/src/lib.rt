@@ -37,7 +37,7 @@ mod write_back;
 
 pub use answer::{Answer, Refusal};
 pub use both::{StoppedBoth, run_both};
-pub use command::{Command, Literal, Place, Question, Scanner};
+pub use command::{Command, Literal, Place, PlaceRef, Question, Scanner};
 pub use expr::Expr;
 pub use lists::{Bytes, FlaggedNames, Names};
 pub use rhai_show::Shown;

@@ -5,20 +5,23 @@ ghost use Rattle.rhai_value.specs.Store.{is_marked_at, put, set_mark};
 ghost use Rattle.rhai_run.specs.declared.answer.Refusal.TheVariants.{NoMark};
 ghost use Rattle.rhai_run.specs.declared.not_done.NotDone.TheVariants.{Refused};
 ghost use Rattle.rhai_run.specs.Fits.{Fits, MarksAre};
-ghost use Rattle.rhai_run.specs.Does.{Does};
+ghost use Rattle.rhai_run.specs.Places.{place_of};
+ghost use Rattle.rhai_run.specs.Does.{Steps, Does};
 ghost use Rattle.rhai_run.specs.declared.command.Command.TheVariants as command;
 ghost use Rattle.rhai_run.specs.Step.{step};
 
 use crate::answer::{Answer, Refusal};
-use crate::command::Place;
+use crate::command::PlaceRef;
+use crate::laws;
 use crate::not_done::NotDone;
 use crate::slot::Slot;
 use crate::vectors::replace_at;
+use crate::world::{World, replied};
 use crate::world_state::WorldState;
 use rhai_text::{EvalAltResult, Position};
 use rhai_value::laws::mark_is_cleared;
 use rhai_value::{Dynamic, Store, WriteToken};
-use std::alloc::AllocFailed;
+use std::alloc::{AllocError, AllocFailed};
 
 /// Takes a token out of a list of marks, and frees its cell.
 #[tactic(auto, using(crate::proofs::MarkLists::mark_is_set, crate::proofs::MarkLists::mark_taken))]
@@ -66,8 +69,8 @@ fn token(marks: &[WriteToken], k: usize) -> Result<&WriteToken, NotDone>
 
 impl WorldState {
     #[tactic(auto, using(crate::proofs::MarkLists::first_is_free, crate::proofs::InSlots::source_is, crate::proofs::InSlots::placed_is, crate::proofs::InSlots::placed_refused))]
-    pub(crate) fn mark(&mut self, place: &Place) -> Result<Answer, NotDone>
-        ensures { Does result self.old self.new (step self.old (command.Mark place.now)) }
+    pub(crate) fn mark(&mut self, place: PlaceRef<'_>) -> Result<Answer, NotDone>
+        ensures { Does result self.old self.new (step self.old (command.Mark (place_of place.entry))) }
     {
         let slot = Slot::of(&self.hand, &self.scope, place)?;
         let holder = slot.value(&self.hand, &self.scope);
@@ -116,5 +119,48 @@ impl WorldState {
         let token = token(&self.marks, k)?;
         let value = self.store.through(token).copy(self.alloc)?;
         self.append(value)
+    }
+}
+
+impl World {
+    /// Marks the cell of the holder at the place: from then on it is read and written by the mark alone. The mark goes to the end of the
+    /// list of marks.
+    /// Errors: memory was refused, and all is as before.
+    #[inline(always)]
+    pub fn mark(&mut self, place: PlaceRef<'_>) -> Result<Answer, AllocError>
+        ensures { Steps result self.old self.new (step self.old (command.Mark (place_of place.entry))) }
+    {
+        laws::methods_fit();
+        replied(self.state.mark(place))
+    }
+
+    /// Takes the mark at this position out of the list, and frees its cell; later marks close up.
+    /// Errors: none, since no memory is wanted.
+    #[inline(always)]
+    pub fn unmark(&mut self, k: usize) -> Result<Answer, AllocError>
+        ensures { Steps result self.old self.new (step self.old (command.Unmark k)) }
+    {
+        laws::methods_fit();
+        replied(self.state.unmark(k))
+    }
+
+    /// Moves the value at the hand position into the cell of the mark at this position, and leaves unit.
+    /// Errors: none, since no memory is wanted.
+    #[inline(always)]
+    pub fn write_marked(&mut self, k: usize, i: usize) -> Result<Answer, AllocError>
+        ensures { Steps result self.old self.new (step self.old (command.WriteMarked k i)) }
+    {
+        laws::methods_fit();
+        replied(self.state.write_marked(k, i))
+    }
+
+    /// Appends a copy of what is in the cell of the mark at this position.
+    /// Errors: memory was refused, and all is as before.
+    #[inline(always)]
+    pub fn read_marked(&mut self, k: usize) -> Result<Answer, AllocError>
+        ensures { Steps result self.old self.new (step self.old (command.ReadMarked k)) }
+    {
+        laws::methods_fit();
+        replied(self.state.read_marked(k))
     }
 }

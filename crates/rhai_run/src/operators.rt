@@ -4,22 +4,26 @@ ghost use Rattle.rhai_ops.specs.Outcome.{IsOutcome};
 ghost use Rattle.rhai_ops.specs.Results.{MayWant, Suits, outcome};
 ghost use Rattle.rhai_ops.specs.Effects.{answered, operator, second_left, effect};
 ghost use Rattle.rhai_run.specs.Slots.{assigned_in, called_in, value_in, HasOperands, Looks};
-ghost use Rattle.rhai_run.specs.Does.{Calls, Does, Gives};
+ghost use Rattle.rhai_run.specs.Places.{place_of};
+ghost use Rattle.rhai_run.specs.Does.{Steps, Calls, Does, Gives};
 ghost use Rattle.rhai_run.specs.declared.command.Command.TheVariants as command;
 ghost use Rattle.rhai_run.specs.Step.{step};
 
 use crate::answer::{Answer, Refusal};
-use crate::command::Place;
+use crate::command::PlaceRef;
+use crate::laws;
 use crate::not_done::NotDone;
 use crate::place::{differ, is_apart};
 use crate::slot::Slot;
 use crate::slots::Slots;
 use crate::vectors::replace_at;
+use crate::world::{World, replied};
 use crate::world_state::WorldState;
 use rhai_ops::laws::{operators_write_nothing, rows_suit};
 use rhai_ops::{FnBuiltin, get_builtin_binary_op_fn, get_builtin_op_assignment_fn};
 use rhai_text::{EvalAltResult, Position, Token};
 use rhai_value::Dynamic;
+use std::alloc::AllocError;
 
 impl WorldState {
     /// What an operator answers on two values of the hand.
@@ -82,8 +86,13 @@ impl WorldState {
 
     /// The row of an assignment on the first content of the value at a place and on the one at a hand position, and the slot of the
     /// place.
-    fn assignment(&self, op: Token, place: &Place, j: usize) -> Result<(FnBuiltin, Slot), NotDone>
-        ensures { Looks result self.now op place.now j }
+    fn assignment(
+        &self,
+        op: Token,
+        place: PlaceRef<'_>,
+        j: usize,
+    ) -> Result<(FnBuiltin, Slot), NotDone>
+        ensures { Looks result self.now op (place_of place.entry) j }
     {
         let y = self.value(j)?;
         let slot = Slot::of(&self.hand, &self.scope, place)?;
@@ -98,11 +107,38 @@ impl WorldState {
         Ok((row, slot))
     }
 
-    pub(crate) fn assign(&mut self, op: Token, place: &Place, j: usize) -> Result<Answer, NotDone>
-        ensures { Does result self.old self.new (step self.old (command.Assign op place.now j)) }
+    pub(crate) fn assign(
+        &mut self,
+        op: Token,
+        place: PlaceRef<'_>,
+        j: usize,
+    ) -> Result<Answer, NotDone>
+        ensures { Does result self.old self.new (step self.old (command.Assign op (place_of place.entry) j)) }
     {
         let (row, slot) = self.assignment(op, place, j)?;
         self.assign_by(row, slot, j)?;
         Ok(Answer::Done)
+    }
+}
+
+impl World {
+    /// Appends what the operator answers on the values at the two hand positions.
+    /// Errors: memory was refused, and all is as before.
+    #[inline(always)]
+    pub fn binary(&mut self, op: Token, i: usize, j: usize) -> Result<Answer, AllocError>
+        ensures { Steps result self.old self.new (step self.old (command.Binary op i j)) }
+    {
+        laws::methods_fit();
+        replied(self.state.binary(op, i, j))
+    }
+
+    /// Calls the assignment of the operator on the value at the place and the one at the hand position.
+    /// Errors: memory was refused, and all is as before.
+    #[inline(always)]
+    pub fn assign(&mut self, op: Token, place: PlaceRef<'_>, j: usize) -> Result<Answer, AllocError>
+        ensures { Steps result self.old self.new (step self.old (command.Assign op (place_of place.entry) j)) }
+    {
+        laws::methods_fit();
+        replied(self.state.assign(op, place, j))
     }
 }

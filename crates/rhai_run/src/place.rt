@@ -2,10 +2,10 @@
 ghost use Rattle.std.specs.Prelude.{◌≡◌, true, false, nat_eq, IfErr, OnOk};
 ghost use Rattle.rhai_run.specs.declared.answer.Refusal.TheVariants.{SameValue};
 ghost use Rattle.rhai_run.specs.declared.not_done.NotDone.TheVariants.{Refused};
-ghost use Rattle.rhai_run.specs.Places.{is_at};
+ghost use Rattle.rhai_run.specs.Places.{is_at, place_of};
 
 use crate::answer::Refusal;
-use crate::command::Place;
+use crate::command::PlaceRef;
 use crate::not_done::NotDone;
 
 /// Whether two hand positions differ.
@@ -20,12 +20,12 @@ pub(crate) fn differ(i: usize, j: usize) -> Result<(), NotDone>
 }
 
 /// Whether a place is another one than a hand position.
-pub(crate) fn is_apart(place: &Place, j: usize) -> Result<(), NotDone>
-    ensures ok { OnOk result (is_at place.now j ≡ false) }
-    ensures err { IfErr result (λ e. (e ≡ Refused SameValue) × (is_at place.now j ≡ true)) }
+pub(crate) fn is_apart(place: PlaceRef<'_>, j: usize) -> Result<(), NotDone>
+    ensures ok { OnOk result (is_at (place_of place.entry) j ≡ false) }
+    ensures err { IfErr result (λ e. (e ≡ Refused SameValue) × (is_at (place_of place.entry) j ≡ true)) }
 {
     match place {
-        Place::Hand(i) => differ(*i, j),
-        Place::Entry(_) => Ok(()),
+        PlaceRef::Hand(i) => differ(i, j),
+        PlaceRef::Entry(_) => Ok(()),
     }
 }

@@ -1,17 +1,20 @@
 //! Commands on the scope as a whole, and pushes.
 ghost use Rattle.rhai_run.specs.Entries.{moved_into_entry};
-ghost use Rattle.rhai_run.specs.Does.{Does};
+ghost use Rattle.rhai_run.specs.Does.{Steps, Does};
 ghost use Rattle.rhai_run.specs.declared.command.Command.TheVariants as command;
 ghost use Rattle.rhai_run.specs.Step.{step};
 
 use crate::answer::{Answer, Refusal};
+use crate::laws;
 use crate::lists::Bytes;
 use crate::not_done::NotDone;
 use crate::vectors::replace_at;
+use crate::world::{World, replied};
 use crate::world_state::WorldState;
 use rhai_show::Shown;
 use rhai_text::ImmutableString;
 use rhai_value::{AccessMode, Dynamic};
+use std::alloc::AllocError;
 
 impl WorldState {
     /// Moves a value of the hand into a new entry, painted with a mode.
@@ -132,5 +135,150 @@ impl WorldState {
             None => Err(NotDone::Refused(Refusal::NotHashable)),
             Some(hashed) => Ok(Answer::Bytes(Bytes::new(hashed.into_bytes(self.alloc)?))),
         }
+    }
+}
+
+impl World {
+    /// Moves the value at the hand position into a new entry of the name that may be written, and leaves unit.
+    /// Errors: memory was refused, and all is as before.
+    #[inline(always)]
+    pub fn push(&mut self, name: &ImmutableString, i: usize) -> Result<Answer, AllocError>
+        ensures { Steps result self.old self.new (step self.old (command.Push name.now i)) }
+    {
+        laws::methods_fit();
+        replied(self.state.push_as(name, AccessMode::ReadWrite, i))
+    }
+
+    /// Moves the value at the hand position into a new entry of the name, which is a constant where the value is, and leaves unit.
+    /// Errors: memory was refused, and all is as before.
+    #[inline(always)]
+    pub fn push_dynamic(&mut self, name: &ImmutableString, i: usize) -> Result<Answer, AllocError>
+        ensures { Steps result self.old self.new (step self.old (command.PushDynamic name.now i)) }
+    {
+        laws::methods_fit();
+        replied(self.state.push_dynamic(name, i))
+    }
+
+    /// Moves the value at the hand position into a new entry of the name that is a constant, and leaves unit.
+    /// Errors: memory was refused, and all is as before.
+    #[inline(always)]
+    pub fn push_constant(&mut self, name: &ImmutableString, i: usize) -> Result<Answer, AllocError>
+        ensures { Steps result self.old self.new (step self.old (command.PushConstant name.now i)) }
+    {
+        laws::methods_fit();
+        replied(self.state.push_as(name, AccessMode::ReadOnly, i))
+    }
+
+    /// Drops the last entry.
+    /// Errors: none, since no memory is wanted.
+    #[inline(always)]
+    pub fn pop(&mut self) -> Result<Answer, AllocError>
+        ensures { Steps result self.old self.new (step self.old command.Pop) }
+    {
+        laws::methods_fit();
+        replied(self.state.pop())
+    }
+
+    /// Keeps as many entries as the number says, the first ones.
+    /// Errors: none, since no memory is wanted.
+    #[inline(always)]
+    pub fn rewind(&mut self, n: usize) -> Result<Answer, AllocError>
+        ensures { Steps result self.old self.new (step self.old (command.Rewind n)) }
+    {
+        laws::methods_fit();
+        replied(self.state.rewind(n))
+    }
+
+    /// Drops all entries.
+    /// Errors: none, since no memory is wanted.
+    #[inline(always)]
+    pub fn clear(&mut self) -> Result<Answer, AllocError>
+        ensures { Steps result self.old self.new (step self.old command.Clear) }
+    {
+        laws::methods_fit();
+        replied(self.state.clear())
+    }
+
+    /// Answers how many entries there are.
+    /// Errors: none, since no memory is wanted.
+    #[inline(always)]
+    pub fn len(&self) -> Result<Answer, AllocError>
+        ensures { Steps result self.now self.now (step self.now command.Len) }
+    {
+        replied(self.state.len())
+    }
+
+    /// Answers whether there is no entry.
+    /// Errors: none, since no memory is wanted.
+    #[inline(always)]
+    pub fn is_empty(&self) -> Result<Answer, AllocError>
+        ensures { Steps result self.now self.now (step self.now command.IsEmpty) }
+    {
+        replied(self.state.is_empty())
+    }
+
+    /// Answers whether an entry has the name.
+    /// Errors: none, since no memory is wanted.
+    #[inline(always)]
+    pub fn contains(&self, name: &ImmutableString) -> Result<Answer, AllocError>
+        ensures { Steps result self.now self.now (step self.now (command.Contains name.now)) }
+    {
+        replied(self.state.contains(name))
+    }
+
+    /// Answers the position of the last entry of the name, counted from 0, or nothing.
+    /// Errors: none, since no memory is wanted.
+    #[inline(always)]
+    pub fn search(&self, name: &ImmutableString) -> Result<Answer, AllocError>
+        ensures { Steps result self.now self.now (step self.now (command.Search name.now)) }
+    {
+        replied(self.state.search(name))
+    }
+
+    /// Answers whether the last entry of the name is a constant, or nothing.
+    /// Errors: none, since no memory is wanted.
+    #[inline(always)]
+    pub fn is_constant(&self, name: &ImmutableString) -> Result<Answer, AllocError>
+        ensures { Steps result self.now self.now (step self.now (command.IsConstant name.now)) }
+    {
+        replied(self.state.is_constant(name))
+    }
+
+    /// Keeps copies of the last entries of each name, the newest first.
+    /// Errors: memory was refused, and all is as before.
+    #[inline(always)]
+    pub fn keep_visible(&mut self) -> Result<Answer, AllocError>
+        ensures { Steps result self.old self.new (step self.old command.KeepVisible) }
+    {
+        laws::methods_fit();
+        replied(self.state.keep_visible())
+    }
+
+    /// Keeps copies of all entries.
+    /// Errors: memory was refused, and all is as before.
+    #[inline(always)]
+    pub fn copy_scope(&mut self) -> Result<Answer, AllocError>
+        ensures { Steps result self.old self.new (step self.old command.CopyScope) }
+    {
+        laws::methods_fit();
+        replied(self.state.copy_scope())
+    }
+
+    /// Answers the text of the scope.
+    /// Errors: memory was refused, and all is as before.
+    #[inline(always)]
+    pub fn show_scope(&self) -> Result<Answer, AllocError>
+        ensures { Steps result self.now self.now (step self.now command.ShowScope) }
+    {
+        replied(self.state.show_scope())
+    }
+
+    /// Answers the hash bytes of the scope.
+    /// Errors: memory was refused, and all is as before.
+    #[inline(always)]
+    pub fn hash_scope(&self) -> Result<Answer, AllocError>
+        ensures { Steps result self.now self.now (step self.now command.HashScope) }
+    {
+        replied(self.state.hash_scope())
     }
 }

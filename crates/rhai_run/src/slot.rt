@@ -3,11 +3,12 @@ ghost use Rattle.std.specs.Prelude.{◌≡◌, [], Some, Ok, true, is_some, opti
 ghost use Rattle.std.specs.Str.{chars};
 ghost use Rattle.rhai_scope.specs.Lookup.{last_entry, last_position};
 ghost use Rattle.rhai_run.specs.Does.{IsRefusal};
+ghost use Rattle.rhai_run.specs.Places.{place_of};
 ghost use Rattle.rhai_run.specs.Slots.{entry_found, slot_of, source, value_in};
 ghost use Rattle.rhai_run.specs.declared.slot.Slot.TheVariants as slot;
 
 use crate::answer::Refusal;
-use crate::command::Place;
+use crate::command::PlaceRef;
 use crate::not_done::NotDone;
 use rhai_scope::Scope;
 use rhai_value::Dynamic;
@@ -35,15 +36,15 @@ fn position(scope: &Scope, name: &str) -> Result<usize, NotDone>
 
 impl Slot {
     /// Where the value at a place stands, if it may be written.
-    pub(crate) fn of(hand: &[Dynamic], scope: &Scope, place: &Place) -> Result<Slot, NotDone>
-        ensures slot { IfOk result (λ s. slot_of scope.now place.now ≡ Some s) }
-        ensures value { IfOk result (λ s. option_map Ok (value_in hand.now scope.now s) ≡ Some (source hand.now scope.now place.now)) }
-        ensures err { IfErr result (λ e. IsRefusal e (source hand.now scope.now place.now)) }
+    pub(crate) fn of(hand: &[Dynamic], scope: &Scope, place: PlaceRef<'_>) -> Result<Slot, NotDone>
+        ensures slot { IfOk result (λ s. slot_of scope.now (place_of place.entry) ≡ Some s) }
+        ensures value { IfOk result (λ s. option_map Ok (value_in hand.now scope.now s) ≡ Some (source hand.now scope.now (place_of place.entry))) }
+        ensures err { IfErr result (λ e. IsRefusal e (source hand.now scope.now (place_of place.entry))) }
     {
         match place {
-            Place::Hand(i) if *i < hand.len() => Ok(Slot::Hand(*i)),
-            Place::Hand(_) => Err(NotDone::Refused(Refusal::NoValue)),
-            Place::Entry(name) => Ok(Slot::Entry(position(scope, name.as_str())?)),
+            PlaceRef::Hand(i) if i < hand.len() => Ok(Slot::Hand(i)),
+            PlaceRef::Hand(_) => Err(NotDone::Refused(Refusal::NoValue)),
+            PlaceRef::Entry(name) => Ok(Slot::Entry(position(scope, name.as_str())?)),
         }
     }
 

@@ -4,16 +4,19 @@ ghost use Rattle.rhai_value.specs.End.{end};
 ghost use Rattle.rhai_run.specs.declared.pieces.Piece.TheVariants.{Bit, Field, Byte, Character};
 ghost use Rattle.rhai_run.specs.Slots.{changed_in, value_in};
 ghost use Rattle.rhai_run.specs.WriteBack.{rule, step_write_back};
-ghost use Rattle.rhai_run.specs.Does.{Does};
+ghost use Rattle.rhai_run.specs.Places.{place_of};
+ghost use Rattle.rhai_run.specs.Does.{Steps, Does};
 ghost use Rattle.rhai_run.specs.declared.command.Command.TheVariants as command;
 ghost use Rattle.rhai_run.specs.Step.{step};
 
 use crate::answer::Answer;
-use crate::command::Place;
+use crate::command::PlaceRef;
+use crate::laws;
 use crate::not_done::NotDone;
 use crate::pieces::Piece;
 use crate::slot::Slot;
 use crate::slots::Slots;
+use crate::world::{World, replied};
 use crate::world_state::WorldState;
 use rhai_target::Slice;
 use rhai_value::{Dynamic, INT};
@@ -39,8 +42,8 @@ impl WorldState {
 
     /// Writes the value at a hand position to a piece of the one at a place.
     #[tactic(auto, using(crate::proofs::InSlots::source_is, crate::proofs::InSlots::placed_is, crate::proofs::InSlots::placed_refused, crate::proofs::InSlots::same_change))]
-    fn write_back(&mut self, place: &Place, piece: Piece, j: usize) -> Result<Answer, NotDone>
-        ensures { Does result self.old self.new (step_write_back self.old place.now piece j) }
+    fn write_back(&mut self, place: PlaceRef<'_>, piece: Piece, j: usize) -> Result<Answer, NotDone>
+        ensures { Does result self.old self.new (step_write_back self.old (place_of place.entry) piece j) }
     {
         let value = self.value(j)?;
         let slot = Slot::of(&self.hand, &self.scope, place)?;
@@ -50,55 +53,60 @@ impl WorldState {
         Ok(Answer::Done)
     }
 
-    pub(crate) fn write_bit(&mut self, place: &Place, bit: u8, j: usize) -> Result<Answer, NotDone>
-        ensures { Does result self.old self.new (step self.old (command.WriteBit place.now bit j)) }
+    pub(crate) fn write_bit(
+        &mut self,
+        place: PlaceRef<'_>,
+        bit: u8,
+        j: usize,
+    ) -> Result<Answer, NotDone>
+        ensures { Does result self.old self.new (step self.old (command.WriteBit (place_of place.entry) bit j)) }
     {
         self.write_back(place, Piece::Bit(bit), j)
     }
 
     pub(crate) fn write_field(
         &mut self,
-        place: &Place,
+        place: PlaceRef<'_>,
         mask: INT,
         shift: u8,
         j: usize,
     ) -> Result<Answer, NotDone>
-        ensures { Does result self.old self.new (step self.old (command.WriteField place.now mask shift j)) }
+        ensures { Does result self.old self.new (step self.old (command.WriteField (place_of place.entry) mask shift j)) }
     {
         self.write_back(place, Piece::Field(mask, shift), j)
     }
 
     pub(crate) fn write_byte(
         &mut self,
-        place: &Place,
+        place: PlaceRef<'_>,
         index: usize,
         j: usize,
     ) -> Result<Answer, NotDone>
-        ensures { Does result self.old self.new (step self.old (command.WriteByte place.now index j)) }
+        ensures { Does result self.old self.new (step self.old (command.WriteByte (place_of place.entry) index j)) }
     {
         self.write_back(place, Piece::Byte(index), j)
     }
 
     pub(crate) fn write_char(
         &mut self,
-        place: &Place,
+        place: PlaceRef<'_>,
         index: usize,
         j: usize,
     ) -> Result<Answer, NotDone>
-        ensures { Does result self.old self.new (step self.old (command.WriteChar place.now index j)) }
+        ensures { Does result self.old self.new (step self.old (command.WriteChar (place_of place.entry) index j)) }
     {
         self.write_back(place, Piece::Character(index), j)
     }
 
     pub(crate) fn write_slice(
         &mut self,
-        place: &Place,
+        place: PlaceRef<'_>,
         start: usize,
         end: usize,
         exclusive: bool,
         j: usize,
     ) -> Result<Answer, NotDone>
-        ensures { Does result self.old self.new (step self.old (command.WriteSlice place.now start end exclusive j)) }
+        ensures { Does result self.old self.new (step self.old (command.WriteSlice (place_of place.entry) start end exclusive j)) }
     {
         let slice = Slice {
             start,
@@ -106,5 +114,86 @@ impl WorldState {
             exclusive,
         };
         self.write_back(place, Piece::Characters(slice), j)
+    }
+}
+
+impl World {
+    /// Writes the boolean at the hand position to this bit of the int at the place.
+    /// Errors: none, since no memory is wanted.
+    #[inline(always)]
+    pub fn write_bit(
+        &mut self,
+        place: PlaceRef<'_>,
+        bit: u8,
+        j: usize,
+    ) -> Result<Answer, AllocError>
+        ensures { Steps result self.old self.new (step self.old (command.WriteBit (place_of place.entry) bit j)) }
+    {
+        laws::methods_fit();
+        replied(self.state.write_bit(place, bit, j))
+    }
+
+    /// Writes the int at the hand position, shifted left, to the bits of the mask in the int at the place.
+    /// Errors: none, since no memory is wanted.
+    #[inline(always)]
+    pub fn write_field(
+        &mut self,
+        place: PlaceRef<'_>,
+        mask: INT,
+        shift: u8,
+        j: usize,
+    ) -> Result<Answer, AllocError>
+        ensures { Steps result self.old self.new (step self.old (command.WriteField (place_of place.entry) mask shift j)) }
+    {
+        laws::methods_fit();
+        replied(self.state.write_field(place, mask, shift, j))
+    }
+
+    /// Writes the int at the hand position to the byte of this index of the blob at the place.
+    /// Errors: none, since no memory is wanted.
+    #[inline(always)]
+    pub fn write_byte(
+        &mut self,
+        place: PlaceRef<'_>,
+        index: usize,
+        j: usize,
+    ) -> Result<Answer, AllocError>
+        ensures { Steps result self.old self.new (step self.old (command.WriteByte (place_of place.entry) index j)) }
+    {
+        laws::methods_fit();
+        replied(self.state.write_byte(place, index, j))
+    }
+
+    /// Writes the character at the hand position over the one of this index of the text at the place.
+    /// Errors: memory was refused, and all is as before.
+    #[inline(always)]
+    pub fn write_char(
+        &mut self,
+        place: PlaceRef<'_>,
+        index: usize,
+        j: usize,
+    ) -> Result<Answer, AllocError>
+        ensures { Steps result self.old self.new (step self.old (command.WriteChar (place_of place.entry) index j)) }
+    {
+        laws::methods_fit();
+        replied(self.state.write_char(place, index, j))
+    }
+
+    /// Writes what the value at the hand position prints as over the characters from the first index on, up to the second one; this one is
+    /// replaced too unless the slice is exclusive.
+    /// Errors: memory was refused, and all is as before.
+    #[inline(always)]
+    pub fn write_slice(
+        &mut self,
+        place: PlaceRef<'_>,
+        start: usize,
+        end: usize,
+        exclusive: bool,
+        j: usize,
+    ) -> Result<Answer, AllocError>
+        ensures { Steps result self.old self.new (step self.old (command.WriteSlice (place_of place.entry) start end exclusive j)) }
+    {
+        laws::methods_fit();
+        replied(self.state.write_slice(place, start, end, exclusive, j))
     }
 }

@@ -1,6 +1,7 @@
 use Rattle.std.proofs.Common.{◌≡◌, subst, Some, Ok, option_map, rules}
 use Rattle.rhai_value.specs.End.{first}
 use Rattle.rhai_ops.specs.AssignTable.{assign_row}
+use Rattle.rhai_run.specs.Places.{place_of}
 use Rattle.rhai_run.specs.State.{State}
 use Rattle.rhai_run.specs.StateCode.{state_of}
 use Rattle.rhai_run.specs.Slots.{slot_of, source, value_in}
@@ -12,7 +13,7 @@ pub returns : goal.returns
 returns c =
     let w = c.args.self.now in
     let v : State = state_of c.self.inside.store c.self.inside.scope c.self.inside.marks.items c.self.inside.hand.items c.self.inside.limits in
-    let p = c.args.place.now in
+    let p = place_of c.args.place in
     let q = c.in_ok-slot.slot in
     let x = c.value-x.result.now in
     let y = c.in_ok-y.y.now in

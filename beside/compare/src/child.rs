@@ -7,18 +7,18 @@ use std::process::{Child, ChildStdin, ChildStdout, Command, Stdio};
 pub struct Port {
     program: String,
     child: Child,
-    to: ChildStdin,
+    to: Option<ChildStdin>,
     from: ChildStdout,
 }
 
-fn start(program: &str) -> (Child, ChildStdin, ChildStdout) {
+fn start(program: &str) -> (Child, Option<ChildStdin>, ChildStdout) {
     let mut child = Command::new(program)
         .stdin(Stdio::piped())
         .stdout(Stdio::piped())
         .stderr(Stdio::null())
         .spawn()
         .expect("the port's program");
-    let (to, from) = (child.stdin.take().unwrap(), child.stdout.take().unwrap());
+    let (to, from) = (child.stdin.take(), child.stdout.take().expect("its output"));
     (child, to, from)
 }
 
@@ -35,9 +35,10 @@ impl Port {
             batch.extend((bytes.len() as u32).to_le_bytes());
             batch.extend(bytes);
         }
-        self.to.write_all(&(batch.len() as u32).to_le_bytes())?;
-        self.to.write_all(&batch)?;
-        self.to.flush()?;
+        let to = self.to.as_mut().expect("its input");
+        to.write_all(&(batch.len() as u32).to_le_bytes())?;
+        to.write_all(&batch)?;
+        to.flush()?;
         let mut size = [0; 4];
         self.from.read_exact(&mut size)?;
         let mut all = vec![0; u32::from_le_bytes(size) as usize];
@@ -68,6 +69,23 @@ impl Port {
         let mut out = self.ask(a);
         out.extend(self.ask(b));
         out
+    }
+}
+
+impl Port {
+    /// Ends the input, and so the program.
+    ///
+    /// # Errors
+    ///
+    /// The status, where that isn't 0.
+    pub fn end(mut self) -> std::result::Result<(), String> {
+        drop(self.to.take());
+        let status = self.child.wait().expect("its end");
+        if status.success() {
+            Ok(())
+        } else {
+            Err(status.to_string())
+        }
     }
 }
 

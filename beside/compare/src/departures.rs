@@ -1,9 +1,9 @@
 //! What the release does otherwise than the port, each by its name in docs/PORTING.md.
 
-use std::collections::BTreeMap;
+use std::collections::{BTreeMap, BTreeSet};
 
 macro_rules! departures {
-    ($($(#[doc = $text:literal])* $variant:ident $name:literal)*) => {
+    ($($(#[doc = $text:literal])* $variant:ident $name:literal $keys:expr;)*) => {
         #[derive(Clone, Copy, Debug, PartialEq, Eq, PartialOrd, Ord)]
         pub enum Departure { $($(#[doc = $text])* $variant),* }
 
@@ -15,45 +15,80 @@ macro_rules! departures {
             pub const fn name(self) -> &'static str {
                 match self { $(Departure::$variant => $name),* }
             }
+
+            /// The keys of the lines of answers that are this one's; of most departures any line may be.
+            const fn keys(self) -> &'static [&'static str] {
+                match self { $(Departure::$variant => &$keys),* }
+            }
         }
     };
 }
 
 departures! {
     /// A typed question, a cast or a typed write panics on a borrowed cell.
-    BorrowedQuestion "borrowed_question"
+    BorrowedQuestion "borrowed_question" [];
     /// `is` of a shared value does so too.
-    BorrowedIs "borrowed_is"
+    BorrowedIs "borrowed_is" ["is"];
     /// Look-up of a binary operator panics on a borrowed cell.
-    BorrowedLookUp "borrowed_lookup"
+    BorrowedLookUp "borrowed_lookup" [];
     /// A text's assignment by a text panics on two holders of one cell.
-    OneCell "one_cell"
+    OneCell "one_cell" [];
     /// Typed calls of a shared value look at its first cell alone.
-    FirstCell "first_cell"
+    FirstCell "first_cell" [];
     /// `flatten` of the last holder takes the content out, its modes kept.
-    LastHolder "last_holder"
+    LastHolder "last_holder" [];
     /// `into_typed_array` of a shared array reads its items by locks.
-    TypedArray "typed_array"
+    TypedArray "typed_array" [];
     /// `into_typed_array` of a shared blob reads what isn't there.
-    SharedBlob "shared_blob"
+    SharedBlob "shared_blob" [];
     /// A holder that is reached twice may print `<shared>`.
-    PrintedTwice "printed_twice"
+    PrintedTwice "printed_twice" ["display", "debug", "shown"];
     /// `is_hashable` is false where a holder is reached twice.
-    HashableTwice "hashable_twice"
+    HashableTwice "hashable_twice" ["hashable", "hash", "hash y", "same_hash"];
     /// `Debug` escapes characters past U+007F.
-    Escapes "escapes"
+    Escapes "escapes" ["display", "debug", "shown"];
     /// `==` of the two ranges goes by `Equals`.
-    RangeEquality "range_equality"
+    RangeEquality "range_equality" [];
     /// `blob += char` is tested as one byte more.
-    BlobCharacter "blob_character"
+    BlobCharacter "blob_character" [];
     /// Some assignments replace the whole value, its tag and mode too.
-    WholeValue "whole_value"
+    WholeValue "whole_value" [];
     /// The name in a mismatch on a shared value is that of the `Rc`.
-    RcName "rc_name"
+    RcName "rc_name" [];
     /// An operand that is taken is unit after an error, and an item is pushed before the size is tested, which counts nested items too.
-    TakenOperand "taken_operand"
+    TakenOperand "taken_operand" [];
     /// Host numbers of other types but of the same bytes have one hash.
-    HashBytes "hash_bytes"
+    HashBytes "hash_bytes" ["same_hash"];
+}
+
+/// The key of a line of answers.
+#[must_use]
+pub fn key(line: &str) -> &str {
+    line.split('=').next().unwrap_or("")
+}
+
+/// Which of the departures that were put in can be the reason for a difference in a line.
+fn reasons(why: &BTreeSet<Departure>, key: &str) -> BTreeSet<Departure> {
+    let named: BTreeSet<_> = why.iter().copied().filter(|departure| departure.keys().contains(&key)).collect();
+    let others: BTreeSet<_> = why.iter().copied().filter(|departure| departure.keys().is_empty()).collect();
+    [named, others].into_iter().find(|found| !found.is_empty()).unwrap_or_else(|| why.clone())
+}
+
+/// The departures that were put in and show: each is the one reason for a difference between two texts of answers.
+#[must_use]
+pub fn shown(why: &BTreeSet<Departure>, raw: &str, ruled: &str) -> BTreeSet<Departure> {
+    let (mut raw, mut ruled) = (raw.lines(), ruled.lines());
+    let mut met = BTreeSet::new();
+    loop {
+        let (a, b) = (raw.next(), ruled.next());
+        let Some(line) = b.or(a) else { return met };
+        if a != b {
+            let reasons = reasons(why, key(line));
+            if let (Some(reason), 1) = (reasons.first(), reasons.len()) {
+                met.insert(*reason);
+            }
+        }
+    }
 }
 
 /// How often each departure was met.
@@ -70,6 +105,18 @@ impl Tally {
             *self.0.entry(*departure).or_default() += count;
         }
     }
+
+    /// Prints a line for each departure; answers how many were met fewer times than that.
+    pub fn report(&self, least: u64) -> usize {
+        let mut seldom = 0;
+        for departure in Departure::ALL {
+            let count = self.0.get(departure).copied().unwrap_or_default();
+            let too_few = count < least;
+            seldom += usize::from(too_few);
+            println!("  departure {}: {count}{}", departure.name(), if too_few { ", TOO SELDOM" } else { "" });
+        }
+        seldom
+    }
 }
 
 /// The departures whose name no row of docs/PORTING.md begins with.
@@ -77,4 +124,12 @@ impl Tally {
 pub fn unlisted(page: &str) -> Vec<&'static str> {
     let names = Departure::ALL.iter().map(|departure| departure.name());
     names.filter(|name| !page.contains(&format!("| `{name}`: "))).collect()
+}
+
+/// The names before rows of docs/PORTING.md that no departure has.
+#[must_use]
+pub fn unknown(page: &str) -> Vec<&str> {
+    let rows = page.lines().filter_map(|line| line.strip_prefix("| `")?.split_once("`: "));
+    let names = rows.map(|(name, _)| name).filter(|name| name.bytes().all(|byte| byte.is_ascii_lowercase() || byte == b'_'));
+    names.filter(|name| Departure::ALL.iter().all(|departure| departure.name() != *name)).collect()
 }

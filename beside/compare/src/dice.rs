@@ -102,12 +102,41 @@ pub fn small(d: &mut Dice) -> i64 {
     }
 }
 
+/// Lengths around those from which on texts, names and keys are compared, copied or kept in another way.
+const BLOCKS: [usize; 30] = [
+    3, 4, 5, 7, 8, 9, 15, 16, 17, 23, 24, 25, 31, 32, 33, 47, 48, 49, 55, 56, 57, 63, 64, 65, 79, 80, 81, 127, 128, 129,
+];
+
+/// A text of such a length, like all others of it but for one character at most.
+pub fn block_text(d: &mut Dice) -> String {
+    let mut text: String = (b'a'..=b'h').cycle().take(d.pick(&BLOCKS)).map(char::from).collect();
+    if d.one_in(2) {
+        let at = d.below(text.len() as u64) as usize;
+        text.replace_range(at..=at, d.pick(&["x", "A", "\0", "é"]));
+    }
+    text
+}
+
+/// A key of a map: many begin alike, or go on in zeros.
+pub fn key(d: &mut Dice) -> String {
+    match d.below(8) {
+        0..=3 => text(d),
+        4 => "\0".repeat(d.below(10) as usize),
+        5 => format!("a{}", "\0".repeat(d.below(10) as usize)),
+        _ => {
+            let front = &"begins_as_others_do_and_goes_on"[..d.pick(&[0, 6, 7, 8, 9, 15, 16, 17, 24])];
+            format!("{front}{}", d.pick(&["", "a", "b", "\0", "aa", "é"]))
+        }
+    }
+}
+
 pub fn text(d: &mut Dice) -> String {
     let n = match d.below(16) {
         0..=2 => 0,
-        3..=13 => d.below(4) + 1,
-        14 => d.below(10),
-        _ => d.below(20) + 15,
+        3..=12 => d.below(4) + 1,
+        13 => d.below(10),
+        14 => d.below(20) + 15,
+        _ => return block_text(d),
     };
     let plain = d.one_in(2);
     (0..n).map(|_| if plain { d.pick(&['a', 'a', 'b', 'é']) } else { d.pick(&CHARS) }).collect()

@@ -15,7 +15,7 @@ pub fn quote(s: &str, out: &mut String) {
     out.push('"');
 }
 
-pub fn own_host(v: &Dynamic) -> String {
+fn own_host(v: &Dynamic) -> String {
     macro_rules! hosts {
         ($($t:ident)*) => { $(
             if let Some(n) = hooks::downcast_ref::<$t>(v) {

@@ -1,15 +1,22 @@
 //! Random recipes.
 
-use crate::dice::{blob, int, small, tag, text, Dice, CHARS};
-use crate::recipe::{Call, Kind, Recipe, V};
+use crate::dice::{blob, int, key, small, tag, text, Dice, CHARS};
+use crate::recipe::{Call, Kind, LookUp, Recipe, V};
 use crate::scripts::{step, wide_script};
 use crate::values::{host, Maker, Taste};
 
 /// Any of the kinds below.
 const ANY: u64 = 11;
 
+/// A map, mostly of few entries.
+pub fn map(m: &mut Maker) -> V {
+    let count = if m.d.one_in(8) { m.d.below(40) } else { m.d.below(4) };
+    let depth = if count > 3 { 0 } else { 1 };
+    V::Map((0..count).map(|_| (key(m.d), m.value(depth))).collect())
+}
+
 /// A value of a kind: the first eleven are those of an operand that is no holder.
-fn of_kind(m: &mut Maker, kind: u64) -> V {
+pub fn of_kind(m: &mut Maker, kind: u64) -> V {
     match kind {
         0 => V::Unit,
         1 => V::Bool(m.d.one_in(2)),
@@ -18,7 +25,7 @@ fn of_kind(m: &mut Maker, kind: u64) -> V {
         4 => V::Text(text(m.d)),
         5 => V::Blob(blob(m.d)),
         6 => V::Array(m.items(2)),
-        7 => V::Map((0..m.d.below(3)).map(|_| (text(m.d), m.value(1))).collect()),
+        7 => map(m),
         8 => V::Fn(text(m.d), m.items(2)),
         9 => host(m.d),
         10 => {
@@ -76,7 +83,7 @@ fn pair(m: &mut Maker) -> (V, V) {
 }
 
 /// The types whose values this is, as a kind of cast.
-fn kind_of(v: &V) -> u8 {
+pub fn kind_of(v: &V) -> u8 {
     match v {
         V::Unit => 0,
         V::Bool(_) => 1,
@@ -131,6 +138,9 @@ fn with_parts(m: &mut Maker) -> V {
 }
 
 fn first(m: &mut Maker, kind: Kind) -> V {
+    if kind == Kind::Make {
+        return if m.d.one_in(2) { map(m) } else { V::Array((0..m.d.below(8)).map(|_| m.value(1)).collect()) };
+    }
     let sought = match kind {
         Kind::WriteBack => true,
         Kind::Target => m.d.one_in(3),
@@ -186,7 +196,7 @@ fn limits(d: &mut Dice) -> (u8, u8) {
 
 fn cast(d: &mut Dice, x: &V) -> Call {
     let kind = if d.one_in(2) { kind_of(x) } else { d.below(22) as u8 };
-    Call::Cast(if kind == 14 && d.one_in(3) { 13 } else { kind }, d.below(4) as u8)
+    Call::Cast(if kind == 14 && d.one_in(3) { 13 } else { kind }, d.below(5) as u8)
 }
 
 fn movement(d: &mut Dice, x: &V) -> Call {
@@ -228,6 +238,28 @@ fn write(d: &mut Dice, x: &V) -> Call {
     Call::Write(way, text(d))
 }
 
+/// A type of which an item of an array or a value of a map is.
+fn held_kind(d: &mut Dice, x: &V) -> u8 {
+    let items = x.children();
+    if items.is_empty() || d.one_in(4) {
+        return d.below(22) as u8;
+    }
+    let kind = kind_of(d.pick(&items));
+    if kind == 14 && d.one_in(2) {
+        13
+    } else {
+        kind
+    }
+}
+
+/// A collection of which the value can be made.
+fn made_by(d: &mut Dice, x: &V) -> u8 {
+    match x {
+        V::Array(_) => d.below(2) as u8,
+        _ => 2 + d.below(4) as u8,
+    }
+}
+
 /// The call of a recipe on two operands; for a part that is written back, a second operand that fits it half of the time.
 fn call(d: &mut Dice, kind: Kind, x: &V, y: &mut V) -> Call {
     match kind {
@@ -237,7 +269,8 @@ fn call(d: &mut Dice, kind: Kind, x: &V, y: &mut V) -> Call {
         }
         Kind::Assign => {
             let (token, (text, items)) = (if d.one_in(3) { 20 } else { 20 + d.below(11) as u8 }, limits(d));
-            Call::Assign(token, d.one_in(2), text, items)
+            let look_up = if d.one_in(2) { LookUp::FirstContent } else { LookUp::Own };
+            Call::Assign(token, look_up, text, items)
         }
         Kind::Show => Call::Show,
         Kind::Ask => Call::Ask,
@@ -258,6 +291,8 @@ fn call(d: &mut Dice, kind: Kind, x: &V, y: &mut V) -> Call {
             Call::WriteBack(part, first, second, d.one_in(2))
         }
         Kind::Write => write(d, x),
+        Kind::Make => Call::Make(if d.one_in(3) { 21 } else { held_kind(d, x) }, made_by(d, x)),
+        Kind::Hold => Call::Hold(d.below(4) as u8, int(d)),
         Kind::Offsets | Kind::Scope | Kind::WideScope => unreachable!("these need no operands"),
     }
 }
@@ -301,6 +336,8 @@ pub fn recipe(d: &mut Dice, kind: Kind) -> Recipe {
         | Kind::Move
         | Kind::WriteBack
         | Kind::Target
-        | Kind::Write => on_two(d, kind),
+        | Kind::Write
+        | Kind::Make
+        | Kind::Hold => on_two(d, kind),
     }
 }

@@ -1,6 +1,6 @@
 //! The texts of values by the port's rule: a holder of an open or marked cell is `<shared>`, and characters past U+007F stand as themselves.
 
-use crate::dump::{cell_of, own_host, quote};
+use crate::dump::cell_of;
 use crate::ends::parts;
 use rhai::{hooks, Dynamic, Union};
 use std::fmt::Write as _;
@@ -127,37 +127,6 @@ pub fn hashable_by_rule(v: &Dynamic, path: &mut Vec<*const ()>) -> bool {
     let is = hashable_by_rule(&content, path);
     path.pop();
     is
-}
-
-/// What a hashable value is, without tags, modes and holders: the same texts for equal values alone.
-#[must_use]
-pub fn content(v: &Dynamic) -> String {
-    let mut out = String::new();
-    match hooks::union(v) {
-        Union::Str(s, ..) => quote(s, &mut out),
-        Union::Map(m, ..) => {
-            out.push_str("map");
-            for (k, v) in m.iter() {
-                quote(k, &mut out);
-                out.push_str(&content(v));
-            }
-        }
-        Union::Array(a, ..) => {
-            let _ = write!(out, "array{}", a.len());
-            a.iter().for_each(|v| out.push_str(&content(v)));
-        }
-        Union::FnPtr(f, ..) => {
-            quote(f.fn_name(), &mut out);
-            let _ = write!(out, "fn{}", f.curry().len());
-            f.curry().iter().for_each(|v| out.push_str(&content(v)));
-        }
-        Union::Shared(cell, ..) => out.push_str(&content(&cell.borrow())),
-        Union::Variant(..) => out.push_str(&own_host(v)),
-        _ => {
-            let _ = write!(out, "{} {v:?};", v.type_name());
-        }
-    }
-    out
 }
 
 /// The text with escapes of characters past U+007F taken back.

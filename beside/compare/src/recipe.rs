@@ -48,18 +48,20 @@ macro_rules! kinds {
 }
 
 kinds! {
-    Operate 125
-    Assign 125
+    Operate 40
+    Assign 40
     Show 25
     Ask 25
     Cast 40
     Move 35
-    Offsets 25
+    Offsets 15
     WriteBack 30
     Target 30
     Scope 20
-    WideScope 2
+    WideScope 4
     Write 18
+    Make 15
+    Hold 10
 }
 
 #[derive(Clone, Debug, PartialEq)]
@@ -73,12 +75,23 @@ pub enum Step {
     Flagged(Vec<(String, bool, V)>),
 }
 
+/// What an assignment is looked up for.
+#[derive(Clone, Copy, Debug, PartialEq)]
+pub enum LookUp {
+    /// The operands themselves.
+    Own,
+    /// The first content of the first operand.
+    FirstContent,
+    /// What both operands hold, where that is two texts.
+    HeldTexts,
+}
+
 #[derive(Clone, Debug, PartialEq)]
 pub enum Call {
     /// Token, limit of texts, limit of items.
     Operate(u8, u8, u8),
-    /// Token, whether it is looked up for the first content of the first operand, limit of texts, limit of items.
-    Assign(u8, bool, u8, u8),
+    /// Token, what it is looked up for, limit of texts, limit of items.
+    Assign(u8, LookUp, u8, u8),
     Show,
     Ask,
     Cast(u8, u8),
@@ -90,6 +103,10 @@ pub enum Call {
     Target(u8, u8, u8, i64, u64, bool),
     Scope(Vec<Step>),
     Write(u8, String),
+    /// A type, and the collection of Rust by way of which an array or a map is made.
+    Make(u8, u8),
+    /// What is done with the held value, and an int.
+    Hold(u8, i64),
 }
 
 #[derive(Clone, Debug, PartialEq)]
@@ -261,6 +278,8 @@ impl Call {
             Call::Target(..) => 9,
             Call::Scope(..) => 10,
             Call::Write(..) => 11,
+            Call::Make(..) => 12,
+            Call::Hold(..) => 13,
         }
     }
 
@@ -268,9 +287,13 @@ impl Call {
         out.push(self.kind());
         match self {
             Call::Operate(t, a, b) => out.extend([*t, 0, *a, *b]),
-            Call::Assign(t, by_content, a, b) => out.extend([*t, u8::from(*by_content), *a, *b]),
+            Call::Assign(t, look_up, a, b) => out.extend([*t, *look_up as u8, *a, *b]),
             Call::Show | Call::Ask => (),
-            Call::Cast(kind, way) => out.extend([*kind, *way]),
+            Call::Cast(kind, way) | Call::Make(kind, way) => out.extend([*kind, *way]),
+            Call::Hold(way, int) => {
+                out.push(*way);
+                out.extend(int.to_le_bytes());
+            }
             Call::Move(way, tag) => {
                 out.push(*way);
                 out.extend(u64::from(tag.cast_unsigned()).to_le_bytes());

@@ -1,6 +1,6 @@
 //! Smaller recipes.
 
-use crate::recipe::{Call, Recipe, Step, V};
+use crate::recipe::{Call, LookUp, Recipe, Step, V};
 
 fn smaller_items(a: &[V]) -> Vec<Vec<V>> {
     let mut out = Vec::new();
@@ -123,7 +123,7 @@ fn candidates(r: &Recipe) -> Vec<Recipe> {
             with(&|c| c.call = Call::Operate(*t, *a, 0));
         }
         Call::Assign(t, via, a, b) => {
-            with(&|c| c.call = Call::Assign(*t, false, *a, *b));
+            with(&|c| c.call = Call::Assign(*t, LookUp::Own, *a, *b));
             with(&|c| c.call = Call::Assign(*t, *via, 0, *b));
             with(&|c| c.call = Call::Assign(*t, *via, *a, 0));
         }

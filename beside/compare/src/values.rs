@@ -1,6 +1,6 @@
 //! Random values.
 
-use crate::dice::{blob, int, tag, text, Dice, CHARS};
+use crate::dice::{blob, int, key, tag, text, Dice, CHARS};
 use crate::recipe::V;
 
 pub fn host(d: &mut Dice) -> V {
@@ -65,7 +65,7 @@ impl Maker<'_> {
             0..=2 => V::Array(self.items(depth)),
             3 => {
                 let n = self.d.pick(&[0, 1, 1, 2, 3]);
-                V::Map((0..n).map(|_| (text(self.d), self.value(depth - 1))).collect())
+                V::Map((0..n).map(|_| (key(self.d), self.value(depth - 1))).collect())
             }
             _ => V::Fn(text(self.d), self.items(depth)),
         }
@@ -107,6 +107,36 @@ impl Maker<'_> {
         self.dressed(v)
     }
 
+    /// A text like this one: the same, a part of it, or the same but for one character.
+    pub fn like_text(&mut self, s: &str) -> String {
+        let count = s.chars().count() as u64;
+        let at = self.d.below(count + 1) as usize;
+        match self.d.below(6) {
+            0 => s.to_string(),
+            1 => s.chars().skip(at).take(self.d.below(4) as usize).collect(),
+            2 => s.chars().take(at).collect(),
+            3 => s.chars().skip(at).collect(),
+            4 => {
+                let other = self.d.pick(&CHARS);
+                s.chars().enumerate().map(|(i, c)| if i == at { other } else { c }).collect()
+            }
+            _ => text(self.d),
+        }
+    }
+
+    /// A blob like this one: the same, or the same but for one byte, or its first bytes.
+    pub fn like_blob(&mut self, b: &[u8]) -> Vec<u8> {
+        let mut new = b.to_vec();
+        let at = self.d.below(b.len() as u64 + 1) as usize;
+        match self.d.below(4) {
+            0 => (),
+            1 => new.truncate(at),
+            2 if at < new.len() => new[at] ^= 1,
+            _ => return blob(self.d),
+        }
+        new
+    }
+
     /// A value like this one.
     pub fn like(&mut self, v: &V) -> V {
         match v {
@@ -123,20 +153,12 @@ impl Maker<'_> {
             V::Bool(_) => V::Bool(self.d.one_in(2)),
             V::Int(_) => V::Int(int(self.d)),
             V::Char(c) => V::Char(if self.d.one_in(3) { *c } else { self.d.pick(&CHARS) }),
-            V::Text(s) => match self.d.below(4) {
-                0 => V::Text(s.clone()),
-                1 => {
-                    let (a, b) = (self.d.below(s.chars().count() as u64 + 1), self.d.below(4));
-                    V::Text(s.chars().skip(a as usize).take(b as usize).collect())
-                }
-                2 => V::Char(s.chars().next().unwrap_or('a')),
-                _ => V::Text(text(self.d)),
-            },
+            V::Text(s) if self.d.one_in(5) => V::Char(s.chars().next().unwrap_or('a')),
+            V::Text(s) => V::Text(self.like_text(s)),
             V::Blob(b) => match self.d.below(4) {
-                0 => V::Blob(b.clone()),
-                1 => V::Text(text(self.d)),
-                2 => V::Char(self.d.pick(&CHARS)),
-                _ => V::Blob(blob(self.d)),
+                0 | 1 => V::Blob(self.like_blob(b)),
+                2 => V::Text(text(self.d)),
+                _ => V::Char(self.d.pick(&CHARS)),
             },
             V::Host(kind, n) => V::Host(*kind, if self.d.one_in(2) { *n } else { u128::from(self.d.below(4)) }),
             V::Range(a, b) | V::RangeEq(a, b) => {

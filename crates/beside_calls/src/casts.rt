@@ -29,6 +29,26 @@ fn duplicated<T: Variant>(desk: &Desk, x: Option<&T>) -> Result<Option<T>, Alloc
     }
 }
 
+/// Lends what the value itself has of the type, to write, and writes over it what the second value is as one of the type.
+fn written_over<T: Variant>(
+    desk: &mut Desk,
+    x: &mut Dynamic,
+    y: &Dynamic,
+) -> Result<(), AllocError> {
+    let found = match x.downcast_mut::<T>() {
+        None => None,
+        Some(place) => {
+            let before = place.duplicate(desk.alloc)?;
+            if is_castable::<T>(y, &desk.store) {
+                *place = y.clone_cast::<T>(desk.alloc, &desk.store)?;
+            }
+            Some(before)
+        }
+    };
+    say_found(desk, "downcast_mut", found)?;
+    desk.answers.say_value("written", &desk.store, x)
+}
+
 fn looked_into<T: Variant>(desk: &mut Desk, x: &mut Dynamic) -> Result<(), AllocError> {
     let flag = x.is::<T>(&desk.store);
     desk.answers.say_flag("is", flag)?;
@@ -70,9 +90,15 @@ fn cast_result<T: Variant>(desk: &mut Desk, x: Dynamic) -> Result<(), AllocError
     }
 }
 
-fn cast_as<T: Variant>(desk: &mut Desk, x: &mut Dynamic, way: u8) -> Result<(), AllocError> {
+fn cast_as<T: Variant>(
+    desk: &mut Desk,
+    x: &mut Dynamic,
+    y: &Dynamic,
+    way: u8,
+) -> Result<(), AllocError> {
     looked_into::<T>(desk, x)?;
     match way {
+        4 => written_over::<T>(desk, x, y),
         0 => {
             let found = x.take().try_cast::<T>(desk.alloc, &desk.store)?;
             say_found(desk, "try_cast", found)
@@ -90,31 +116,31 @@ fn cast_as<T: Variant>(desk: &mut Desk, x: &mut Dynamic, way: u8) -> Result<(), 
     }
 }
 
-pub fn cast_call(desk: &mut Desk, x: &mut Dynamic) -> Result<(), AllocError> {
+pub fn cast_call(desk: &mut Desk, x: &mut Dynamic, y: &Dynamic) -> Result<(), AllocError> {
     let kind = desk.recipe.byte();
     let way = desk.recipe.byte();
     match kind {
-        0 => cast_as::<()>(desk, x, way),
-        1 => cast_as::<bool>(desk, x, way),
-        2 => cast_as::<char>(desk, x, way),
-        3 => cast_as::<i64>(desk, x, way),
-        4 => cast_as::<u8>(desk, x, way),
-        5 => cast_as::<u16>(desk, x, way),
-        6 => cast_as::<u32>(desk, x, way),
-        7 => cast_as::<u64>(desk, x, way),
-        8 => cast_as::<u128>(desk, x, way),
-        9 => cast_as::<i8>(desk, x, way),
-        10 => cast_as::<i16>(desk, x, way),
-        11 => cast_as::<i32>(desk, x, way),
-        12 => cast_as::<i128>(desk, x, way),
-        13 => cast_as::<String>(desk, x, way),
-        14 => cast_as::<ImmutableString>(desk, x, way),
-        15 => cast_as::<Array>(desk, x, way),
-        16 => cast_as::<Blob>(desk, x, way),
-        17 => cast_as::<Map>(desk, x, way),
-        18 => cast_as::<FnPtr>(desk, x, way),
-        19 => cast_as::<ExclusiveRange>(desk, x, way),
-        20 => cast_as::<InclusiveRange>(desk, x, way),
-        _ => cast_as::<Dynamic>(desk, x, way),
+        0 => cast_as::<()>(desk, x, y, way),
+        1 => cast_as::<bool>(desk, x, y, way),
+        2 => cast_as::<char>(desk, x, y, way),
+        3 => cast_as::<i64>(desk, x, y, way),
+        4 => cast_as::<u8>(desk, x, y, way),
+        5 => cast_as::<u16>(desk, x, y, way),
+        6 => cast_as::<u32>(desk, x, y, way),
+        7 => cast_as::<u64>(desk, x, y, way),
+        8 => cast_as::<u128>(desk, x, y, way),
+        9 => cast_as::<i8>(desk, x, y, way),
+        10 => cast_as::<i16>(desk, x, y, way),
+        11 => cast_as::<i32>(desk, x, y, way),
+        12 => cast_as::<i128>(desk, x, y, way),
+        13 => cast_as::<String>(desk, x, y, way),
+        14 => cast_as::<ImmutableString>(desk, x, y, way),
+        15 => cast_as::<Array>(desk, x, y, way),
+        16 => cast_as::<Blob>(desk, x, y, way),
+        17 => cast_as::<Map>(desk, x, y, way),
+        18 => cast_as::<FnPtr>(desk, x, y, way),
+        19 => cast_as::<ExclusiveRange>(desk, x, y, way),
+        20 => cast_as::<InclusiveRange>(desk, x, y, way),
+        _ => cast_as::<Dynamic>(desk, x, y, way),
     }
 }

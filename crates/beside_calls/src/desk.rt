@@ -3,6 +3,8 @@
 use crate::answers::Answers;
 use crate::asks::ask;
 use crate::casts::cast_call;
+use crate::holds::hold_call;
+use crate::makes::make_call;
 use crate::moves::{move_call, show};
 use crate::operators::{assign, operate};
 use crate::parts::{offsets, write_back};
@@ -195,13 +197,15 @@ impl<'a> Desk<'a> {
             2 => assign(self, x, y),
             3 => show(self, x, y),
             4 => ask(self, x),
-            5 => cast_call(self, x),
+            5 => cast_call(self, x, y),
             6 => move_call(self, x),
             7 => offsets(self),
             8 => write_back(self, x, y),
             9 => target_call(self, x, y),
             10 => scope_script(self),
             11 => write_call(self, x, y),
+            12 => make_call(self, x),
+            13 => hold_call(self, x, y),
             _ => Ok(()),
         }
     }

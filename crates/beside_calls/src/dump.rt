@@ -87,13 +87,18 @@ fn add_function(
     add_items(out, s, function.curry(), levels)
 }
 
-fn add_blob(out: &mut String, bytes: &[u8]) -> Result<(), AllocError> {
-    out.push_str("blob ")?;
+/// Adds two digits for each byte.
+pub fn add_digits(out: &mut String, bytes: &[u8]) -> Result<(), AllocError> {
     for byte in bytes {
         let byte = *byte;
         write!(out, "{byte:02x}")?;
     }
     Ok(())
+}
+
+fn add_blob(out: &mut String, bytes: &[u8]) -> Result<(), AllocError> {
+    out.push_str("blob ")?;
+    add_digits(out, bytes)
 }
 
 #[cycle(dump)]

@@ -6,6 +6,8 @@ mod asks;
 mod casts;
 mod desk;
 mod dump;
+mod holds;
+mod makes;
 mod moves;
 mod operators;
 mod parts;

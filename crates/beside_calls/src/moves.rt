@@ -7,7 +7,7 @@ ghost use Rattle.rhai_value.specs.Tree.{fresh, unit, cell_of};
 ghost use Rattle.std.proofs.Common.{refl};
 
 use crate::desk::Desk;
-use crate::dump::{add_items_dump, add_quoted};
+use crate::dump::{add_digits, add_items_dump};
 use rhai_show::{debug_text, display_text, hashed, is_hashable};
 use rhai_text::ImmutableString;
 use rhai_value::{AccessMode, Dynamic, INT, IntoError, Part, Visitor};
@@ -63,6 +63,18 @@ fn same_hash(desk: &mut Desk, x: &Dynamic, y: &Dynamic) -> Result<(), AllocError
     }
 }
 
+/// Says the hash bytes of a value.
+fn say_hash(desk: &mut Desk, key: &str, value: &Dynamic) -> Result<(), AllocError> {
+    match hashed(desk.alloc, value, &desk.store)? {
+        Some(hashed) => {
+            desk.answers.key(key)?;
+            add_digits(&mut desk.answers.text, hashed.bytes())?;
+            desk.answers.end()
+        }
+        None => desk.answers.say(key, "none"),
+    }
+}
+
 pub fn show(desk: &mut Desk, x: &Dynamic, y: &Dynamic) -> Result<(), AllocError> {
     let text = display_text(desk.alloc, x, &desk.store)?;
     desk.answers.say_quoted("display", text.as_str())?;
@@ -72,6 +84,8 @@ pub fn show(desk: &mut Desk, x: &Dynamic, y: &Dynamic) -> Result<(), AllocError>
     desk.answers.say_flag("hashable", flag)?;
     let name = x.type_name(&desk.store);
     desk.answers.say("type_name", name)?;
+    say_hash(desk, "hash", x)?;
+    say_hash(desk, "hash y", y)?;
     same_hash(desk, x, y)
 }
 

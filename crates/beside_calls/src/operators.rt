@@ -94,11 +94,29 @@ fn assignment(s: &Store, op: Token, by_content: bool, x: &Dynamic, y: &Dynamic) 
     }
 }
 
+/// The row of an assignment by what both values hold, where that is two texts.
+fn of_texts(s: &Store, op: Token, x: &Dynamic, y: &Dynamic) -> Option<FnBuiltin>
+    ensures { IfSome result (λ row. Suits row s.now x.now y.now) }
+{
+    if !x.is_string(s) || !y.is_string(s) {
+        return None;
+    }
+    if op == Token::MinusAssign {
+        Some(FnBuiltin::TextMinusAssign)
+    } else {
+        Some(FnBuiltin::TextJoinAssign)
+    }
+}
+
 /// An assignment.
 pub fn assign(desk: &mut Desk, x: &mut Dynamic, y: &mut Dynamic) -> Result<(), AllocError> {
     let op = token(desk.recipe.byte());
-    let by_content = desk.recipe.byte() == 1;
+    let way = desk.recipe.byte();
     let limits = limits(desk);
-    let row = assignment(&desk.store, op, by_content, x, y);
+    let row = if way == 2 {
+        of_texts(&desk.store, op, x, y)
+    } else {
+        assignment(&desk.store, op, way == 1, x, y)
+    };
     call(desk, row, &limits, x, y)
 }

@@ -251,6 +251,22 @@ fn say_iter(desk: &mut Desk, scope: &Scope) -> Result<(), AllocError> {
     Ok(())
 }
 
+/// Says the entries as they are moved out.
+fn say_moved(desk: &mut Desk, scope: Scope) -> Result<(), AllocError> {
+    for (name, value, aliases) in scope {
+        desk.answers.key("moved")?;
+        add_quoted(&mut desk.answers.text, name.as_str())?;
+        desk.answers.text.push(' ')?;
+        add_dump(&mut desk.answers.text, &desk.store, &value)?;
+        for alias in aliases.as_slice() {
+            desk.answers.text.push(' ')?;
+            add_quoted(&mut desk.answers.text, alias.as_str())?;
+        }
+        desk.answers.end()?;
+    }
+    Ok(())
+}
+
 pub fn scope_script(desk: &mut Desk) -> Result<(), AllocError> {
     let mut scope = Scope::new(desk.alloc);
     let count = desk.recipe.count();
@@ -262,5 +278,7 @@ pub fn scope_script(desk: &mut Desk) -> Result<(), AllocError> {
     say_entries(desk, &scope)?;
     say_iter(desk, &scope)?;
     let shown = scope.shown(&desk.store)?;
-    desk.answers.say_quoted("shown", shown.into_text().as_str())
+    desk.answers
+        .say_quoted("shown", shown.into_text().as_str())?;
+    say_moved(desk, scope)
 }

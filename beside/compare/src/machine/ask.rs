@@ -2,11 +2,11 @@
 
 use super::command::{Command, Kind, Question};
 use super::kinds::{for_kind, Id, IsOf};
-use super::{done, fit, line, refused, Answer, Done, Stop, World};
+use super::{done, fit, line, refused, Done, Stop, World};
 use crate::departures::Departure;
 use crate::ends::{end, meets_twice, End};
-use crate::printed::{content, hashable_by_rule, printed_by_rule, Form};
-use crate::release::guarded;
+use crate::hash;
+use crate::printed::{hashable_by_rule, printed_by_rule, Form};
 use rhai::{hooks, Dynamic};
 
 /// The kind of what can't be looked into.
@@ -101,10 +101,7 @@ impl World {
         if !self.hashable(v) {
             return refused("NotHashable");
         }
-        if guarded(|| hash(v)).is_none() {
-            return refused("PANIC");
-        }
-        Ok(Answer::HashOf(content(v)))
+        line(hash::of_value(v))
     }
 
     pub(super) fn apply_question(&mut self, command: &Command) -> Done {
@@ -126,12 +123,4 @@ impl World {
             _ => self.hash(&v),
         }
     }
-}
-
-/// A hash of the release, which is asked for only where the value can be hashed.
-fn hash(v: &Dynamic) -> u64 {
-    use std::hash::{Hash, Hasher};
-    let mut hasher = std::collections::hash_map::DefaultHasher::new();
-    v.hash(&mut hasher);
-    hasher.finish()
 }

@@ -2,11 +2,11 @@
 
 use super::command::{Command, Kind};
 use super::kinds::{for_kind, CastOf, RefOf, RemovalOf, ValueOf};
-use super::{done, fit, line, refused, Answer, Done, Stop, World};
+use super::{done, fit, line, refused, Done, Stop, World};
 use crate::departures::Departure;
-use crate::dump::{dumped, quote};
+use crate::dump::dumped;
 use crate::ends::{end, flat, is_chain, is_last, End};
-use crate::printed::content;
+use crate::hash;
 use rhai::{hooks, Dynamic};
 
 fn none() -> Done {
@@ -149,21 +149,9 @@ impl World {
         fit(self.scope.iter_raw().map(|(_, _, v)| v))?;
         let scope = std::mem::take(&mut self.scope);
         let hashable = scope.iter_raw().all(|(_, _, v)| self.hashable(v));
-        let mut text = String::new();
-        if hashable {
-            for (name, v, aliases) in &scope {
-                quote(name, &mut text);
-                text.push_str(&content(v));
-                aliases.iter().for_each(|alias| quote(alias, &mut text));
-                text.push(';');
-            }
-        }
+        let bytes = hashable.then(|| hash::of_scope(&scope));
         self.scope = scope;
-        if hashable {
-            Ok(Answer::HashOf(text))
-        } else {
-            refused("NotHashable")
-        }
+        bytes.map_or_else(|| refused("NotHashable"), line)
     }
 
     pub(super) fn apply_entry(&mut self, command: &Command) -> Done {

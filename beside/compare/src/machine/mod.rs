@@ -4,7 +4,7 @@ mod ask;
 mod change;
 pub mod command;
 mod entries;
-mod kinds;
+pub(crate) mod kinds;
 mod marks;
 
 use crate::departures::Departure;
@@ -25,33 +25,25 @@ pub enum LeftOut {
     LargeValue,
 }
 
-/// What a world answers to a command.
-#[derive(Clone, Debug, PartialEq, Eq)]
-pub enum Answer {
-    /// The line.
-    Line(String),
-    /// Hash bytes: the same for the same content alone, which stands here.
-    HashOf(String),
-}
-
 /// Why a command is not done.
 pub enum Stop {
     Refused(String),
     LeftOut(LeftOut),
 }
 
-pub type Done = Result<Answer, Stop>;
+/// The line that answers a command.
+pub type Done = Result<String, Stop>;
 
 pub fn refused<T>(name: &str) -> Result<T, Stop> {
     Err(Stop::Refused(name.into()))
 }
 
 fn done() -> Done {
-    Ok(Answer::Line("ok".into()))
+    Ok("ok".into())
 }
 
 fn line(text: impl ToString) -> Done {
-    Ok(Answer::Line(text.to_string()))
+    Ok(text.to_string())
 }
 
 fn fault<T>(error: &ERR) -> Result<T, Stop> {

@@ -12,7 +12,20 @@ fn told(v: Option<Dynamic>) -> String {
 }
 
 impl Desk {
-    fn cast<T: Variant + Clone>(&mut self, x: &mut Dynamic, way: u8) {
+    /// What the value itself has of the type, and writes over it what the second value is as one of the type.
+    fn written_over<T: Variant + Clone>(&mut self, x: &mut Dynamic, y: &Dynamic) {
+        let found = hooks::downcast_mut::<T>(x).map(|place| {
+            let before = place.clone();
+            if let Some(new) = flat(y).try_cast::<T>() {
+                *place = new;
+            }
+            Dynamic::from(before)
+        });
+        self.say("downcast_mut", told(found));
+        self.say_value("written", x);
+    }
+
+    fn cast<T: Variant + Clone>(&mut self, x: &mut Dynamic, y: &Dynamic, way: u8) {
         let end = if self.adapt { end(x) } else { End::Own };
         if let End::Stuck(_) = end {
             self.depart(Departure::BorrowedQuestion);
@@ -29,7 +42,11 @@ impl Desk {
         }
         // A holder that is kept isn't the last one.
         let kept = self.adapt.then(|| x.clone());
-        self.cast_out::<T>(x, way);
+        if way == 4 {
+            self.written_over::<T>(x, y);
+        } else {
+            self.cast_out::<T>(x, way);
+        }
         drop(kept);
     }
 
@@ -172,30 +189,30 @@ impl Desk {
         }
     }
 
-    pub(super) fn cast_call(&mut self, x: &mut Dynamic, kind: u8, way: u8) {
+    pub(super) fn cast_call(&mut self, x: &mut Dynamic, y: &Dynamic, kind: u8, way: u8) {
         match kind {
-            0 => self.cast::<()>(x, way),
-            1 => self.cast::<bool>(x, way),
-            2 => self.cast::<char>(x, way),
-            3 => self.cast::<i64>(x, way),
-            4 => self.cast::<u8>(x, way),
-            5 => self.cast::<u16>(x, way),
-            6 => self.cast::<u32>(x, way),
-            7 => self.cast::<u64>(x, way),
-            8 => self.cast::<u128>(x, way),
-            9 => self.cast::<i8>(x, way),
-            10 => self.cast::<i16>(x, way),
-            11 => self.cast::<i32>(x, way),
-            12 => self.cast::<i128>(x, way),
-            13 => self.cast::<String>(x, way),
-            14 => self.cast::<ImmutableString>(x, way),
-            15 => self.cast::<rhai::Array>(x, way),
-            16 => self.cast::<rhai::Blob>(x, way),
-            17 => self.cast::<Map>(x, way),
-            18 => self.cast::<FnPtr>(x, way),
-            19 => self.cast::<ExclusiveRange>(x, way),
-            20 => self.cast::<InclusiveRange>(x, way),
-            _ => self.cast::<Dynamic>(x, way),
+            0 => self.cast::<()>(x, y, way),
+            1 => self.cast::<bool>(x, y, way),
+            2 => self.cast::<char>(x, y, way),
+            3 => self.cast::<i64>(x, y, way),
+            4 => self.cast::<u8>(x, y, way),
+            5 => self.cast::<u16>(x, y, way),
+            6 => self.cast::<u32>(x, y, way),
+            7 => self.cast::<u64>(x, y, way),
+            8 => self.cast::<u128>(x, y, way),
+            9 => self.cast::<i8>(x, y, way),
+            10 => self.cast::<i16>(x, y, way),
+            11 => self.cast::<i32>(x, y, way),
+            12 => self.cast::<i128>(x, y, way),
+            13 => self.cast::<String>(x, y, way),
+            14 => self.cast::<ImmutableString>(x, y, way),
+            15 => self.cast::<rhai::Array>(x, y, way),
+            16 => self.cast::<rhai::Blob>(x, y, way),
+            17 => self.cast::<Map>(x, y, way),
+            18 => self.cast::<FnPtr>(x, y, way),
+            19 => self.cast::<ExclusiveRange>(x, y, way),
+            20 => self.cast::<InclusiveRange>(x, y, way),
+            _ => self.cast::<Dynamic>(x, y, way),
         }
     }
 }

@@ -1,6 +1,8 @@
 //! What calls of the release make of a recipe: as they are, or with the departures of the port put in their place (`adapt`).
 
 pub(crate) mod casts;
+mod holds;
+mod makes;
 mod moves;
 pub(crate) mod operators;
 pub(crate) mod parts;
@@ -196,7 +198,7 @@ pub fn answer(r: &Recipe, adapt: bool) -> (String, BTreeSet<Departure>) {
         Call::Assign(t, via, a, b) => desk.assign(*t, *via, *a, *b, &mut x, &mut y),
         Call::Show => desk.show(&x, &y),
         Call::Ask => desk.questions(&mut x),
-        Call::Cast(kind, way) => desk.cast_call(&mut x, *kind, *way),
+        Call::Cast(kind, way) => desk.cast_call(&mut x, &y, *kind, *way),
         Call::Move(way, tag) => desk.move_call(&mut x, *way, *tag),
         Call::Offsets(n, a, b, flag) => {
             let (first, count) = calc_offset_len(*n as usize, *a, *b);
@@ -215,6 +217,8 @@ pub fn answer(r: &Recipe, adapt: bool) -> (String, BTreeSet<Departure>) {
         }
         Call::Scope(steps) => desk.script(steps),
         Call::Write(way, text) => desk.write_call(&mut x, &mut y, *way, text),
+        Call::Make(kind, way) => desk.make_call(&x, *kind, *way),
+        Call::Hold(way, int) => desk.hold_call(&mut x, &mut y, *way, *int),
     }
     desk.say_value("x", &x);
     desk.say_value("y", &y);

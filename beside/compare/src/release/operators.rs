@@ -4,6 +4,7 @@ use super::{guarded, Desk};
 use crate::departures::Departure;
 use crate::dump::cell_of;
 use crate::ends::{end, flat, is_range, label, set_label, End};
+use crate::recipe::LookUp;
 use rhai::{
     get_builtin_binary_op_fn, get_builtin_op_assignment_fn, hooks, AccessMode, Dynamic, Engine, FnBuiltin, NativeCallContext,
     Position, Token, Union, ERR,
@@ -69,13 +70,17 @@ impl Desk {
     }
 
     /// The row of an assignment, looked up for the first content of the first operand or for the operand itself.
-    fn look_up_assignment(&mut self, token: Token, by_content: bool, x: &Dynamic, y: &Dynamic) -> Option<Option<FnBuiltin>> {
-        if !by_content {
-            return self.look_up(false, token, x, y);
-        }
-        match x.read_lock::<Dynamic>() {
-            Some(first) => self.look_up(false, token, &first, y),
-            None => Some(None),
+    fn look_up_assignment(&mut self, token: Token, way: LookUp, x: &Dynamic, y: &Dynamic) -> Option<Option<FnBuiltin>> {
+        match way {
+            LookUp::Own => self.look_up(false, token, x, y),
+            LookUp::FirstContent => match x.read_lock::<Dynamic>() {
+                Some(first) => self.look_up(false, token, &first, y),
+                None => Some(None),
+            },
+            LookUp::HeldTexts => match (flat(x), flat(y)) {
+                (first, second) if is_text(&first) && is_text(&second) => self.look_up(false, token, &first, &second),
+                _ => Some(None),
+            },
         }
     }
 
@@ -123,9 +128,9 @@ impl Desk {
         self.tell(operated);
     }
 
-    pub(super) fn assign(&mut self, t: u8, by_content: bool, text: u8, items: u8, x: &mut Dynamic, y: &mut Dynamic) {
+    pub(super) fn assign(&mut self, t: u8, way: LookUp, text: u8, items: u8, x: &mut Dynamic, y: &mut Dynamic) {
         let token = token(t);
-        let operated = match self.look_up_assignment(token, by_content, x, y) {
+        let operated = match self.look_up_assignment(token, way, x, y) {
             None => Operated::LookUpPanics,
             Some(None) => Operated::NoRow,
             Some(Some(f)) if self.adapt => Operated::Row(f.1, self.assign_by_rule(f, token, (text.into(), items.into()), x, y)),
@@ -199,7 +204,7 @@ impl Desk {
         let same_cell = a.as_ref().and_then(cell_of).is_some() && a.as_ref().and_then(cell_of) == b.as_ref().and_then(cell_of);
         if same_cell && assignment.is_of_texts() {
             self.depart(Departure::OneCell);
-            b = Some(assignment.with.clone());
+            b = Some(flat(&assignment.with));
         }
         let is_held = x.is_shared();
         let place = a.as_mut().filter(|_| is_held).unwrap_or(x);
@@ -249,7 +254,7 @@ impl Assignment {
     }
 
     fn is_of_texts(&self) -> bool {
-        matches!(self.both(), (Union::Str(..), Union::Str(..)))
+        is_text(&self.was) && is_text(&flat(&self.with))
     }
 
     fn is_of_array(&self) -> bool {
@@ -288,6 +293,10 @@ impl Assignment {
         };
         (size > items).then_some(departure)
     }
+}
+
+fn is_text(v: &Dynamic) -> bool {
+    matches!(hooks::union(v), Union::Str(..))
 }
 
 /// Does something with the content of a holder's cell, or with the value itself.

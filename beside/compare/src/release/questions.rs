@@ -1,10 +1,11 @@
 //! Texts and questions.
 
-use super::Desk;
+use super::{guarded, Desk};
 use crate::departures::Departure;
 use crate::dump::{dumped, dumped_items, dumped_map, quote};
 use crate::ends::{end, has_host, meets_twice, End};
-use crate::printed::{content, hashable_by_rule, printed_by_rule, Form};
+use crate::hash;
+use crate::printed::{hashable_by_rule, printed_by_rule, Form};
 use rhai::{hooks, Dynamic};
 use std::hash::{Hash, Hasher};
 
@@ -29,8 +30,11 @@ impl Desk {
                 }
                 _ => self.say("type_name", x.type_name()),
             }
-            if is && hashable_by_rule(y, &mut Vec::new()) {
-                let (same, by_rule) = (hash(x) == hash(y), content(x) == content(y));
+            let is_second = hashable_by_rule(y, &mut Vec::new());
+            self.say_hash("hash", x, is);
+            self.say_hash("hash y", y, is_second);
+            if is && is_second {
+                let (same, by_rule) = (hash(x) == hash(y), hash::of_value(x) == hash::of_value(y));
                 if same != by_rule && has_host(x, &mut Vec::new()) && has_host(y, &mut Vec::new()) {
                     self.depart(Departure::HashBytes);
                     self.say("same_hash", by_rule);
@@ -46,6 +50,9 @@ impl Desk {
         self.say_quoted("debug", &format!("{x:?}"));
         self.ask("hashable", || hooks::is_hashable(x));
         self.ask("type_name", || x.type_name());
+        for (key, v) in [("hash", x), ("hash y", y)] {
+            self.say_hash(key, v, guarded(|| hooks::is_hashable(v)) == Some(true));
+        }
         self.ask("same_hash", || {
             if hooks::is_hashable(x) && hooks::is_hashable(y) {
                 (hash(x) == hash(y)).to_string()
@@ -53,6 +60,12 @@ impl Desk {
                 "none".into()
             }
         });
+    }
+
+    /// Says the hash bytes of a value, of which the release has none.
+    fn say_hash(&mut self, key: &str, v: &Dynamic, is_hashable: bool) {
+        let bytes = if is_hashable { hash::of_value(v) } else { "none".into() };
+        self.say(key, bytes);
     }
 
     pub(super) fn questions(&mut self, x: &mut Dynamic) {

@@ -116,14 +116,7 @@ impl Desk {
         self.say("len", s.len());
         self.say("empty", s.is_empty());
         for (n, v, a) in &s {
-            let mut out = String::new();
-            quote(n, &mut out);
-            let _ = write!(out, " {}", dumped(v));
-            for a in a {
-                out.push(' ');
-                quote(a, &mut out);
-            }
-            self.say("entry", out);
+            self.say_entry("entry", n, v, a);
         }
         for (n, c, v) in s.iter() {
             let mut out = String::from(if c { "const " } else { "" });
@@ -137,6 +130,21 @@ impl Desk {
         }
         let shown = if self.adapt { self.scope_text(&s) } else { s.to_string() };
         self.say_quoted("shown", &shown);
+        for (n, v, a) in s {
+            self.say_entry("moved", &n, &v, &a);
+        }
+    }
+
+    /// Says an entry: its name, value and aliases.
+    fn say_entry(&mut self, key: &str, name: &str, v: &Dynamic, aliases: &[ImmutableString]) {
+        let mut out = String::new();
+        quote(name, &mut out);
+        let _ = write!(out, " {}", dumped(v));
+        for alias in aliases {
+            out.push(' ');
+            quote(alias, &mut out);
+        }
+        self.say(key, out);
     }
 
     /// The text of a scope by the port's rule.

@@ -1,0 +1,36 @@
+//! Calls on what a value holds at the end of its chain: lent, marked, and written over where it is an int.
+
+use crate::desk::Desk;
+use rhai_value::Dynamic;
+use std::alloc::AllocError;
+
+/// Marks the cell of what is held, says all that is seen meanwhile, and writes the second value into the cell where that is asked.
+fn marked(desk: &mut Desk, x: &Dynamic, y: &mut Dynamic, writes: bool) -> Result<(), AllocError> {
+    let Some(token) = desk.store.mark_held(x) else {
+        return desk.answers.say("marked", "none");
+    };
+    let said = desk.answers.say_value("marked", &desk.store, x);
+    if writes {
+        *desk.store.through_mut(&token) = y.take();
+    }
+    desk.store.release(token);
+    said
+}
+
+/// Looks at what is held, or works on it, in one of the ways.
+pub fn hold_call(desk: &mut Desk, x: &mut Dynamic, y: &mut Dynamic) -> Result<(), AllocError> {
+    let way = desk.recipe.byte();
+    let int = desk.recipe.int();
+    match way {
+        0 => match x.held(&desk.store) {
+            Some(held) => desk.answers.say_value("held", &desk.store, held),
+            None => desk.answers.say("held", "none"),
+        },
+        1 => marked(desk, x, y, false),
+        2 => marked(desk, x, y, true),
+        _ => {
+            let is_int = x.set_int(&mut desk.store, int);
+            desk.answers.say_flag("is_int", is_int)
+        }
+    }
+}

@@ -17,4 +17,5 @@ pub mod release;
 pub mod rows;
 pub mod scripts;
 pub mod shrink;
+pub mod style;
 pub mod values;

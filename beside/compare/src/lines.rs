@@ -1,24 +1,21 @@
 //! Random commands, most of which a world can do as it is.
 
-use crate::dice::{blob, int, small, tag, text, Dice, CHARS};
+use crate::dice::{blob, block_text, int, small, tag, text, Dice, CHARS};
 use crate::machine::command::{Command, Host, Kind, Literal, Place, Question, Scanner, KINDS};
 use crate::machine::World;
+use crate::style::{Style, Theme};
 use rhai::Token;
 
 /// What a random command is made with.
 pub struct Maker<'m> {
     pub d: &'m mut Dice,
     pub world: &'m World,
+    pub style: &'m Style,
 }
-
-const NAMES: [&str; 5] = ["x", "y", "z", "p", "long_name_of_a_variable"];
-
-/// Values in the hand, and entries, from which on some go away again.
-const MANY: usize = 24;
 
 impl Maker<'_> {
     fn name(&mut self) -> String {
-        self.d.pick(&NAMES).into()
+        self.d.pick(&self.style.names)
     }
 
     /// A position, which mostly is one in the hand.
@@ -86,19 +83,28 @@ impl Maker<'_> {
         self.d.pick(&[0, 0, 1, 1, 2, 3, 4])
     }
 
+    /// How many names a command takes that takes some; in a wide world all values of the hand now and then.
+    fn names(&mut self) -> Vec<String> {
+        let (hand, ..) = self.world.sizes();
+        let is_wide = self.style.theme == Theme::Wide && self.d.one_in(2);
+        let count = if is_wide { hand } else { self.count() };
+        (0..count).map(|_| self.name()).collect()
+    }
+
     fn mark(&mut self) -> usize {
         let (_, _, marks) = self.world.sizes();
         self.d.below(marks as u64 + 1) as usize
     }
 
     fn literal(&mut self) -> Literal {
+        let alike = self.style.theme == Theme::Alike;
         let d = &mut *self.d;
         match d.below(14) {
             0 => Literal::Unit,
             1 | 2 => Literal::Bool(d.one_in(2)),
             3..=5 => Literal::Int(int(d)),
             6 | 7 => Literal::Char(d.pick(&CHARS[..11])),
-            8 | 9 => Literal::Text(text(d).replace('\n', "\r")),
+            8 | 9 => Literal::Text(if alike && d.one_in(2) { block_text(d) } else { text(d) }.replace('\n', "\r")),
             10 | 11 => Literal::Blob(blob(d)),
             12 => {
                 let n = d.pick(&[0, 1, 127, 128, 255, u128::MAX, u128::MAX >> 1, 1 << 63, 1 << 127, 0xffff_ffff]);
@@ -173,7 +179,7 @@ impl Maker<'_> {
         let at = self.position();
         match self.d.below(9) {
             0 => Command::MakeArray(self.count()),
-            1 => Command::MakeMap((0..self.count()).map(|_| self.name()).collect()),
+            1 => Command::MakeMap(self.names()),
             2 => Command::MakeFn(self.name(), self.count()),
             3 => Command::Copy(self.position_of_holder()),
             4 => Command::FlattenClone(self.position_of_holder()),
@@ -248,8 +254,8 @@ impl Maker<'_> {
             3 => Command::SetEntry(name, at),
             4 => Command::SetOrPush(name, at),
             5 => Command::SetValue(name, at),
-            6 => Command::Extend((0..self.count()).map(|_| self.name()).collect()),
-            _ => Command::ExtendFlagged((0..self.count()).map(|_| (self.name(), self.d.one_in(3))).collect()),
+            6 => Command::Extend(self.names()),
+            _ => Command::ExtendFlagged(self.names().into_iter().map(|name| (name, self.d.one_in(3))).collect()),
         }
     }
 
@@ -273,9 +279,9 @@ impl Maker<'_> {
     fn scope(&mut self) -> Command {
         match self.d.below(12) {
             0 => Command::Pop,
-            1 => Command::Rewind(self.d.below(MANY as u64) as usize),
+            1 => Command::Rewind(self.d.below(self.style.entries as u64) as usize),
             2 => {
-                if self.d.one_in(4) {
+                if self.d.one_in(if self.style.theme == Theme::Wide { 40 } else { 4 }) {
                     Command::Clear
                 } else {
                     Command::Pop
@@ -298,15 +304,44 @@ impl Maker<'_> {
         }
     }
 
-    /// A command.
-    pub fn command(&mut self) -> Command {
-        let (hand, entries, _) = self.world.sizes();
-        if hand > MANY {
-            return Command::Drop;
+    /// A place of a value that is a holder, if there is one.
+    fn holder(&mut self) -> Place {
+        for _ in 0..12 {
+            let at = self.position();
+            if self.world.is_holder(at) {
+                return Place::Hand(at);
+            }
         }
-        if entries > MANY {
-            return Command::Rewind(MANY / 3);
+        self.place()
+    }
+
+    /// A command for a world of marks: values are put into cells, and the cells marked, written and released in any order.
+    fn marking(&mut self) -> Option<Command> {
+        let (_, _, marks) = self.world.sizes();
+        match self.d.below(12) {
+            0 => Some(Command::Put(self.literal())),
+            1 | 2 => Some(Command::Share(self.position())),
+            3 | 4 if marks < 8 => Some(Command::Mark(self.holder())),
+            5 => Some(Command::WriteMarked(self.mark(), self.position())),
+            6 => Some(Command::ReadMarked(self.mark())),
+            7 if marks > 3 || self.d.one_in(3) => Some(Command::Unmark(self.mark())),
+            _ => None,
         }
+    }
+
+    /// A command for a world of many entries: more of them, and look-ups.
+    fn widening(&mut self) -> Option<Command> {
+        let (_, entries, _) = self.world.sizes();
+        match self.d.below(8) {
+            0..=3 if entries < self.style.entries / 2 => Some(self.into_entry()),
+            4 if entries < self.style.entries / 2 => Some(Command::Put(self.literal())),
+            5 => Some(self.entry()),
+            6 => Some(Command::Search(self.name())),
+            _ => None,
+        }
+    }
+
+    fn general(&mut self) -> Command {
         match self.d.below(20) {
             0..=3 => Command::Put(self.literal()),
             4..=6 => self.values(),
@@ -324,6 +359,23 @@ impl Maker<'_> {
             17 | 18 => self.entry(),
             _ => self.scope(),
         }
+    }
+
+    /// A command.
+    pub fn command(&mut self) -> Command {
+        let (hand, entries, _) = self.world.sizes();
+        if hand > self.style.values {
+            return Command::Drop;
+        }
+        if entries > self.style.entries {
+            return Command::Rewind(self.d.below(entries as u64) as usize);
+        }
+        let themed = match self.style.theme {
+            Theme::Marked => self.marking(),
+            Theme::Wide => self.widening(),
+            Theme::Plain | Theme::Alike => None,
+        };
+        themed.unwrap_or_else(|| self.general())
     }
 }
 

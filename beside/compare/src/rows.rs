@@ -70,7 +70,8 @@ fn tables() -> Vec<(Side, Side, Vec<u8>)> {
 /// All rows.
 #[must_use]
 pub fn rows() -> Vec<Row> {
-    let of_pair = |(first, second, tokens): (Side, Side, Vec<u8>)| tokens.into_iter().map(move |token| Row { token, first, second });
+    let of_pair =
+        |(first, second, tokens): (Side, Side, Vec<u8>)| tokens.into_iter().map(move |token| Row { token, first, second });
     tables().into_iter().flat_map(of_pair).collect()
 }
 

@@ -1,17 +1,19 @@
 //! Random programs of commands, by the port's program and by the machine over the released files.
 //!
 //! Usage: programs PROGRAM PAGE COUNT SEED. PROGRAM is `crates/rhai_world`, built, which answers a line to each line; PAGE is docs/PORTING.md.
-//! The exit status is 1 where an answer differs, or where a departure that was put in has no row on that page.
+//! The exit status is 1 where an answer differs, where the program ends with another status than 0, or where a departure that was put in has
+//! no row on that page. Up to a hundred programs that differ are told.
 
 use compare::departures::{unlisted, Tally};
 use compare::dice::Dice;
 use compare::lines::{emptying, Maker};
 use compare::machine::command::Command;
-use compare::machine::{Answer, LeftOut, Stop, World};
-use std::collections::{BTreeMap, HashMap};
+use compare::machine::{LeftOut, Stop, World};
+use compare::style::{Style, Theme};
+use std::collections::BTreeMap;
 use std::io::{Read, Write};
 use std::process::{Command as Process, Stdio};
-use std::sync::atomic::{AtomicU64, Ordering};
+use std::sync::atomic::{AtomicU64, AtomicUsize, Ordering};
 use std::thread;
 
 /// A run is made of so many pieces, each with its own dice, whatever the number of threads.
@@ -20,12 +22,23 @@ const PIECES: u64 = 64;
 /// About as many commands are answered by one process of the port, world after world.
 const BATCH: usize = 20_000;
 
+/// So many programs that differ are told.
+const MOST_TOLD: usize = 100;
+
+/// So many shorter programs are tried for each of them.
+const SHORTER: usize = 400;
+
+/// How many programs that differ were found.
+static FOUND: AtomicUsize = AtomicUsize::new(0);
+
 /// What was met.
 #[derive(Default)]
 struct Met {
     commands: BTreeMap<String, u64>,
-    worlds: u64,
+    worlds: BTreeMap<Theme, u64>,
     refused: u64,
+    most_entries: usize,
+    most_marks: usize,
     departures: Tally,
     left_out: BTreeMap<LeftOut, u64>,
     /// Programs whose answers differ, made short, each with what differs.
@@ -36,15 +49,17 @@ impl Met {
     fn join(&mut self, other: Met) {
         other.commands.into_iter().for_each(|(verb, count)| *self.commands.entry(verb).or_default() += count);
         other.left_out.into_iter().for_each(|(why, count)| *self.left_out.entry(why).or_default() += count);
-        self.worlds += other.worlds;
+        other.worlds.into_iter().for_each(|(theme, count)| *self.worlds.entry(theme).or_default() += count);
         self.refused += other.refused;
+        self.most_entries = self.most_entries.max(other.most_entries);
+        self.most_marks = self.most_marks.max(other.most_marks);
         self.departures.join(&other.departures);
         self.new.extend(other.new);
     }
 }
 
-/// The port's answers to lines, all together.
-fn port_answers(program: &str, lines: &str) -> Vec<u8> {
+/// The port's answers to lines, all together; and how it ended, where that isn't with status 0.
+fn port_answers(program: &str, lines: &str) -> (Vec<u8>, Option<String>) {
     let process = Process::new(program).stdin(Stdio::piped()).stdout(Stdio::piped()).stderr(Stdio::null()).spawn();
     let mut process = process.expect("the port's program");
     let mut to = process.stdin.take().expect("its input");
@@ -53,41 +68,35 @@ fn port_answers(program: &str, lines: &str) -> Vec<u8> {
         scope.spawn(move || drop(to.write_all(lines.as_bytes())));
         process.stdout.take().expect("its output").read_to_end(&mut answers).expect("its answers");
     });
-    process.wait().expect("its end");
-    answers
+    let status = process.wait().expect("its end");
+    (answers, (!status.success()).then(|| format!("the port ends with {status}")))
 }
 
 /// The first command whose answers differ, and how.
-fn first_apart(commands: &[Command], answers: &[Answer], mut given: &[u8]) -> Option<(usize, String)> {
-    let mut by_content = HashMap::new();
-    let mut by_bytes = HashMap::new();
+fn first_apart(answers: &[String], mut given: &[u8]) -> Option<(usize, String)> {
     for (at, answer) in answers.iter().enumerate() {
-        let line_end = given.iter().position(|byte| *byte == b'\n').unwrap_or(given.len());
-        let line = String::from_utf8_lossy(&given[..line_end]).into_owned();
-        let len = match answer {
-            Answer::Line(text) if given.strip_prefix(text.as_bytes()).is_some_and(|rest| rest.first() == Some(&b'\n')) => {
-                text.len()
+        match given.strip_prefix(answer.as_bytes()) {
+            Some([b'\n', rest @ ..]) => given = rest,
+            Some(_) | None => {
+                let line_end = given.iter().position(|byte| *byte == b'\n').unwrap_or(given.len());
+                let line = String::from_utf8_lossy(&given[..line_end]);
+                return Some((at, format!("the port says {line:?}, the release {answer:?}")));
             }
-            Answer::Line(text) => return Some((at, format!("the port says {line:?}, the release {text:?}"))),
-            Answer::HashOf(content) => {
-                let is_scope = matches!(commands[at], Command::HashScope);
-                let bytes = by_content.entry((is_scope, content.clone())).or_insert_with(|| line.clone()).clone();
-                let same = by_bytes.entry((is_scope, line.clone())).or_insert_with(|| content.clone());
-                if bytes != line || same != content || line.starts_with("refused") {
-                    return Some((at, format!("the port says {line:?}, for {content:?}")));
-                }
-                line_end
-            }
-        };
-        given = &given[len + 1..];
+        }
     }
     (!given.is_empty()).then(|| (answers.len(), "the port says more".into()))
 }
 
-fn answer(world: &mut World, command: &Command) -> Result<Answer, LeftOut> {
+/// What differs, in the answers or else in how the port ends.
+fn apart(program: &str, commands: &[Command], answers: &[String]) -> Option<(usize, String)> {
+    let (given, end) = port_answers(program, &lines_of(commands));
+    first_apart(answers, &given).or_else(|| end.map(|end| (answers.len(), end)))
+}
+
+fn answer(world: &mut World, command: &Command) -> Result<String, LeftOut> {
     match world.apply(command) {
         Ok(answer) => Ok(answer),
-        Err(Stop::Refused(why)) => Ok(Answer::Line(format!("refused {why}"))),
+        Err(Stop::Refused(why)) => Ok(format!("refused {why}")),
         Err(Stop::LeftOut(why)) => Err(why),
     }
 }
@@ -109,16 +118,17 @@ fn spelled(command: &Command) -> String {
 /// What differs on a new world, where something does and the release can do all.
 fn differs(program: &str, commands: &[Command]) -> Option<(usize, String)> {
     let mut world = World::default();
-    let answers: Vec<Answer> = commands.iter().map(|command| answer(&mut world, command)).collect::<Result<_, _>>().ok()?;
-    first_apart(commands, &answers, &port_answers(program, &lines_of(commands)))
+    let answers: Vec<String> = commands.iter().map(|command| answer(&mut world, command)).collect::<Result<_, _>>().ok()?;
+    apart(program, commands, &answers)
 }
 
 /// A short program whose answers differ.
 fn shrunk(program: &str, mut commands: Vec<Command>) -> (Vec<Command>, String) {
-    let mut size = commands.len().max(1);
+    let (mut size, mut left) = (commands.len().max(1), SHORTER);
     while size > 0 {
         let mut at = 0;
-        while at < commands.len() {
+        while at < commands.len() && left > 0 {
+            left -= 1;
             let mut fewer = commands.clone();
             fewer.drain(at..(at + size).min(commands.len()));
             if differs(program, &fewer).is_some() {
@@ -136,7 +146,7 @@ fn shrunk(program: &str, mut commands: Vec<Command>) -> (Vec<Command>, String) {
 /// Commands for worlds one after another, and their answers; and where each world begins.
 struct Batch {
     commands: Vec<Command>,
-    answers: Vec<Answer>,
+    answers: Vec<String>,
     worlds: Vec<usize>,
 }
 
@@ -147,7 +157,7 @@ impl Batch {
                 let line = command.to_string();
                 let verb = line.split(' ').next().unwrap_or("").to_string();
                 *met.commands.entry(verb).or_default() += 1;
-                met.refused += u64::from(matches!(&said, Answer::Line(text) if text.starts_with("refused ")));
+                met.refused += u64::from(said.starts_with("refused "));
                 world.take_departures().into_iter().for_each(|departure| met.departures.add(departure));
                 self.commands.push(command);
                 self.answers.push(said);
@@ -159,21 +169,45 @@ impl Batch {
         }
     }
 
+    fn add_world(&mut self, d: &mut Dice, met: &mut Met) {
+        let style = Style::new(d);
+        self.worlds.push(self.commands.len());
+        *met.worlds.entry(style.theme).or_default() += 1;
+        let mut world = World::default();
+        let (least, more) = style.commands;
+        for _ in 0..least + d.below(more) as usize {
+            let command = Maker { d, world: &world, style: &style }.command();
+            self.does(&mut world, command, met);
+            let (_, entries, marks) = world.sizes();
+            met.most_entries = met.most_entries.max(entries);
+            met.most_marks = met.most_marks.max(marks);
+        }
+        for command in emptying(&world) {
+            self.does(&mut world, command, met);
+        }
+    }
+
     fn made(d: &mut Dice, count: usize, met: &mut Met) -> Self {
         let mut batch = Batch { commands: Vec::new(), answers: Vec::new(), worlds: Vec::new() };
         while batch.commands.len() < count {
-            batch.worlds.push(batch.commands.len());
-            met.worlds += 1;
-            let mut world = World::default();
-            for _ in 0..d.below(160) + 20 {
-                let command = Maker { d, world: &world }.command();
-                batch.does(&mut world, command, met);
-            }
-            for command in emptying(&world) {
-                batch.does(&mut world, command, met);
-            }
+            batch.add_world(d, met);
         }
         batch
+    }
+
+    /// Keeps each program that differs, made short: behind it the worlds that are left go on by a process of their own.
+    fn compare(&self, program: &str, met: &mut Met) {
+        let mut start = 0;
+        while start < self.commands.len() {
+            let Some((at, _)) = apart(program, &self.commands[start..], &self.answers[start..]) else { return };
+            if FOUND.fetch_add(1, Ordering::Relaxed) >= MOST_TOLD {
+                return;
+            }
+            let end = (start + at + 1).min(self.commands.len());
+            let world = self.worlds.iter().rev().find(|world| **world < end).copied().unwrap_or(0);
+            met.new.push(shrunk(program, self.commands[world..end].to_vec()));
+            start = self.worlds.iter().find(|next| **next >= end).copied().unwrap_or(self.commands.len());
+        }
     }
 }
 
@@ -184,12 +218,7 @@ fn piece(program: &str, count: u64, seed: u64) -> Met {
     while left > 0 {
         let batch = Batch::made(&mut dice, left.min(BATCH), &mut met);
         left = left.saturating_sub(batch.commands.len());
-        let given = port_answers(program, &lines_of(&batch.commands));
-        if let Some((at, _)) = first_apart(&batch.commands, &batch.answers, &given) {
-            let end = (at + 1).min(batch.commands.len());
-            let start = batch.worlds.iter().rev().find(|start| **start < end).copied().unwrap_or(0);
-            met.new.push(shrunk(program, batch.commands[start..end].to_vec()));
-        }
+        batch.compare(program, &mut met);
     }
     met
 }
@@ -217,19 +246,20 @@ fn run(program: &str, count: u64, seed: u64) -> Met {
 
 fn report(met: &Met) {
     let all: u64 = met.commands.values().sum();
-    println!("commands of whole programs: {all}, on {} worlds; {} were refused", met.worlds, met.refused);
+    let worlds: Vec<_> = met.worlds.iter().map(|(theme, count)| format!("{} {count}", theme.name())).collect();
+    println!("commands of whole programs: {all}, of which {} were refused; worlds: {}", met.refused, worlds.join(", "));
+    println!("  at most {} entries and {} marks", met.most_entries, met.most_marks);
     let verbs: Vec<_> = met.commands.iter().map(|(verb, count)| format!("{verb} {count}")).collect();
     println!("  by verb: {}", verbs.join(", "));
     for (why, count) in &met.left_out {
         println!("  left out, {why:?}: {count}");
     }
-    for (departure, count) in &met.departures.0 {
-        println!("  departure {}: {count}", departure.name());
-    }
-    for (commands, how) in met.new.iter().take(12) {
+    met.departures.report(0);
+    for (commands, how) in &met.new {
         println!("\nNOT LISTED: {how}; the program:\n{}", lines_of(commands));
     }
-    println!("  not listed: {}", met.new.len());
+    let found = FOUND.load(Ordering::Relaxed);
+    println!("  not listed: {found}{}", if found > met.new.len() { ", and worlds that were left" } else { "" });
 }
 
 fn main() {

@@ -1,11 +1,11 @@
 //! Casts, each proved once for every type.
-ghost use Rattle.std.specs.Prelude.{◌≡◌, true, false, List, [], map, Some, None, IfOk, IfErr, IsOk, option_map, is_some, MatchOption};
+ghost use Rattle.std.specs.Prelude.{◌≡◌, refl, true, false, List, [], map, Some, None, IfOk, IfErr, IsOk, option_map, is_some, MatchOption};
 ghost use Rattle.std.specs.Borrow.{sem, LendsIf};
 ghost use Rattle.std.specs.Iterator.{IsFinite, Drains};
 ghost use Rattle.rhai_value.specs.End.{end, flat, flattened};
 ghost use Rattle.rhai_value.specs.Tree.{Tree, TakesNoMemory, cell_of, copy};
 ghost use Rattle.rhai_value.specs.Types.{is_type};
-ghost use Rattle.rhai_value.specs.contracts.dynamic.Dynamic as dynamic_type;
+ghost use Rattle.rhai_value.specs.declared.type_id.TypeId.{TypeId};
 ghost use Rattle.rhai_value.specs.declared.type_id.TypeId.TheVariants as type_id;
 ghost use Rattle.rhai_variant.specs.Reads.{held_type, read, viewed, written_as};
 ghost use Rattle.rhai_cast.specs.Arrays.{typed_array, IsNoArray};

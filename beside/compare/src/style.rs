@@ -38,11 +38,12 @@ pub struct Style {
     pub commands: (usize, u64),
 }
 
-/// Names of all lengths, most of which end as others do.
+/// Names of many lengths, most of which end as all others do, and half of the time begin so too.
 fn wide_names(d: &mut Dice) -> Vec<String> {
     let count = 200 + d.below(60);
+    let front = d.pick(&["", "name_"]);
     let end = d.pick(&["", "_end", "_of_this_name", "_by_which_all_of_the_names_end"]);
-    (0..count).map(|i| if i % 8 == 0 { format!("n{i}") } else { format!("{i}{end}") }).collect()
+    (0..count).map(|i| if i % 8 == 0 { format!("n{i}") } else { format!("{front}{i}{end}") }).collect()
 }
 
 /// Names of which each begins as the next one does, or differs from it in one place.

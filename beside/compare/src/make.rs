@@ -256,7 +256,7 @@ fn held_kind(d: &mut Dice, x: &V) -> u8 {
 fn made_by(d: &mut Dice, x: &V) -> u8 {
     match x {
         V::Array(_) => d.below(2) as u8,
-        _ => 2 + d.below(4) as u8,
+        _ => 2 + d.below(5) as u8,
     }
 }
 

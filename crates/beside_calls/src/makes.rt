@@ -1,6 +1,7 @@
 //! Arrays and maps that are made of Rust's collections, by the 22 types.
 
 use crate::desk::Desk;
+use crate::dump::{add_dump, add_quoted};
 use rhai_cast::{DynamicCast, is_castable};
 use rhai_text::ImmutableString;
 use rhai_value::{Array, Blob, Dynamic, ExclusiveRange, FnPtr, InclusiveRange, Map};
@@ -96,10 +97,29 @@ fn made_as<T: Variant>(desk: &Desk, x: &Dynamic, way: u8) -> Result<Dynamic, All
     }
 }
 
+/// Says the entries of a map as they are moved out.
+fn say_moved(desk: &mut Desk, x: &Dynamic) -> Result<(), AllocError> {
+    if !is_castable::<Map>(x, &desk.store) {
+        return desk.answers.say("moved", "none");
+    }
+    let map = x.clone_cast::<Map>(desk.alloc, &desk.store)?;
+    for (key, value) in map {
+        desk.answers.key("moved")?;
+        add_quoted(&mut desk.answers.text, key.as_str())?;
+        desk.answers.text.push(' ')?;
+        add_dump(&mut desk.answers.text, &desk.store, &value)?;
+        desk.answers.end()?;
+    }
+    Ok(())
+}
+
 /// Makes an array of an array's items, or a map of a map's entries or keys, by way of a collection of Rust.
 pub fn make_call(desk: &mut Desk, x: &Dynamic) -> Result<(), AllocError> {
     let kind = desk.recipe.byte();
     let way = desk.recipe.byte();
+    if way == 6 {
+        return say_moved(desk, x);
+    }
     let made = match kind {
         0 => made_as::<()>(desk, x, way),
         1 => made_as::<bool>(desk, x, way),

@@ -1,10 +1,11 @@
 //! Arrays and maps that are made of Rust's collections.
 
 use super::Desk;
+use crate::dump::{dumped, quote};
 use crate::ends::flat;
 use crate::machine::command::Kind;
 use crate::machine::kinds::{for_kind, ForType};
-use rhai::{hooks, Dynamic, Union, Variant};
+use rhai::{hooks, Dynamic, Map, Union, Variant};
 use std::collections::{BTreeMap, BTreeSet, HashMap, HashSet};
 
 /// The items of an array that can be cast to the type.
@@ -49,7 +50,20 @@ impl ForType for MadeOf<'_> {
 }
 
 impl Desk {
+    /// Says the entries of a map as they are moved out.
+    fn say_moved(&mut self, x: &Dynamic) {
+        let Some(map) = flat(x).try_cast::<Map>() else { return self.say("moved", "none") };
+        for (key, v) in map {
+            let mut out = String::new();
+            quote(&key, &mut out);
+            self.say("moved", format!("{out} {}", dumped(&v)));
+        }
+    }
+
     pub(super) fn make_call(&mut self, x: &Dynamic, kind: u8, way: u8) {
+        if way == 6 {
+            return self.say_moved(x);
+        }
         let made = for_kind(Kind(usize::from(kind)), MadeOf(x, way)).expect("one of the 22 types");
         self.say_kept("made", made);
     }

@@ -7,11 +7,13 @@ ghost use Rattle.rhai_run.specs.Places.{place_of};
 ghost use Rattle.rhai_run.specs.Stop.{NeverWants};
 ghost use Rattle.rhai_run.specs.Step.{step};
 ghost use Rattle.rhai_run.specs.Fits.{Fits};
-ghost use Rattle.rhai_run.specs.Does.{Does};
+ghost use Rattle.rhai_run.specs.Does.{Does, Steps};
 
 use crate::answer::Answer;
+use crate::laws;
 use crate::lists::{Bytes, FlaggedNames, Names};
 use crate::not_done::NotDone;
+use crate::world::{World, replied};
 use crate::world_state::WorldState;
 use rhai_text::{ImmutableString, Token};
 use rhai_value::{AccessMode, ExclusiveRange, Host, INT, InclusiveRange, Tag, TypeId};
@@ -343,6 +345,18 @@ impl WorldState {
             Command::Debug(i) => self.debug(*i),
             Command::Hash(i) => self.hash(*i),
         }
+    }
+}
+
+impl World {
+    /// Does one command, as the free `apply`.
+    /// Errors: memory was refused, and all is as before.
+    #[inline(always)]
+    pub fn apply(&mut self, command: &Command) -> Result<Answer, AllocError>
+        ensures { Steps result self.old self.new (step self.old command.now) }
+    {
+        laws::methods_fit();
+        replied(self.state.apply(command))
     }
 }
 

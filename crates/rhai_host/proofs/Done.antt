@@ -28,3 +28,11 @@ pub performed_if : (o : Option Kept) (k l : Kept) (p : Option Kept) (status : �
     → Some k ≡ o → p ≡ Some l → DoesOneIf status k l was told (says k) → PerformsIf status o p was told says
 performed_if o k l p status was told says is put d =
     subst (λ o. PerformsIf status o p was told says) is (subst (λ p. InWorld p (λ l. DoesOneIf status k l was told (says k))) (sym put) d)
+
+-- what is said of something that is there, or isn't
+pub is_said : {X : Type 0} (o : Option X) (x : X) (says : X → Command) (status : ℕ) (k l : Kept) (was told : Told)
+    → o ≡ Some x → DoesOne status k l was told (says x) → DoesOneIf status k l was told (option_map says o)
+is_said o x says status k l was told e d = rw e d
+
+pub is_unsaid : {X : Type 0} (o : Option X) (says : X → Command) (k : Kept) (told : Told) → o ≡ None → DoesOneIf 3 k k told told (option_map says o)
+is_unsaid o says k told e = rw e (refl, ((refl, refl, refl), refl))

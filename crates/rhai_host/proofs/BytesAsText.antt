@@ -22,7 +22,7 @@ is_no_text bytes h = rw (false_from_ne_true _ (λ e. h (IsUtf8-from_is_utf8 byte
 
 -- no memory for the text of a value that is put
 pub put_failed : (status : ℕ) (o : Option Kept) (told : Told) (bytes : List ℕ) → text_of bytes ≡ Some (chars bytes)
-    → ((told : Told) (l : Literal) → Performs status o o told told (command.Put l))
-    → PerformsIf status o o told told (λ x. option_map (λ t. command.Put (literal.Text t)) (text_of bytes))
+    → ((told : Told) (l : Literal) → Performs status o o told (command.Put l))
+    → PerformsIf status o o told (λ x. option_map (λ t. command.Put (literal.Text t)) (text_of bytes))
 put_failed status None told bytes e h = h told literal.Unit
 put_failed status (Some k) told bytes e h = rw e (h told (literal.Text (chars bytes)))

@@ -1,2 +1,2 @@
 mod BytesAsText
-mod Done
+mod Taken

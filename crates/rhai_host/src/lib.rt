@@ -16,7 +16,6 @@ mod perform;
 pub mod placed;
 pub mod scope;
 pub mod scripts;
-pub mod stamp;
 pub mod texts;
 pub mod told;
 pub mod typed;

@@ -25,26 +25,47 @@
 //! assert_eq!(world.drop(), Err(Error::Refused(Refusal::NoValue)));
 //! # Ok::<(), Error>(())
 //! ```
-#![deny(missing_docs, unsafe_code, unsafe_op_in_unsafe_fn)]
+//!
+//! Nothing here panics, and want of memory is an error, but where a [`Value`] is cloned or compared: there it ends the program, as in
+//! [`Vec`]. A thread that calls wants [`STACK`] bytes of stack.
+#![deny(
+    missing_docs,
+    unsafe_code,
+    unsafe_op_in_unsafe_fn,
+    clippy::undocumented_unsafe_blocks,
+    clippy::multiple_unsafe_ops_per_block
+)]
 
 mod answer;
+mod answers;
 mod commands;
-mod doors;
-mod handle;
+mod error;
 mod journal;
 mod kinds;
+mod limits;
+mod looks;
+mod names;
 mod script;
+mod spelling;
 #[allow(missing_docs)]
 mod sys;
 mod value;
 mod world;
 
-pub use answer::{Answer, ArithmeticFault, Error, Refusal, SizeKind};
+pub use answer::{Answer, ArithmeticFault, Refusal, SizeKind};
 pub use commands::Command;
-#[cfg(feature = "faults")]
-pub use doors::refuse;
+pub use error::Error;
 pub use journal::Journal;
-pub use kinds::{Limits, Name, Operator, Place, Type};
+pub use kinds::{Operator, Type};
+pub use limits::Limits;
+pub use looks::{Entry, Hand, Scope};
+pub use names::{Name, Place};
 pub use script::{Script, ScriptError};
-pub use value::{Entry, Hand, Value};
+#[cfg(feature = "faults")]
+pub use sys::refuse;
+pub use value::{Array, Fields, Map, TryFromValueError, Value};
 pub use world::World;
+
+/// How many bytes of stack a call of the library wants, however deep values and scripts are nested, while memory is there: `SAFETY.md` says how it
+/// was found. A thread's usual stack, of 2 MB, has it eight times over.
+pub const STACK: usize = 256 * 1024;

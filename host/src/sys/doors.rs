@@ -1,9 +1,12 @@
 //! The three doors by which the library asks for memory: C's `malloc`, `realloc` and `free`, which align a block to 16 bytes.
-#![allow(unsafe_code)]
 
 use std::ffi::c_void;
 
-extern "C" {
+/// To how many bytes C's functions align a block, so that the library may ask for no more. (A block that is given back has no alignment told.)
+const ALIGN: usize = 16;
+
+// SAFETY: these are the C library's own, as C declares them.
+unsafe extern "C" {
     fn malloc(size: usize) -> *mut c_void;
     fn realloc(at: *mut c_void, size: usize) -> *mut c_void;
     fn free(at: *mut c_void);
@@ -27,6 +30,7 @@ impl Tried {
 }
 
 fn at_least(size: usize, align: usize) -> usize {
+    debug_assert!(align <= ALIGN, "a block of alignment {align}");
     if size == 0 {
         align
     } else {
@@ -34,25 +38,31 @@ fn at_least(size: usize, align: usize) -> usize {
     }
 }
 
-#[no_mangle]
+// SAFETY: the name is the library's for this door, and no other item of the program has it: `SAFETY.md` says so of a second such library.
+#[unsafe(no_mangle)]
 extern "C" fn rattle_alloc(size: usize, align: usize) -> Tried {
+    let size = at_least(size, align);
     if is_refused() {
         return Tried::of(std::ptr::null_mut());
     }
     // SAFETY: `malloc` takes any size.
-    Tried::of(unsafe { malloc(at_least(size, align)) })
+    Tried::of(unsafe { malloc(size) })
 }
 
-#[no_mangle]
+// SAFETY: as of `rattle_alloc`.
+#[unsafe(no_mangle)]
 unsafe extern "C" fn rattle_realloc(at: *mut c_void, _kept: usize, size: usize, align: usize) -> Tried {
+    let size = at_least(size, align);
     if is_refused() {
         return Tried::of(std::ptr::null_mut());
     }
-    // SAFETY: the library passes a block that one of these doors gave, and has not given it back.
-    Tried::of(unsafe { realloc(at, at_least(size, align)) })
+    // SAFETY: the library passes a block that one of these doors gave, and that it has not given back. It uses the old one no more where
+    // there is a new one, and keeps it where there is none.
+    Tried::of(unsafe { realloc(at, size) })
 }
 
-#[no_mangle]
+// SAFETY: as of `rattle_alloc`.
+#[unsafe(no_mangle)]
 unsafe extern "C" fn rattle_dealloc(at: *mut c_void) {
     // SAFETY: the library passes a block that one of these doors gave, once.
     unsafe { free(at) }

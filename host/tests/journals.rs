@@ -9,23 +9,25 @@ fn world() -> World {
 fn journals() {
     let (mut w, mut beside, mut journal) = (world(), world(), Journal::new());
     let (x, odd) = (w.name("x").unwrap(), w.name("an odd name").unwrap());
-    beside.name("x").unwrap();
-    let commands = [
-        Command::PutInt { n: -7 },
-        Command::PutI128 { n: i128::MIN },
-        Command::PutChar { character: ' ' },
-        Command::Share { i: 0 },
-        Command::Push { name: x, i: 0 },
-        Command::Assign { operator: Operator::PowerOfAssign, place: Place::Entry(x), j: 1 },
-        Command::GetValue { name: x, kind: Type::ImmutableString },
-        Command::Index { length: 4, index: -1, from_end: true },
-        Command::WriteSlice { place: Place::Hand(2), start: 0, end: 1, exclusive: false, j: 1 },
-        Command::Hash { i: 2 },
-        Command::Drop {},
-        Command::Names {},
-    ];
-    for command in commands {
-        assert_eq!(journal.apply(&mut w, &command), beside.apply(&command));
+    let other = beside.name("x").unwrap();
+    let commands = |x: Name| {
+        [
+            Command::PutInt { n: -7 },
+            Command::PutI128 { n: i128::MIN },
+            Command::PutChar { character: ' ' },
+            Command::Share { i: 0 },
+            Command::Push { name: x, i: 0 },
+            Command::Assign { operator: Operator::PowerOfAssign, place: Place::Entry(x), j: 1 },
+            Command::GetValue { name: x, kind: Type::ImmutableString },
+            Command::Index { length: 4, index: -1, from_end: true },
+            Command::WriteSlice { place: Place::Hand(2), start: 0, end: 1, exclusive: false, j: 1 },
+            Command::Hash { i: 2 },
+            Command::Drop {},
+            Command::Names {},
+        ]
+    };
+    for (command, other) in commands(x).into_iter().zip(commands(other)) {
+        assert_eq!(journal.apply(&mut w, &command), beside.apply(&other));
     }
     assert_eq!(journal.line(&mut w, "text two words"), Ok(Answer::Done));
     assert_eq!(journal.line(&mut w, "no such line"), Err(Error::NoCommand));

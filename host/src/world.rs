@@ -8,6 +8,8 @@ use std::fmt;
 
 /// A store of shared cells, named values, and a hand of values that commands name by position. It is closed when it is dropped.
 ///
+/// A method does one command, and its error says why that has no answer: the world is as it was before then. One that only looks takes `&self`.
+///
 /// A world stays on the thread that made it. What goes to another thread is a [`Value`](crate::Value):
 ///
 /// ```

@@ -26,15 +26,30 @@ fn in_little_room(test: &str, work: fn()) {
     assert!(printed.contains("refused as it should be"), "{printed}");
 }
 
-/// Makes copies and keeps them until one is refused, and tells how many there were.
-fn until_refused<T>(mut copy: impl FnMut() -> Result<T, Error>) -> usize {
-    let mut copies = Vec::with_capacity(500_000);
+/// Takes all memory but about so many blocks of 64 KB.
+fn all_but(blocks: usize) -> Vec<Vec<u8>> {
+    let mut filler = Vec::with_capacity(10_000);
+    loop {
+        let mut block: Vec<u8> = Vec::new();
+        if block.try_reserve_exact(64 << 10).is_err() {
+            break;
+        }
+        filler.push(block);
+    }
+    filler.truncate(filler.len().saturating_sub(blocks));
+    filler
+}
+
+/// Makes copies and keeps them until one is refused, while there are so many blocks of memory, and tells how many there were.
+fn until_refused<T>(blocks: usize, mut copy: impl FnMut() -> Result<T, Error>) -> usize {
+    let mut copies = Vec::with_capacity(50_000);
+    let filler = all_but(blocks);
     while copies.len() < copies.capacity() {
         match copy() {
             Ok(it) => copies.push(it),
             Err(error) => {
                 let count = copies.len();
-                drop(copies);
+                drop((copies, filler));
                 assert_eq!(error, Error::OutOfMemory, "after {count}");
                 return count;
             }
@@ -60,9 +75,9 @@ fn world() -> World {
 fn values() {
     in_little_room("values", || {
         let world = world();
-        assert!(until_refused(|| world.value(0)) > 100);
+        assert!(until_refused(16, || world.value(0)) > 10);
         assert_eq!(world.value(0), Ok(Some(small())));
-        assert!(until_refused(|| world.hand().collect::<Result<Vec<_>, _>>()) > 100);
+        assert!(until_refused(16, || world.hand().collect::<Result<Vec<_>, _>>()) > 10);
     });
 }
 
@@ -75,8 +90,8 @@ fn large_values() {
         world.put(&Value::from(vec![7_u8; 1 << 20])).unwrap();
         world.put(&Value::from("é".repeat(1 << 19))).unwrap();
         for i in 0..3 {
-            assert!(until_refused(|| world.value(i)) > 5);
-            assert!(until_refused(|| world.show(i)) > 5);
+            assert!(until_refused(500, || world.value(i)) > 3);
+            assert!(until_refused(500, || world.show(i)) > 3);
         }
         assert_eq!(world.value(0), Ok(Some(large)));
     });
@@ -92,12 +107,12 @@ fn scopes() {
             world.push(x, 1).unwrap();
             world.drop().unwrap();
         }
-        assert!(until_refused(|| world.scope()) > 10);
+        assert!(until_refused(32, || world.scope()) > 1);
         assert_eq!((world.hand_len(), world.scope().map(|scope| scope.len())), (1, Ok(20)));
-        assert!(until_refused(|| world.show_scope()) > 10);
-        assert!(until_refused(|| world.hash_scope()) > 10);
-        assert!(until_refused(|| world.names()) > 10);
-        assert!(until_refused(|| world.name_text(x)) > 10);
+        assert!(until_refused(16, || world.show_scope()) > 10);
+        assert!(until_refused(16, || world.hash_scope()) > 10);
+        assert!(until_refused(16, || world.names()) > 10);
+        assert!(until_refused(16, || world.name_text(x)) > 10);
     });
 }
 
@@ -106,16 +121,16 @@ fn texts() {
     in_little_room("texts", || {
         let mut world = world();
         let x = world.name("name_of_more_than_twenty_four_letters").unwrap();
-        assert!(until_refused(|| world.show(0)) > 100);
-        assert!(until_refused(|| world.debug(0)) > 100);
-        assert!(until_refused(|| world.hash(0)) > 100);
-        assert!(until_refused(|| world.type_name(0)) > 100);
-        assert!(until_refused(|| world.run_lines(b"text some text\nshow 0\n")) > 100);
-        assert!(until_refused(|| world.line_of(&Command::Get { name: x })) > 100);
-        assert!(until_refused(|| world.line("show 0")) > 100);
+        assert!(until_refused(16, || world.show(0)) > 10);
+        assert!(until_refused(16, || world.debug(0)) > 10);
+        assert!(until_refused(16, || world.hash(0)) > 10);
+        assert!(until_refused(16, || world.type_name(0)) > 10);
+        assert!(until_refused(16, || world.run_lines(b"text some text\nshow 0\n")) > 10);
+        assert!(until_refused(16, || world.line_of(&Command::Get { name: x })) > 10);
+        assert!(until_refused(16, || world.line("show 0")) > 10);
         let mut journal = Journal::new();
         let line = format!("text {}", "letters".repeat(100));
-        assert!(until_refused(|| journal.line(&mut world, &line)) > 100);
+        assert!(until_refused(16, || journal.line(&mut world, &line)) > 10);
     });
 }
 
@@ -123,10 +138,10 @@ fn texts() {
 fn what_is_put() {
     in_little_room("what_is_put", || {
         let (mut world, value) = (world(), small());
-        let count = until_refused(|| world.put(&value));
+        let count = until_refused(16, || world.put(&value));
         assert_eq!(world.hand_len(), count + 1);
         let mut names = World::new(Limits::default()).unwrap();
-        assert!(until_refused(|| names.name("a name that is longer than twenty-four bytes")) > 100);
+        assert!(until_refused(16, || names.name("a name that is longer than twenty-four bytes")) > 10);
     });
 }
 

@@ -84,7 +84,7 @@ fn what_is_refused_in_the_middle_leaves_the_hand() {
         let value = nested(sides);
         let mut world = World::new(Limits::default()).unwrap();
         world.put_int(1).unwrap();
-        for nth in [0, 1, 10, levels() as u64] {
+        for nth in [0, 1, 10, levels() as u64 / 2] {
             let (put, asked) = rhai_world::refuse(nth, true, || world.put(&value));
             assert_eq!((put, world.hand_len()), (Err(Error::OutOfMemory), 1), "{nth} of {asked}");
         }

@@ -1,4 +1,6 @@
 //! Names of other worlds, and names that were forgotten.
+mod common;
+
 use rhai_world::{Command, Error, Limits, Name, Operator, Place, Type, World};
 use std::collections::HashSet;
 
@@ -69,10 +71,9 @@ fn forgotten() {
 #[test]
 fn a_million_take_little_room() {
     let mut w = world();
-    let count = if cfg!(miri) { 100 } else { 1_000_000 };
     let mut kept = w.name("first").unwrap();
     let mut numbers = HashSet::new();
-    for _ in 0..count {
+    for _ in 0..common::levels() {
         let next = w.name("next").unwrap();
         w.forget_name(kept).unwrap();
         numbers.insert(format!("{next:?}").split(", ").next().unwrap().to_owned());

@@ -11,8 +11,7 @@ fn world() -> World {
 /// Each call that walks a value, on the one at position 0, which is dropped then.
 fn walk(w: &mut World) -> Result<(), Error> {
     w.copy(0)?;
-    let (shown, debugged, hashed) = (w.show(0)?, w.debug(1)?, w.hash(0)?);
-    assert!(shown.len() > levels() && debugged.len() > levels() && hashed.len() > levels());
+    assert!(!w.show(0)?.is_empty() && !w.debug(1)?.is_empty() && w.hash(0)?.len() > levels());
     assert_eq!((w.is_locked(0), w.is_hashable(1), w.is_read_only(0)), (Ok(false), Ok(true), Ok(false)));
     w.make_read_only(0)?;
     w.scan_tags(1, 3)?;
@@ -27,7 +26,7 @@ fn walk(w: &mut World) -> Result<(), Error> {
     w.copy_scope()?;
     w.keep_visible()?;
     w.entries()?;
-    assert!(w.show_scope()?.len() > levels() && w.hash_scope()?.len() > levels());
+    assert!(!w.show_scope()?.is_empty() && w.hash_scope()?.len() > levels());
     w.scan_no_share(1)?;
     w.collect()?;
     w.clear()?;
@@ -112,7 +111,7 @@ fn lines() {
 }
 
 fn run(text: &str) -> Result<String, ScriptError> {
-    Script::run(text, 100_000_000, Limits::default())
+    Script::run(text, 10_000_000, Limits::default())
 }
 
 #[test]

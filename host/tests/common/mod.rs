@@ -1,10 +1,11 @@
-//! What several tests need.
+//! What several tests need, and each of them in part.
+#![allow(dead_code)]
 use std::sync::Mutex;
 
 /// Held while a deep value is there, so that a test file has one at a time.
 static ONE: Mutex<()> = Mutex::new(());
 
-/// How many levels a deep value has: a million, or what `RHAI_WORLD_LEVELS` says, as for a slow run.
+/// How many levels a deep value has, and how many names are made: a million, or what `RHAI_WORLD_LEVELS` says, as for a slow run.
 pub fn levels() -> usize {
     std::env::var("RHAI_WORLD_LEVELS").ok().and_then(|word| word.parse().ok()).unwrap_or(1_000_000)
 }

@@ -27,7 +27,8 @@
 //! ```
 //!
 //! Nothing here panics, and want of memory is an error, but where a [`Value`] is cloned or compared: there it ends the program, as in
-//! [`Vec`]. A thread that calls wants [`STACK`] bytes of stack.
+//! [`Vec`]. A thread that calls wants [`STACK`] bytes of stack, one that runs scripts
+//! [`Script::STACK`].
 #![deny(
     missing_docs,
     unsafe_code,
@@ -66,6 +67,6 @@ pub use sys::refuse;
 pub use value::{Array, Fields, Map, TryFromValueError, Value};
 pub use world::World;
 
-/// How many bytes of stack a call of the library wants, however deep values and scripts are nested, while memory is there: `SAFETY.md` says how it
-/// was found. A thread's usual stack, of 2 MB, has it eight times over.
-pub const STACK: usize = 256 * 1024;
+/// How many bytes of stack a call of a [`World`] wants, however deep values are nested, while memory is there; a run of a [`Script`] wants
+/// [`Script::STACK`]. `SAFETY.md` says how both are tried.
+pub const STACK: usize = 512 * 1024;

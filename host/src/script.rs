@@ -25,6 +25,9 @@ const CALLS: usize = 500;
 pub struct Script;
 
 impl Script {
+    /// How many bytes of stack a run wants, whatever its text is, while memory is there: as many as a thread has that is told no number.
+    pub const STACK: usize = 2 * 1024 * 1024;
+
     /// Runs a script on values of its own, and answers what it prints. It may take so many operations, its values may grow up to the
     /// limits, and 500 calls may stand within each other.
     pub fn run(text: &str, operations: u64, limits: Limits) -> Result<String, ScriptError> {

@@ -1,4 +1,4 @@
-//! The deepest that there is, on a thread of the stack that a call wants: values, chains of cells, lines and scripts of a million levels.
+//! The deepest that there is, on a thread of the stack that a call wants: values, chains of cells and lines of a million levels, and scripts.
 mod common;
 
 use common::{levels, on_stack};
@@ -114,20 +114,21 @@ fn run(text: &str) -> Result<String, ScriptError> {
     Script::run(text, 10_000_000, Limits::default())
 }
 
+/// Texts that nest too deep, texts that nest as deep as they may, values that grow deep, and calls within each other.
 #[test]
 fn scripts() {
-    on_stack(STACK, || {
+    on_stack(Script::STACK, || {
         let deep = levels();
-        let nested = format!("let a = {}7{}; print(1)", "[".repeat(deep), "]".repeat(deep));
-        let summed = format!("print({}0)", "1 + ".repeat(deep));
-        let grown = format!("let a = 7; for i in 0..{deep} {{ a = [a]; }} let b = a; print(a == b); print(2)");
-        for text in [nested, summed, grown, "((((".repeat(deep), "{".repeat(deep), "-".repeat(deep), "f(".repeat(deep)] {
-            match run(&text) {
-                Ok(_) | Err(ScriptError::Syntax { .. } | ScriptError::Fault { .. }) => {}
-                other => panic!("{other:?}"),
-            }
+        for text in ["[", "(", "{", "-", "f(", "#{k: ", "if true {", "let f = |x| "].map(|opens| opens.repeat(deep)) {
+            assert!(matches!(run(&text), Err(ScriptError::Syntax { .. })));
         }
+        let nested = |opens: &str, closes: &str| format!("print({}1{})", opens.repeat(50), closes.repeat(50));
+        assert_eq!(run(&nested("(", ")")).as_deref(), Ok("1\n"));
+        assert_eq!(run(&format!("fn f(x) {{ x }} {}", nested("f(", ")"))).as_deref(), Ok("1\n"));
+        assert!(run(&nested("[", "]")).is_ok_and(|printed| printed.len() == 102));
         let calls = "fn f(n) { if n == 0 { 0 } else { [f(n - 1)].len() + { let x = f(0); x } } } print(f(490))";
         assert_eq!(run(calls).as_deref(), Ok("1\n"));
+        assert_eq!(run("let a = 7; for i in 0..2000 { a = [a]; } let b = a; print(2)").as_deref(), Ok("2\n"));
+        assert_eq!(run(&format!("print({}0)", "1 + ".repeat(2000))).as_deref(), Ok("2000\n"));
     });
 }

@@ -1,10 +1,11 @@
 -- What a call across the border does, by the status that it answers: 0 done, 1 out of memory, 2 no world is open, 3 the numbers, the text or the line
 -- say no command, 4 no memory to make the command of what was handed over. But for 0 nothing has changed, and nothing is told.
-use Rattle.std.specs.Prelude.{◌≡◌, ◌⊎◌, ℕ, zero, suc, true, Option, None, Some, IsSome, Result, Ok, Err}
-use Rattle.std.specs.declared.alloc.AllocError.{AllocError}
+use Rattle.std.specs.Prelude.{◌≡◌, ◌⊎◌, ℕ, zero, suc, true, Option, None, Some}
 use Rattle.rhai_handle.specs.declared.kept.Kept.{Kept}
 use Rattle.rhai_run.specs.declared.answer.Answer.{Answer}
 use Rattle.rhai_run.specs.declared.command.Command.{Command}
+use Rattle.rhai_run.specs.Outcome.{Outcome}
+use Rattle.rhai_run.specs.State.{State}
 use Rattle.rhai_run.specs.Step.{step}
 use Rattle.rhai_host.specs.declared.told.Told.{Told}
 use Rattle.rhai_host.specs.Answers.{kept_answer, told_of}
@@ -26,16 +27,15 @@ abbrev pub InWorld : Option Kept → (Kept → Type 0) → Type 0
 InWorld None P = ⊥
 InWorld (Some k) P = P k
 
--- the command's step was made, its answer is told, and what numbers don't tell of it is kept
-abbrev pub IsDone : Kept → Kept → Told → Command → Type 0
-IsDone k l told c =
-    (l.world ≡ (step k.world c).after) × (told ≡ told_of (step k.world c).reply) × (l.answer ≡ kept_answer k.answer (step k.world c).reply) × (l.names ≡ k.names)
+-- the outcome is there, its reply is told, and what numbers don't tell of it is kept; or memory is refused, which an outcome that wants none never is
+abbrev pub Replies : ℕ → State → State → Answer → Answer → Told → Told → Outcome → Type 0
+Replies zero w v last kept was told o = (v ≡ o.after) × (told ≡ told_of o.reply) × (kept ≡ kept_answer last o.reply)
+Replies (suc zero) w v last kept was told o = (o.wants ≡ true) × (v ≡ w) × (kept ≡ last) × (told ≡ was)
+Replies (suc (suc n)) w v last kept was told o = ⊥
 
--- the command is done in an open world; or memory is refused, which a command that wants none never is
+-- the command is done in an open world, or memory is refused
 abbrev pub DoesOne : ℕ → Kept → Kept → Told → Told → Command → Type 0
-DoesOne zero k l was told c = IsDone k l told c
-DoesOne (suc zero) k l was told c = ((step k.world c).wants ≡ true) × Stays k l was told
-DoesOne (suc (suc n)) k l was told c = ⊥
+DoesOne status k l was told c = Replies status k.world l.world k.answer l.answer was told (step k.world c) × (l.names ≡ k.names)
 
 -- a call that makes the command
 abbrev pub Performs : ℕ → Option Kept → Option Kept → Told → Told → Command → Type 0
@@ -60,8 +60,3 @@ DoesOneMade status k l was told Takes o = ((status ≡ 4) × Takes × Stays k l 
 abbrev pub PerformsMade : ℕ → Option Kept → Option Kept → Told → Told → (Kept → Type 0) → (Kept → Option Command) → Type 0
 PerformsMade status None new was told Takes says = IsClosed status new was told
 PerformsMade status (Some k) new was told Takes says = InWorld new (λ l. DoesOneMade status k l was told (Takes k) (says k))
-
--- what a method of the world has answered is told, and what numbers don't tell of it is kept; or memory was refused, and nothing is told
-abbrev pub Tells : Result Answer AllocError → ℕ → Answer → Answer → Told → Told → Type 0
-Tells (Ok a) status last kept was told = (status ≡ 0) × (kept ≡ kept_answer last a) × (told ≡ told_of a)
-Tells (Err e) status last kept was told = (status ≡ 1) × (kept ≡ last) × (told ≡ was)

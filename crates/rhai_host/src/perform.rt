@@ -2,13 +2,16 @@
 ghost use Rattle.std.specs.Prelude.{◌≡◌, ◌<◌, ℕ, List, Option, None, option_map};
 ghost use Rattle.std.specs.Fn.{FnOnceReturnsAtMut};
 ghost use Rattle.rhai_handle.specs.Content.{content};
+ghost use Rattle.rhai_run.specs.Does.{Steps};
+ghost use Rattle.rhai_run.specs.Outcome.{Outcome};
+ghost use Rattle.rhai_run.specs.State.{State};
 ghost use Rattle.rhai_run.specs.declared.command.Command.{Command};
 ghost use Rattle.rhai_run.specs.declared.command.Command.TheVariants as command;
 ghost use Rattle.rhai_run.specs.declared.command.Literal.{Literal};
 ghost use Rattle.rhai_run.specs.declared.command.Place.{Place};
 ghost use Rattle.rhai_handle.specs.declared.kept.Kept.{Kept};
 ghost use Rattle.rhai_host.specs.Answers.{kept_answer, told_of};
-ghost use Rattle.rhai_host.specs.Calls.{DoesOne, DoesOneIf, Performs, PerformsIf, PerformsMade, Tells};
+ghost use Rattle.rhai_host.specs.Calls.{DoesOne, DoesOneIf, Performs, PerformsIf, PerformsMade, Replies};
 ghost use Rattle.rhai_host.specs.Methods.{Makes, MakesAt, MakesNamed, ReturnsAt, ReturnsNamed};
 ghost use Rattle.rhai_host.specs.Names.{name_at, place_at};
 ghost use Rattle.rhai_host.specs.declared.told.Told.{Told};
@@ -46,64 +49,78 @@ pub(crate) fn keep(last: &mut Answer, answer: Answer, told: &mut Told)
     }
 }
 
-/// Tells what a method of the world has answered.
-#[inline(always)]
-fn tell(last: &mut Answer, done: Result<Answer, AllocError>, told: &mut Told) -> u32
-    ensures { Tells done result last.old last.new told.old told.new }
-{
-    match done {
-        Ok(Answer::Done) => {
-            *told = told_of(&Answer::Done);
-            DONE
+/// What a method of the world gives. It is the result of a command; that it is one only its implementation knows, so that methods may be handed over as closures.
+pub(crate) trait Reply {
+    ghost use Rattle.rhai_run.specs.Outcome.{Outcome};
+    ghost use Rattle.rhai_run.specs.State.{State};
+
+    /// That it is given for the outcome of a command, by a method that leads from one state to another.
+    ghost is_for: { Self → State → State → Outcome → Type 0 };
+
+    /// Tells it, and keeps what numbers don't tell of it.
+    fn tell(self, last: &mut Answer, told: &mut Told) -> u32
+        ensures { (w v : State) (o : Outcome) → is_for self w v o → Replies result w v last.old last.new told.old told.new o };
+}
+
+impl Reply for Result<Answer, AllocError> {
+    ghost is_for = { Steps };
+
+    #[inline(always)]
+    fn tell(self, last: &mut Answer, told: &mut Told) -> u32 {
+        match self {
+            Ok(Answer::Done) => {
+                *told = told_of(&Answer::Done);
+                DONE
+            }
+            Ok(Answer::Int(n)) => {
+                *told = told_of(&Answer::Int(n));
+                DONE
+            }
+            Ok(answer) => {
+                keep(last, answer, told);
+                DONE
+            }
+            Err(_) => OUT_OF_MEMORY,
         }
-        Ok(Answer::Int(n)) => {
-            *told = told_of(&Answer::Int(n));
-            DONE
-        }
-        Ok(answer) => {
-            keep(last, answer, told);
-            DONE
-        }
-        Err(_) => OUT_OF_MEMORY,
     }
 }
 
 /// Calls a method of the world that is kept.
 #[inline(always)]
-pub(crate) fn perform_in<F: FnOnce(&mut World) -> Result<Answer, AllocError>>(
+pub(crate) fn perform_in<R: Reply, F: FnOnce(&mut World) -> R>(
     kept: &mut Kept,
     told: &mut Told,
     call: F,
 ) -> u32
     requires { F.IsAlwaysCallable call }
-    ensures { (c : Command) → Makes (FnOnceReturnsAtMut F.FnOnce call) c → DoesOne result kept.old kept.new told.old told.new c }
+    ensures { (c : Command) → Makes R.is_for (FnOnceReturnsAtMut F.FnOnce call) c → DoesOne result kept.old kept.new told.old told.new c }
 {
     let done = call(&mut kept.world);
-    tell(&mut kept.answer, done, told)
+    done.tell(&mut kept.answer, told)
 }
 
 /// Calls a method of the world with the name of a number.
 #[inline(always)]
-fn named_in<F: FnOnce(&mut World, &ImmutableString) -> Result<Answer, AllocError>>(
+fn named_in<R: Reply, F: FnOnce(&mut World, &ImmutableString) -> R>(
     kept: &mut Kept,
     number: usize,
     told: &mut Told,
     call: F,
 ) -> u32
     requires { F.IsAlwaysCallable call }
-    ensures { (c : List ℕ → Command) → MakesNamed (ReturnsNamed (F.post call)) c
+    ensures { (c : List ℕ → Command) → MakesNamed R.is_for (ReturnsNamed (F.post call)) c
         → DoesOneIf result kept.old kept.new told.old told.new (option_map c (name_at kept.old number)) }
 {
     let Some(name) = kept.names.get(number) else {
         return NO_COMMAND;
     };
     let done = call(&mut kept.world, name);
-    tell(&mut kept.answer, done, told)
+    done.tell(&mut kept.answer, told)
 }
 
 /// Calls a method of the world with a place.
 #[inline(always)]
-fn placed_in<F: FnOnce(&mut World, PlaceRef<'_>) -> Result<Answer, AllocError>>(
+fn placed_in<R: Reply, F: FnOnce(&mut World, PlaceRef<'_>) -> R>(
     kept: &mut Kept,
     is_entry: bool,
     at: usize,
@@ -111,26 +128,26 @@ fn placed_in<F: FnOnce(&mut World, PlaceRef<'_>) -> Result<Answer, AllocError>>(
     call: F,
 ) -> u32
     requires { F.IsAlwaysCallable call }
-    ensures { (c : Place → Command) → MakesAt (ReturnsAt (F.post call)) c
+    ensures { (c : Place → Command) → MakesAt R.is_for (ReturnsAt (F.post call)) c
         → DoesOneIf result kept.old kept.new told.old told.new (option_map c (place_at kept.old is_entry at)) }
 {
     let Some(place) = place_in(&kept.names, is_entry, at) else {
         return NO_COMMAND;
     };
     let done = call(&mut kept.world, place);
-    tell(&mut kept.answer, done, told)
+    done.tell(&mut kept.answer, told)
 }
 
 /// Calls a method of the world, where one is open.
 #[inline(always)]
-pub(crate) fn perform<F: FnOnce(&mut World) -> Result<Answer, AllocError>>(
+pub(crate) fn perform<R: Reply, F: FnOnce(&mut World) -> R>(
     alloc: Global,
     handle: &mut Handle,
     told: &mut Told,
     call: F,
 ) -> u32
     requires { F.IsAlwaysCallable call }
-    ensures { (c : Command) → Makes (FnOnceReturnsAtMut F.FnOnce call) c → Performs result (content handle.old) (content handle.new) told.old told.new c }
+    ensures { (c : Command) → Makes R.is_for (FnOnceReturnsAtMut F.FnOnce call) c → Performs result (content handle.old) (content handle.new) told.old told.new c }
 {
     let Some(mut kept) = handle.take(alloc) else {
         return CLOSED;
@@ -142,7 +159,7 @@ pub(crate) fn perform<F: FnOnce(&mut World) -> Result<Answer, AllocError>>(
 
 /// The same with the name of a number.
 #[inline(always)]
-pub(crate) fn perform_named<F: FnOnce(&mut World, &ImmutableString) -> Result<Answer, AllocError>>(
+pub(crate) fn perform_named<R: Reply, F: FnOnce(&mut World, &ImmutableString) -> R>(
     alloc: Global,
     handle: &mut Handle,
     number: usize,
@@ -150,7 +167,7 @@ pub(crate) fn perform_named<F: FnOnce(&mut World, &ImmutableString) -> Result<An
     call: F,
 ) -> u32
     requires { F.IsAlwaysCallable call }
-    ensures { (c : List ℕ → Command) → MakesNamed (ReturnsNamed (F.post call)) c
+    ensures { (c : List ℕ → Command) → MakesNamed R.is_for (ReturnsNamed (F.post call)) c
         → PerformsIf result (content handle.old) (content handle.new) told.old told.new (λ k. option_map c (name_at k number)) }
 {
     let Some(mut kept) = handle.take(alloc) else {
@@ -163,7 +180,7 @@ pub(crate) fn perform_named<F: FnOnce(&mut World, &ImmutableString) -> Result<An
 
 /// The same with a place: a hand position, or the last entry of the name of a number.
 #[inline(always)]
-pub(crate) fn perform_at<F: FnOnce(&mut World, PlaceRef<'_>) -> Result<Answer, AllocError>>(
+pub(crate) fn perform_at<R: Reply, F: FnOnce(&mut World, PlaceRef<'_>) -> R>(
     alloc: Global,
     handle: &mut Handle,
     is_entry: bool,
@@ -172,7 +189,7 @@ pub(crate) fn perform_at<F: FnOnce(&mut World, PlaceRef<'_>) -> Result<Answer, A
     call: F,
 ) -> u32
     requires { F.IsAlwaysCallable call }
-    ensures { (c : Place → Command) → MakesAt (ReturnsAt (F.post call)) c
+    ensures { (c : Place → Command) → MakesAt R.is_for (ReturnsAt (F.post call)) c
         → PerformsIf result (content handle.old) (content handle.new) told.old told.new (λ k. option_map c (place_at k is_entry at)) }
 {
     let Some(mut kept) = handle.take(alloc) else {

@@ -11,7 +11,7 @@ ghost use Rattle.rhai_run.specs.declared.command.Literal.{Literal};
 ghost use Rattle.rhai_run.specs.declared.command.Place.{Place};
 ghost use Rattle.rhai_handle.specs.declared.kept.Kept.{Kept};
 ghost use Rattle.rhai_host.specs.Answers.{kept_answer, told_of};
-ghost use Rattle.rhai_host.specs.Calls.{DoesOne, DoesOneIf, Performs, PerformsIf, PerformsMade, Replies};
+ghost use Rattle.rhai_host.specs.Calls.{DoesOne, DoesOneIf, Performs, PerformsIf, Replies};
 ghost use Rattle.rhai_host.specs.Methods.{Makes, MakesAt, MakesNamed, ReturnsAt, ReturnsNamed};
 ghost use Rattle.rhai_host.specs.Names.{name_at, place_at};
 ghost use Rattle.rhai_host.specs.declared.told.Told.{Told};
@@ -203,7 +203,6 @@ pub(crate) fn perform_at<R: Reply, F: FnOnce(&mut World, PlaceRef<'_>) -> R>(
 /// Says that there is no command.
 pub(crate) fn no_command(handle: &Handle) -> u32
     ensures said { (told : Told) → PerformsIf result (content handle.now) (content handle.now) told told (λ _. None) }
-    ensures made { (told : Told) (Takes : Kept → Type 0) → PerformsMade result (content handle.now) (content handle.now) told told Takes (λ _. None) }
     ensures status { result < 4 }
 {
     if handle.is_open() { NO_COMMAND } else { CLOSED }

@@ -1,5 +1,5 @@
 -- Runs over lines, whose output is the answer, and journals.
-use Rattle.std.specs.Prelude.{◌≡◌, ◌≢◌, ◌⊎◌, ℕ, zero, suc, List, [], Option, None, Some}
+use Rattle.std.specs.Prelude.{◌≡◌, ◌<◌, ◌⊎◌, ℕ, zero, suc, List, length, Option, None, Some}
 use Rattle.rhai_handle.specs.declared.kept.Kept.{Kept}
 use Rattle.rhai_run.specs.declared.answer.Answer.TheVariants as answer
 use Rattle.rhai_run.specs.declared.command.Command.{Command}
@@ -12,7 +12,7 @@ use Rattle.rhai_host.specs.Calls.{InWorld, IsClosed, Stays}
 -- the answer is what the lines print on a new world; or memory was refused, which is wanted only where there is an input, and nothing has changed
 abbrev pub IsRun : ℕ → Kept → Kept → List ℕ → Told → Told → Type 0
 IsRun zero k l input was told = (l.answer ≡ answer.Bytes (output new_world input)) × (told ≡ told_of l.answer) × (l.world ≡ k.world) × (l.names ≡ k.names)
-IsRun (suc zero) k l input was told = (input ≢ []) × Stays k l was told
+IsRun (suc zero) k l input was told = (0 < length input) × Stays k l was told
 IsRun (suc (suc n)) k l input was told = ⊥
 
 abbrev pub Runs : ℕ → Option Kept → Option Kept → List ℕ → Told → Told → Type 0

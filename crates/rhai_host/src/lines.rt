@@ -1,5 +1,5 @@
 //! Commands that lines say, runs over lines, and journals.
-ghost use Rattle.std.specs.Prelude.{◌≡◌, ◌≢◌, [], IfOk, OnErr};
+ghost use Rattle.std.specs.Prelude.{◌≡◌, ◌<◌, IfOk, OnErr, length};
 ghost use Rattle.rhai_handle.specs.Content.{content};
 ghost use Rattle.rhai_lines.specs.Verbs.{command_of};
 ghost use Rattle.rhai_lines.specs.Memory.{TakesMemory};
@@ -45,7 +45,7 @@ pub extern "C" fn rhai_host_line(
 /// What the lines print; no line wants no memory.
 fn output_of(alloc: Global, input: &[u8]) -> Result<Vec<u8>, AllocError>
     ensures ok { IfOk result (λ v. v.items ≡ output new_world input.now) }
-    ensures err { OnErr result (input.now ≢ []) }
+    ensures err { OnErr result (0 < length input.now) }
 {
     let mut out = Vec::new(alloc);
     if input.is_empty() {

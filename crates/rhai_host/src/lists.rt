@@ -1,5 +1,5 @@
 //! Commands with a list of names, and with a text besides a name.
-ghost use Rattle.std.specs.Prelude.{◌≡◌, ◌≢◌, [], IfOk, OnErr, option_and_then, option_map};
+ghost use Rattle.std.specs.Prelude.{◌≡◌, ◌<◌, IfOk, OnErr, length, option_and_then, option_map};
 ghost use Rattle.std.specs.Str.{chars};
 ghost use Rattle.rhai_handle.specs.Content.{content};
 ghost use Rattle.rhai_run.specs.declared.command.Command.TheVariants as command;
@@ -24,7 +24,7 @@ fn listed(
     numbers: &[usize],
 ) -> Result<Option<Vec<ImmutableString>>, AllocError>
     ensures ok { IfOk result (λ o. option_map (λ v. v.items) o ≡ names_at names.now numbers.now) }
-    ensures err { OnErr result (numbers.now ≢ []) }
+    ensures err { OnErr result (0 < length numbers.now) }
 {
     let mut found = Vec::new(alloc);
     let mut left = numbers;
@@ -46,7 +46,7 @@ fn flagged(
     flags: &[bool],
 ) -> Result<Option<Vec<(ImmutableString, bool)>>, AllocError>
     ensures ok { IfOk result (λ o. option_map (λ v. v.items) o ≡ flagged_at names.now numbers.now flags.now) }
-    ensures err { OnErr result (numbers.now ≢ []) }
+    ensures err { OnErr result (0 < length numbers.now) }
 {
     let mut found = Vec::new(alloc);
     let mut left = numbers;
@@ -66,7 +66,7 @@ fn flagged(
 }
 
 fn made_map(alloc: Global, kept: &mut Kept, keys: &[usize], told: &mut Told) -> u32
-    ensures { DoesOneMade result kept.old kept.new told.old told.new (keys.now ≢ []) (option_map (λ ks. command.MakeMap ks) (names_at kept.old.names keys.now)) }
+    ensures { DoesOneMade result kept.old kept.new told.old told.new (0 < length keys.now) (option_map (λ ks. command.MakeMap ks) (names_at kept.old.names keys.now)) }
 {
     match listed(alloc, &kept.names, keys) {
         Ok(Some(keys)) => perform_in(kept, told, |world| world.make_map(&Names::new(keys))),
@@ -83,7 +83,7 @@ pub extern "C" fn rhai_host_make_map(
     keys: &[usize],
     told: &mut Told,
 ) -> u32
-    ensures { PerformsMade result (content handle.old) (content handle.new) told.old told.new (λ _. keys.now ≢ []) (λ k. option_map (λ ks. command.MakeMap ks) (names_at k.names keys.now)) }
+    ensures { PerformsMade result (content handle.old) (content handle.new) told.old told.new (λ _. 0 < length keys.now) (λ k. option_map (λ ks. command.MakeMap ks) (names_at k.names keys.now)) }
 {
     let Some(mut kept) = handle.take(alloc) else {
         return CLOSED;
@@ -94,7 +94,7 @@ pub extern "C" fn rhai_host_make_map(
 }
 
 fn extended(alloc: Global, kept: &mut Kept, names: &[usize], told: &mut Told) -> u32
-    ensures { DoesOneMade result kept.old kept.new told.old told.new (names.now ≢ []) (option_map (λ ns. command.Extend ns) (names_at kept.old.names names.now)) }
+    ensures { DoesOneMade result kept.old kept.new told.old told.new (0 < length names.now) (option_map (λ ns. command.Extend ns) (names_at kept.old.names names.now)) }
 {
     match listed(alloc, &kept.names, names) {
         Ok(Some(names)) => perform_in(kept, told, |world| world.extend(&Names::new(names))),
@@ -111,7 +111,7 @@ pub extern "C" fn rhai_host_extend(
     names: &[usize],
     told: &mut Told,
 ) -> u32
-    ensures { PerformsMade result (content handle.old) (content handle.new) told.old told.new (λ _. names.now ≢ []) (λ k. option_map (λ ns. command.Extend ns) (names_at k.names names.now)) }
+    ensures { PerformsMade result (content handle.old) (content handle.new) told.old told.new (λ _. 0 < length names.now) (λ k. option_map (λ ns. command.Extend ns) (names_at k.names names.now)) }
 {
     let Some(mut kept) = handle.take(alloc) else {
         return CLOSED;
@@ -128,7 +128,7 @@ fn extended_flagged(
     constants: &[bool],
     told: &mut Told,
 ) -> u32
-    ensures { DoesOneMade result kept.old kept.new told.old told.new (names.now ≢ []) (option_map (λ ns. command.ExtendFlagged ns) (flagged_at kept.old.names names.now constants.now)) }
+    ensures { DoesOneMade result kept.old kept.new told.old told.new (0 < length names.now) (option_map (λ ns. command.ExtendFlagged ns) (flagged_at kept.old.names names.now constants.now)) }
 {
     match flagged(alloc, &kept.names, names, constants) {
         Ok(Some(names)) => perform_in(
@@ -150,7 +150,7 @@ pub extern "C" fn rhai_host_extend_flagged(
     constants: &[bool],
     told: &mut Told,
 ) -> u32
-    ensures { PerformsMade result (content handle.old) (content handle.new) told.old told.new (λ _. names.now ≢ []) (λ k. option_map (λ ns. command.ExtendFlagged ns) (flagged_at k.names names.now constants.now)) }
+    ensures { PerformsMade result (content handle.old) (content handle.new) told.old told.new (λ _. 0 < length names.now) (λ k. option_map (λ ns. command.ExtendFlagged ns) (flagged_at k.names names.now constants.now)) }
 {
     let Some(mut kept) = handle.take(alloc) else {
         return CLOSED;

@@ -1,8 +1,8 @@
 //! Random programs of commands, by the port's program and by the machine over the released files.
 //!
 //! Usage: programs PROGRAM PAGE COUNT SEED. PROGRAM is `crates/rhai_world`, built, which answers a line to each line; PAGE is docs/PORTING.md.
-//! The exit status is 1 where an answer differs, where the program ends with another status than 0, or where a departure that was put in has
-//! no row on that page. Up to a hundred programs that differ are told.
+//! The exit status is 1 where an answer differs, where the program ends with another status than 0, where there were too few worlds with
+//! many entries or marks, and where a departure that was put in has no row on that page. Up to a hundred programs that differ are told.
 
 use compare::departures::{unlisted, Tally};
 use compare::dice::Dice;
@@ -22,6 +22,10 @@ const PIECES: u64 = 64;
 /// About as many commands are answered by one process of the port, world after world.
 const BATCH: usize = 20_000;
 
+/// How many worlds of each kind that is asked for there have to be in a run of 200000 commands; in a shorter run in proportion.
+const WORLDS_LEAST: u64 = 20;
+const WHOLE: u64 = 200_000;
+
 /// So many programs that differ are told.
 const MOST_TOLD: usize = 100;
 
@@ -37,8 +41,10 @@ struct Met {
     commands: BTreeMap<String, u64>,
     worlds: BTreeMap<Theme, u64>,
     refused: u64,
-    most_entries: usize,
-    most_marks: usize,
+    /// Worlds that had two hundred entries at once; four marks; and a mark released that wasn't the last.
+    wide: u64,
+    marked: u64,
+    out_of_order: u64,
     departures: Tally,
     left_out: BTreeMap<LeftOut, u64>,
     /// Programs whose answers differ, made short, each with what differs.
@@ -51,8 +57,9 @@ impl Met {
         other.left_out.into_iter().for_each(|(why, count)| *self.left_out.entry(why).or_default() += count);
         other.worlds.into_iter().for_each(|(theme, count)| *self.worlds.entry(theme).or_default() += count);
         self.refused += other.refused;
-        self.most_entries = self.most_entries.max(other.most_entries);
-        self.most_marks = self.most_marks.max(other.most_marks);
+        self.wide += other.wide;
+        self.marked += other.marked;
+        self.out_of_order += other.out_of_order;
         self.departures.join(&other.departures);
         self.new.extend(other.new);
     }
@@ -175,13 +182,18 @@ impl Batch {
         *met.worlds.entry(style.theme).or_default() += 1;
         let mut world = World::default();
         let (least, more) = style.commands;
+        let (mut wide, mut marked, mut out_of_order) = (false, false, false);
         for _ in 0..least + d.below(more) as usize {
             let command = Maker { d, world: &world, style: &style }.command();
-            self.does(&mut world, command, met);
             let (_, entries, marks) = world.sizes();
-            met.most_entries = met.most_entries.max(entries);
-            met.most_marks = met.most_marks.max(marks);
+            wide |= entries >= 200;
+            marked |= marks >= 4;
+            out_of_order |= matches!(command, Command::Unmark(k) if k + 1 < marks && marks > 2);
+            self.does(&mut world, command, met);
         }
+        met.wide += u64::from(wide);
+        met.marked += u64::from(marked);
+        met.out_of_order += u64::from(out_of_order);
         for command in emptying(&world) {
             self.does(&mut world, command, met);
         }
@@ -244,11 +256,19 @@ fn run(program: &str, count: u64, seed: u64) -> Met {
     met
 }
 
+/// Prints how many worlds were of each kind that is asked for; answers how many kinds there were too few of.
+fn report_worlds(met: &Met, least: u64) -> usize {
+    let kinds = [("two hundred entries", met.wide), ("four marks", met.marked), ("a release out of order", met.out_of_order)];
+    for (what, count) in kinds {
+        println!("  worlds with {what}: {count}{}", if count < least { ", TOO SELDOM" } else { "" });
+    }
+    kinds.iter().filter(|(_, count)| *count < least).count()
+}
+
 fn report(met: &Met) {
     let all: u64 = met.commands.values().sum();
     let worlds: Vec<_> = met.worlds.iter().map(|(theme, count)| format!("{} {count}", theme.name())).collect();
     println!("commands of whole programs: {all}, of which {} were refused; worlds: {}", met.refused, worlds.join(", "));
-    println!("  at most {} entries and {} marks", met.most_entries, met.most_marks);
     let verbs: Vec<_> = met.commands.iter().map(|(verb, count)| format!("{verb} {count}")).collect();
     println!("  by verb: {}", verbs.join(", "));
     for (why, count) in &met.left_out {
@@ -267,7 +287,10 @@ fn main() {
     let args: Vec<String> = std::env::args().collect();
     let [_, program, page, count, seed] = args.as_slice() else { panic!("programs PROGRAM PAGE COUNT SEED") };
     let page = std::fs::read_to_string(page).expect("the page of departures");
-    let met = run(program, count.parse().expect("a count"), seed.parse().expect("a seed"));
+    let count: u64 = count.parse().expect("a count");
+    let met = run(program, count, seed.parse().expect("a seed"));
     report(&met);
-    std::process::exit(i32::from(!met.new.is_empty() || !unlisted(&page).is_empty()));
+    let seldom = report_worlds(&met, (WORLDS_LEAST * count / WHOLE).min(WORLDS_LEAST));
+    let is_good = met.new.is_empty() && seldom == 0 && unlisted(&page).is_empty();
+    std::process::exit(i32::from(!is_good));
 }

@@ -2,10 +2,12 @@
 
 use crate::desk::Desk;
 use rhai_value::Dynamic;
+use rhai_value::laws::marks_stay;
 use std::alloc::AllocError;
 
 /// Marks the cell of what is held, says all that is seen meanwhile, and writes the second value into the cell where that is asked.
 fn marked(desk: &mut Desk, x: &Dynamic, y: &mut Dynamic, writes: bool) -> Result<(), AllocError> {
+    marks_stay();
     let Some(token) = desk.store.mark_held(x) else {
         return desk.answers.say("marked", "none");
     };

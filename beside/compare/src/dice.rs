@@ -103,8 +103,10 @@ pub fn small(d: &mut Dice) -> i64 {
 }
 
 /// Lengths around those from which on texts, names and keys are compared, copied or kept in another way.
-const BLOCKS: [usize; 30] =
-    [3, 4, 5, 7, 8, 9, 15, 16, 17, 23, 24, 25, 31, 32, 33, 47, 48, 49, 55, 56, 57, 63, 64, 65, 79, 80, 81, 127, 128, 129];
+const BLOCKS: [usize; 40] = [
+    3, 4, 5, 7, 8, 9, 15, 16, 17, 23, 24, 25, 31, 32, 33, 47, 48, 49, 55, 56, 57, 63, 64, 65, 66, 72, 79, 80, 81, 95, 96, 97,
+    112, 127, 128, 129, 144, 191, 192, 193,
+];
 
 /// A text of such a length, like all others of it but for one character at most.
 pub fn block_text(d: &mut Dice) -> String {

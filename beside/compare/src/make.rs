@@ -141,6 +141,11 @@ fn first(m: &mut Maker, kind: Kind) -> V {
     if kind == Kind::Make {
         return if m.d.one_in(2) { map(m) } else { V::Array((0..m.d.below(8)).map(|_| m.value(1)).collect()) };
     }
+    if kind == Kind::Hold && m.d.one_in(2) {
+        let v = if m.d.one_in(2) { V::Int(int(m.d)) } else { m.content(1) };
+        m.taste = Taste { holders: true, chains: true };
+        return in_cells(m, v, 2);
+    }
     let sought = match kind {
         Kind::WriteBack => true,
         Kind::Target => m.d.one_in(3),

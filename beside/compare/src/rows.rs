@@ -1,6 +1,6 @@
 //! The rows of the operators: for which kinds of operands there is one, and operands for each, of which many are at an edge.
 
-use crate::dice::{blob, int, Dice, CHARS};
+use crate::dice::{blob, block_text, int, text, Dice, CHARS};
 use crate::make::of_kind;
 use crate::numbers::numbers;
 use crate::recipe::{Call, LookUp, Recipe, V};
@@ -103,7 +103,7 @@ fn side(m: &mut Maker, side: Side) -> V {
         Side::Bool => V::Bool(m.d.one_in(2)),
         Side::Int => V::Int(int(m.d)),
         Side::Char => V::Char(m.d.pick(&CHARS)),
-        Side::Text => of_kind(m, 4),
+        Side::Text => V::Text(text(m.d)),
         Side::Blob => V::Blob(blob(m.d)),
         Side::Array => V::Array(m.items(2)),
         Side::Range => {
@@ -132,12 +132,12 @@ fn operands(m: &mut Maker, row: &Row) -> (V, V) {
         }
         (Side::Any, Side::Another) => of_two_types(m),
         (Side::Text, Side::Text) => {
-            let V::Text(first) = side(m, Side::Text) else { unreachable!("a text") };
+            let first = if m.d.one_in(2) { block_text(m.d) } else { text(m.d) };
             let second = m.like_text(&first);
             (V::Text(first), V::Text(second))
         }
         (Side::Text, Side::Char) => {
-            let V::Text(first) = side(m, Side::Text) else { unreachable!("a text") };
+            let first = text(m.d);
             let own = first.chars().next();
             let second = own.filter(|_| m.d.one_in(2)).unwrap_or_else(|| m.d.pick(&CHARS));
             (V::Text(first), V::Char(second))
@@ -148,7 +148,7 @@ fn operands(m: &mut Maker, row: &Row) -> (V, V) {
             (V::Char(first), second)
         }
         (Side::Blob, Side::Blob) => {
-            let V::Blob(first) = side(m, Side::Blob) else { unreachable!("a blob") };
+            let first = blob(m.d);
             let second = m.like_blob(&first);
             (V::Blob(first), V::Blob(second))
         }

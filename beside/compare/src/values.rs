@@ -111,13 +111,13 @@ impl Maker<'_> {
     pub fn like_text(&mut self, s: &str) -> String {
         let count = s.chars().count() as u64;
         let at = self.d.below(count + 1) as usize;
-        match self.d.below(6) {
+        match self.d.below(9) {
             0 => s.to_string(),
             1 => s.chars().skip(at).take(self.d.below(4) as usize).collect(),
             2 => s.chars().take(at).collect(),
             3 => s.chars().skip(at).collect(),
-            4 => {
-                let other = self.d.pick(&CHARS);
+            4..=7 => {
+                let other = if self.d.one_in(4) { self.d.pick(&CHARS) } else { 'y' };
                 s.chars().enumerate().map(|(i, c)| if i == at { other } else { c }).collect()
             }
             _ => text(self.d),

@@ -16,6 +16,7 @@ pub mod Lookups
 pub mod WordsBack
 pub mod ArgumentsBack
 pub mod LinesBack
+pub mod ReadBack
 pub mod Replays
 pub mod OneLine
 pub mod MoreWords

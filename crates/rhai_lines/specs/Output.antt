@@ -1,5 +1,5 @@
 -- What is written for an input.
-use Rattle.std.specs.Prelude.{ℕ, List, [], ◌∷◌, ◌++◌, flat_map, take, length, Option, Some, None, if◌then◌else◌, ◌==◌, codes}
+use Rattle.std.specs.Prelude.{ℕ, List, [], ◌∷◌, ◌++◌, flat_map, take, length, Option, Some, None, option_and_then, option_map, if◌then◌else◌, ◌==◌, codes}
 use Rattle.std.specs.List.{slice_split}
 use Rattle.rhai_run.specs.declared.command.Command.{Command}
 use Rattle.rhai_run.specs.State.{State, empty_state}
@@ -49,6 +49,11 @@ output w input = answers_to_lines w (lines_of input)
 
 abbrev pub output_of_first : State → ℕ → List ℕ → List ℕ
 output_of_first w n input = answers_to_lines w (take n (lines_of input))
+
+-- the commands that lines say, where each says one
+abbrev pub commands_in : List (List ℕ) → Option (List Command)
+commands_in [] = Some []
+commands_in (line ∷ lines) = option_and_then (λ c. option_map (λ cs. c ∷ cs) (commands_in lines)) (command_of line)
 
 -- what is written for commands that a world is told
 abbrev pub output_of_commands : State → List Command → List ℕ

@@ -2,9 +2,10 @@
 ghost use Rattle.std.specs.Prelude.{◌≡◌, [], Some, IsOk, IfOk, IfSome, option_map, string_bytes};
 ghost use Rattle.rhai_lines.specs.Verbs.{command_of};
 ghost use Rattle.rhai_lines.specs.Spelling.{IsLineOf, IsJournalOf};
-ghost use Rattle.rhai_lines.specs.Output.{output, output_of_commands, new_world};
+ghost use Rattle.rhai_lines.specs.Output.{commands_in, lines_of, output, output_of_commands, new_world};
 
-use crate::verbs::add_line;
+use crate::lines::cut_line;
+use crate::verbs::{add_line, command};
 use rhai_run::Command;
 use std::alloc::{AllocError, Global};
 
@@ -22,6 +23,32 @@ pub fn line_of(alloc: Global, command: &Command) -> Result<Option<String>, Alloc
     } else {
         Ok(None)
     }
+}
+
+/// Reads the commands that lines say in turn; `None` where one says none. Lines end with a line feed; the last one may end
+/// with the bytes.
+/// Errors: memory for the commands is refused.
+/// Cost: the length of the lines; memory for the commands.
+pub fn commands_of(alloc: Global, lines: &[u8]) -> Result<Option<Vec<Command>>, AllocError>
+    ensures { IfOk result (λ o. option_map (λ v. v.items) o ≡ commands_in (lines_of lines.now)) }
+{
+    let mut commands = Vec::new(alloc);
+    let mut left = lines;
+    while let Some((line, rest)) = cut_line(left) {
+        let Some(next) = command(alloc, line)? else {
+            return Ok(None);
+        };
+        commands.push(next)?;
+        left = rest;
+    }
+    if left.is_empty() {
+        return Ok(Some(commands));
+    }
+    let Some(last) = command(alloc, left)? else {
+        return Ok(None);
+    };
+    commands.push(last)?;
+    Ok(Some(commands))
 }
 
 /// Writes the lines of commands in turn, each with a line feed: a run over them answers what the commands answer. `None`

@@ -13,7 +13,7 @@ mod verbs;
 mod vocabulary;
 mod words;
 
-pub use journals::{journal, line_of};
+pub use journals::{commands_of, journal, line_of};
 pub use lines::{LinesFault, run_lines};
 pub use print::{write_answer, write_bad_line};
 pub use verbs::command;

@@ -56,7 +56,7 @@ fn answer_line<W: Write>(
 }
 
 /// Cuts the first line off, if a line feed ends one.
-fn cut_line(bytes: &[u8]) -> Option<(&[u8], &[u8])>
+pub(crate) fn cut_line(bytes: &[u8]) -> Option<(&[u8], &[u8])>
     ensures some { IfSome result (λ p. (bytes.now ≡ p.0.now ++ 10 ∷ p.1.now) × All (λ b. (b == 10) ≡ false) p.0.now) }
     ensures none { IfNone result (All (λ b. (b == 10) ≡ false) bytes.now) }
 {

@@ -2,13 +2,14 @@
 
 use rhai_run::{Answer, World};
 use rhai_text::ImmutableString;
+use slab::Slab;
 
 /// A world, with what its host's calls share. It may be let go: the world is closed then.
 pub struct Kept {
     /// The world.
     pub world: World,
-    /// The names that the host has handed over, each at its number; none where a number was given back.
-    pub names: Vec<Option<ImmutableString>>,
+    /// The names that the host has handed over, each at its number.
+    pub names: Slab<ImmutableString>,
     /// The last answer that had a text, bytes or a reason.
     pub answer: Answer,
 }

@@ -11,7 +11,7 @@ ghost use Rattle.rhai_handle.specs.Owned.{has};
 use crate::address::Held;
 pub use crate::kept::Kept;
 use std::alloc::Global;
-use std::mem::replace;
+use std::mem::{align_of, replace, size_of};
 
 /// A world with what goes with it, or nothing: an open handle, or a closed one. Memory that is all zero is a closed one.
 ///
@@ -47,6 +47,20 @@ impl Handle {
         self.is_open
     }
 
+    /// Tells how many bytes a handle takes.
+    pub fn size() -> usize
+        ensures { result ≡ 16 }
+    {
+        size_of::<Handle>()
+    }
+
+    /// Tells what the address of a handle is a multiple of.
+    pub fn align() -> usize
+        ensures { result ≡ 8 }
+    {
+        align_of::<Handle>()
+    }
+
     /// Takes out what is kept, and leaves the handle closed.
     #[inline(always)]
     pub fn take(&mut self, alloc: Global) -> Option<Box<Kept>>
@@ -60,9 +74,10 @@ impl Handle {
         Some(held.into_box())
     }
 
-    /// Opens the handle with this. What an open one had is a leak.
+    /// Opens a closed handle with this: what an open one had would be a leak.
     #[inline(always)]
     pub fn put(&mut self, kept: Box<Kept>)
+        requires { content self.old ≡ None }
         ensures { content self.new ≡ Some kept.value }
     {
         *self = Handle {

@@ -1,2 +1,1 @@
 mod BytesAsText
-mod Taken

@@ -1,57 +1,67 @@
 -- What a call across the border does, by the status that it answers: 0 done, 1 out of memory, 2 no world is open, 3 the numbers, the text or the line
--- say no command, 4 no memory to make the command of what was handed over.
+-- say no command, 4 no memory to make the command of what was handed over. But for 0 nothing has changed, and nothing is told.
 use Rattle.std.specs.Prelude.{◌≡◌, ◌⊎◌, ℕ, zero, suc, true, Option, None, Some}
 use Rattle.rhai_handle.specs.declared.kept.Kept.{Kept}
+use Rattle.rhai_run.specs.declared.answer.Answer.{Answer}
 use Rattle.rhai_run.specs.declared.command.Command.{Command}
+use Rattle.rhai_run.specs.Outcome.{Outcome}
+use Rattle.rhai_run.specs.State.{State}
 use Rattle.rhai_run.specs.Step.{step}
 use Rattle.rhai_host.specs.declared.told.Told.{Told}
 use Rattle.rhai_host.specs.Answers.{kept_answer, told_of}
-use Rattle.rhai_host.specs.Names.{names_of}
 
 -- nothing has changed
 abbrev pub Unchanged : Kept → Kept → Type 0
-Unchanged k l = (l.world ≡ k.world) × (names_of l ≡ names_of k) × (l.answer ≡ k.answer)
+Unchanged k l = (l.world ≡ k.world) × (l.names ≡ k.names) × (l.answer ≡ k.answer)
 
--- the command's step was made, its answer is told, and what numbers don't tell of it is kept
-abbrev pub IsDone : Kept → Kept → Told → Command → Type 0
-IsDone k l told c =
-    (l.world ≡ (step k.world c).after) × (told ≡ told_of (step k.world c).reply) × (l.answer ≡ kept_answer k.answer (step k.world c).reply) × (names_of l ≡ names_of k)
+-- nothing has changed, and what was told stays
+abbrev pub Stays : {T : Type 0} → Kept → Kept → T → T → Type 0
+Stays k l was told = Unchanged k l × (told ≡ was)
 
--- memory was refused, which a command that wants none never is, and nothing has changed
-abbrev pub IsStopped : Kept → Kept → Command → Type 0
-IsStopped k l c = ((step k.world c).wants ≡ true) × Unchanged k l
-
--- the command is done in an open world, or memory is refused
-abbrev pub DoesOne : ℕ → Kept → Kept → Told → Command → Type 0
-DoesOne zero k l told c = IsDone k l told c
-DoesOne (suc zero) k l told c = IsStopped k l c
-DoesOne (suc (suc n)) k l told c = ⊥
+-- no world is open, before and afterwards, and what was told stays
+abbrev pub IsClosed : {T : Type 0} → ℕ → Option Kept → T → T → Type 0
+IsClosed status new was told = (status ≡ 2) × (new ≡ None) × (told ≡ was)
 
 -- a world is open, and so it is
 abbrev pub InWorld : Option Kept → (Kept → Type 0) → Type 0
 InWorld None P = ⊥
 InWorld (Some k) P = P k
 
--- a call that makes the command; where the status is 2 no world is open, before and afterwards
-abbrev pub Performs : ℕ → Option Kept → Option Kept → Told → Command → Type 0
-Performs status None new told c = (status ≡ 2) × (new ≡ None)
-Performs status (Some k) new told c = InWorld new (λ l. DoesOne status k l told c)
+-- the outcome is there, its reply is told, and what numbers don't tell of it is kept; or memory is refused, which an outcome that wants none never is
+abbrev pub Replies : ℕ → State → State → Answer → Answer → Told → Told → Outcome → Type 0
+Replies zero w v last kept was told o = (v ≡ o.after) × (told ≡ told_of o.reply) × (kept ≡ kept_answer last o.reply)
+Replies (suc zero) w v last kept was told o = (o.wants ≡ true) × (v ≡ w) × (kept ≡ last) × (told ≡ was)
+Replies (suc (suc n)) w v last kept was told o = ⊥
+
+-- the command is done in an open world, or memory is refused
+abbrev pub DoesOne : ℕ → Kept → Kept → Told → Told → Command → Type 0
+DoesOne status k l was told c = Replies status k.world l.world k.answer l.answer was told (step k.world c) × (l.names ≡ k.names)
+
+-- a call that makes the command
+abbrev pub Performs : ℕ → Option Kept → Option Kept → Told → Told → Command → Type 0
+Performs status None new was told c = IsClosed status new was told
+Performs status (Some k) new was told c = InWorld new (λ l. DoesOne status k l was told c)
 
 -- the command that was said in a world is done, or none was said
-abbrev pub DoesOneIf : ℕ → Kept → Kept → Told → Option Command → Type 0
-DoesOneIf status k l told None = (status ≡ 3) × Unchanged k l
-DoesOneIf status k l told (Some c) = DoesOne status k l told c
+abbrev pub DoesOneIf : ℕ → Kept → Kept → Told → Told → Option Command → Type 0
+DoesOneIf status k l was told None = (status ≡ 3) × Stays k l was told
+DoesOneIf status k l was told (Some c) = DoesOne status k l was told c
 
 -- a call that says a command, or none, by what is kept
-abbrev pub PerformsIf : ℕ → Option Kept → Option Kept → Told → (Kept → Option Command) → Type 0
-PerformsIf status None new told says = (status ≡ 2) × (new ≡ None)
-PerformsIf status (Some k) new told says = InWorld new (λ l. DoesOneIf status k l told (says k))
+abbrev pub PerformsIf : ℕ → Option Kept → Option Kept → Told → Told → (Kept → Option Command) → Type 0
+PerformsIf status None new was told says = IsClosed status new was told
+PerformsIf status (Some k) new was told says = InWorld new (λ l. DoesOneIf status k l was told (says k))
 
--- the same, where memory for what the command is made of may be refused too
-abbrev pub DoesOneMade : ℕ → Kept → Kept → Told → Option Command → Type 0
-DoesOneMade status k l told o = ((status ≡ 4) × Unchanged k l) ⊎ DoesOneIf status k l told o
+-- a call that says this command, or none
+abbrev pub PerformsSaid : ℕ → Option Kept → Option Kept → Told → Told → Option Command → Type 0
+PerformsSaid status old new was told None = PerformsIf status old new was told (λ k. None)
+PerformsSaid status old new was told (Some c) = Performs status old new was told c
+
+-- the command that was said in a world is done, or none was said; or memory for what it is made of was refused, if some is taken for it
+abbrev pub DoesOneMade : ℕ → Kept → Kept → Told → Told → Type 0 → Option Command → Type 0
+DoesOneMade status k l was told Takes o = ((status ≡ 4) × Takes × Stays k l was told) ⊎ DoesOneIf status k l was told o
 
 -- a call that says such a command, by what is kept
-abbrev pub PerformsMade : ℕ → Option Kept → Option Kept → Told → (Kept → Option Command) → Type 0
-PerformsMade status None new told says = (status ≡ 2) × (new ≡ None)
-PerformsMade status (Some k) new told says = InWorld new (λ l. DoesOneMade status k l told (says k))
+abbrev pub PerformsMade : ℕ → Option Kept → Option Kept → Told → Told → (Kept → Type 0) → (Kept → Option Command) → Type 0
+PerformsMade status None new was told Takes says = IsClosed status new was told
+PerformsMade status (Some k) new was told Takes says = InWorld new (λ l. DoesOneMade status k l was told (Takes k) (says k))

@@ -1,6 +1,7 @@
 pub mod Answers
 pub mod Calls
 pub mod Lists
+pub mod Methods
 pub mod NameTexts
 pub mod Names
 pub mod Numbers

@@ -5,20 +5,20 @@ use Rattle.rhai_handle.specs.declared.kept.Kept.{Kept}
 use Rattle.rhai_run.specs.declared.answer.Answer.TheVariants as answer
 use Rattle.rhai_host.specs.declared.told.Told.{Told}
 use Rattle.rhai_host.specs.Answers.{told_of}
-use Rattle.rhai_host.specs.Calls.{InWorld, Unchanged}
-use Rattle.rhai_host.specs.Names.{name_at, names_of}
+use Rattle.rhai_host.specs.Calls.{InWorld, IsClosed, Stays}
+use Rattle.rhai_host.specs.Names.{name_at}
 
 -- the answer is the text of these characters, and is told; or memory was refused, or there is no such name, and nothing has changed
-abbrev pub IsToldText : ℕ → Kept → Kept → Option (List ℕ) → Told → Type 0
-IsToldText status k l None told = (status ≡ 3) × Unchanged k l
-IsToldText zero k l (Some name) told = (l.answer ≡ answer.Text name) × (told ≡ told_of l.answer) × (l.world ≡ k.world) × (names_of l ≡ names_of k)
-IsToldText (suc zero) k l (Some name) told = Unchanged k l
-IsToldText (suc (suc n)) k l (Some name) told = ⊥
+abbrev pub IsToldText : ℕ → Kept → Kept → Option (List ℕ) → Told → Told → Type 0
+IsToldText status k l None was told = (status ≡ 3) × Stays k l was told
+IsToldText zero k l (Some name) was told = (l.answer ≡ answer.Text name) × (told ≡ told_of l.answer) × (l.world ≡ k.world) × (l.names ≡ k.names)
+IsToldText (suc zero) k l (Some name) was told = Stays k l was told
+IsToldText (suc (suc n)) k l (Some name) was told = ⊥
 
 -- the name of a number
-abbrev pub TellsName : ℕ → Option Kept → Option Kept → ℕ → Told → Type 0
-TellsName status None new number told = (status ≡ 2) × (new ≡ None)
-TellsName status (Some k) new number told = InWorld new (λ l. IsToldText status k l (name_at k number) told)
+abbrev pub TellsName : ℕ → Option Kept → Option Kept → ℕ → Told → Told → Type 0
+TellsName status None new number was told = IsClosed status new was told
+TellsName status (Some k) new number was told = InWorld new (λ l. IsToldText status k l (name_at k number) was told)
 
 -- the entry at a position: its name, whether it is a constant, as a holder is where its cell's content is, and its value
 abbrev pub shown_at : Kept → ℕ → Option Named
@@ -30,7 +30,7 @@ IsFlag zero o was is = IfSome o (λ e. is ≡ e.1)
 IsFlag (suc n) o was is = is ≡ was
 
 -- the name of the entry at a position, and whether it is a constant
-abbrev pub TellsEntry : ℕ → Option Kept → Option Kept → ℕ → Bool → Bool → Told → Type 0
-TellsEntry status None new i was is told = (status ≡ 2) × (new ≡ None) × (is ≡ was)
-TellsEntry status (Some k) new i was is told =
-    InWorld new (λ l. IsToldText status k l (option_map (λ e. e.0) (shown_at k i)) told) × IsFlag status (shown_at k i) was is
+abbrev pub TellsEntry : ℕ → Option Kept → Option Kept → ℕ → Bool → Bool → Told → Told → Type 0
+TellsEntry status None new i was is last told = IsClosed status new last told × (is ≡ was)
+TellsEntry status (Some k) new i was is last told =
+    InWorld new (λ l. IsToldText status k l (option_map (λ e. e.0) (shown_at k i)) last told) × IsFlag status (shown_at k i) was is

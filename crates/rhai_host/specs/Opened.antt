@@ -1,5 +1,5 @@
 -- Calls that open, close and look at a world, and keep names.
-use Rattle.std.specs.Prelude.{◌≡◌, ◌≢◌, ℕ, zero, suc, ◌+◌, Bool, true, false, List, [], ◌∷◌, ◌++◌, length, take, drop, slice_set, encode_utf8_all, nat_eq, if◌then◌else◌, Option, None, Some}
+use Rattle.std.specs.Prelude.{◌≡◌, ◌≢◌, ℕ, zero, suc, Bool, true, false, List, [], ◌++◌, length, take, drop, encode_utf8_all, Option, None, Some}
 use Rattle.rhai_text.specs.declared.error.EvalAltResult.{EvalAltResult}
 use Rattle.rhai_text.specs.declared.error.EvalAltResult.TheVariants as error
 use Rattle.rhai_text.specs.declared.limits.Limits.{Limits}
@@ -10,36 +10,44 @@ use Rattle.rhai_run.specs.declared.answer.Answer.{Answer}
 use Rattle.rhai_run.specs.declared.answer.Answer.TheVariants as answer
 use Rattle.rhai_run.specs.declared.answer.Refusal.{Refusal}
 use Rattle.rhai_run.specs.declared.answer.Refusal.TheVariants as refusal
-use Rattle.rhai_host.specs.Calls.{InWorld, Unchanged}
-use Rattle.rhai_host.specs.Names.{names_of, name_at}
+use Rattle.slab.specs.Slab.{HasRoomFor, Updates}
+use Rattle.rhai_host.specs.Calls.{InWorld, IsClosed, Stays, Unchanged}
+use Rattle.rhai_host.specs.Names.{name_at}
 use Rattle.rhai_host.specs.Numbers.{text_of}
 
--- a new world, no name and the answer that all is done; or memory was refused, and the handle is as it was
+-- a new world, no name and the answer that all is done, where the world that was open is closed; or memory was refused, and that one stays
 abbrev pub Opens : ℕ → Option Kept → Option Kept → Limits → Type 0
-Opens zero old new limits = InWorld new (λ l. (l.world ≡ empty_state limits) × (names_of l ≡ []) × (l.answer ≡ answer.Done))
+Opens zero old new limits = InWorld new (λ l. (l.world ≡ empty_state limits) × (l.names.slots ≡ []) × (l.answer ≡ answer.Done))
 Opens (suc zero) old new limits = new ≡ old
 Opens (suc (suc n)) old new limits = ⊥
 
--- the name got the next number; or memory was refused, or the bytes are no text, and nothing has changed
-abbrev pub IsNamed : ℕ → Kept → Kept → Option (List ℕ) → ℕ → Type 0
-IsNamed status k l None number = (status ≡ 3) × Unchanged k l
-IsNamed zero k l (Some name) number = (number ≡ length (names_of k)) × (names_of l ≡ names_of k ++ Some name ∷ []) × (l.world ≡ k.world) × (l.answer ≡ k.answer)
-IsNamed (suc zero) k l (Some name) number = Unchanged k l
-IsNamed (suc (suc n)) k l (Some name) number = ⊥
+-- the table of names with another name at a number, or none; where it has room for one more, it takes none
+pub record IsRenamed (k l : Kept) (number : ℕ) (name : Option (List ℕ)) : Type 0 where
+  pub names : Updates k.names l.names number name
+  pub room : HasRoomFor k.names 1 → l.names.capacity ≡ k.names.capacity
+  pub world : l.world ≡ k.world
+  pub answer : l.answer ≡ k.answer
 
-abbrev pub Names : ℕ → Option Kept → Option Kept → List ℕ → ℕ → Type 0
-Names status None new bytes number = (status ≡ 2) × (new ≡ None)
-Names status (Some k) new bytes number = InWorld new (λ l. IsNamed status k l (text_of bytes) number)
+-- each number has its name, and all else is the same
+abbrev pub AreNamedAlike : Kept → Kept → Type 0
+AreNamedAlike k l = (l.names.slots ≡ k.names.slots) × (l.world ≡ k.world) × (l.answer ≡ k.answer)
 
--- the names without one of them; the last number is free again
-abbrev pub given_up : List (Option (List ℕ)) → ℕ → List (Option (List ℕ))
-given_up names number = if nat_eq (number + 1) (length names) then take number names else slice_set names number None
+-- the name got a number that had none; or memory was refused, or the bytes are no text, and no number is told
+abbrev pub IsNamed : ℕ → Kept → Kept → Option (List ℕ) → ℕ → ℕ → Type 0
+IsNamed status k l None was number = (status ≡ 3) × Stays k l was number
+IsNamed zero k l (Some name) was number = (name_at k number ≡ None) × IsRenamed k l number (Some name)
+IsNamed (suc zero) k l (Some name) was number = AreNamedAlike k l × (number ≡ was)
+IsNamed (suc (suc n)) k l (Some name) was number = ⊥
 
+abbrev pub Names : ℕ → Option Kept → Option Kept → List ℕ → ℕ → ℕ → Type 0
+Names status None new bytes was number = IsClosed status new was number
+Names status (Some k) new bytes was number = InWorld new (λ l. IsNamed status k l (text_of bytes) was number)
+
+-- the number names nothing any more, and there is room for a name; or it did name nothing, and nothing has changed
 abbrev pub IsGivenUp : ℕ → Kept → Kept → ℕ → Option (List ℕ) → Type 0
 IsGivenUp status k l number None = (status ≡ 3) × Unchanged k l
-IsGivenUp status k l number (Some name) = (status ≡ 0) × (names_of l ≡ given_up (names_of k) number) × (l.world ≡ k.world) × (l.answer ≡ k.answer)
+IsGivenUp status k l number (Some name) = (status ≡ 0) × IsRenamed k l number None × HasRoomFor l.names 1
 
--- the number names nothing any more; or it did name nothing, and nothing has changed
 abbrev pub GivesUp : ℕ → Option Kept → Option Kept → ℕ → Type 0
 GivesUp status None new number = (status ≡ 2) × (new ≡ None)
 GivesUp status (Some k) new number = InWorld new (λ l. IsGivenUp status k l number (name_at k number))
@@ -100,7 +108,7 @@ hand_len (Some k) = length k.world.hand
 
 -- cells that nothing reaches are gone; or memory was refused, which is wanted only where there is a cell, and nothing has changed
 abbrev pub IsCollected : ℕ → Kept → Kept → Type 0
-IsCollected zero k l = Collects k.world l.world × (names_of l ≡ names_of k) × (l.answer ≡ k.answer)
+IsCollected zero k l = Collects k.world l.world × (l.names ≡ k.names) × (l.answer ≡ k.answer)
 IsCollected (suc zero) k l = (k.world.store ≢ []) × Unchanged k l
 IsCollected (suc (suc n)) k l = ⊥
 

@@ -6,8 +6,7 @@ use Rattle.example_syntax.specs.declared.error.SyntaxError.TheVariants as syntax
 use Rattle.rhai_text.specs.declared.position.Position.{Position}
 use Rattle.rhai_handle.specs.declared.kept.Kept.{Kept}
 use Rattle.rhai_host.specs.declared.scripts.ScriptEnd.{ScriptEnd}
-use Rattle.rhai_host.specs.Calls.{InWorld, Unchanged}
-use Rattle.rhai_host.specs.Names.{names_of}
+use Rattle.rhai_host.specs.Calls.{InWorld, IsClosed, Stays}
 use Rattle.rhai_host.specs.Numbers.{text_of}
 use Rattle.rhai_host.specs.Opened.{answer_bytes}
 
@@ -28,13 +27,18 @@ pub record IsWhole (end : ScriptEnd) (bytes : List ℕ) : Type 0 where
   pub both : end.printed + end.said ≡ length bytes
   pub well : end.kind ≡ 0 → end.said ≡ 0
 
--- the script was run, and its end is the answer; or memory was refused, or the bytes are no text, and nothing has changed
-abbrev pub IsScriptRun : ℕ → Kept → Kept → Option (List ℕ) → ScriptEnd → Type 0
-IsScriptRun status k l None end = (status ≡ 3) × Unchanged k l
-IsScriptRun zero k l (Some text) end = IsWhole end (answer_bytes l.answer false) × (l.world ≡ k.world) × (names_of l ≡ names_of k)
-IsScriptRun (suc zero) k l (Some text) end = Unchanged k l
-IsScriptRun (suc (suc n)) k l (Some text) end = ⊥
+-- the end of some run is told, and it is no want of memory
+pub record IsToldEnd (end : ScriptEnd) : Type 0 where
+  pub done : Result ⊤ ScriptError
+  pub is : IsEndOf done end
 
-abbrev pub RunsScript : ℕ → Option Kept → Option Kept → List ℕ → ScriptEnd → Type 0
-RunsScript status None new script end = (status ≡ 2) × (new ≡ None)
-RunsScript status (Some k) new script end = InWorld new (λ l. IsScriptRun status k l (text_of script) end)
+-- the script was run, and its end is told and answered; or memory was refused, or the bytes are no text, and nothing has changed
+abbrev pub IsScriptRun : ℕ → Kept → Kept → Option (List ℕ) → ScriptEnd → ScriptEnd → Type 0
+IsScriptRun status k l None was end = (status ≡ 3) × Stays k l was end
+IsScriptRun zero k l (Some text) was end = IsToldEnd end × IsWhole end (answer_bytes l.answer false) × (l.world ≡ k.world) × (l.names ≡ k.names)
+IsScriptRun (suc zero) k l (Some text) was end = Stays k l was end
+IsScriptRun (suc (suc n)) k l (Some text) was end = ⊥
+
+abbrev pub RunsScript : ℕ → Option Kept → Option Kept → List ℕ → ScriptEnd → ScriptEnd → Type 0
+RunsScript status None new script was end = IsClosed status new was end
+RunsScript status (Some k) new script was end = InWorld new (λ l. IsScriptRun status k l (text_of script) was end)

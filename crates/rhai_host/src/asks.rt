@@ -7,7 +7,7 @@ ghost use Rattle.rhai_host.specs.Calls.{Performs};
 use crate::perform::perform;
 use crate::told::Told;
 use rhai_handle::Handle;
-use rhai_run::{Command, Question};
+use rhai_run::Question;
 use std::alloc::Global;
 
 /// Answers the tag of the value at the hand position.
@@ -18,9 +18,9 @@ pub extern "C" fn rhai_host_tag(
     i: usize,
     told: &mut Told,
 ) -> u32
-    ensures { Performs result (content handle.old) (content handle.new) told.new (command.Ask i question.Tag) }
+    ensures { Performs result (content handle.old) (content handle.new) told.old told.new (command.Ask i question.Tag) }
 {
-    perform(alloc, handle, Command::Ask(i, Question::Tag), told)
+    perform(alloc, handle, told, |world| world.ask(i, &Question::Tag))
 }
 
 /// Answers whether the value at the hand position is of one of the host's types.
@@ -31,9 +31,14 @@ pub extern "C" fn rhai_host_is_variant(
     i: usize,
     told: &mut Told,
 ) -> u32
-    ensures { Performs result (content handle.old) (content handle.new) told.new (command.Ask i question.Variant) }
+    ensures { Performs result (content handle.old) (content handle.new) told.old told.new (command.Ask i question.Variant) }
 {
-    perform(alloc, handle, Command::Ask(i, Question::Variant), told)
+    perform(
+        alloc,
+        handle,
+        told,
+        |world| world.ask(i, &Question::Variant),
+    )
 }
 
 /// Answers whether the value at the hand position is a holder.
@@ -44,9 +49,9 @@ pub extern "C" fn rhai_host_is_shared(
     i: usize,
     told: &mut Told,
 ) -> u32
-    ensures { Performs result (content handle.old) (content handle.new) told.new (command.Ask i question.Shared) }
+    ensures { Performs result (content handle.old) (content handle.new) told.old told.new (command.Ask i question.Shared) }
 {
-    perform(alloc, handle, Command::Ask(i, Question::Shared), told)
+    perform(alloc, handle, told, |world| world.ask(i, &Question::Shared))
 }
 
 /// Answers whether the first content of the value at the hand position is a constant.
@@ -57,9 +62,14 @@ pub extern "C" fn rhai_host_is_read_only(
     i: usize,
     told: &mut Told,
 ) -> u32
-    ensures { Performs result (content handle.old) (content handle.new) told.new (command.Ask i question.ReadOnly) }
+    ensures { Performs result (content handle.old) (content handle.new) told.old told.new (command.Ask i question.ReadOnly) }
 {
-    perform(alloc, handle, Command::Ask(i, Question::ReadOnly), told)
+    perform(
+        alloc,
+        handle,
+        told,
+        |world| world.ask(i, &Question::ReadOnly),
+    )
 }
 
 /// Answers whether the value at the hand position is, or has inside, a holder of a marked cell.
@@ -70,9 +80,9 @@ pub extern "C" fn rhai_host_is_locked(
     i: usize,
     told: &mut Told,
 ) -> u32
-    ensures { Performs result (content handle.old) (content handle.new) told.new (command.Ask i question.Locked) }
+    ensures { Performs result (content handle.old) (content handle.new) told.old told.new (command.Ask i question.Locked) }
 {
-    perform(alloc, handle, Command::Ask(i, Question::Locked), told)
+    perform(alloc, handle, told, |world| world.ask(i, &Question::Locked))
 }
 
 /// Answers the name of the type that is held at the hand position.
@@ -83,9 +93,14 @@ pub extern "C" fn rhai_host_type_name(
     i: usize,
     told: &mut Told,
 ) -> u32
-    ensures { Performs result (content handle.old) (content handle.new) told.new (command.Ask i question.TypeName) }
+    ensures { Performs result (content handle.old) (content handle.new) told.old told.new (command.Ask i question.TypeName) }
 {
-    perform(alloc, handle, Command::Ask(i, Question::TypeName), told)
+    perform(
+        alloc,
+        handle,
+        told,
+        |world| world.ask(i, &Question::TypeName),
+    )
 }
 
 /// Answers whether the value at the hand position can be hashed.
@@ -96,9 +111,14 @@ pub extern "C" fn rhai_host_is_hashable(
     i: usize,
     told: &mut Told,
 ) -> u32
-    ensures { Performs result (content handle.old) (content handle.new) told.new (command.Ask i question.Hashable) }
+    ensures { Performs result (content handle.old) (content handle.new) told.old told.new (command.Ask i question.Hashable) }
 {
-    perform(alloc, handle, Command::Ask(i, Question::Hashable), told)
+    perform(
+        alloc,
+        handle,
+        told,
+        |world| world.ask(i, &Question::Hashable),
+    )
 }
 
 /// Is done where unit is held at the hand position.
@@ -109,9 +129,9 @@ pub extern "C" fn rhai_host_as_unit(
     i: usize,
     told: &mut Told,
 ) -> u32
-    ensures { Performs result (content handle.old) (content handle.new) told.new (command.Ask i question.Unit) }
+    ensures { Performs result (content handle.old) (content handle.new) told.old told.new (command.Ask i question.Unit) }
 {
-    perform(alloc, handle, Command::Ask(i, Question::Unit), told)
+    perform(alloc, handle, told, |world| world.ask(i, &Question::Unit))
 }
 
 /// Answers the int that is held at the hand position.
@@ -122,9 +142,9 @@ pub extern "C" fn rhai_host_as_int(
     i: usize,
     told: &mut Told,
 ) -> u32
-    ensures { Performs result (content handle.old) (content handle.new) told.new (command.Ask i question.Int) }
+    ensures { Performs result (content handle.old) (content handle.new) told.old told.new (command.Ask i question.Int) }
 {
-    perform(alloc, handle, Command::Ask(i, Question::Int), told)
+    perform(alloc, handle, told, |world| world.ask(i, &Question::Int))
 }
 
 /// Answers the boolean that is held at the hand position.
@@ -135,9 +155,9 @@ pub extern "C" fn rhai_host_as_bool(
     i: usize,
     told: &mut Told,
 ) -> u32
-    ensures { Performs result (content handle.old) (content handle.new) told.new (command.Ask i question.Bool) }
+    ensures { Performs result (content handle.old) (content handle.new) told.old told.new (command.Ask i question.Bool) }
 {
-    perform(alloc, handle, Command::Ask(i, Question::Bool), told)
+    perform(alloc, handle, told, |world| world.ask(i, &Question::Bool))
 }
 
 /// Answers the character that is held at the hand position, as a text.
@@ -148,9 +168,9 @@ pub extern "C" fn rhai_host_as_char(
     i: usize,
     told: &mut Told,
 ) -> u32
-    ensures { Performs result (content handle.old) (content handle.new) told.new (command.Ask i question.Char) }
+    ensures { Performs result (content handle.old) (content handle.new) told.old told.new (command.Ask i question.Char) }
 {
-    perform(alloc, handle, Command::Ask(i, Question::Char), told)
+    perform(alloc, handle, told, |world| world.ask(i, &Question::Char))
 }
 
 /// Answers the text of the value at the hand position, as it is displayed.
@@ -161,9 +181,9 @@ pub extern "C" fn rhai_host_show(
     i: usize,
     told: &mut Told,
 ) -> u32
-    ensures { Performs result (content handle.old) (content handle.new) told.new (command.Show i) }
+    ensures { Performs result (content handle.old) (content handle.new) told.old told.new (command.Show i) }
 {
-    perform(alloc, handle, Command::Show(i), told)
+    perform(alloc, handle, told, |world| world.show(i))
 }
 
 /// Answers the text of the value at the hand position, as it is debugged.
@@ -174,9 +194,9 @@ pub extern "C" fn rhai_host_debug(
     i: usize,
     told: &mut Told,
 ) -> u32
-    ensures { Performs result (content handle.old) (content handle.new) told.new (command.Debug i) }
+    ensures { Performs result (content handle.old) (content handle.new) told.old told.new (command.Debug i) }
 {
-    perform(alloc, handle, Command::Debug(i), told)
+    perform(alloc, handle, told, |world| world.debug(i))
 }
 
 /// Answers the hash bytes of the value at the hand position.
@@ -187,9 +207,9 @@ pub extern "C" fn rhai_host_hash(
     i: usize,
     told: &mut Told,
 ) -> u32
-    ensures { Performs result (content handle.old) (content handle.new) told.new (command.Hash i) }
+    ensures { Performs result (content handle.old) (content handle.new) told.old told.new (command.Hash i) }
 {
-    perform(alloc, handle, Command::Hash(i), told)
+    perform(alloc, handle, told, |world| world.hash(i))
 }
 
 /// Answers where a slice of a list of this length starts and how many items it has, for a start and a number of items.
@@ -202,9 +222,14 @@ pub extern "C" fn rhai_host_offset(
     count: i64,
     told: &mut Told,
 ) -> u32
-    ensures { Performs result (content handle.old) (content handle.new) told.new (command.Offset length start count) }
+    ensures { Performs result (content handle.old) (content handle.new) told.old told.new (command.Offset length start count) }
 {
-    perform(alloc, handle, Command::Offset(length, start, count), told)
+    perform(
+        alloc,
+        handle,
+        told,
+        |world| world.offset(length, start, count),
+    )
 }
 
 /// Answers the place of an item of a list of this length, or nothing; with the flag a negative index counts from the end.
@@ -217,7 +242,12 @@ pub extern "C" fn rhai_host_index(
     from_end: bool,
     told: &mut Told,
 ) -> u32
-    ensures { Performs result (content handle.old) (content handle.new) told.new (command.Index length index from_end) }
+    ensures { Performs result (content handle.old) (content handle.new) told.old told.new (command.Index length index from_end) }
 {
-    perform(alloc, handle, Command::Index(length, index, from_end), told)
+    perform(
+        alloc,
+        handle,
+        told,
+        |world| world.index(length, index, from_end),
+    )
 }

@@ -7,7 +7,7 @@ ghost use Rattle.rhai_host.specs.Calls.{Performs};
 use crate::perform::perform;
 use crate::told::Told;
 use rhai_handle::Handle;
-use rhai_run::{Command, Scanner};
+use rhai_run::Scanner;
 use std::alloc::Global;
 
 /// Takes this many values off the end of the hand, and appends the array of them in order.
@@ -18,9 +18,9 @@ pub extern "C" fn rhai_host_make_array(
     count: usize,
     told: &mut Told,
 ) -> u32
-    ensures { Performs result (content handle.old) (content handle.new) told.new (command.MakeArray count) }
+    ensures { Performs result (content handle.old) (content handle.new) told.old told.new (command.MakeArray count) }
 {
-    perform(alloc, handle, Command::MakeArray(count), told)
+    perform(alloc, handle, told, |world| world.make_array(count))
 }
 
 /// Appends a copy of the value at the hand position.
@@ -31,9 +31,9 @@ pub extern "C" fn rhai_host_copy(
     i: usize,
     told: &mut Told,
 ) -> u32
-    ensures { Performs result (content handle.old) (content handle.new) told.new (command.Copy i) }
+    ensures { Performs result (content handle.old) (content handle.new) told.old told.new (command.Copy i) }
 {
-    perform(alloc, handle, Command::Copy(i), told)
+    perform(alloc, handle, told, |world| world.copy(i))
 }
 
 /// Appends a copy of the value at the hand position without its holders.
@@ -44,9 +44,9 @@ pub extern "C" fn rhai_host_flatten_clone(
     i: usize,
     told: &mut Told,
 ) -> u32
-    ensures { Performs result (content handle.old) (content handle.new) told.new (command.FlattenClone i) }
+    ensures { Performs result (content handle.old) (content handle.new) told.old told.new (command.FlattenClone i) }
 {
-    perform(alloc, handle, Command::FlattenClone(i), told)
+    perform(alloc, handle, told, |world| world.flatten_clone(i))
 }
 
 /// Moves the value at the hand position to the end, and leaves unit.
@@ -57,17 +57,17 @@ pub extern "C" fn rhai_host_take(
     i: usize,
     told: &mut Told,
 ) -> u32
-    ensures { Performs result (content handle.old) (content handle.new) told.new (command.Take i) }
+    ensures { Performs result (content handle.old) (content handle.new) told.old told.new (command.Take i) }
 {
-    perform(alloc, handle, Command::Take(i), told)
+    perform(alloc, handle, told, |world| world.take(i))
 }
 
 /// Drops the last value.
 #[unsafe(no_mangle)]
 pub extern "C" fn rhai_host_drop(alloc: Global, handle: &mut Handle, told: &mut Told) -> u32
-    ensures { Performs result (content handle.old) (content handle.new) told.new command.Drop }
+    ensures { Performs result (content handle.old) (content handle.new) told.old told.new command.Drop }
 {
-    perform(alloc, handle, Command::Drop, told)
+    perform(alloc, handle, told, |world| world.drop_last())
 }
 
 /// Moves the value at the hand position into a new cell, and leaves a holder of it; a holder stays.
@@ -78,9 +78,9 @@ pub extern "C" fn rhai_host_share(
     i: usize,
     told: &mut Told,
 ) -> u32
-    ensures { Performs result (content handle.old) (content handle.new) told.new (command.Share i) }
+    ensures { Performs result (content handle.old) (content handle.new) told.old told.new (command.Share i) }
 {
-    perform(alloc, handle, Command::Share(i), told)
+    perform(alloc, handle, told, |world| world.share(i))
 }
 
 /// Puts in the place of a holder at the hand position what is held, without its holders.
@@ -91,9 +91,9 @@ pub extern "C" fn rhai_host_flatten(
     i: usize,
     told: &mut Told,
 ) -> u32
-    ensures { Performs result (content handle.old) (content handle.new) told.new (command.Flatten i) }
+    ensures { Performs result (content handle.old) (content handle.new) told.old told.new (command.Flatten i) }
 {
-    perform(alloc, handle, Command::Flatten(i), told)
+    perform(alloc, handle, told, |world| world.flatten(i))
 }
 
 /// Makes the value at the hand position a constant.
@@ -104,9 +104,9 @@ pub extern "C" fn rhai_host_make_read_only(
     i: usize,
     told: &mut Told,
 ) -> u32
-    ensures { Performs result (content handle.old) (content handle.new) told.new (command.MakeReadOnly i) }
+    ensures { Performs result (content handle.old) (content handle.new) told.old told.new (command.MakeReadOnly i) }
 {
-    perform(alloc, handle, Command::MakeReadOnly(i), told)
+    perform(alloc, handle, told, |world| world.make_read_only(i))
 }
 
 /// Sets the tag of the value at the hand position.
@@ -118,9 +118,9 @@ pub extern "C" fn rhai_host_set_tag(
     tag: i32,
     told: &mut Told,
 ) -> u32
-    ensures { Performs result (content handle.old) (content handle.new) told.new (command.SetTag i tag) }
+    ensures { Performs result (content handle.old) (content handle.new) told.old told.new (command.SetTag i tag) }
 {
-    perform(alloc, handle, Command::SetTag(i, tag), told)
+    perform(alloc, handle, told, |world| world.set_tag(i, tag))
 }
 
 /// Writes over the int that is held at the hand position.
@@ -132,9 +132,9 @@ pub extern "C" fn rhai_host_write_int(
     n: i64,
     told: &mut Told,
 ) -> u32
-    ensures { Performs result (content handle.old) (content handle.new) told.new (command.WriteInt i n) }
+    ensures { Performs result (content handle.old) (content handle.new) told.old told.new (command.WriteInt i n) }
 {
-    perform(alloc, handle, Command::WriteInt(i, n), told)
+    perform(alloc, handle, told, |world| world.write_int(i, n))
 }
 
 /// Writes the value at the second hand position over the first content of the one at the first, and leaves unit at the second.
@@ -146,9 +146,9 @@ pub extern "C" fn rhai_host_write(
     j: usize,
     told: &mut Told,
 ) -> u32
-    ensures { Performs result (content handle.old) (content handle.new) told.new (command.Write i j) }
+    ensures { Performs result (content handle.old) (content handle.new) told.old told.new (command.Write i j) }
 {
-    perform(alloc, handle, Command::Write(i, j), told)
+    perform(alloc, handle, told, |world| world.write(i, j))
 }
 
 /// Sets the tag of each value that a scan of the one at the hand position comes to, and answers how many these are.
@@ -160,9 +160,14 @@ pub extern "C" fn rhai_host_scan_tags(
     tag: i32,
     told: &mut Told,
 ) -> u32
-    ensures { Performs result (content handle.old) (content handle.new) told.new (command.Scan i (scanner.Tags tag)) }
+    ensures { Performs result (content handle.old) (content handle.new) told.old told.new (command.Scan i (scanner.Tags tag)) }
 {
-    perform(alloc, handle, Command::Scan(i, Scanner::Tags(tag)), told)
+    perform(
+        alloc,
+        handle,
+        told,
+        |world| world.scan(i, Scanner::Tags(tag)),
+    )
 }
 
 /// Makes each int 0 that a scan of the value at the hand position comes to, and answers how many values it came to.
@@ -173,9 +178,9 @@ pub extern "C" fn rhai_host_scan_zero(
     i: usize,
     told: &mut Told,
 ) -> u32
-    ensures { Performs result (content handle.old) (content handle.new) told.new (command.Scan i scanner.Zero) }
+    ensures { Performs result (content handle.old) (content handle.new) told.old told.new (command.Scan i scanner.Zero) }
 {
-    perform(alloc, handle, Command::Scan(i, Scanner::Zero), told)
+    perform(alloc, handle, told, |world| world.scan(i, Scanner::Zero))
 }
 
 /// Makes each holder unit that a scan of the value at the hand position comes to, and answers how many values it came to.
@@ -186,9 +191,9 @@ pub extern "C" fn rhai_host_scan_no_share(
     i: usize,
     told: &mut Told,
 ) -> u32
-    ensures { Performs result (content handle.old) (content handle.new) told.new (command.Scan i scanner.NoShare) }
+    ensures { Performs result (content handle.old) (content handle.new) told.old told.new (command.Scan i scanner.NoShare) }
 {
-    perform(alloc, handle, Command::Scan(i, Scanner::NoShare), told)
+    perform(alloc, handle, told, |world| world.scan(i, Scanner::NoShare))
 }
 
 /// Keeps this many items of each array that a scan of the value at the hand position comes to, and answers how many values it came to.
@@ -200,7 +205,12 @@ pub extern "C" fn rhai_host_scan_cut(
     count: usize,
     told: &mut Told,
 ) -> u32
-    ensures { Performs result (content handle.old) (content handle.new) told.new (command.Scan i (scanner.Cut count)) }
+    ensures { Performs result (content handle.old) (content handle.new) told.old told.new (command.Scan i (scanner.Cut count)) }
 {
-    perform(alloc, handle, Command::Scan(i, Scanner::Cut(count)), told)
+    perform(
+        alloc,
+        handle,
+        told,
+        |world| world.scan(i, Scanner::Cut(count)),
+    )
 }

@@ -16,6 +16,7 @@ mod perform;
 pub mod placed;
 pub mod scope;
 pub mod scripts;
+pub mod stamp;
 pub mod texts;
 pub mod told;
 pub mod typed;

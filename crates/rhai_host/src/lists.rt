@@ -1,44 +1,35 @@
 //! Commands with a list of names, and with a text besides a name.
-ghost use Rattle.std.specs.Option.{option_flatten};
-ghost use Rattle.std.specs.Prelude.{◌≡◌, IfOk, option_and_then, option_map, slice_get};
+ghost use Rattle.std.specs.Prelude.{◌≡◌, ◌<◌, IfOk, OnErr, length, option_and_then, option_map};
+ghost use Rattle.std.specs.Str.{chars};
 ghost use Rattle.rhai_handle.specs.Content.{content};
 ghost use Rattle.rhai_run.specs.declared.command.Command.TheVariants as command;
-ghost use Rattle.rhai_host.specs.Calls.{DoesOneMade, PerformsIf, PerformsMade};
+ghost use Rattle.rhai_host.specs.Calls.{DoesOne, DoesOneMade, PerformsIf, PerformsMade};
 ghost use Rattle.rhai_host.specs.Lists.{flagged_at, names_at};
-ghost use Rattle.rhai_host.specs.Names.{name_at, names_of};
+ghost use Rattle.rhai_host.specs.Names.{name_at};
 ghost use Rattle.rhai_host.specs.Numbers.{text_of};
 
-use crate::names::{lend, perform_lent};
-use crate::perform::{CLOSED, NO_COMMAND, NO_ROOM, no_command, no_room, perform_made};
-use crate::texts::text_of;
+use crate::perform::{CLOSED, NO_COMMAND, NO_ROOM, Reply, no_command, perform_named};
+use crate::texts::text_in;
 use crate::told::Told;
 use rhai_handle::{Handle, Kept};
-use rhai_run::{Command, FlaggedNames, Names};
+use rhai_run::{FlaggedNames, Names};
 use rhai_text::ImmutableString;
+use slab::Slab;
 use std::alloc::{AllocError, Global};
 
-fn name_of(names: &[Option<ImmutableString>], number: usize) -> Option<&ImmutableString>
-    ensures { option_map (λ n. n.now) result ≡ option_flatten (slice_get names.now number) }
-{
-    if number < names.len() {
-        names[number].as_ref()
-    } else {
-        None
-    }
-}
-
-/// The names of the numbers, where each has one.
+/// Copies of the names of the numbers, where each has one.
 fn listed(
     alloc: Global,
-    names: &[Option<ImmutableString>],
+    names: &Slab<ImmutableString>,
     numbers: &[usize],
 ) -> Result<Option<Vec<ImmutableString>>, AllocError>
-    ensures { IfOk result (λ o. option_map (λ v. v.items) o ≡ names_at names.now numbers.now) }
+    ensures ok { IfOk result (λ o. option_map (λ v. v.items) o ≡ names_at names.now numbers.now) }
+    ensures err { OnErr result (0 < length numbers.now) }
 {
     let mut found = Vec::new(alloc);
     let mut left = numbers;
     while let [number, rest @ ..] = left {
-        let Some(name) = name_of(names, *number) else {
+        let Some(name) = names.get(*number) else {
             return Ok(None);
         };
         found.push(name.copy(alloc)?)?;
@@ -50,11 +41,12 @@ fn listed(
 /// The same with a flag to each.
 fn flagged(
     alloc: Global,
-    names: &[Option<ImmutableString>],
+    names: &Slab<ImmutableString>,
     numbers: &[usize],
     flags: &[bool],
 ) -> Result<Option<Vec<(ImmutableString, bool)>>, AllocError>
-    ensures { IfOk result (λ o. option_map (λ v. v.items) o ≡ flagged_at names.now numbers.now flags.now) }
+    ensures ok { IfOk result (λ o. option_map (λ v. v.items) o ≡ flagged_at names.now numbers.now flags.now) }
+    ensures err { OnErr result (0 < length numbers.now) }
 {
     let mut found = Vec::new(alloc);
     let mut left = numbers;
@@ -63,7 +55,7 @@ fn flagged(
         let [flag, more @ ..] = flags_left else {
             return Ok(None);
         };
-        let Some(name) = name_of(names, *number) else {
+        let Some(name) = names.get(*number) else {
             return Ok(None);
         };
         found.push((name.copy(alloc)?, *flag))?;
@@ -73,11 +65,18 @@ fn flagged(
     Ok(Some(found))
 }
 
+fn map_of(kept: &mut Kept, keys: &Names, told: &mut Told) -> u32
+    ensures { DoesOne result kept.old kept.new told.old told.new (command.MakeMap keys.now) }
+{
+    let done = kept.world.make_map(keys);
+    done.tell(&mut kept.answer, told)
+}
+
 fn made_map(alloc: Global, kept: &mut Kept, keys: &[usize], told: &mut Told) -> u32
-    ensures { DoesOneMade result kept.old kept.new told.new (option_map (λ ks. command.MakeMap ks) (names_at (names_of kept.old) keys.now)) }
+    ensures { DoesOneMade result kept.old kept.new told.old told.new (0 < length keys.now) (option_map (λ ks. command.MakeMap ks) (names_at kept.old.names keys.now)) }
 {
     match listed(alloc, &kept.names, keys) {
-        Ok(Some(keys)) => perform_made(kept, Command::MakeMap(Names::new(keys)), told),
+        Ok(Some(keys)) => map_of(kept, &Names::new(keys), told),
         Ok(None) => NO_COMMAND,
         Err(_) => NO_ROOM,
     }
@@ -91,7 +90,7 @@ pub extern "C" fn rhai_host_make_map(
     keys: &[usize],
     told: &mut Told,
 ) -> u32
-    ensures { PerformsMade result (content handle.old) (content handle.new) told.new (λ k. option_map (λ ks. command.MakeMap ks) (names_at (names_of k) keys.now)) }
+    ensures { PerformsMade result (content handle.old) (content handle.new) told.old told.new (λ _. 0 < length keys.now) (λ k. option_map (λ ks. command.MakeMap ks) (names_at k.names keys.now)) }
 {
     let Some(mut kept) = handle.take(alloc) else {
         return CLOSED;
@@ -101,11 +100,18 @@ pub extern "C" fn rhai_host_make_map(
     status
 }
 
+fn extended_by(kept: &mut Kept, names: &Names, told: &mut Told) -> u32
+    ensures { DoesOne result kept.old kept.new told.old told.new (command.Extend names.now) }
+{
+    let done = kept.world.extend(names);
+    done.tell(&mut kept.answer, told)
+}
+
 fn extended(alloc: Global, kept: &mut Kept, names: &[usize], told: &mut Told) -> u32
-    ensures { DoesOneMade result kept.old kept.new told.new (option_map (λ ns. command.Extend ns) (names_at (names_of kept.old) names.now)) }
+    ensures { DoesOneMade result kept.old kept.new told.old told.new (0 < length names.now) (option_map (λ ns. command.Extend ns) (names_at kept.old.names names.now)) }
 {
     match listed(alloc, &kept.names, names) {
-        Ok(Some(names)) => perform_made(kept, Command::Extend(Names::new(names)), told),
+        Ok(Some(names)) => extended_by(kept, &Names::new(names), told),
         Ok(None) => NO_COMMAND,
         Err(_) => NO_ROOM,
     }
@@ -119,7 +125,7 @@ pub extern "C" fn rhai_host_extend(
     names: &[usize],
     told: &mut Told,
 ) -> u32
-    ensures { PerformsMade result (content handle.old) (content handle.new) told.new (λ k. option_map (λ ns. command.Extend ns) (names_at (names_of k) names.now)) }
+    ensures { PerformsMade result (content handle.old) (content handle.new) told.old told.new (λ _. 0 < length names.now) (λ k. option_map (λ ns. command.Extend ns) (names_at k.names names.now)) }
 {
     let Some(mut kept) = handle.take(alloc) else {
         return CLOSED;
@@ -129,6 +135,13 @@ pub extern "C" fn rhai_host_extend(
     status
 }
 
+fn extended_by_flagged(kept: &mut Kept, names: &FlaggedNames, told: &mut Told) -> u32
+    ensures { DoesOne result kept.old kept.new told.old told.new (command.ExtendFlagged names.now) }
+{
+    let done = kept.world.extend_flagged(names);
+    done.tell(&mut kept.answer, told)
+}
+
 fn extended_flagged(
     alloc: Global,
     kept: &mut Kept,
@@ -136,14 +149,10 @@ fn extended_flagged(
     constants: &[bool],
     told: &mut Told,
 ) -> u32
-    ensures { DoesOneMade result kept.old kept.new told.new (option_map (λ ns. command.ExtendFlagged ns) (flagged_at (names_of kept.old) names.now constants.now)) }
+    ensures { DoesOneMade result kept.old kept.new told.old told.new (0 < length names.now) (option_map (λ ns. command.ExtendFlagged ns) (flagged_at kept.old.names names.now constants.now)) }
 {
     match flagged(alloc, &kept.names, names, constants) {
-        Ok(Some(names)) => perform_made(
-            kept,
-            Command::ExtendFlagged(FlaggedNames::new(names)),
-            told,
-        ),
+        Ok(Some(names)) => extended_by_flagged(kept, &FlaggedNames::new(names), told),
         Ok(None) => NO_COMMAND,
         Err(_) => NO_ROOM,
     }
@@ -158,7 +167,7 @@ pub extern "C" fn rhai_host_extend_flagged(
     constants: &[bool],
     told: &mut Told,
 ) -> u32
-    ensures { PerformsMade result (content handle.old) (content handle.new) told.new (λ k. option_map (λ ns. command.ExtendFlagged ns) (flagged_at (names_of k) names.now constants.now)) }
+    ensures { PerformsMade result (content handle.old) (content handle.new) told.old told.new (λ _. 0 < length names.now) (λ k. option_map (λ ns. command.ExtendFlagged ns) (flagged_at k.names names.now constants.now)) }
 {
     let Some(mut kept) = handle.take(alloc) else {
         return CLOSED;
@@ -168,25 +177,16 @@ pub extern "C" fn rhai_host_extend_flagged(
     status
 }
 
-fn aliased(
-    alloc: Global,
-    handle: &mut Handle,
-    name: usize,
-    alias: ImmutableString,
-    told: &mut Told,
-) -> u32
-    ensures { PerformsIf result (content handle.old) (content handle.new) told.new (λ k. option_map (λ n. command.SetAlias n alias) (name_at k name)) }
+fn aliased(alloc: Global, handle: &mut Handle, name: usize, alias: &str, told: &mut Told) -> u32
+    ensures { PerformsIf result (content handle.old) (content handle.new) told.old told.new (λ k. option_map (λ n. command.SetAlias n (chars alias.now)) (name_at k name)) }
 {
-    match lend(alloc, handle, name) {
-        Ok(lent) => perform_lent(
-            handle,
-            lent.kept,
-            name,
-            Command::SetAlias(lent.name, alias),
-            told,
-        ),
-        Err(status) => status,
-    }
+    perform_named(
+        alloc,
+        handle,
+        name,
+        told,
+        |world, name| world.set_alias(name, alias),
+    )
 }
 
 /// Gives the last entry of the name the alias, if it hasn't got it; an empty alias means the name.
@@ -198,11 +198,10 @@ pub extern "C" fn rhai_host_set_alias(
     alias: &[u8],
     told: &mut Told,
 ) -> u32
-    ensures { PerformsMade result (content handle.old) (content handle.new) told.new (λ k. option_and_then (λ a. option_map (λ n. command.SetAlias n a) (name_at k name)) (text_of alias.now)) }
+    ensures { PerformsIf result (content handle.old) (content handle.new) told.old told.new (λ k. option_and_then (λ a. option_map (λ n. command.SetAlias n a) (name_at k name)) (text_of alias.now)) }
 {
-    match text_of(alloc, alias) {
-        Ok(Some(alias)) => aliased(alloc, handle, name, alias, told),
-        Ok(None) => no_command(handle),
-        Err(_) => no_room(handle),
+    match text_in(alias) {
+        Some(alias) => aliased(alloc, handle, name, alias, told),
+        None => no_command(handle),
     }
 }

@@ -8,16 +8,16 @@ ghost use Rattle.rhai_host.specs.Calls.{Performs};
 use crate::perform::perform;
 use crate::told::Told;
 use rhai_handle::Handle;
-use rhai_run::{Command, Literal};
+use rhai_run::Literal;
 use rhai_value::{ExclusiveRange, Host, InclusiveRange};
 use std::alloc::Global;
 
 /// Appends the unit value.
 #[unsafe(no_mangle)]
 pub extern "C" fn rhai_host_put_unit(alloc: Global, handle: &mut Handle, told: &mut Told) -> u32
-    ensures { Performs result (content handle.old) (content handle.new) told.new (command.Put literal.Unit) }
+    ensures { Performs result (content handle.old) (content handle.new) told.old told.new (command.Put literal.Unit) }
 {
-    perform(alloc, handle, Command::Put(Literal::Unit), told)
+    perform(alloc, handle, told, |world| world.put(&Literal::Unit))
 }
 
 /// Appends a boolean.
@@ -28,9 +28,14 @@ pub extern "C" fn rhai_host_put_bool(
     truth: bool,
     told: &mut Told,
 ) -> u32
-    ensures { Performs result (content handle.old) (content handle.new) told.new (command.Put (literal.Bool truth)) }
+    ensures { Performs result (content handle.old) (content handle.new) told.old told.new (command.Put (literal.Bool truth)) }
 {
-    perform(alloc, handle, Command::Put(Literal::Bool(truth)), told)
+    perform(
+        alloc,
+        handle,
+        told,
+        |world| world.put(&Literal::Bool(truth)),
+    )
 }
 
 /// Appends an int.
@@ -41,9 +46,9 @@ pub extern "C" fn rhai_host_put_int(
     n: i64,
     told: &mut Told,
 ) -> u32
-    ensures { Performs result (content handle.old) (content handle.new) told.new (command.Put (literal.Int n)) }
+    ensures { Performs result (content handle.old) (content handle.new) told.old told.new (command.Put (literal.Int n)) }
 {
-    perform(alloc, handle, Command::Put(Literal::Int(n)), told)
+    perform(alloc, handle, told, |world| world.put(&Literal::Int(n)))
 }
 
 /// Appends the range from one int to another, without the end.
@@ -55,13 +60,13 @@ pub extern "C" fn rhai_host_put_range(
     end: i64,
     told: &mut Told,
 ) -> u32
-    ensures { Performs result (content handle.old) (content handle.new) told.new (command.Put (literal.Range (record { start = start; end = end }))) }
+    ensures { Performs result (content handle.old) (content handle.new) told.old told.new (command.Put (literal.Range (record { start = start; end = end }))) }
 {
     perform(
         alloc,
         handle,
-        Command::Put(Literal::Range(ExclusiveRange { start, end })),
         told,
+        |world| world.put(&Literal::Range(ExclusiveRange { start, end })),
     )
 }
 
@@ -74,13 +79,13 @@ pub extern "C" fn rhai_host_put_range_with_end(
     end: i64,
     told: &mut Told,
 ) -> u32
-    ensures { Performs result (content handle.old) (content handle.new) told.new (command.Put (literal.RangeEq (record { start = start; end = end }))) }
+    ensures { Performs result (content handle.old) (content handle.new) told.old told.new (command.Put (literal.RangeEq (record { start = start; end = end }))) }
 {
     perform(
         alloc,
         handle,
-        Command::Put(Literal::RangeEq(InclusiveRange { start, end })),
         told,
+        |world| world.put(&Literal::RangeEq(InclusiveRange { start, end })),
     )
 }
 
@@ -92,13 +97,13 @@ pub extern "C" fn rhai_host_put_u8(
     n: u8,
     told: &mut Told,
 ) -> u32
-    ensures { Performs result (content handle.old) (content handle.new) told.new (command.Put (literal.Host (host.U8 n))) }
+    ensures { Performs result (content handle.old) (content handle.new) told.old told.new (command.Put (literal.Host (host.U8 n))) }
 {
     perform(
         alloc,
         handle,
-        Command::Put(Literal::Host(Host::U8(n))),
         told,
+        |world| world.put(&Literal::Host(Host::U8(n))),
     )
 }
 
@@ -110,13 +115,13 @@ pub extern "C" fn rhai_host_put_u16(
     n: u16,
     told: &mut Told,
 ) -> u32
-    ensures { Performs result (content handle.old) (content handle.new) told.new (command.Put (literal.Host (host.U16 n))) }
+    ensures { Performs result (content handle.old) (content handle.new) told.old told.new (command.Put (literal.Host (host.U16 n))) }
 {
     perform(
         alloc,
         handle,
-        Command::Put(Literal::Host(Host::U16(n))),
         told,
+        |world| world.put(&Literal::Host(Host::U16(n))),
     )
 }
 
@@ -128,13 +133,13 @@ pub extern "C" fn rhai_host_put_u32(
     n: u32,
     told: &mut Told,
 ) -> u32
-    ensures { Performs result (content handle.old) (content handle.new) told.new (command.Put (literal.Host (host.U32 n))) }
+    ensures { Performs result (content handle.old) (content handle.new) told.old told.new (command.Put (literal.Host (host.U32 n))) }
 {
     perform(
         alloc,
         handle,
-        Command::Put(Literal::Host(Host::U32(n))),
         told,
+        |world| world.put(&Literal::Host(Host::U32(n))),
     )
 }
 
@@ -146,13 +151,13 @@ pub extern "C" fn rhai_host_put_u64(
     n: u64,
     told: &mut Told,
 ) -> u32
-    ensures { Performs result (content handle.old) (content handle.new) told.new (command.Put (literal.Host (host.U64 n))) }
+    ensures { Performs result (content handle.old) (content handle.new) told.old told.new (command.Put (literal.Host (host.U64 n))) }
 {
     perform(
         alloc,
         handle,
-        Command::Put(Literal::Host(Host::U64(n))),
         told,
+        |world| world.put(&Literal::Host(Host::U64(n))),
     )
 }
 
@@ -164,13 +169,13 @@ pub extern "C" fn rhai_host_put_i8(
     n: i8,
     told: &mut Told,
 ) -> u32
-    ensures { Performs result (content handle.old) (content handle.new) told.new (command.Put (literal.Host (host.I8 n))) }
+    ensures { Performs result (content handle.old) (content handle.new) told.old told.new (command.Put (literal.Host (host.I8 n))) }
 {
     perform(
         alloc,
         handle,
-        Command::Put(Literal::Host(Host::I8(n))),
         told,
+        |world| world.put(&Literal::Host(Host::I8(n))),
     )
 }
 
@@ -182,13 +187,13 @@ pub extern "C" fn rhai_host_put_i16(
     n: i16,
     told: &mut Told,
 ) -> u32
-    ensures { Performs result (content handle.old) (content handle.new) told.new (command.Put (literal.Host (host.I16 n))) }
+    ensures { Performs result (content handle.old) (content handle.new) told.old told.new (command.Put (literal.Host (host.I16 n))) }
 {
     perform(
         alloc,
         handle,
-        Command::Put(Literal::Host(Host::I16(n))),
         told,
+        |world| world.put(&Literal::Host(Host::I16(n))),
     )
 }
 
@@ -200,12 +205,12 @@ pub extern "C" fn rhai_host_put_i32(
     n: i32,
     told: &mut Told,
 ) -> u32
-    ensures { Performs result (content handle.old) (content handle.new) told.new (command.Put (literal.Host (host.I32 n))) }
+    ensures { Performs result (content handle.old) (content handle.new) told.old told.new (command.Put (literal.Host (host.I32 n))) }
 {
     perform(
         alloc,
         handle,
-        Command::Put(Literal::Host(Host::I32(n))),
         told,
+        |world| world.put(&Literal::Host(Host::I32(n))),
     )
 }

@@ -6,7 +6,6 @@ ghost use Rattle.rhai_host.specs.Calls.{Performs};
 use crate::perform::perform;
 use crate::told::Told;
 use rhai_handle::Handle;
-use rhai_run::Command;
 use std::alloc::Global;
 
 /// Takes the mark at this position out of the list, and frees its cell; later marks close up.
@@ -17,9 +16,9 @@ pub extern "C" fn rhai_host_unmark(
     mark: usize,
     told: &mut Told,
 ) -> u32
-    ensures { Performs result (content handle.old) (content handle.new) told.new (command.Unmark mark) }
+    ensures { Performs result (content handle.old) (content handle.new) told.old told.new (command.Unmark mark) }
 {
-    perform(alloc, handle, Command::Unmark(mark), told)
+    perform(alloc, handle, told, |world| world.unmark(mark))
 }
 
 /// Moves the value at the hand position into the cell of the mark at this position, and leaves unit.
@@ -31,9 +30,9 @@ pub extern "C" fn rhai_host_write_marked(
     i: usize,
     told: &mut Told,
 ) -> u32
-    ensures { Performs result (content handle.old) (content handle.new) told.new (command.WriteMarked mark i) }
+    ensures { Performs result (content handle.old) (content handle.new) told.old told.new (command.WriteMarked mark i) }
 {
-    perform(alloc, handle, Command::WriteMarked(mark, i), told)
+    perform(alloc, handle, told, |world| world.write_marked(mark, i))
 }
 
 /// Appends a copy of what is in the cell of the mark at this position.
@@ -44,7 +43,7 @@ pub extern "C" fn rhai_host_read_marked(
     mark: usize,
     told: &mut Told,
 ) -> u32
-    ensures { Performs result (content handle.old) (content handle.new) told.new (command.ReadMarked mark) }
+    ensures { Performs result (content handle.old) (content handle.new) told.old told.new (command.ReadMarked mark) }
 {
-    perform(alloc, handle, Command::ReadMarked(mark), told)
+    perform(alloc, handle, told, |world| world.read_marked(mark))
 }

@@ -11,15 +11,15 @@ use rhai_run::{Answer, Shown};
 use std::alloc::Global;
 
 fn tell_name(alloc: Global, kept: &mut Kept, number: usize, told: &mut Told) -> u32
-    ensures { IsToldText result kept.old kept.new (name_at kept.old number) told.new }
+    ensures { IsToldText result kept.old kept.new (name_at kept.old number) told.old told.new }
 {
-    let Some(Some(name)) = kept.names.get(number) else {
+    let Some(name) = kept.names.get(number) else {
         return NO_COMMAND;
     };
     let Ok(text) = String::from_str(alloc, name.as_str()) else {
         return OUT_OF_MEMORY;
     };
-    keep(kept, Answer::Text(Shown::from_text(text)), told);
+    keep(&mut kept.answer, Answer::Text(Shown::from_text(text)), told);
     DONE
 }
 
@@ -31,7 +31,7 @@ pub extern "C" fn rhai_host_name_text(
     number: usize,
     told: &mut Told,
 ) -> u32
-    ensures { TellsName result (content handle.old) (content handle.new) number told.new }
+    ensures { TellsName result (content handle.old) (content handle.new) number told.old told.new }
 {
     let Some(mut kept) = handle.take(alloc) else {
         return CLOSED;
@@ -48,7 +48,7 @@ fn tell_entry(
     is_constant: &mut bool,
     told: &mut Told,
 ) -> u32
-    ensures name { IsToldText result kept.old kept.new (option_map (λ e. e.0) (shown_at kept.old i)) told.new }
+    ensures name { IsToldText result kept.old kept.new (option_map (λ e. e.0) (shown_at kept.old i)) told.old told.new }
     ensures constant { IsFlag result (shown_at kept.old i) is_constant.old is_constant.new }
 {
     let scope = kept.world.scope();
@@ -59,7 +59,7 @@ fn tell_entry(
         return OUT_OF_MEMORY;
     };
     *is_constant = scope.at(i).is_read_only(kept.world.store());
-    keep(kept, Answer::Text(Shown::from_text(text)), told);
+    keep(&mut kept.answer, Answer::Text(Shown::from_text(text)), told);
     DONE
 }
 
@@ -72,7 +72,7 @@ pub extern "C" fn rhai_host_entry(
     is_constant: &mut bool,
     told: &mut Told,
 ) -> u32
-    ensures { TellsEntry result (content handle.old) (content handle.new) i is_constant.old is_constant.new told.new }
+    ensures { TellsEntry result (content handle.old) (content handle.new) i is_constant.old is_constant.new told.old told.new }
 {
     let Some(mut kept) = handle.take(alloc) else {
         return CLOSED;

@@ -5,10 +5,9 @@ ghost use Rattle.rhai_run.specs.declared.command.Command.TheVariants as command;
 ghost use Rattle.rhai_host.specs.Calls.{PerformsIf};
 ghost use Rattle.rhai_host.specs.Names.{name_at};
 
-use crate::names::{lend, perform_lent};
+use crate::perform::perform_named;
 use crate::told::Told;
 use rhai_handle::Handle;
-use rhai_run::Command;
 use std::alloc::Global;
 
 /// Takes this many values off the end of the hand, and appends the function pointer of the name with these curried in order.
@@ -20,18 +19,15 @@ pub extern "C" fn rhai_host_make_fn(
     count: usize,
     told: &mut Told,
 ) -> u32
-    ensures { PerformsIf result (content handle.old) (content handle.new) told.new (λ k. option_map (λ n. command.MakeFn n count) (name_at k name)) }
+    ensures { PerformsIf result (content handle.old) (content handle.new) told.old told.new (λ k. option_map (λ n. command.MakeFn n count) (name_at k name)) }
 {
-    match lend(alloc, handle, name) {
-        Ok(lent) => perform_lent(
-            handle,
-            lent.kept,
-            name,
-            Command::MakeFn(lent.name, count),
-            told,
-        ),
-        Err(status) => status,
-    }
+    perform_named(
+        alloc,
+        handle,
+        name,
+        told,
+        |world, name| world.make_fn(name, count),
+    )
 }
 
 /// Moves the value at the hand position into a new entry of the name that may be written, and leaves unit.
@@ -43,12 +39,9 @@ pub extern "C" fn rhai_host_push(
     i: usize,
     told: &mut Told,
 ) -> u32
-    ensures { PerformsIf result (content handle.old) (content handle.new) told.new (λ k. option_map (λ n. command.Push n i) (name_at k name)) }
+    ensures { PerformsIf result (content handle.old) (content handle.new) told.old told.new (λ k. option_map (λ n. command.Push n i) (name_at k name)) }
 {
-    match lend(alloc, handle, name) {
-        Ok(lent) => perform_lent(handle, lent.kept, name, Command::Push(lent.name, i), told),
-        Err(status) => status,
-    }
+    perform_named(alloc, handle, name, told, |world, name| world.push(name, i))
 }
 
 /// Moves the value at the hand position into a new entry of the name, which is a constant where the value is, and leaves unit.
@@ -60,18 +53,15 @@ pub extern "C" fn rhai_host_push_dynamic(
     i: usize,
     told: &mut Told,
 ) -> u32
-    ensures { PerformsIf result (content handle.old) (content handle.new) told.new (λ k. option_map (λ n. command.PushDynamic n i) (name_at k name)) }
+    ensures { PerformsIf result (content handle.old) (content handle.new) told.old told.new (λ k. option_map (λ n. command.PushDynamic n i) (name_at k name)) }
 {
-    match lend(alloc, handle, name) {
-        Ok(lent) => perform_lent(
-            handle,
-            lent.kept,
-            name,
-            Command::PushDynamic(lent.name, i),
-            told,
-        ),
-        Err(status) => status,
-    }
+    perform_named(
+        alloc,
+        handle,
+        name,
+        told,
+        |world, name| world.push_dynamic(name, i),
+    )
 }
 
 /// Moves the value at the hand position into a new entry of the name that is a constant, and leaves unit.
@@ -83,18 +73,15 @@ pub extern "C" fn rhai_host_push_constant(
     i: usize,
     told: &mut Told,
 ) -> u32
-    ensures { PerformsIf result (content handle.old) (content handle.new) told.new (λ k. option_map (λ n. command.PushConstant n i) (name_at k name)) }
+    ensures { PerformsIf result (content handle.old) (content handle.new) told.old told.new (λ k. option_map (λ n. command.PushConstant n i) (name_at k name)) }
 {
-    match lend(alloc, handle, name) {
-        Ok(lent) => perform_lent(
-            handle,
-            lent.kept,
-            name,
-            Command::PushConstant(lent.name, i),
-            told,
-        ),
-        Err(status) => status,
-    }
+    perform_named(
+        alloc,
+        handle,
+        name,
+        told,
+        |world, name| world.push_constant(name, i),
+    )
 }
 
 /// Moves the value at the hand position over the value of the last entry of the name, and leaves unit.
@@ -106,18 +93,15 @@ pub extern "C" fn rhai_host_set_entry(
     i: usize,
     told: &mut Told,
 ) -> u32
-    ensures { PerformsIf result (content handle.old) (content handle.new) told.new (λ k. option_map (λ n. command.SetEntry n i) (name_at k name)) }
+    ensures { PerformsIf result (content handle.old) (content handle.new) told.old told.new (λ k. option_map (λ n. command.SetEntry n i) (name_at k name)) }
 {
-    match lend(alloc, handle, name) {
-        Ok(lent) => perform_lent(
-            handle,
-            lent.kept,
-            name,
-            Command::SetEntry(lent.name, i),
-            told,
-        ),
-        Err(status) => status,
-    }
+    perform_named(
+        alloc,
+        handle,
+        name,
+        told,
+        |world, name| world.set_entry(name, i),
+    )
 }
 
 /// Moves the value at the hand position over the value of the last entry of the name, or into a new one where none may be written.
@@ -129,18 +113,15 @@ pub extern "C" fn rhai_host_set_or_push(
     i: usize,
     told: &mut Told,
 ) -> u32
-    ensures { PerformsIf result (content handle.old) (content handle.new) told.new (λ k. option_map (λ n. command.SetOrPush n i) (name_at k name)) }
+    ensures { PerformsIf result (content handle.old) (content handle.new) told.old told.new (λ k. option_map (λ n. command.SetOrPush n i) (name_at k name)) }
 {
-    match lend(alloc, handle, name) {
-        Ok(lent) => perform_lent(
-            handle,
-            lent.kept,
-            name,
-            Command::SetOrPush(lent.name, i),
-            told,
-        ),
-        Err(status) => status,
-    }
+    perform_named(
+        alloc,
+        handle,
+        name,
+        told,
+        |world, name| world.set_or_push(name, i),
+    )
 }
 
 /// Moves the value at the hand position over the value of the last entry of the name, or into a new one where none is there.
@@ -152,18 +133,15 @@ pub extern "C" fn rhai_host_set_value(
     i: usize,
     told: &mut Told,
 ) -> u32
-    ensures { PerformsIf result (content handle.old) (content handle.new) told.new (λ k. option_map (λ n. command.SetValue n i) (name_at k name)) }
+    ensures { PerformsIf result (content handle.old) (content handle.new) told.old told.new (λ k. option_map (λ n. command.SetValue n i) (name_at k name)) }
 {
-    match lend(alloc, handle, name) {
-        Ok(lent) => perform_lent(
-            handle,
-            lent.kept,
-            name,
-            Command::SetValue(lent.name, i),
-            told,
-        ),
-        Err(status) => status,
-    }
+    perform_named(
+        alloc,
+        handle,
+        name,
+        told,
+        |world, name| world.set_value(name, i),
+    )
 }
 
 /// Answers whether an entry has the name.
@@ -174,12 +152,15 @@ pub extern "C" fn rhai_host_contains(
     name: usize,
     told: &mut Told,
 ) -> u32
-    ensures { PerformsIf result (content handle.old) (content handle.new) told.new (λ k. option_map (λ n. command.Contains n) (name_at k name)) }
+    ensures { PerformsIf result (content handle.old) (content handle.new) told.old told.new (λ k. option_map (λ n. command.Contains n) (name_at k name)) }
 {
-    match lend(alloc, handle, name) {
-        Ok(lent) => perform_lent(handle, lent.kept, name, Command::Contains(lent.name), told),
-        Err(status) => status,
-    }
+    perform_named(
+        alloc,
+        handle,
+        name,
+        told,
+        |world, name| world.contains(name),
+    )
 }
 
 /// Answers the position of the last entry of the name, counted from 0, or nothing.
@@ -190,12 +171,9 @@ pub extern "C" fn rhai_host_search(
     name: usize,
     told: &mut Told,
 ) -> u32
-    ensures { PerformsIf result (content handle.old) (content handle.new) told.new (λ k. option_map (λ n. command.Search n) (name_at k name)) }
+    ensures { PerformsIf result (content handle.old) (content handle.new) told.old told.new (λ k. option_map (λ n. command.Search n) (name_at k name)) }
 {
-    match lend(alloc, handle, name) {
-        Ok(lent) => perform_lent(handle, lent.kept, name, Command::Search(lent.name), told),
-        Err(status) => status,
-    }
+    perform_named(alloc, handle, name, told, |world, name| world.search(name))
 }
 
 /// Answers whether the last entry of the name is a constant, or nothing.
@@ -206,18 +184,15 @@ pub extern "C" fn rhai_host_is_constant(
     name: usize,
     told: &mut Told,
 ) -> u32
-    ensures { PerformsIf result (content handle.old) (content handle.new) told.new (λ k. option_map (λ n. command.IsConstant n) (name_at k name)) }
+    ensures { PerformsIf result (content handle.old) (content handle.new) told.old told.new (λ k. option_map (λ n. command.IsConstant n) (name_at k name)) }
 {
-    match lend(alloc, handle, name) {
-        Ok(lent) => perform_lent(
-            handle,
-            lent.kept,
-            name,
-            Command::IsConstant(lent.name),
-            told,
-        ),
-        Err(status) => status,
-    }
+    perform_named(
+        alloc,
+        handle,
+        name,
+        told,
+        |world, name| world.is_constant(name),
+    )
 }
 
 /// Appends a copy of the value of the last entry of the name.
@@ -228,12 +203,9 @@ pub extern "C" fn rhai_host_get(
     name: usize,
     told: &mut Told,
 ) -> u32
-    ensures { PerformsIf result (content handle.old) (content handle.new) told.new (λ k. option_map (λ n. command.Get n) (name_at k name)) }
+    ensures { PerformsIf result (content handle.old) (content handle.new) told.old told.new (λ k. option_map (λ n. command.Get n) (name_at k name)) }
 {
-    match lend(alloc, handle, name) {
-        Ok(lent) => perform_lent(handle, lent.kept, name, Command::Get(lent.name), told),
-        Err(status) => status,
-    }
+    perform_named(alloc, handle, name, told, |world, name| world.get(name))
 }
 
 /// Writes over the int that the last entry of the name itself is; or answers nothing.
@@ -245,18 +217,15 @@ pub extern "C" fn rhai_host_set_ref(
     value: i64,
     told: &mut Told,
 ) -> u32
-    ensures { PerformsIf result (content handle.old) (content handle.new) told.new (λ k. option_map (λ n. command.SetRef n value) (name_at k name)) }
+    ensures { PerformsIf result (content handle.old) (content handle.new) told.old told.new (λ k. option_map (λ n. command.SetRef n value) (name_at k name)) }
 {
-    match lend(alloc, handle, name) {
-        Ok(lent) => perform_lent(
-            handle,
-            lent.kept,
-            name,
-            Command::SetRef(lent.name, value),
-            told,
-        ),
-        Err(status) => status,
-    }
+    perform_named(
+        alloc,
+        handle,
+        name,
+        told,
+        |world, name| world.set_ref(name, value),
+    )
 }
 
 /// Answers the aliases of the last entry of the name, each with a line feed.
@@ -267,10 +236,7 @@ pub extern "C" fn rhai_host_aliases(
     name: usize,
     told: &mut Told,
 ) -> u32
-    ensures { PerformsIf result (content handle.old) (content handle.new) told.new (λ k. option_map (λ n. command.Aliases n) (name_at k name)) }
+    ensures { PerformsIf result (content handle.old) (content handle.new) told.old told.new (λ k. option_map (λ n. command.Aliases n) (name_at k name)) }
 {
-    match lend(alloc, handle, name) {
-        Ok(lent) => perform_lent(handle, lent.kept, name, Command::Aliases(lent.name), told),
-        Err(status) => status,
-    }
+    perform_named(alloc, handle, name, told, |world, name| world.aliases(name))
 }

@@ -1,5 +1,5 @@
 //! Worlds are opened, closed and looked at, and names are kept.
-ghost use Rattle.std.specs.Prelude.{◌≡◌, [], ◌∷◌, ◌++◌, None, Some, true, false, length};
+ghost use Rattle.std.specs.Prelude.{◌≡◌, None, Some, true, false, length};
 ghost use Rattle.rhai_handle.specs.Content.{content};
 ghost use Rattle.rhai_handle.specs.Owned.{has};
 ghost use Rattle.rhai_host.specs.Opened.{CollectsKept, GivesUp, IsCollected, IsGivenUp, IsNamed, Names, Opens, answer_bytes, copied_into, fault_text, hand_len, kept_bytes, refusal_text};
@@ -11,6 +11,7 @@ use crate::texts::text_of;
 use rhai_handle::{Handle, Kept};
 use rhai_run::{Answer, Refusal, World};
 use rhai_text::{EvalAltResult, ImmutableString, Limits};
+use slab::Slab;
 use std::alloc::Global;
 use std::cmp::min;
 
@@ -26,7 +27,7 @@ pub extern "C" fn rhai_host_new(
 {
     let kept = Kept {
         world: World::new(alloc, Limits { text, items }),
-        names: Vec::new(alloc),
+        names: Slab::new(alloc),
         answer: Answer::Done,
     };
     match Box::new(alloc, kept) {
@@ -55,27 +56,21 @@ pub extern "C" fn rhai_host_is_open(handle: &Handle) -> bool
     handle.is_open()
 }
 
-fn pushed(names: &mut Vec<Option<ImmutableString>>, name: ImmutableString) -> bool
-    ensures ok { result ≡ true → names.new.items ≡ names.old.items ++ Some name ∷ [] }
-    ensures err { result ≡ false → names.new.items ≡ names.old.items }
-{
-    names.push(Some(name)).is_ok()
-}
-
 fn kept_name(kept: &mut Kept, name: ImmutableString, number: &mut usize) -> u32
-    ensures { IsNamed result kept.old kept.new (Some name) number.new }
+    ensures { IsNamed result kept.old kept.new (Some name) number.old number.new }
 {
-    let next = kept.names.len();
-    if pushed(&mut kept.names, name) {
-        *number = next;
-        return DONE;
+    match kept.names.insert(name) {
+        Ok(key) => {
+            *number = key;
+            DONE
+        }
+        Err(_) => OUT_OF_MEMORY,
     }
-    OUT_OF_MEMORY
 }
 
 #[inline(always)]
 fn named(alloc: Global, kept: &mut Kept, text: &[u8], number: &mut usize) -> u32
-    ensures { IsNamed result kept.old kept.new (text_of text.now) number.new }
+    ensures { IsNamed result kept.old kept.new (text_of text.now) number.old number.new }
 {
     match text_of(alloc, text) {
         Ok(Some(name)) => kept_name(kept, name, number),
@@ -84,7 +79,7 @@ fn named(alloc: Global, kept: &mut Kept, text: &[u8], number: &mut usize) -> u32
     }
 }
 
-/// Gives a name a number, by which commands name it.
+/// Gives a name a number that no other has, by which commands name it. Room for one more is asked for only where no number was given back.
 #[unsafe(no_mangle)]
 pub extern "C" fn rhai_host_name(
     alloc: Global,
@@ -92,7 +87,7 @@ pub extern "C" fn rhai_host_name(
     text: &[u8],
     number: &mut usize,
 ) -> u32
-    ensures { Names result (content handle.old) (content handle.new) text.now number.new }
+    ensures { Names result (content handle.old) (content handle.new) text.now number.old number.new }
 {
     let Some(mut kept) = handle.take(alloc) else {
         return CLOSED;
@@ -232,19 +227,13 @@ pub extern "C" fn rhai_host_answer(
 fn given_up(kept: &mut Kept, number: usize) -> u32
     ensures { IsGivenUp result kept.old kept.new number (name_at kept.old number) }
 {
-    match kept.names.get(number) {
-        Some(Some(_)) => {}
-        Some(None) | None => return NO_COMMAND,
+    match kept.names.try_remove(number) {
+        Some(_) => DONE,
+        None => NO_COMMAND,
     }
-    if number + 1 == kept.names.len() {
-        kept.names.truncate(number);
-    } else {
-        kept.names[number] = None;
-    }
-    DONE
 }
 
-/// Takes a number back from a name. The last number is given out again.
+/// Takes a number back from a name. It is given out again, in the place of a new one.
 #[unsafe(no_mangle)]
 pub extern "C" fn rhai_host_forget_name(alloc: Global, handle: &mut Handle, number: usize) -> u32
     ensures { GivesUp result (content handle.old) (content handle.new) number }
@@ -278,4 +267,20 @@ pub extern "C" fn rhai_host_collect(alloc: Global, handle: &mut Handle) -> u32
     let status = collected(&mut kept);
     handle.put(kept);
     status
+}
+
+/// Tells how many bytes a handle takes.
+#[unsafe(no_mangle)]
+pub extern "C" fn rhai_host_handle_size() -> usize
+    ensures { result ≡ 16 }
+{
+    Handle::size()
+}
+
+/// Tells what the address of a handle is a multiple of.
+#[unsafe(no_mangle)]
+pub extern "C" fn rhai_host_handle_align() -> usize
+    ensures { result ≡ 8 }
+{
+    Handle::align()
 }

@@ -1,18 +1,27 @@
 //! One command in the world of a handle.
-ghost use Rattle.std.specs.Prelude.{◌≡◌, ◌<◌, Option, None};
+ghost use Rattle.std.specs.Prelude.{◌≡◌, ◌<◌, ℕ, List, Option, None, option_map};
+ghost use Rattle.std.specs.Fn.{FnOnceReturnsAtMut};
 ghost use Rattle.rhai_handle.specs.Content.{content};
+ghost use Rattle.rhai_run.specs.Does.{Steps};
+ghost use Rattle.rhai_run.specs.Outcome.{Outcome};
+ghost use Rattle.rhai_run.specs.State.{State};
 ghost use Rattle.rhai_run.specs.declared.command.Command.{Command};
 ghost use Rattle.rhai_run.specs.declared.command.Command.TheVariants as command;
 ghost use Rattle.rhai_run.specs.declared.command.Literal.{Literal};
+ghost use Rattle.rhai_run.specs.declared.command.Place.{Place};
 ghost use Rattle.rhai_handle.specs.declared.kept.Kept.{Kept};
 ghost use Rattle.rhai_host.specs.Answers.{kept_answer, told_of};
-ghost use Rattle.rhai_host.specs.Calls.{DoesOne, Performs, PerformsIf, PerformsMade};
+ghost use Rattle.rhai_host.specs.Calls.{DoesOne, DoesOneIf, Performs, PerformsIf, Replies};
+ghost use Rattle.rhai_host.specs.Methods.{Makes, MakesAt, MakesNamed, ReturnsAt, ReturnsNamed};
+ghost use Rattle.rhai_host.specs.Names.{name_at, place_at};
 ghost use Rattle.rhai_host.specs.declared.told.Told.{Told};
 
+use crate::names::place_in;
 use crate::told::{Told, told_of};
 use rhai_handle::{Handle, Kept};
-use rhai_run::{Answer, Command, apply};
-use std::alloc::Global;
+use rhai_run::{Answer, PlaceRef, World};
+use rhai_text::ImmutableString;
+use std::alloc::{AllocError, Global};
 
 /// The command is done.
 pub(crate) const DONE: u32 = 0;
@@ -27,64 +36,173 @@ pub(crate) const NO_ROOM: u32 = 4;
 
 /// Tells an answer, and keeps what numbers don't tell of it. Not inlined, so that a call that is most often done stays short.
 #[inline(never)]
-pub(crate) fn keep(kept: &mut Kept, answer: Answer, told: &mut Told)
-    ensures kept { kept.new ≡ record kept.old { answer = kept_answer kept.old.answer answer } }
+pub(crate) fn keep(last: &mut Answer, answer: Answer, told: &mut Told)
+    ensures kept { last.new ≡ kept_answer last.old answer }
     ensures told { told.new ≡ told_of answer }
 {
     *told = told_of(&answer);
     match answer {
-        Answer::Text(text) => kept.answer = Answer::Text(text),
-        Answer::Bytes(bytes) => kept.answer = Answer::Bytes(bytes),
-        Answer::Refused(why) => kept.answer = Answer::Refused(why),
+        Answer::Text(text) => *last = Answer::Text(text),
+        Answer::Bytes(bytes) => *last = Answer::Bytes(bytes),
+        Answer::Refused(why) => *last = Answer::Refused(why),
         Answer::Done | Answer::Bool(_) | Answer::Int(_) | Answer::Pair(_, _) | Answer::Nothing => {}
     }
 }
 
-#[inline(always)]
-pub(crate) fn perform_in(kept: &mut Kept, command: &Command, told: &mut Told) -> u32
-    ensures { DoesOne result kept.old kept.new told.new command.now }
-{
-    match apply(&mut kept.world, command) {
-        Ok(Answer::Done) => {
-            *told = told_of(&Answer::Done);
-            DONE
+/// What a method of the world gives. It is the result of a command; that it is one only its implementation knows, so that methods may be handed over as closures.
+pub(crate) trait Reply {
+    ghost use Rattle.rhai_run.specs.Outcome.{Outcome};
+    ghost use Rattle.rhai_run.specs.State.{State};
+
+    /// That it is given for the outcome of a command, by a method that leads from one state to another.
+    ghost is_for: { Self → State → State → Outcome → Type 0 };
+
+    /// Tells it, and keeps what numbers don't tell of it.
+    fn tell(self, last: &mut Answer, told: &mut Told) -> u32
+        ensures { (w v : State) (o : Outcome) → is_for self w v o → Replies result w v last.old last.new told.old told.new o };
+}
+
+impl Reply for Result<Answer, AllocError> {
+    ghost is_for = { Steps };
+
+    #[inline(always)]
+    fn tell(self, last: &mut Answer, told: &mut Told) -> u32 {
+        match self {
+            Ok(Answer::Done) => {
+                *told = told_of(&Answer::Done);
+                DONE
+            }
+            Ok(Answer::Int(n)) => {
+                *told = told_of(&Answer::Int(n));
+                DONE
+            }
+            Ok(answer) => {
+                keep(last, answer, told);
+                DONE
+            }
+            Err(_) => OUT_OF_MEMORY,
         }
-        Ok(Answer::Int(n)) => {
-            *told = told_of(&Answer::Int(n));
-            DONE
-        }
-        Ok(answer) => {
-            keep(kept, answer, told);
-            DONE
-        }
-        Err(_) => OUT_OF_MEMORY,
     }
 }
 
-/// Does the command.
-pub(crate) fn perform_made(kept: &mut Kept, command: Command, told: &mut Told) -> u32
-    ensures { DoesOne result kept.old kept.new told.new command }
+/// Calls a method of the world that is kept.
+#[inline(always)]
+fn perform_in<R: Reply, F: FnOnce(&mut World) -> R>(
+    kept: &mut Kept,
+    told: &mut Told,
+    call: F,
+) -> u32
+    requires { F.IsAlwaysCallable call }
+    ensures { (c : Command) → Makes R.is_for (FnOnceReturnsAtMut F.FnOnce call) c → DoesOne result kept.old kept.new told.old told.new c }
 {
-    perform_in(kept, &command, told)
+    let done = call(&mut kept.world);
+    done.tell(&mut kept.answer, told)
 }
 
-/// Does the command where a world is open.
+/// Calls a method of the world with the name of a number.
 #[inline(always)]
-pub(crate) fn perform(alloc: Global, handle: &mut Handle, command: Command, told: &mut Told) -> u32
-    ensures { Performs result (content handle.old) (content handle.new) told.new command }
+fn named_in<R: Reply, F: FnOnce(&mut World, &ImmutableString) -> R>(
+    kept: &mut Kept,
+    number: usize,
+    told: &mut Told,
+    call: F,
+) -> u32
+    requires { F.IsAlwaysCallable call }
+    ensures { (c : List ℕ → Command) → MakesNamed R.is_for (ReturnsNamed (F.post call)) c
+        → DoesOneIf result kept.old kept.new told.old told.new (option_map c (name_at kept.old number)) }
+{
+    let Some(name) = kept.names.get(number) else {
+        return NO_COMMAND;
+    };
+    let done = call(&mut kept.world, name);
+    done.tell(&mut kept.answer, told)
+}
+
+/// Calls a method of the world with a place.
+#[inline(always)]
+fn placed_in<R: Reply, F: FnOnce(&mut World, PlaceRef<'_>) -> R>(
+    kept: &mut Kept,
+    is_entry: bool,
+    at: usize,
+    told: &mut Told,
+    call: F,
+) -> u32
+    requires { F.IsAlwaysCallable call }
+    ensures { (c : Place → Command) → MakesAt R.is_for (ReturnsAt (F.post call)) c
+        → DoesOneIf result kept.old kept.new told.old told.new (option_map c (place_at kept.old is_entry at)) }
+{
+    let Some(place) = place_in(&kept.names, is_entry, at) else {
+        return NO_COMMAND;
+    };
+    let done = call(&mut kept.world, place);
+    done.tell(&mut kept.answer, told)
+}
+
+/// Calls a method of the world, where one is open.
+#[inline(always)]
+pub(crate) fn perform<R: Reply, F: FnOnce(&mut World) -> R>(
+    alloc: Global,
+    handle: &mut Handle,
+    told: &mut Told,
+    call: F,
+) -> u32
+    requires { F.IsAlwaysCallable call }
+    ensures { (c : Command) → Makes R.is_for (FnOnceReturnsAtMut F.FnOnce call) c → Performs result (content handle.old) (content handle.new) told.old told.new c }
 {
     let Some(mut kept) = handle.take(alloc) else {
         return CLOSED;
     };
-    let status = perform_in(&mut kept, &command, told);
+    let status = perform_in(&mut kept, told, call);
+    handle.put(kept);
+    status
+}
+
+/// The same with the name of a number.
+#[inline(always)]
+pub(crate) fn perform_named<R: Reply, F: FnOnce(&mut World, &ImmutableString) -> R>(
+    alloc: Global,
+    handle: &mut Handle,
+    number: usize,
+    told: &mut Told,
+    call: F,
+) -> u32
+    requires { F.IsAlwaysCallable call }
+    ensures { (c : List ℕ → Command) → MakesNamed R.is_for (ReturnsNamed (F.post call)) c
+        → PerformsIf result (content handle.old) (content handle.new) told.old told.new (λ k. option_map c (name_at k number)) }
+{
+    let Some(mut kept) = handle.take(alloc) else {
+        return CLOSED;
+    };
+    let status = named_in(&mut kept, number, told, call);
+    handle.put(kept);
+    status
+}
+
+/// The same with a place: a hand position, or the last entry of the name of a number.
+#[inline(always)]
+pub(crate) fn perform_at<R: Reply, F: FnOnce(&mut World, PlaceRef<'_>) -> R>(
+    alloc: Global,
+    handle: &mut Handle,
+    is_entry: bool,
+    at: usize,
+    told: &mut Told,
+    call: F,
+) -> u32
+    requires { F.IsAlwaysCallable call }
+    ensures { (c : Place → Command) → MakesAt R.is_for (ReturnsAt (F.post call)) c
+        → PerformsIf result (content handle.old) (content handle.new) told.old told.new (λ k. option_map c (place_at k is_entry at)) }
+{
+    let Some(mut kept) = handle.take(alloc) else {
+        return CLOSED;
+    };
+    let status = placed_in(&mut kept, is_entry, at, told, call);
     handle.put(kept);
     status
 }
 
 /// Says that there is no command.
 pub(crate) fn no_command(handle: &Handle) -> u32
-    ensures said { (told : Told) → PerformsIf result (content handle.now) (content handle.now) told (λ _. None) }
-    ensures made { (told : Told) → PerformsMade result (content handle.now) (content handle.now) told (λ _. None) }
+    ensures said { (told : Told) → PerformsIf result (content handle.now) (content handle.now) told told (λ _. None) }
     ensures status { result < 4 }
 {
     if handle.is_open() { NO_COMMAND } else { CLOSED }
@@ -92,18 +210,11 @@ pub(crate) fn no_command(handle: &Handle) -> u32
 
 /// Says that there is no memory for a value that is put.
 pub(crate) fn out_of_memory(handle: &Handle) -> u32
-    ensures put { (told : Told) (l : Literal) → Performs result (content handle.now) (content handle.now) told (command.Put l) }
+    ensures put { (told : Told) (l : Literal) → Performs result (content handle.now) (content handle.now) told told (command.Put l) }
 {
     if handle.is_open() {
         OUT_OF_MEMORY
     } else {
         CLOSED
     }
-}
-
-/// Says that there is no memory for what a command is made of.
-pub(crate) fn no_room(handle: &Handle) -> u32
-    ensures made { (told : Told) (says : Kept → Option Command) → PerformsMade result (content handle.now) (content handle.now) told says }
-{
-    if handle.is_open() { NO_ROOM } else { CLOSED }
 }

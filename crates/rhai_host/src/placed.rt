@@ -5,10 +5,9 @@ ghost use Rattle.rhai_run.specs.declared.command.Command.TheVariants as command;
 ghost use Rattle.rhai_host.specs.Calls.{PerformsIf};
 ghost use Rattle.rhai_host.specs.Names.{place_at};
 
-use crate::names::{lend_place, perform_lent};
+use crate::perform::perform_at;
 use crate::told::Told;
 use rhai_handle::Handle;
-use rhai_run::Command;
 use std::alloc::Global;
 
 /// Marks the cell of the holder at the place: from then on it is read and written by the mark alone. The mark goes to the end of the list of marks.
@@ -20,12 +19,16 @@ pub extern "C" fn rhai_host_mark(
     at: usize,
     told: &mut Told,
 ) -> u32
-    ensures { PerformsIf result (content handle.old) (content handle.new) told.new (λ k. option_map (λ p. command.Mark p) (place_at k is_entry at)) }
+    ensures { PerformsIf result (content handle.old) (content handle.new) told.old told.new (λ k. option_map (λ p. command.Mark p) (place_at k is_entry at)) }
 {
-    match lend_place(alloc, handle, is_entry, at) {
-        Ok(lent) => perform_lent(handle, lent.kept, at, Command::Mark(lent.place), told),
-        Err(status) => status,
-    }
+    perform_at(
+        alloc,
+        handle,
+        is_entry,
+        at,
+        told,
+        |world, place| world.mark(place),
+    )
 }
 
 /// Writes the boolean at the hand position to this bit of the int at the place.
@@ -39,18 +42,16 @@ pub extern "C" fn rhai_host_write_bit(
     j: usize,
     told: &mut Told,
 ) -> u32
-    ensures { PerformsIf result (content handle.old) (content handle.new) told.new (λ k. option_map (λ p. command.WriteBit p bit j) (place_at k is_entry at)) }
+    ensures { PerformsIf result (content handle.old) (content handle.new) told.old told.new (λ k. option_map (λ p. command.WriteBit p bit j) (place_at k is_entry at)) }
 {
-    match lend_place(alloc, handle, is_entry, at) {
-        Ok(lent) => perform_lent(
-            handle,
-            lent.kept,
-            at,
-            Command::WriteBit(lent.place, bit, j),
-            told,
-        ),
-        Err(status) => status,
-    }
+    perform_at(
+        alloc,
+        handle,
+        is_entry,
+        at,
+        told,
+        |world, place| world.write_bit(place, bit, j),
+    )
 }
 
 /// Writes the int at the hand position, shifted left, to the bits of the mask in the int at the place.
@@ -65,18 +66,16 @@ pub extern "C" fn rhai_host_write_field(
     j: usize,
     told: &mut Told,
 ) -> u32
-    ensures { PerformsIf result (content handle.old) (content handle.new) told.new (λ k. option_map (λ p. command.WriteField p mask shift j) (place_at k is_entry at)) }
+    ensures { PerformsIf result (content handle.old) (content handle.new) told.old told.new (λ k. option_map (λ p. command.WriteField p mask shift j) (place_at k is_entry at)) }
 {
-    match lend_place(alloc, handle, is_entry, at) {
-        Ok(lent) => perform_lent(
-            handle,
-            lent.kept,
-            at,
-            Command::WriteField(lent.place, mask, shift, j),
-            told,
-        ),
-        Err(status) => status,
-    }
+    perform_at(
+        alloc,
+        handle,
+        is_entry,
+        at,
+        told,
+        |world, place| world.write_field(place, mask, shift, j),
+    )
 }
 
 /// Writes the int at the hand position to the byte of this index of the blob at the place.
@@ -90,18 +89,16 @@ pub extern "C" fn rhai_host_write_byte(
     j: usize,
     told: &mut Told,
 ) -> u32
-    ensures { PerformsIf result (content handle.old) (content handle.new) told.new (λ k. option_map (λ p. command.WriteByte p index j) (place_at k is_entry at)) }
+    ensures { PerformsIf result (content handle.old) (content handle.new) told.old told.new (λ k. option_map (λ p. command.WriteByte p index j) (place_at k is_entry at)) }
 {
-    match lend_place(alloc, handle, is_entry, at) {
-        Ok(lent) => perform_lent(
-            handle,
-            lent.kept,
-            at,
-            Command::WriteByte(lent.place, index, j),
-            told,
-        ),
-        Err(status) => status,
-    }
+    perform_at(
+        alloc,
+        handle,
+        is_entry,
+        at,
+        told,
+        |world, place| world.write_byte(place, index, j),
+    )
 }
 
 /// Writes the character at the hand position over the one of this index of the text at the place.
@@ -115,18 +112,16 @@ pub extern "C" fn rhai_host_write_char(
     j: usize,
     told: &mut Told,
 ) -> u32
-    ensures { PerformsIf result (content handle.old) (content handle.new) told.new (λ k. option_map (λ p. command.WriteChar p index j) (place_at k is_entry at)) }
+    ensures { PerformsIf result (content handle.old) (content handle.new) told.old told.new (λ k. option_map (λ p. command.WriteChar p index j) (place_at k is_entry at)) }
 {
-    match lend_place(alloc, handle, is_entry, at) {
-        Ok(lent) => perform_lent(
-            handle,
-            lent.kept,
-            at,
-            Command::WriteChar(lent.place, index, j),
-            told,
-        ),
-        Err(status) => status,
-    }
+    perform_at(
+        alloc,
+        handle,
+        is_entry,
+        at,
+        told,
+        |world, place| world.write_char(place, index, j),
+    )
 }
 
 /// Writes what the value at the hand position prints as over the characters from the first index on, up to the second one, which is replaced too unless the slice is exclusive.
@@ -142,16 +137,14 @@ pub extern "C" fn rhai_host_write_slice(
     j: usize,
     told: &mut Told,
 ) -> u32
-    ensures { PerformsIf result (content handle.old) (content handle.new) told.new (λ k. option_map (λ p. command.WriteSlice p start end exclusive j) (place_at k is_entry at)) }
+    ensures { PerformsIf result (content handle.old) (content handle.new) told.old told.new (λ k. option_map (λ p. command.WriteSlice p start end exclusive j) (place_at k is_entry at)) }
 {
-    match lend_place(alloc, handle, is_entry, at) {
-        Ok(lent) => perform_lent(
-            handle,
-            lent.kept,
-            at,
-            Command::WriteSlice(lent.place, start, end, exclusive, j),
-            told,
-        ),
-        Err(status) => status,
-    }
+    perform_at(
+        alloc,
+        handle,
+        is_entry,
+        at,
+        told,
+        |world, place| world.write_slice(place, start, end, exclusive, j),
+    )
 }

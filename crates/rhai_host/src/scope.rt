@@ -6,15 +6,14 @@ ghost use Rattle.rhai_host.specs.Calls.{Performs};
 use crate::perform::perform;
 use crate::told::Told;
 use rhai_handle::Handle;
-use rhai_run::Command;
 use std::alloc::Global;
 
 /// Drops the last entry.
 #[unsafe(no_mangle)]
 pub extern "C" fn rhai_host_pop(alloc: Global, handle: &mut Handle, told: &mut Told) -> u32
-    ensures { Performs result (content handle.old) (content handle.new) told.new command.Pop }
+    ensures { Performs result (content handle.old) (content handle.new) told.old told.new command.Pop }
 {
-    perform(alloc, handle, Command::Pop, told)
+    perform(alloc, handle, told, |world| world.pop())
 }
 
 /// Keeps as many entries as the number says, the first ones.
@@ -25,79 +24,79 @@ pub extern "C" fn rhai_host_rewind(
     count: usize,
     told: &mut Told,
 ) -> u32
-    ensures { Performs result (content handle.old) (content handle.new) told.new (command.Rewind count) }
+    ensures { Performs result (content handle.old) (content handle.new) told.old told.new (command.Rewind count) }
 {
-    perform(alloc, handle, Command::Rewind(count), told)
+    perform(alloc, handle, told, |world| world.rewind(count))
 }
 
 /// Drops all entries.
 #[unsafe(no_mangle)]
 pub extern "C" fn rhai_host_clear(alloc: Global, handle: &mut Handle, told: &mut Told) -> u32
-    ensures { Performs result (content handle.old) (content handle.new) told.new command.Clear }
+    ensures { Performs result (content handle.old) (content handle.new) told.old told.new command.Clear }
 {
-    perform(alloc, handle, Command::Clear, told)
+    perform(alloc, handle, told, |world| world.clear())
 }
 
 /// Answers how many entries there are.
 #[unsafe(no_mangle)]
 pub extern "C" fn rhai_host_len(alloc: Global, handle: &mut Handle, told: &mut Told) -> u32
-    ensures { Performs result (content handle.old) (content handle.new) told.new command.Len }
+    ensures { Performs result (content handle.old) (content handle.new) told.old told.new command.Len }
 {
-    perform(alloc, handle, Command::Len, told)
+    perform(alloc, handle, told, |world| world.len())
 }
 
 /// Answers whether there is no entry.
 #[unsafe(no_mangle)]
 pub extern "C" fn rhai_host_is_empty(alloc: Global, handle: &mut Handle, told: &mut Told) -> u32
-    ensures { Performs result (content handle.old) (content handle.new) told.new command.IsEmpty }
+    ensures { Performs result (content handle.old) (content handle.new) told.old told.new command.IsEmpty }
 {
-    perform(alloc, handle, Command::IsEmpty, told)
+    perform(alloc, handle, told, |world| world.is_empty())
 }
 
 /// Keeps copies of the last entries of each name, the newest first.
 #[unsafe(no_mangle)]
 pub extern "C" fn rhai_host_keep_visible(alloc: Global, handle: &mut Handle, told: &mut Told) -> u32
-    ensures { Performs result (content handle.old) (content handle.new) told.new command.KeepVisible }
+    ensures { Performs result (content handle.old) (content handle.new) told.old told.new command.KeepVisible }
 {
-    perform(alloc, handle, Command::KeepVisible, told)
+    perform(alloc, handle, told, |world| world.keep_visible())
 }
 
 /// Keeps copies of all entries.
 #[unsafe(no_mangle)]
 pub extern "C" fn rhai_host_copy_scope(alloc: Global, handle: &mut Handle, told: &mut Told) -> u32
-    ensures { Performs result (content handle.old) (content handle.new) told.new command.CopyScope }
+    ensures { Performs result (content handle.old) (content handle.new) told.old told.new command.CopyScope }
 {
-    perform(alloc, handle, Command::CopyScope, told)
+    perform(alloc, handle, told, |world| world.copy_scope())
 }
 
 /// Appends copies of the values of all entries, without their holders.
 #[unsafe(no_mangle)]
 pub extern "C" fn rhai_host_entries(alloc: Global, handle: &mut Handle, told: &mut Told) -> u32
-    ensures { Performs result (content handle.old) (content handle.new) told.new command.Entries }
+    ensures { Performs result (content handle.old) (content handle.new) told.old told.new command.Entries }
 {
-    perform(alloc, handle, Command::Entries, told)
+    perform(alloc, handle, told, |world| world.entries())
 }
 
 /// Answers the names of the entries, the newest first, each with a line feed, and with `const ` before that of a constant.
 #[unsafe(no_mangle)]
 pub extern "C" fn rhai_host_names(alloc: Global, handle: &mut Handle, told: &mut Told) -> u32
-    ensures { Performs result (content handle.old) (content handle.new) told.new command.Names }
+    ensures { Performs result (content handle.old) (content handle.new) told.old told.new command.Names }
 {
-    perform(alloc, handle, Command::Names, told)
+    perform(alloc, handle, told, |world| world.names())
 }
 
 /// Answers the text of the scope.
 #[unsafe(no_mangle)]
 pub extern "C" fn rhai_host_show_scope(alloc: Global, handle: &mut Handle, told: &mut Told) -> u32
-    ensures { Performs result (content handle.old) (content handle.new) told.new command.ShowScope }
+    ensures { Performs result (content handle.old) (content handle.new) told.old told.new command.ShowScope }
 {
-    perform(alloc, handle, Command::ShowScope, told)
+    perform(alloc, handle, told, |world| world.show_scope())
 }
 
 /// Answers the hash bytes of the scope.
 #[unsafe(no_mangle)]
 pub extern "C" fn rhai_host_hash_scope(alloc: Global, handle: &mut Handle, told: &mut Told) -> u32
-    ensures { Performs result (content handle.old) (content handle.new) told.new command.HashScope }
+    ensures { Performs result (content handle.old) (content handle.new) told.old told.new command.HashScope }
 {
-    perform(alloc, handle, Command::HashScope, told)
+    perform(alloc, handle, told, |world| world.hash_scope())
 }

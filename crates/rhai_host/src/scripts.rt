@@ -1,11 +1,11 @@
 //! Runs of scripts.
-ghost use Rattle.std.specs.Prelude.{◌≡◌, ◌++◌, IfOk, length, option_map, string_bytes};
-ghost use Rattle.std.specs.Str.{chars};
+ghost use Rattle.std.specs.Prelude.{◌≡◌, ◌++◌, IfOk, length, string_bytes};
 ghost use Rattle.rhai_handle.specs.Content.{content};
 ghost use Rattle.rhai_host.specs.Numbers.{text_of};
 ghost use Rattle.rhai_host.specs.Scripts.{IsEndOf, IsScriptRun, IsWhole, RunsScript};
 
 use crate::perform::{CLOSED, DONE, NO_COMMAND, OUT_OF_MEMORY};
+use crate::texts::text_in;
 use example_script::{ScriptError, ScriptLimits, run_script};
 use example_syntax::SyntaxError;
 use rhai_handle::{Handle, Kept};
@@ -74,16 +74,6 @@ fn told_end(
     }
 }
 
-/// The text of bytes, if they are one.
-fn text_in(bytes: &[u8]) -> Option<&str>
-    ensures { option_map (λ t. chars t.now) result ≡ text_of bytes.now }
-{
-    match str::from_utf8(bytes) {
-        Ok(text) => Some(text),
-        Err(_) => None,
-    }
-}
-
 fn run_kept(
     alloc: Global,
     kept: &mut Kept,
@@ -91,7 +81,7 @@ fn run_kept(
     limits: &ScriptLimits,
     end: &mut ScriptEnd,
 ) -> u32
-    ensures { IsScriptRun result kept.old kept.new (text_of script.now) end.new }
+    ensures { IsScriptRun result kept.old kept.new (text_of script.now) end.old end.new }
 {
     let Some(script) = text_in(script) else {
         return NO_COMMAND;
@@ -122,7 +112,7 @@ pub extern "C" fn rhai_host_run_script(
     calls: usize,
     end: &mut ScriptEnd,
 ) -> u32
-    ensures { RunsScript result (content handle.old) (content handle.new) script.now end.new }
+    ensures { RunsScript result (content handle.old) (content handle.new) script.now end.old end.new }
 {
     let Some(mut kept) = handle.take(alloc) else {
         return CLOSED;

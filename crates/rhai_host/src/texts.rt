@@ -5,13 +5,13 @@ ghost use Rattle.rhai_handle.specs.Content.{content};
 ghost use Rattle.rhai_run.specs.declared.command.Command.TheVariants as command;
 ghost use Rattle.rhai_run.specs.declared.command.Literal.TheVariants as literal;
 ghost use Rattle.rhai_value.specs.declared.host.Host.TheVariants as host;
-ghost use Rattle.rhai_host.specs.Calls.{Performs, PerformsIf};
+ghost use Rattle.rhai_host.specs.Calls.{Performs, PerformsSaid};
 ghost use Rattle.rhai_host.specs.Numbers.{char_of, text_of, wide, wide_signed};
 
 use crate::perform::{no_command, out_of_memory, perform};
 use crate::told::Told;
 use rhai_handle::Handle;
-use rhai_run::{Bytes, Command, Literal};
+use rhai_run::{Bytes, Literal};
 use rhai_text::ImmutableString;
 use rhai_value::Host;
 use std::alloc::{AllocError, Global};
@@ -25,14 +25,14 @@ pub extern "C" fn rhai_host_put_u128(
     high: u64,
     told: &mut Told,
 ) -> u32
-    ensures { Performs result (content handle.old) (content handle.new) told.new (command.Put (literal.Host (host.U128 (wide low high)))) }
+    ensures { Performs result (content handle.old) (content handle.new) told.old told.new (command.Put (literal.Host (host.U128 (wide low high)))) }
 {
     let n = u128::from(low) + (1 << 64) * u128::from(high);
     perform(
         alloc,
         handle,
-        Command::Put(Literal::Host(Host::U128(n))),
         told,
+        |world| world.put(&Literal::Host(Host::U128(n))),
     )
 }
 
@@ -45,15 +45,25 @@ pub extern "C" fn rhai_host_put_i128(
     high: u64,
     told: &mut Told,
 ) -> u32
-    ensures { Performs result (content handle.old) (content handle.new) told.new (command.Put (literal.Host (host.I128 (wide_signed low high)))) }
+    ensures { Performs result (content handle.old) (content handle.new) told.old told.new (command.Put (literal.Host (host.I128 (wide_signed low high)))) }
 {
     let n = u128::from(low) + (1 << 64) * u128::from(high);
     perform(
         alloc,
         handle,
-        Command::Put(Literal::Host(Host::I128(n.cast_signed()))),
         told,
+        |world| world.put(&Literal::Host(Host::I128(n.cast_signed()))),
     )
+}
+
+/// The bytes as a text, if they are one.
+pub(crate) fn text_in(bytes: &[u8]) -> Option<&str>
+    ensures { option_map (λ t. chars t.now) result ≡ text_of bytes.now }
+{
+    match str::from_utf8(bytes) {
+        Ok(text) => Some(text),
+        Err(_) => None,
+    }
 }
 
 /// The text of bytes, if they are one.
@@ -78,10 +88,10 @@ pub extern "C" fn rhai_host_put_text(
     text: &[u8],
     told: &mut Told,
 ) -> u32
-    ensures { PerformsIf result (content handle.old) (content handle.new) told.new (λ _. option_map (λ t. command.Put (literal.Text t)) (text_of text.now)) }
+    ensures { PerformsSaid result (content handle.old) (content handle.new) told.old told.new (option_map (λ t. command.Put (literal.Text t)) (text_of text.now)) }
 {
     match text_of(alloc, text) {
-        Ok(Some(text)) => perform(alloc, handle, Command::Put(Literal::Text(text)), told),
+        Ok(Some(text)) => perform(alloc, handle, told, |world| world.put(&Literal::Text(text))),
         Ok(None) => no_command(handle),
         Err(_) => out_of_memory(handle),
     }
@@ -103,10 +113,15 @@ pub extern "C" fn rhai_host_put_blob(
     bytes: &[u8],
     told: &mut Told,
 ) -> u32
-    ensures { Performs result (content handle.old) (content handle.new) told.new (command.Put (literal.Blob bytes.now)) }
+    ensures { Performs result (content handle.old) (content handle.new) told.old told.new (command.Put (literal.Blob bytes.now)) }
 {
     match bytes_of(alloc, bytes) {
-        Ok(bytes) => perform(alloc, handle, Command::Put(Literal::Blob(bytes)), told),
+        Ok(bytes) => perform(
+            alloc,
+            handle,
+            told,
+            |world| world.put(&Literal::Blob(bytes)),
+        ),
         Err(_) => out_of_memory(handle),
     }
 }
@@ -125,10 +140,15 @@ pub extern "C" fn rhai_host_put_char(
     code: u32,
     told: &mut Told,
 ) -> u32
-    ensures { PerformsIf result (content handle.old) (content handle.new) told.new (λ _. option_map (λ c. command.Put (literal.Char c)) (char_of code)) }
+    ensures { PerformsSaid result (content handle.old) (content handle.new) told.old told.new (option_map (λ c. command.Put (literal.Char c)) (char_of code)) }
 {
     match char_of(code) {
-        Some(character) => perform(alloc, handle, Command::Put(Literal::Char(character)), told),
+        Some(character) => perform(
+            alloc,
+            handle,
+            told,
+            |world| world.put(&Literal::Char(character)),
+        ),
         None => no_command(handle),
     }
 }

@@ -3,16 +3,15 @@ ghost use Rattle.std.specs.Prelude.{option_and_then, option_map};
 ghost use Rattle.rhai_handle.specs.Content.{content};
 ghost use Rattle.rhai_run.specs.declared.command.Command.TheVariants as command;
 ghost use Rattle.rhai_run.specs.declared.command.Question.TheVariants as question;
-ghost use Rattle.rhai_host.specs.Calls.{PerformsIf};
+ghost use Rattle.rhai_host.specs.Calls.{PerformsIf, PerformsSaid};
 ghost use Rattle.rhai_host.specs.Names.{name_at, place_at};
 ghost use Rattle.rhai_host.specs.Numbers.{operator_of, type_of};
 
-use crate::names::{lend, lend_place, perform_lent};
 use crate::numbers::{operator_of, type_of};
-use crate::perform::{no_command, perform};
+use crate::perform::{no_command, perform, perform_at, perform_named};
 use crate::told::Told;
 use rhai_handle::Handle;
-use rhai_run::{Command, Question};
+use rhai_run::Question;
 use rhai_text::Token;
 use rhai_value::TypeId;
 use std::alloc::Global;
@@ -26,10 +25,10 @@ pub extern "C" fn rhai_host_cast(
     kind: u32,
     told: &mut Told,
 ) -> u32
-    ensures { PerformsIf result (content handle.old) (content handle.new) told.new (λ _. option_map (λ t. command.Cast i t) (type_of kind)) }
+    ensures { PerformsSaid result (content handle.old) (content handle.new) told.old told.new (option_map (λ t. command.Cast i t) (type_of kind)) }
 {
     match type_of(kind) {
-        Some(kind) => perform(alloc, handle, Command::Cast(i, kind), told),
+        Some(kind) => perform(alloc, handle, told, |world| world.cast(i, kind)),
         None => no_command(handle),
     }
 }
@@ -43,10 +42,15 @@ pub extern "C" fn rhai_host_is_held(
     kind: u32,
     told: &mut Told,
 ) -> u32
-    ensures { PerformsIf result (content handle.old) (content handle.new) told.new (λ _. option_map (λ t. command.Ask i (question.Held t)) (type_of kind)) }
+    ensures { PerformsSaid result (content handle.old) (content handle.new) told.old told.new (option_map (λ t. command.Ask i (question.Held t)) (type_of kind)) }
 {
     match type_of(kind) {
-        Some(kind) => perform(alloc, handle, Command::Ask(i, Question::Held(kind)), told),
+        Some(kind) => perform(
+            alloc,
+            handle,
+            told,
+            |world| world.ask(i, &Question::Held(kind)),
+        ),
         None => no_command(handle),
     }
 }
@@ -60,10 +64,15 @@ pub extern "C" fn rhai_host_is_type(
     kind: u32,
     told: &mut Told,
 ) -> u32
-    ensures { PerformsIf result (content handle.old) (content handle.new) told.new (λ _. option_map (λ t. command.Ask i (question.Is t)) (type_of kind)) }
+    ensures { PerformsSaid result (content handle.old) (content handle.new) told.old told.new (option_map (λ t. command.Ask i (question.Is t)) (type_of kind)) }
 {
     match type_of(kind) {
-        Some(kind) => perform(alloc, handle, Command::Ask(i, Question::Is(kind)), told),
+        Some(kind) => perform(
+            alloc,
+            handle,
+            told,
+            |world| world.ask(i, &Question::Is(kind)),
+        ),
         None => no_command(handle),
     }
 }
@@ -78,10 +87,10 @@ pub extern "C" fn rhai_host_binary(
     j: usize,
     told: &mut Told,
 ) -> u32
-    ensures { PerformsIf result (content handle.old) (content handle.new) told.new (λ _. option_map (λ op. command.Binary op i j) (operator_of operator)) }
+    ensures { PerformsSaid result (content handle.old) (content handle.new) told.old told.new (option_map (λ op. command.Binary op i j) (operator_of operator)) }
 {
     match operator_of(operator) {
-        Some(operator) => perform(alloc, handle, Command::Binary(operator, i, j), told),
+        Some(operator) => perform(alloc, handle, told, |world| world.binary(operator, i, j)),
         None => no_command(handle),
     }
 }
@@ -95,18 +104,16 @@ fn assign(
     j: usize,
     told: &mut Told,
 ) -> u32
-    ensures { PerformsIf result (content handle.old) (content handle.new) told.new (λ k. option_map (λ p. command.Assign operator p j) (place_at k is_entry at)) }
+    ensures { PerformsIf result (content handle.old) (content handle.new) told.old told.new (λ k. option_map (λ p. command.Assign operator p j) (place_at k is_entry at)) }
 {
-    match lend_place(alloc, handle, is_entry, at) {
-        Ok(lent) => perform_lent(
-            handle,
-            lent.kept,
-            at,
-            Command::Assign(operator, lent.place, j),
-            told,
-        ),
-        Err(status) => status,
-    }
+    perform_at(
+        alloc,
+        handle,
+        is_entry,
+        at,
+        told,
+        |world, place| world.assign(operator, place, j),
+    )
 }
 
 /// Calls the assignment of the operator on the value at the place and the one at the hand position.
@@ -120,7 +127,7 @@ pub extern "C" fn rhai_host_assign(
     j: usize,
     told: &mut Told,
 ) -> u32
-    ensures { PerformsIf result (content handle.old) (content handle.new) told.new (λ k. option_and_then (λ op. option_map (λ p. command.Assign op p j) (place_at k is_entry at)) (operator_of operator)) }
+    ensures { PerformsIf result (content handle.old) (content handle.new) told.old told.new (λ k. option_and_then (λ op. option_map (λ p. command.Assign op p j) (place_at k is_entry at)) (operator_of operator)) }
 {
     match operator_of(operator) {
         Some(operator) => assign(alloc, handle, operator, is_entry, at, j, told),
@@ -129,18 +136,15 @@ pub extern "C" fn rhai_host_assign(
 }
 
 fn get_value(alloc: Global, handle: &mut Handle, name: usize, kind: TypeId, told: &mut Told) -> u32
-    ensures { PerformsIf result (content handle.old) (content handle.new) told.new (λ k. option_map (λ n. command.GetValue n kind) (name_at k name)) }
+    ensures { PerformsIf result (content handle.old) (content handle.new) told.old told.new (λ k. option_map (λ n. command.GetValue n kind) (name_at k name)) }
 {
-    match lend(alloc, handle, name) {
-        Ok(lent) => perform_lent(
-            handle,
-            lent.kept,
-            name,
-            Command::GetValue(lent.name, kind),
-            told,
-        ),
-        Err(status) => status,
-    }
+    perform_named(
+        alloc,
+        handle,
+        name,
+        told,
+        |world, name| world.get_value(name, kind),
+    )
 }
 
 /// Appends what the value of the last entry of the name is as this type, copied without its holders; or answers nothing.
@@ -152,7 +156,7 @@ pub extern "C" fn rhai_host_get_value(
     kind: u32,
     told: &mut Told,
 ) -> u32
-    ensures { PerformsIf result (content handle.old) (content handle.new) told.new (λ k. option_and_then (λ t. option_map (λ n. command.GetValue n t) (name_at k name)) (type_of kind)) }
+    ensures { PerformsIf result (content handle.old) (content handle.new) told.old told.new (λ k. option_and_then (λ t. option_map (λ n. command.GetValue n t) (name_at k name)) (type_of kind)) }
 {
     match type_of(kind) {
         Some(kind) => get_value(alloc, handle, name, kind, told),
@@ -161,18 +165,15 @@ pub extern "C" fn rhai_host_get_value(
 }
 
 fn get_ref(alloc: Global, handle: &mut Handle, name: usize, kind: TypeId, told: &mut Told) -> u32
-    ensures { PerformsIf result (content handle.old) (content handle.new) told.new (λ k. option_map (λ n. command.GetRef n kind) (name_at k name)) }
+    ensures { PerformsIf result (content handle.old) (content handle.new) told.old told.new (λ k. option_map (λ n. command.GetRef n kind) (name_at k name)) }
 {
-    match lend(alloc, handle, name) {
-        Ok(lent) => perform_lent(
-            handle,
-            lent.kept,
-            name,
-            Command::GetRef(lent.name, kind),
-            told,
-        ),
-        Err(status) => status,
-    }
+    perform_named(
+        alloc,
+        handle,
+        name,
+        told,
+        |world, name| world.get_ref(name, kind),
+    )
 }
 
 /// Appends a copy of what the last entry of the name itself is as this type, by reference; or answers nothing.
@@ -184,7 +185,7 @@ pub extern "C" fn rhai_host_get_ref(
     kind: u32,
     told: &mut Told,
 ) -> u32
-    ensures { PerformsIf result (content handle.old) (content handle.new) told.new (λ k. option_and_then (λ t. option_map (λ n. command.GetRef n t) (name_at k name)) (type_of kind)) }
+    ensures { PerformsIf result (content handle.old) (content handle.new) told.old told.new (λ k. option_and_then (λ t. option_map (λ n. command.GetRef n t) (name_at k name)) (type_of kind)) }
 {
     match type_of(kind) {
         Some(kind) => get_ref(alloc, handle, name, kind, told),
@@ -193,18 +194,15 @@ pub extern "C" fn rhai_host_get_ref(
 }
 
 fn remove(alloc: Global, handle: &mut Handle, name: usize, kind: TypeId, told: &mut Told) -> u32
-    ensures { PerformsIf result (content handle.old) (content handle.new) told.new (λ k. option_map (λ n. command.Remove n kind) (name_at k name)) }
+    ensures { PerformsIf result (content handle.old) (content handle.new) told.old told.new (λ k. option_map (λ n. command.Remove n kind) (name_at k name)) }
 {
-    match lend(alloc, handle, name) {
-        Ok(lent) => perform_lent(
-            handle,
-            lent.kept,
-            name,
-            Command::Remove(lent.name, kind),
-            told,
-        ),
-        Err(status) => status,
-    }
+    perform_named(
+        alloc,
+        handle,
+        name,
+        told,
+        |world, name| world.remove(name, kind),
+    )
 }
 
 /// Takes the last entry of the name out, and appends what its value is as this type, without its holders; or answers nothing.
@@ -216,7 +214,7 @@ pub extern "C" fn rhai_host_remove(
     kind: u32,
     told: &mut Told,
 ) -> u32
-    ensures { PerformsIf result (content handle.old) (content handle.new) told.new (λ k. option_and_then (λ t. option_map (λ n. command.Remove n t) (name_at k name)) (type_of kind)) }
+    ensures { PerformsIf result (content handle.old) (content handle.new) told.old told.new (λ k. option_and_then (λ t. option_map (λ n. command.Remove n t) (name_at k name)) (type_of kind)) }
 {
     match type_of(kind) {
         Some(kind) => remove(alloc, handle, name, kind, told),

@@ -1,19 +1,40 @@
-//! Finds `librhai_host.a`: in the folder that `RHAI_HOST_LIB` names, else where `rt lib` leaves it.
-use std::path::PathBuf;
+//! Finds `librhai_host.a`: in the folder that `RHAI_HOST_LIB` names, else where `rt lib` leaves it. It must have the stamp that the
+//! declarations of this crate were written for.
+use std::path::{Path, PathBuf};
+
+const HOW: &str =
+    "run `tools/static_library rhai_host`, or `rt lib` in crates/rhai_host, or set RHAI_HOST_LIB to the folder of librhai_host.a";
+const STAMPED: &str = "src/sys/exports/stamp.rs";
 
 fn main() {
     println!("cargo:rerun-if-env-changed=RHAI_HOST_LIB");
+    println!("cargo:rerun-if-changed={STAMPED}");
     let folder = match std::env::var_os("RHAI_HOST_LIB") {
         Some(folder) => PathBuf::from(folder),
         None => PathBuf::from(std::env::var_os("CARGO_MANIFEST_DIR").expect("cargo sets it")).join("../crates/rhai_host/out"),
     };
     let library = folder.join("librhai_host.a");
     println!("cargo:rerun-if-changed={}", library.display());
-    if !library.exists() {
-        eprintln!("no {}", library.display());
-        eprintln!("run `tools/static_library rhai_host`, or `rt lib` in crates/rhai_host, or set RHAI_HOST_LIB to the folder of librhai_host.a");
+    if let Err(why) = suits(&library) {
+        eprintln!("{why}");
         std::process::exit(1);
     }
     println!("cargo:rustc-link-search=native={}", folder.display());
     println!("cargo:rustc-link-lib=static=rhai_host");
+}
+
+/// Whether the library is there, and exports what this crate declares.
+fn suits(library: &Path) -> Result<(), String> {
+    let bytes = std::fs::read(library).map_err(|error| format!("no {}: {error}\n{HOW}", library.display()))?;
+    let source = std::fs::read_to_string(STAMPED).map_err(|error| format!("{STAMPED}: {error}"))?;
+    let stamp = stamp_in(&source).ok_or(format!("no stamp in {STAMPED}: run tools/host_declarations"))?;
+    if bytes.windows(stamp.len()).any(|part| part == stamp.as_bytes()) {
+        return Ok(());
+    }
+    Err(format!("{} was built from other sources than this crate declares: it lacks {stamp}\n{HOW}", library.display()))
+}
+
+fn stamp_in(source: &str) -> Option<&str> {
+    let from = &source[source.find("rhai_host_stamp_")?..];
+    Some(&from[..from.find('(')?])
 }

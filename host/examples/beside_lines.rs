@@ -55,14 +55,13 @@ impl Session {
         self.random.below(length + 1 + length / 8)
     }
 
-    fn name(&mut self) -> (&'static str, Name) {
-        let i = self.random.below(NAMES.len());
-        (NAMES[i], self.names[i])
+    fn name(&mut self) -> Name {
+        self.names[self.random.below(NAMES.len())]
     }
 
     fn place(&mut self) -> Place {
         if self.random.coin() {
-            Place::Entry(self.name().1)
+            Place::Entry(self.name())
         } else {
             Place::Hand(self.at())
         }
@@ -81,9 +80,8 @@ impl Session {
         (line, self.world.apply(&command))
     }
 
-    fn list(&mut self) -> (String, Vec<Name>) {
-        let chosen: Vec<_> = (0..=self.random.below(3)).map(|_| self.name()).collect();
-        (chosen.iter().map(|it| format!(" {}", it.0)).collect(), chosen.iter().map(|it| it.1).collect())
+    fn list(&mut self) -> Vec<Name> {
+        (0..=self.random.below(3)).map(|_| self.name()).collect()
     }
 
     fn literal(&mut self) -> Said {
@@ -109,14 +107,10 @@ impl Session {
                 self.does(Command::PutChar { character })
             }
             14 => {
-                let text: String = (0..n % 30).map(|i| char::from_u32(97 + ((n >> i) % 300) as u32).unwrap_or('y')).collect();
-                (format!("text {text}"), self.world.put_text(&text).map(|()| Answer::Done))
+                let text = (0..n % 30).map(|i| char::from_u32(97 + ((n >> i) % 300) as u32).unwrap_or('y')).collect();
+                self.does(Command::PutText { text })
             }
-            15 => {
-                let bytes = &n.to_le_bytes()[..(n % 9) as usize];
-                let hex: String = bytes.iter().map(|byte| format!("{byte:02x}")).collect();
-                (format!("blob {hex}").trim_end().into(), self.world.put_blob(bytes).map(|()| Answer::Done))
-            }
+            15 => self.does(Command::PutBlob { bytes: n.to_le_bytes()[..(n % 9) as usize].into() }),
             _ => self.does(Command::PutInt { n: int }),
         }
     }
@@ -139,11 +133,11 @@ impl Session {
             10 => self.does(Command::WriteInt { i, n: int }),
             11 => self.does(Command::Write { i, j }),
             12 => {
-                let (text, keys) = self.list();
-                (format!("map{text}"), self.world.make_map(&keys).map(|()| Answer::Done))
+                let keys = self.list();
+                self.does(Command::MakeMap { keys })
             }
             13 => {
-                let name = self.name().1;
+                let name = self.name();
                 self.does(Command::MakeFn { name, count })
             }
             _ => {
@@ -178,7 +172,7 @@ impl Session {
 
     fn entry(&mut self) -> Said {
         let i = self.at();
-        let (text, name) = self.name();
+        let name = self.name();
         let kind = self.kind();
         let value = self.random.int();
         match self.random.below(18) {
@@ -198,17 +192,16 @@ impl Session {
             13 => self.does(Command::Remove { name, kind }),
             14 => self.does(Command::SetRef { name, value }),
             15 => {
-                let alias = NAMES[self.random.below(NAMES.len())];
-                (format!("alias {text} {alias}"), self.world.set_alias(name, alias).map(|()| Answer::Done))
+                let alias = NAMES[self.random.below(NAMES.len())].into();
+                self.does(Command::SetAlias { name, alias })
             }
             16 => {
-                let (text, names) = self.list();
-                (format!("extend{text}"), self.world.extend(&names).map(|()| Answer::Done))
+                let names = self.list();
+                self.does(Command::Extend { names })
             }
             _ => {
-                let flag = self.random.coin();
-                let mark = if flag { "!" } else { "" };
-                (format!("extendflagged {mark}{text}"), self.world.extend_flagged(&[name], &[flag]).map(|()| Answer::Done))
+                let names = self.list().into_iter().map(|name| (name, self.random.coin())).collect();
+                self.does(Command::ExtendFlagged { names })
             }
         }
     }
@@ -323,6 +316,7 @@ fn printed(answer: &Result<Answer, Error>) -> String {
         Ok(Answer::Bytes(bytes)) => bytes.iter().map(|byte| format!("{byte:02x}")).collect(),
         Ok(Answer::Pair(first, second)) => format!("{first} {second}"),
         Ok(Answer::Nothing) => "none".into(),
+        Ok(other) => format!("{other:?}"),
         Err(Error::Refused(why)) => format!("refused {}", refusal(why)),
         Err(error) => format!("{error}"),
     }

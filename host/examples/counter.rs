@@ -9,9 +9,7 @@ fn main() -> Result<(), Error> {
     world.copy(0)?;
     world.push(counter, 1)?;
     world.put_int(1)?;
-    for _ in 0..10 {
-        world.assign(Operator::PlusAssign, Place::Entry(counter), 2)?;
-    }
+    (0..10).try_for_each(|_| world.assign(Operator::PlusAssign, Place::Entry(counter), 2))?;
     println!("{}", world.show(0)?);
     Ok(())
 }

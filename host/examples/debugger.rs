@@ -2,7 +2,7 @@
 use rhai_world::{Error, Limits, World};
 use std::io::{stdin, BufRead};
 
-fn show(world: &mut World) -> Result<(), Error> {
+fn show(world: &World) -> Result<(), Error> {
     for i in 0..world.hand_len() {
         println!("  {i}: {}", world.debug(i)?);
     }
@@ -20,7 +20,7 @@ fn main() -> Result<(), Box<dyn std::error::Error>> {
             Ok(answer) => println!("{answer:?}"),
             Err(error) => println!("{error}"),
         }
-        show(&mut world)?;
+        show(&world)?;
     }
     Ok(())
 }

@@ -1,9 +1,9 @@
-//! Answers, refusals and errors.
-use crate::sys::Told;
+//! Answers and refusals.
 use std::fmt;
 
 /// The answer to a command.
-#[derive(Clone, Debug, PartialEq, Eq)]
+#[derive(Clone, Debug, PartialEq, Eq, Hash)]
+#[non_exhaustive]
 #[repr(u8)]
 pub enum Answer {
     /// It is done.
@@ -23,7 +23,8 @@ pub enum Answer {
 }
 
 /// Why an arithmetic operation has no answer.
-#[derive(Clone, Copy, Debug, PartialEq, Eq)]
+#[derive(Clone, Copy, Debug, PartialEq, Eq, Hash)]
+#[non_exhaustive]
 pub enum ArithmeticFault {
     /// The exact answer does not fit.
     Overflow,
@@ -36,7 +37,8 @@ pub enum ArithmeticFault {
 }
 
 /// Which limit a value would grow past.
-#[derive(Clone, Copy, Debug, PartialEq, Eq)]
+#[derive(Clone, Copy, Debug, PartialEq, Eq, Hash)]
+#[non_exhaustive]
 pub enum SizeKind {
     /// The bytes of a text.
     Text,
@@ -45,7 +47,8 @@ pub enum SizeKind {
 }
 
 /// Why a command was refused. A refused command changes nothing.
-#[derive(Clone, Debug, PartialEq, Eq)]
+#[derive(Clone, Debug, PartialEq, Eq, Hash)]
+#[non_exhaustive]
 pub enum Refusal {
     /// No value stands at a hand position, or too few stand in the hand.
     NoValue,
@@ -83,21 +86,6 @@ pub enum Refusal {
     TooLarge(SizeKind),
 }
 
-/// Why a command has no answer. The world is as it was before.
-#[derive(Clone, Debug, PartialEq, Eq)]
-pub enum Error {
-    /// The command was refused.
-    Refused(Refusal),
-    /// Memory was wanted and refused.
-    OutOfMemory,
-    /// No world is open.
-    Closed,
-    /// What was handed over says no command: a line that says none, a text that is none, or a name of another world.
-    NoCommand,
-    /// The library answered what it doesn't promise.
-    Unexpected,
-}
-
 impl fmt::Display for Refusal {
     fn fmt(&self, f: &mut fmt::Formatter<'_>) -> fmt::Result {
         match self {
@@ -126,45 +114,4 @@ impl fmt::Display for Refusal {
     }
 }
 
-impl fmt::Display for Error {
-    fn fmt(&self, f: &mut fmt::Formatter<'_>) -> fmt::Result {
-        match self {
-            Error::Refused(why) => write!(f, "refused: {why}"),
-            Error::OutOfMemory => f.write_str("out of memory"),
-            Error::Closed => f.write_str("no world is open"),
-            Error::NoCommand => f.write_str("no command"),
-            Error::Unexpected => f.write_str("an answer that isn't promised"),
-        }
-    }
-}
-
 impl std::error::Error for Refusal {}
-
-impl std::error::Error for Error {
-    fn source(&self) -> Option<&(dyn std::error::Error + 'static)> {
-        match self {
-            Error::Refused(why) => Some(why),
-            Error::OutOfMemory | Error::Closed | Error::NoCommand | Error::Unexpected => None,
-        }
-    }
-}
-
-/// The number whose two's complement has these two words.
-#[inline]
-pub(crate) fn wide(told: &Told) -> i128 {
-    match narrow(told) {
-        Some(n) => i128::from(n),
-        None => (u128::from(told.low) | u128::from(told.high) << 64) as i128,
-    }
-}
-
-/// The same, where 64 bits suffice.
-#[inline]
-pub(crate) fn narrow(told: &Told) -> Option<i64> {
-    let low = told.low as i64;
-    (told.high == (low >> 63) as u64).then_some(low)
-}
-
-pub(crate) fn size(word: u64) -> Result<usize, Error> {
-    usize::try_from(word).map_err(|_| Error::Unexpected)
-}

@@ -1,11 +1,14 @@
-//! Commands as lines, and a journal of them.
-use crate::answer::{Answer, Error};
+//! A journal of commands.
+use crate::answer::Answer;
 use crate::commands::Command;
-use crate::kinds::{Limits, Name, Operator, Place, Type};
+use crate::error::Error;
+use crate::limits::Limits;
+use crate::sys::{self, Told};
 use crate::world::World;
-use std::fmt::{self, Write};
+use std::fmt;
 
-/// The commands that were done by it, as the lines that say them: `docs/LINES.md` has these.
+/// The commands that were done by it, as the lines that say them: `docs/LINES.md` has these. The library writes them, by a call that is proved:
+/// a run over them answers what the commands answered.
 ///
 /// ```
 /// use rhai_world::{Command, Journal, Limits, World};
@@ -19,15 +22,15 @@ use std::fmt::{self, Write};
 /// assert_eq!(journal.replayed()?, b"ok\nok\n7\n");
 /// # Ok::<(), rhai_world::Error>(())
 /// ```
-#[derive(Clone, Debug, Default, PartialEq, Eq)]
+#[derive(Clone, Debug, Default, PartialEq, Eq, Hash)]
 pub struct Journal {
     lines: String,
 }
 
 impl Journal {
     /// Makes a journal of no command.
-    pub fn new() -> Journal {
-        Journal::default()
+    pub const fn new() -> Journal {
+        Journal { lines: String::new() }
     }
 
     /// Does a command by its line, and keeps it, as `line` does.
@@ -36,16 +39,13 @@ impl Journal {
         self.line(world, &line)
     }
 
-    /// Does the command that a line says, and keeps the line where the command was done or refused.
+    /// Does the command that a line says, and keeps it where it was done or refused.
     pub fn line(&mut self, world: &mut World, line: &str) -> Result<Answer, Error> {
-        if line.contains('\n') {
-            return Err(Error::NoCommand);
-        }
-        self.lines.try_reserve(line.len() + 1).map_err(|_| Error::OutOfMemory)?;
+        let kept = world.journal(line)?;
+        self.lines.try_reserve(kept.len())?;
         let answer = world.line(line);
         if matches!(answer, Ok(_) | Err(Error::Refused(_))) {
-            self.lines.push_str(line);
-            self.lines.push('\n');
+            self.lines.push_str(&kept);
         }
         answer
     }
@@ -68,87 +68,22 @@ impl fmt::Display for Journal {
     }
 }
 
-/// What a line says in a word.
-pub(crate) trait Word {
-    type Said: fmt::Display;
+impl World {
+    /// Writes the line that says a command, one of `docs/LINES.md`; `Error::NoCommand` where a name in it is no word of a line, or a text or a
+    /// character in it has a line feed.
+    pub fn line_of(&self, command: &Command) -> Result<String, Error> {
+        let mut line = self.journal(&self.asked(command)?)?;
+        line.pop();
+        Ok(line)
+    }
 
-    fn said(self, world: &mut World) -> Result<Self::Said, Error>;
-}
-
-macro_rules! plain {
-    ($($kind:ty)*) => {
-        $(impl Word for $kind {
-            type Said = $kind;
-
-            fn said(self, _: &mut World) -> Result<$kind, Error> {
-                Ok(self)
-            }
-        })*
-    };
-}
-
-plain! { bool u8 u16 u32 u64 u128 usize i8 i16 i32 i64 i128 Type Operator }
-
-impl Word for char {
-    type Said = char;
-
-    fn said(self, _: &mut World) -> Result<char, Error> {
-        if self == '\n' {
+    /// The journal of the command that a line says.
+    fn journal(&self, line: &str) -> Result<String, Error> {
+        if line.contains('\n') {
             return Err(Error::NoCommand);
         }
-        Ok(self)
+        let mut told = Told::default();
+        let status = sys::journal(&self.handle, line.as_bytes(), &mut told);
+        String::from_utf8(self.bytes(status, &told)?).map_err(|_| Error::Unexpected)
     }
-}
-
-impl Word for Name {
-    type Said = String;
-
-    fn said(self, world: &mut World) -> Result<String, Error> {
-        let name = world.name_text(self)?;
-        let is_word = !name.is_empty() && name.bytes().all(|byte| byte.is_ascii_alphanumeric() || byte == b'_');
-        is_word.then_some(name).ok_or(Error::NoCommand)
-    }
-}
-
-impl Word for Place {
-    type Said = SaidPlace;
-
-    fn said(self, world: &mut World) -> Result<SaidPlace, Error> {
-        match self {
-            Place::Hand(i) => Ok(SaidPlace::Hand(i)),
-            Place::Entry(name) => Ok(SaidPlace::Entry(name.said(world)?)),
-        }
-    }
-}
-
-/// A place, with the text of its name.
-pub(crate) enum SaidPlace {
-    Hand(usize),
-    Entry(String),
-}
-
-impl fmt::Display for SaidPlace {
-    fn fmt(&self, f: &mut fmt::Formatter<'_>) -> fmt::Result {
-        match self {
-            SaidPlace::Hand(i) => write!(f, "{i}"),
-            SaidPlace::Entry(name) => write!(f, "@{name}"),
-        }
-    }
-}
-
-/// A text that may be refused memory.
-struct Text(String);
-
-impl Write for Text {
-    fn write_str(&mut self, text: &str) -> fmt::Result {
-        self.0.try_reserve(text.len()).map_err(|_| fmt::Error)?;
-        self.0.push_str(text);
-        Ok(())
-    }
-}
-
-pub(crate) fn written(arguments: fmt::Arguments<'_>) -> Result<String, Error> {
-    let mut text = Text(String::new());
-    text.write_fmt(arguments).map_err(|_| Error::OutOfMemory)?;
-    Ok(text.0)
 }

@@ -1,13 +1,17 @@
-//! Types, operators, places and names.
+//! Types and operators.
+use crate::sys::numbers;
 use std::fmt;
 
-/// An enum of numbers, each with its word in a line.
+/// An enum of numbers, those of the library's, each with its word in a line.
 macro_rules! words {
     ($(#[$outer:meta])* $name:ident { $($(#[$doc:meta])* $variant:ident = $word:literal,)* }) => {
         $(#[$outer])*
-        #[derive(Clone, Copy, Debug, PartialEq, Eq)]
+        #[derive(Clone, Copy, Debug, PartialEq, Eq, PartialOrd, Ord, Hash)]
+        #[non_exhaustive]
         #[repr(u32)]
-        pub enum $name { $($(#[$doc])* $variant,)* }
+        pub enum $name { $($(#[$doc])* $variant = numbers::$name::$variant as u32,)* }
+
+        const _: () = assert!($name::ALL.len() == numbers::$name::COUNT);
 
         impl $name {
             /// All of them, in their order.
@@ -110,41 +114,4 @@ words! {
         OrAssign = "|=",
         XOrAssign = "^=",
     }
-}
-
-/// A name that was handed to a world, by its number there.
-#[derive(Clone, Copy, Debug, PartialEq, Eq)]
-pub struct Name(pub(crate) usize);
-
-/// What a command writes to.
-#[derive(Clone, Copy, Debug, PartialEq, Eq)]
-pub enum Place {
-    /// The value at a hand position.
-    Hand(usize),
-    /// The value of the last entry of a name. A constant is refused.
-    Entry(Name),
-}
-
-impl Place {
-    pub(crate) fn is_entry(self) -> bool {
-        match self {
-            Place::Hand(_) => false,
-            Place::Entry(_) => true,
-        }
-    }
-
-    pub(crate) fn at(self) -> usize {
-        match self {
-            Place::Hand(at) | Place::Entry(Name(at)) => at,
-        }
-    }
-}
-
-/// The largest sizes that an operator may make; 0 is no limit.
-#[derive(Clone, Copy, Debug, Default, PartialEq, Eq)]
-pub struct Limits {
-    /// The bytes of a text.
-    pub text: usize,
-    /// The items of an array, or the bytes of a blob.
-    pub items: usize,
 }

@@ -25,26 +25,48 @@
 //! assert_eq!(world.drop(), Err(Error::Refused(Refusal::NoValue)));
 //! # Ok::<(), Error>(())
 //! ```
-#![deny(missing_docs, unsafe_code, unsafe_op_in_unsafe_fn)]
+//!
+//! Nothing here panics, and want of memory is an error, but where a [`Value`] is cloned or compared: there it ends the program, as in
+//! [`Vec`]. A thread that calls wants [`STACK`] bytes of stack, one that runs scripts
+//! [`Script::STACK`].
+#![deny(
+    missing_docs,
+    unsafe_code,
+    unsafe_op_in_unsafe_fn,
+    clippy::undocumented_unsafe_blocks,
+    clippy::multiple_unsafe_ops_per_block
+)]
 
 mod answer;
+mod answers;
 mod commands;
-mod doors;
-mod handle;
+mod error;
 mod journal;
 mod kinds;
+mod limits;
+mod looks;
+mod names;
 mod script;
+mod spelling;
 #[allow(missing_docs)]
 mod sys;
 mod value;
 mod world;
 
-pub use answer::{Answer, ArithmeticFault, Error, Refusal, SizeKind};
+pub use answer::{Answer, ArithmeticFault, Refusal, SizeKind};
 pub use commands::Command;
-#[cfg(feature = "faults")]
-pub use doors::refuse;
+pub use error::Error;
 pub use journal::Journal;
-pub use kinds::{Limits, Name, Operator, Place, Type};
+pub use kinds::{Operator, Type};
+pub use limits::Limits;
+pub use looks::{Entry, Hand, Scope};
+pub use names::{Name, Place};
 pub use script::{Script, ScriptError};
-pub use value::{Entry, Hand, Value};
+#[cfg(feature = "faults")]
+pub use sys::refuse;
+pub use value::{Array, Fields, Map, TryFromValueError, Value};
 pub use world::World;
+
+/// How many bytes of stack a call of a [`World`] wants, however deep values are nested, while memory is there; a run of a [`Script`] wants
+/// [`Script::STACK`]. `SAFETY.md` says how both are tried.
+pub const STACK: usize = 512 * 1024;

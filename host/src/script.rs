@@ -1,6 +1,7 @@
 //! Runs of scripts.
-use crate::answer::Error;
-use crate::kinds::Limits;
+use crate::error::Error;
+use crate::limits::Limits;
+use crate::sys::numbers::End;
 use crate::sys::ScriptEnd;
 use crate::world::World;
 use std::fmt;
@@ -20,27 +21,31 @@ const CALLS: usize = 500;
 /// assert_eq!(error.to_string(), "variable not found: y (line 2, column 7)");
 /// # Ok::<(), ScriptError>(())
 /// ```
-#[derive(Clone, Copy, Debug)]
+#[derive(Clone, Copy, Debug, Default, PartialEq, Eq, Hash)]
 pub struct Script;
 
 impl Script {
+    /// How many bytes of stack a run wants, whatever its text is, while memory is there: as many as a thread has that is told no number.
+    pub const STACK: usize = 2 * 1024 * 1024;
+
     /// Runs a script on values of its own, and answers what it prints. It may take so many operations, its values may grow up to the
     /// limits, and 500 calls may stand within each other.
     pub fn run(text: &str, operations: u64, limits: Limits) -> Result<String, ScriptError> {
-        let mut world = World::new(Limits::default())?;
+        let world = World::new(Limits::default())?;
         let (end, printed, message) = world.run_script(text, operations, limits, CALLS)?;
         let ScriptEnd { kind, line, column, .. } = end;
-        match kind {
-            0 => Ok(printed),
-            1 => Err(ScriptError::Syntax { message, line, column }),
-            2 => Err(ScriptError::Fault { message, line, column, printed }),
-            _ => Err(ScriptError::Unexpected),
+        match End::of(kind) {
+            Some(End::Done) => Ok(printed),
+            Some(End::Syntax) => Err(ScriptError::Syntax { message, line, column }),
+            Some(End::Fault) => Err(ScriptError::Fault { message, line, column, printed }),
+            None => Err(ScriptError::Unexpected),
         }
     }
 }
 
 /// Why a script ended early. Lines and columns count from 1; both are 0 where there is no place.
-#[derive(Clone, Debug, PartialEq, Eq)]
+#[derive(Clone, Debug, PartialEq, Eq, Hash)]
+#[non_exhaustive]
 pub enum ScriptError {
     /// The text is no script.
     Syntax {
@@ -64,6 +69,8 @@ pub enum ScriptError {
     },
     /// Memory was refused before the script ran, or for what is told of it. While it ran, a fault says so at its place.
     OutOfMemory,
+    /// The library has another handle than this crate was built for.
+    OtherLibrary,
     /// The library answered what it doesn't promise.
     Unexpected,
 }
@@ -75,7 +82,11 @@ impl ScriptError {
             ScriptError::Syntax { line, column, .. } | ScriptError::Fault { line, column, .. } if *line > 0 => {
                 Some((*line, *column))
             }
-            ScriptError::Syntax { .. } | ScriptError::Fault { .. } | ScriptError::OutOfMemory | ScriptError::Unexpected => None,
+            ScriptError::Syntax { .. }
+            | ScriptError::Fault { .. }
+            | ScriptError::OutOfMemory
+            | ScriptError::OtherLibrary
+            | ScriptError::Unexpected => None,
         }
     }
 }
@@ -85,6 +96,7 @@ impl fmt::Display for ScriptError {
         match self {
             ScriptError::Syntax { message, .. } | ScriptError::Fault { message, .. } => f.write_str(message)?,
             ScriptError::OutOfMemory => f.write_str("out of memory")?,
+            ScriptError::OtherLibrary => f.write_str("another library than this crate was built for")?,
             ScriptError::Unexpected => f.write_str("an answer that isn't promised")?,
         }
         match self.position() {
@@ -100,7 +112,8 @@ impl From<Error> for ScriptError {
     fn from(error: Error) -> ScriptError {
         match error {
             Error::OutOfMemory => ScriptError::OutOfMemory,
-            Error::Refused(_) | Error::Closed | Error::NoCommand | Error::Unexpected => ScriptError::Unexpected,
+            Error::OtherLibrary => ScriptError::OtherLibrary,
+            Error::Refused(_) | Error::Closed | Error::NoCommand | Error::NoName | Error::Unexpected => ScriptError::Unexpected,
         }
     }
 }

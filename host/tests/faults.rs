@@ -32,6 +32,13 @@ fn script(x: Name) -> Vec<Command> {
         Command::MakeFn { name: x, count: 0 },
         Command::Remove { name: x, kind: Type::Int },
         Command::Pop {},
+        Command::PutText { text: "a text that is longer than twenty-four bytes".into() },
+        Command::PutBlob { bytes: vec![1; 40] },
+        Command::MakeMap { keys: vec![x] },
+        Command::Extend { names: vec![x] },
+        Command::SetAlias { name: x, alias: "an alias that is longer than twenty-four bytes".into() },
+        Command::Entries {},
+        Command::ExtendFlagged { names: vec![(x, true)] },
     ]
 }
 

@@ -1,5 +1,6 @@
 //! Scripts that end well, and in each other way.
 use rhai_world::{Limits, Script, ScriptError};
+use std::num::NonZeroUsize;
 
 fn run(text: &str) -> Result<String, ScriptError> {
     Script::run(text, 1_000_000, Limits::default())
@@ -11,6 +12,24 @@ fn what_is_printed() {
     assert_eq!(run("let x = 6; print(x * 7); print(\"é\");").as_deref(), Ok("42\né\n"));
     assert_eq!(run("fn f(n) { if n < 2 { n } else { f(n - 1) + f(n - 2) } } print(f(10));").as_deref(), Ok("55\n"));
     assert_eq!(run("let a = [1, 2]; a.push(3); print(a); print(#{k: a}.k[2]);").as_deref(), Ok("[1, 2, 3]\n3\n"));
+}
+
+/// A body that runs no script, or the empty one, prints nothing; one that calls each end a good one tells of no error.
+#[test]
+fn an_end_is_that_of_its_text() {
+    assert_eq!(run("").as_deref(), Ok(""));
+    assert_eq!(run(" // nothing").as_deref(), Ok(""));
+    assert_eq!(run("print(1)").as_deref(), Ok("1\n"));
+    assert_eq!(run("print(2);\nprint(3);").as_deref(), Ok("2\n3\n"));
+    let ended = |text: &str| match run(text) {
+        Err(ScriptError::Syntax { line, column, .. }) => (1, line, column, String::new()),
+        Err(ScriptError::Fault { line, column, printed, .. }) => (2, line, column, printed),
+        found => panic!("{text}: {found:?}"),
+    };
+    assert_eq!(ended("print(1;"), (1, 1, 8, String::new()));
+    assert_eq!(ended("let x = 1;\n\n   +;"), (1, 3, 5, String::new()));
+    assert_eq!(ended("print(1);\n  print(y);"), (2, 2, 9, "1\n".into()));
+    assert_eq!(ended("throw 1"), (2, 1, 1, String::new()));
 }
 
 #[test]
@@ -39,9 +58,10 @@ fn limits() {
     assert!(endless.to_string().starts_with("too many operations"), "{endless}");
     let deep = run("fn f(n) { f(n + 1) } f(0)").unwrap_err();
     assert_eq!(deep.to_string(), "too many calls within each other (line 1, column 11)");
-    let long = Script::run("let t = \"ab\"; print(t); loop { t += t; }", 10_000, Limits { text: 100, items: 0 }).unwrap_err();
+    let long = Script::run("let t = \"ab\"; print(t); loop { t += t; }", 10_000, Limits::new().with_text(NonZeroUsize::new(100)))
+        .unwrap_err();
     assert!(matches!(&long, ScriptError::Fault { printed, .. } if printed == "ab\n"), "{long}");
-    let items = Script::run("let a = [1, 2, 3]; a += a;", 10_000, Limits { text: 0, items: 4 });
+    let items = Script::run("let a = [1, 2, 3]; a += a;", 10_000, Limits::new().with_items(NonZeroUsize::new(4)));
     assert!(matches!(items, Err(ScriptError::Fault { .. })), "{items:?}");
 }
 

@@ -1,6 +1,6 @@
 //! Values of Rust's that come back as they went in.
-use rhai_world::{Limits, Value, World};
-use std::collections::BTreeMap;
+use rhai_world::{Array, Limits, Map, TryFromValueError, Value, World};
+use std::collections::{BTreeMap, HashSet};
 
 /// Numbers that look random, from a seed.
 struct Random(u64);
@@ -25,7 +25,7 @@ impl Random {
         u128::from(self.next()) << 64 | u128::from(self.next())
     }
 
-    fn values(&mut self, depth: u64) -> Vec<Value> {
+    fn values(&mut self, depth: u64) -> Array {
         (0..self.below(4)).map(|_| self.value(depth)).collect()
     }
 
@@ -50,7 +50,7 @@ impl Random {
             16 => Value::RangeWithEnd(self.next() as i64, self.next() as i64),
             17 => Value::Array(self.values(depth - 1)),
             18 => Value::FnPtr(self.text(), self.values(depth - 1)),
-            _ => Value::Map((0..self.below(4)).map(|_| (self.text(), self.value(depth - 1))).collect::<BTreeMap<_, _>>()),
+            _ => Value::Map((0..self.below(4)).map(|_| (self.text(), self.value(depth - 1))).collect()),
         }
     }
 }
@@ -63,7 +63,8 @@ fn ten_thousand_come_back() {
     for _ in 0..count {
         let value = random.value(4);
         world.put(&value).unwrap();
-        assert_eq!(world.value(0), Ok(Some(value)));
+        assert_eq!(world.value(0).as_ref(), Ok(&Some(value.clone())));
+        assert_eq!(value.clone(), value);
         world.drop().unwrap();
     }
     assert_eq!(world.hand_len(), 0);
@@ -81,11 +82,70 @@ fn a_loop_is_no_value() {
 }
 
 #[test]
-fn a_deep_value_is_none() {
-    let mut world = World::new(Limits::default()).unwrap();
-    world.put_int(1).unwrap();
-    for _ in 0..10_000 {
-        world.make_array(1).unwrap();
+fn equal_values() {
+    let values = [
+        Value::from([Value::from(1), Value::from(2)].into_iter().collect::<Array>()),
+        Value::from([Value::from(1), Value::from(3)].into_iter().collect::<Array>()),
+        Value::from(
+            [Value::from([Value::from(1)].into_iter().collect::<Array>()), Value::from(2)].into_iter().collect::<Array>(),
+        ),
+        Value::from([("a".to_owned(), Value::from(1))].into_iter().collect::<Map>()),
+        Value::from([("b".to_owned(), Value::from(1))].into_iter().collect::<Map>()),
+        Value::FnPtr("a".into(), Array::new()),
+        Value::FnPtr("a".into(), vec![Value::from(1)].into()),
+        Value::from(1),
+        Value::U8(1),
+        Value::from(1..2),
+        Value::from(1..=2),
+        Value::from(()),
+    ];
+    for (i, one) in values.iter().enumerate() {
+        for (j, other) in values.iter().enumerate() {
+            assert_eq!(one == other, i == j, "{one:?} {other:?}");
+        }
     }
-    assert_eq!(world.value(0), Ok(None));
+    assert_eq!(values.iter().collect::<HashSet<_>>().len(), values.len());
+    assert_eq!(format!("{:?}", values[2]), "[[Int(1)], Int(2)]");
+    assert_eq!(format!("{:?} {:?} {:?}", values[3], values[5], values[6]), "{\"a\": Int(1)} FnPtr(\"a\") FnPtr(\"a\", Int(1))");
+}
+
+#[test]
+fn maps() {
+    let mut map: Map = [("b", 2), ("a", 1), ("b", 3)].map(|(key, n)| (key.to_owned(), Value::from(n))).into_iter().collect();
+    assert_eq!(map.iter().collect::<Vec<_>>(), [("a", &Value::Int(1)), ("b", &Value::Int(3))]);
+    assert_eq!((map.iter().len(), map.iter().next_back()), (2, Some(("b", &Value::Int(3)))));
+    assert_eq!(map.insert("c", Value::Unit), None);
+    assert_eq!(map.insert("a", Value::Unit), Some(Value::Int(1)));
+    assert_eq!((map.get("a"), map.get("d"), map.len()), (Some(&Value::Unit), None, 3));
+    assert_eq!((map.remove("b"), map.remove("b")), (Some(Value::Int(3)), None));
+    let tree = BTreeMap::from(map.clone());
+    assert_eq!((tree.keys().map(String::as_str).collect::<String>().as_str(), Map::from(tree)), ("ac", map));
+}
+
+fn comes_back<T: Clone + PartialEq + std::fmt::Debug + Into<Value> + TryFrom<Value, Error = TryFromValueError>>(it: T) {
+    assert_eq!(T::try_from(it.clone().into()), Ok(it));
+    let other = Value::FnPtr("f".into(), Array::new());
+    assert_eq!(T::try_from(other.clone()).unwrap_err().into_value(), other);
+}
+
+#[test]
+fn types_of_rust() {
+    comes_back(());
+    comes_back(true);
+    comes_back(-7_i64);
+    comes_back('é');
+    comes_back("a text".to_owned());
+    comes_back(vec![0_u8, 255]);
+    comes_back(vec![Value::Unit, Value::from(1)]);
+    comes_back(Array::from(vec![Value::Unit]));
+    comes_back(BTreeMap::from([("k".to_owned(), Value::Unit)]));
+    comes_back(Map::from(BTreeMap::from([("k".to_owned(), Value::Unit)])));
+    comes_back(1..4_i64);
+    comes_back(1..=4_i64);
+    assert_eq!(u8::try_from(Value::U8(255)), Ok(255));
+    assert_eq!(i32::try_from(Value::I32(-1)), Ok(-1));
+    assert_eq!(u128::try_from(Value::U128(u128::MAX)), Ok(u128::MAX));
+    assert_eq!(i128::try_from(Value::Int(1)).unwrap_err().value(), &Value::Int(1));
+    assert_eq!(Value::from("é"), Value::Text("é".into()));
+    assert_eq!(Value::from(&b"\x00"[..]), Value::Blob(vec![0]));
 }

@@ -1,7 +1,6 @@
 //! Each command once, refusals with their reasons, and worlds beside each other.
-use rhai_world::{
-    Answer, ArithmeticFault, Command, Entry, Error, Journal, Limits, Operator, Place, Refusal, SizeKind, Type, Value, World,
-};
+use rhai_world::{Answer, ArithmeticFault, Command, Error, Limits, Operator, Place, Refusal, SizeKind, Type, World};
+use std::num::NonZeroUsize;
 
 fn world() -> World {
     World::new(Limits::default()).unwrap()
@@ -171,19 +170,6 @@ fn entries() {
 }
 
 #[test]
-fn names_by_number() {
-    let mut w = world();
-    let x = w.name("x").unwrap();
-    w.forget_name(x).unwrap();
-    assert_eq!(w.forget_name(x), Err(Error::NoCommand));
-    assert_eq!(w.contains(x), Err(Error::NoCommand));
-    let y = w.name("y").unwrap();
-    assert_eq!(w.contains(y), Ok(false));
-    let mut other = world();
-    assert_eq!(other.get(y), Err(Error::NoCommand));
-}
-
-#[test]
 fn marks_and_places() {
     let mut w = world();
     w.put_int(1).unwrap();
@@ -224,11 +210,11 @@ fn lists_of_names() {
     w.extend(&[x, y]).unwrap();
     w.set_alias(y, "other").unwrap();
     assert_eq!(w.aliases(y).as_deref(), Ok("other\n"));
-    w.extend_flagged(&[x], &[true]).unwrap();
+    w.extend_flagged(&[(x, true)]).unwrap();
     assert_eq!(w.is_constant(x), Ok(Some(true)));
     assert_eq!(w.extend(&[x]), refused(Refusal::NoValue));
     w.forget_name(x).unwrap();
-    assert_eq!(w.make_map(&[y, x]), Err(Error::NoCommand));
+    assert_eq!(w.make_map(&[y, x]), Err(Error::NoName));
     assert_eq!(w.make_map(&[]), Ok(()));
     w.collect().unwrap();
     assert_eq!(w.hand().collect::<Result<Vec<_>, _>>().map(|values| values.len()), Ok(1));
@@ -237,7 +223,8 @@ fn lists_of_names() {
     w.write_char(Place::Hand(1), 0, 2).unwrap();
     w.write_slice(Place::Hand(1), 0, 0, true, 2).unwrap();
     assert_eq!(w.show(1).as_deref(), Ok("bb"));
-    assert_eq!(w.as_char(2).as_deref(), Ok("b"));
+    assert_eq!(w.as_char(2), Ok('b'));
+    assert_eq!(w.as_char(0), refused(Refusal::Mismatch("map".into())));
     w.put_int(-1).unwrap();
     w.put_blob(b"abc").unwrap();
     w.write_byte(Place::Hand(4), 1, 3).unwrap();
@@ -271,83 +258,9 @@ fn commands_as_values() {
 }
 
 #[test]
-fn entries_of_a_scope() {
-    let mut w = world();
-    assert_eq!(w.scope().map(|entries| entries.len()), Ok(0));
-    let names = ["const x\nconst y", "x", "", "x"].map(|name| w.name(name).unwrap());
-    w.put_int(1).unwrap();
-    w.push_constant(names[0], 0).unwrap();
-    w.put_int(2).unwrap();
-    w.share(1).unwrap();
-    w.push_constant(names[1], 1).unwrap();
-    w.put_int(3).unwrap();
-    w.make_read_only(2).unwrap();
-    w.share(2).unwrap();
-    w.push(names[2], 2).unwrap();
-    w.make_array(0).unwrap();
-    w.share(3).unwrap();
-    w.copy(3).unwrap();
-    w.make_array(1).unwrap();
-    w.write(3, 4).unwrap();
-    w.push(names[3], 3).unwrap();
-    let entry = |name: &str, is_constant, value| Entry { name: name.into(), is_constant, value };
-    let entries: Vec<Entry> = w.scope().unwrap().collect();
-    assert_eq!(
-        entries,
-        [
-            entry("const x\nconst y", true, Some(Value::Int(1))),
-            entry("x", false, Some(Value::Int(2))),
-            entry("", true, Some(Value::Int(3))),
-            entry("x", false, None)
-        ]
-    );
-    assert_eq!((w.hand_len(), w.len()), (5, Ok(4)));
-    assert_eq!(w.name_text(names[0]).as_deref(), Ok("const x\nconst y"));
-    assert_eq!(w.name_text(names[2]).as_deref(), Ok(""));
-    w.forget_name(names[3]).unwrap();
-    assert_eq!(w.name_text(names[3]), Err(Error::NoCommand));
-}
-
-#[test]
-fn journals() {
-    let (mut w, mut beside, mut journal) = (world(), world(), Journal::new());
-    let (x, odd) = (w.name("x").unwrap(), w.name("an odd name").unwrap());
-    beside.name("x").unwrap();
-    let commands = [
-        Command::PutInt { n: -7 },
-        Command::PutI128 { n: i128::MIN },
-        Command::PutChar { character: ' ' },
-        Command::Share { i: 0 },
-        Command::Push { name: x, i: 0 },
-        Command::Assign { operator: Operator::PowerOfAssign, place: Place::Entry(x), j: 1 },
-        Command::GetValue { name: x, kind: Type::ImmutableString },
-        Command::Index { length: 4, index: -1, from_end: true },
-        Command::WriteSlice { place: Place::Hand(2), start: 0, end: 1, exclusive: false, j: 1 },
-        Command::Hash { i: 2 },
-        Command::Drop {},
-        Command::Names {},
-    ];
-    for command in commands {
-        assert_eq!(journal.apply(&mut w, &command), beside.apply(&command));
-    }
-    assert_eq!(journal.line(&mut w, "text two words"), Ok(Answer::Done));
-    assert_eq!(journal.line(&mut w, "no such line"), Err(Error::NoCommand));
-    assert_eq!(journal.line(&mut w, "text two\nint 1"), Err(Error::NoCommand));
-    assert_eq!(journal.apply(&mut w, &Command::Get { name: odd }), Err(Error::NoCommand));
-    assert_eq!(journal.apply(&mut w, &Command::PutChar { character: '\n' }), Err(Error::NoCommand));
-    assert_eq!(
-        journal.lines(),
-        "int -7\nhost i128 -170141183460469231731687303715884105728\nchar  \nshare 0\npush x 0\nassign @x **= 1\nvalue x string\n\
-         index 4 -1 true\nsliceeq 2 0 1 1\nhash 2\ndrop\nnames\ntext two words\n"
-    );
-    let printed = "ok\nok\nok\nok\nok\nrefused NoBuiltin\nnone\n3\nrefused WrongSource\n0320000000\nok\nx\n\nok\n";
-    assert_eq!(journal.replayed().as_deref(), Ok(printed.as_bytes()));
-    assert_eq!(w.show(2).as_deref(), Ok("two words"));
-}
-
-#[test]
 fn limits() {
-    let mut w = World::new(Limits { text: 3, items: 3 }).unwrap();
+    let three = NonZeroUsize::new(3);
+    let mut w = World::new(Limits::new().with_text(three).with_items(three)).unwrap();
     w.put_text("ab").unwrap();
     w.put_text("c").unwrap();
     w.binary(Operator::Plus, 0, 1).unwrap();
@@ -366,7 +279,18 @@ fn many_worlds() {
     }
     all.reverse();
     assert_eq!(all[0].as_int(0), Ok(99));
-    let threads: Vec<_> = all.into_iter().map(|mut w| std::thread::spawn(move || w.as_int(0).unwrap())).collect();
+}
+
+#[test]
+fn worlds_on_many_threads() {
+    let made = |i: i64| {
+        move || {
+            let mut w = world();
+            w.put_int(i).unwrap();
+            w.as_int(0).unwrap()
+        }
+    };
+    let threads: Vec<_> = (0..100).map(|i| std::thread::spawn(made(i))).collect();
     assert_eq!(threads.into_iter().map(|t| t.join().unwrap()).sum::<i64>(), 4950);
 }
 

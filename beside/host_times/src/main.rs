@@ -48,12 +48,13 @@ fn push_get_rewind(world: &mut World, name: Name) -> Result<u64, Error> {
 }
 
 #[inline(never)]
-fn show(world: &mut World, i: i64) -> Result<u64, Error> {
-    let first = world.show(0)?.len();
+fn show(world: &mut World, i: i64, text: &mut String) -> Result<u64, Error> {
+    world.show_into(0, text)?;
+    let first = text.len();
     world.put_int(i)?;
-    let second = world.show(2)?.len();
+    world.show_into(2, text)?;
     world.drop()?;
-    Ok(2 + (first + second) as u64)
+    Ok(2 + (first + text.len()) as u64)
 }
 
 #[inline(never)]
@@ -70,14 +71,14 @@ fn operators(world: &mut World, i: i64) -> Result<u64, Error> {
 
 fn by_methods(kind: u32, rounds: usize) -> Result<u64, Error> {
     let (mut world, name) = prepared()?;
-    let mut sum = 0_u64;
+    let (mut sum, mut text) = (0_u64, String::new());
     for _ in 0..rounds {
         for i in 0..256 {
             sum = sum.wrapping_add(match kind {
                 0 => put_copy_drop(&mut world, i)?,
                 1 => write_ask(&mut world, i)?,
                 2 => push_get_rewind(&mut world, name)?,
-                3 => show(&mut world, i)?,
+                3 => show(&mut world, i, &mut text)?,
                 _ => operators(&mut world, i)?,
             });
         }
@@ -125,6 +126,7 @@ fn told(answer: &Answer) -> u64 {
         Answer::Bytes(bytes) => bytes.len() as u64,
         Answer::Pair(first, second) => (first + second) as u64,
         Answer::Nothing => 3,
+        other => panic!("an answer of another kind: {other:?}"),
     }
 }
 

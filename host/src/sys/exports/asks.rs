@@ -1,0 +1,151 @@
+//! Of the module `asks`: written by `tools/host_declarations` from the lines of `crates/rhai_host`.
+
+use crate::sys::Handle;
+use crate::sys::Told;
+
+unsafe extern "C" {
+    fn rhai_host_tag(handle: *mut Handle, i: usize, told: &mut Told) -> u32;
+    fn rhai_host_is_variant(handle: *mut Handle, i: usize, told: &mut Told) -> u32;
+    fn rhai_host_is_shared(handle: *mut Handle, i: usize, told: &mut Told) -> u32;
+    fn rhai_host_is_read_only(handle: *mut Handle, i: usize, told: &mut Told) -> u32;
+    fn rhai_host_is_locked(handle: *mut Handle, i: usize, told: &mut Told) -> u32;
+    fn rhai_host_type_name(handle: *mut Handle, i: usize, told: &mut Told) -> u32;
+    fn rhai_host_is_hashable(handle: *mut Handle, i: usize, told: &mut Told) -> u32;
+    fn rhai_host_as_unit(handle: *mut Handle, i: usize, told: &mut Told) -> u32;
+    fn rhai_host_as_int(handle: *mut Handle, i: usize, told: &mut Told) -> u32;
+    fn rhai_host_as_bool(handle: *mut Handle, i: usize, told: &mut Told) -> u32;
+    fn rhai_host_as_char(handle: *mut Handle, i: usize, told: &mut Told) -> u32;
+    fn rhai_host_show(handle: *mut Handle, i: usize, told: &mut Told) -> u32;
+    fn rhai_host_debug(handle: *mut Handle, i: usize, told: &mut Told) -> u32;
+    fn rhai_host_hash(handle: *mut Handle, i: usize, told: &mut Told) -> u32;
+    fn rhai_host_offset(handle: *mut Handle, length: usize, start: i64, count: i64, told: &mut Told) -> u32;
+    fn rhai_host_index(handle: *mut Handle, length: usize, index: i64, from_end: bool, told: &mut Told) -> u32;
+}
+
+/// Answers the tag of the value at the hand position.
+#[inline]
+pub fn tag(handle: &Handle, i: usize, told: &mut Told) -> u32 {
+    // SAFETY: `handle` is zeros or what a call left, and this call's alone: it is no `Sync`, and the library comes back by
+    // the doors only. `told` is a whole `Told` that nobody else has. Any `i` will do.
+    unsafe { rhai_host_tag(handle.lent(), i, told) }
+}
+
+/// Answers whether the value at the hand position is of one of the host's types.
+#[inline]
+pub fn is_variant(handle: &Handle, i: usize, told: &mut Told) -> u32 {
+    // SAFETY: `handle` is zeros or what a call left, and this call's alone: it is no `Sync`, and the library comes back by
+    // the doors only. `told` is a whole `Told` that nobody else has. Any `i` will do.
+    unsafe { rhai_host_is_variant(handle.lent(), i, told) }
+}
+
+/// Answers whether the value at the hand position is a holder.
+#[inline]
+pub fn is_shared(handle: &Handle, i: usize, told: &mut Told) -> u32 {
+    // SAFETY: `handle` is zeros or what a call left, and this call's alone: it is no `Sync`, and the library comes back by
+    // the doors only. `told` is a whole `Told` that nobody else has. Any `i` will do.
+    unsafe { rhai_host_is_shared(handle.lent(), i, told) }
+}
+
+/// Answers whether the first content of the value at the hand position is a constant.
+#[inline]
+pub fn is_read_only(handle: &Handle, i: usize, told: &mut Told) -> u32 {
+    // SAFETY: `handle` is zeros or what a call left, and this call's alone: it is no `Sync`, and the library comes back by
+    // the doors only. `told` is a whole `Told` that nobody else has. Any `i` will do.
+    unsafe { rhai_host_is_read_only(handle.lent(), i, told) }
+}
+
+/// Answers whether the value at the hand position is, or has inside, a holder of a marked cell.
+#[inline]
+pub fn is_locked(handle: &Handle, i: usize, told: &mut Told) -> u32 {
+    // SAFETY: `handle` is zeros or what a call left, and this call's alone: it is no `Sync`, and the library comes back by
+    // the doors only. `told` is a whole `Told` that nobody else has. Any `i` will do.
+    unsafe { rhai_host_is_locked(handle.lent(), i, told) }
+}
+
+/// Answers the name of the type that is held at the hand position.
+#[inline]
+pub fn type_name(handle: &Handle, i: usize, told: &mut Told) -> u32 {
+    // SAFETY: `handle` is zeros or what a call left, and this call's alone: it is no `Sync`, and the library comes back by
+    // the doors only. `told` is a whole `Told` that nobody else has. Any `i` will do.
+    unsafe { rhai_host_type_name(handle.lent(), i, told) }
+}
+
+/// Answers whether the value at the hand position can be hashed.
+#[inline]
+pub fn is_hashable(handle: &Handle, i: usize, told: &mut Told) -> u32 {
+    // SAFETY: `handle` is zeros or what a call left, and this call's alone: it is no `Sync`, and the library comes back by
+    // the doors only. `told` is a whole `Told` that nobody else has. Any `i` will do.
+    unsafe { rhai_host_is_hashable(handle.lent(), i, told) }
+}
+
+/// Is done where unit is held at the hand position.
+#[inline]
+pub fn as_unit(handle: &Handle, i: usize, told: &mut Told) -> u32 {
+    // SAFETY: `handle` is zeros or what a call left, and this call's alone: it is no `Sync`, and the library comes back by
+    // the doors only. `told` is a whole `Told` that nobody else has. Any `i` will do.
+    unsafe { rhai_host_as_unit(handle.lent(), i, told) }
+}
+
+/// Answers the int that is held at the hand position.
+#[inline]
+pub fn as_int(handle: &Handle, i: usize, told: &mut Told) -> u32 {
+    // SAFETY: `handle` is zeros or what a call left, and this call's alone: it is no `Sync`, and the library comes back by
+    // the doors only. `told` is a whole `Told` that nobody else has. Any `i` will do.
+    unsafe { rhai_host_as_int(handle.lent(), i, told) }
+}
+
+/// Answers the boolean that is held at the hand position.
+#[inline]
+pub fn as_bool(handle: &Handle, i: usize, told: &mut Told) -> u32 {
+    // SAFETY: `handle` is zeros or what a call left, and this call's alone: it is no `Sync`, and the library comes back by
+    // the doors only. `told` is a whole `Told` that nobody else has. Any `i` will do.
+    unsafe { rhai_host_as_bool(handle.lent(), i, told) }
+}
+
+/// Answers the character that is held at the hand position, as a text.
+#[inline]
+pub fn as_char(handle: &Handle, i: usize, told: &mut Told) -> u32 {
+    // SAFETY: `handle` is zeros or what a call left, and this call's alone: it is no `Sync`, and the library comes back by
+    // the doors only. `told` is a whole `Told` that nobody else has. Any `i` will do.
+    unsafe { rhai_host_as_char(handle.lent(), i, told) }
+}
+
+/// Answers the text of the value at the hand position, as it is displayed.
+#[inline]
+pub fn show(handle: &Handle, i: usize, told: &mut Told) -> u32 {
+    // SAFETY: `handle` is zeros or what a call left, and this call's alone: it is no `Sync`, and the library comes back by
+    // the doors only. `told` is a whole `Told` that nobody else has. Any `i` will do.
+    unsafe { rhai_host_show(handle.lent(), i, told) }
+}
+
+/// Answers the text of the value at the hand position, as it is debugged.
+#[inline]
+pub fn debug(handle: &Handle, i: usize, told: &mut Told) -> u32 {
+    // SAFETY: `handle` is zeros or what a call left, and this call's alone: it is no `Sync`, and the library comes back by
+    // the doors only. `told` is a whole `Told` that nobody else has. Any `i` will do.
+    unsafe { rhai_host_debug(handle.lent(), i, told) }
+}
+
+/// Answers the hash bytes of the value at the hand position.
+#[inline]
+pub fn hash(handle: &Handle, i: usize, told: &mut Told) -> u32 {
+    // SAFETY: `handle` is zeros or what a call left, and this call's alone: it is no `Sync`, and the library comes back by
+    // the doors only. `told` is a whole `Told` that nobody else has. Any `i` will do.
+    unsafe { rhai_host_hash(handle.lent(), i, told) }
+}
+
+/// Answers where a slice of a list of this length starts and how many items it has, for a start and a number of items.
+#[inline]
+pub fn offset(handle: &Handle, length: usize, start: i64, count: i64, told: &mut Told) -> u32 {
+    // SAFETY: `handle` is zeros or what a call left, and this call's alone: it is no `Sync`, and the library comes back by
+    // the doors only. `told` is a whole `Told` that nobody else has. Any `length`, `start`, `count` will do.
+    unsafe { rhai_host_offset(handle.lent(), length, start, count, told) }
+}
+
+/// Answers the place of an item of a list of this length, or nothing; with the flag a negative index counts from the end.
+#[inline]
+pub fn index(handle: &Handle, length: usize, index: i64, from_end: bool, told: &mut Told) -> u32 {
+    // SAFETY: `handle` is zeros or what a call left, and this call's alone: it is no `Sync`, and the library comes back by
+    // the doors only. `told` is a whole `Told` that nobody else has. Any `length`, `index`, `from_end` will do.
+    unsafe { rhai_host_index(handle.lent(), length, index, from_end, told) }
+}

@@ -1,0 +1,142 @@
+//! Of the module `hand`: written by `tools/host_declarations` from the lines of `crates/rhai_host`.
+
+use crate::sys::Handle;
+use crate::sys::Told;
+
+unsafe extern "C" {
+    fn rhai_host_make_array(handle: *mut Handle, count: usize, told: &mut Told) -> u32;
+    fn rhai_host_copy(handle: *mut Handle, i: usize, told: &mut Told) -> u32;
+    fn rhai_host_flatten_clone(handle: *mut Handle, i: usize, told: &mut Told) -> u32;
+    fn rhai_host_take(handle: *mut Handle, i: usize, told: &mut Told) -> u32;
+    fn rhai_host_drop(handle: *mut Handle, told: &mut Told) -> u32;
+    fn rhai_host_share(handle: *mut Handle, i: usize, told: &mut Told) -> u32;
+    fn rhai_host_flatten(handle: *mut Handle, i: usize, told: &mut Told) -> u32;
+    fn rhai_host_make_read_only(handle: *mut Handle, i: usize, told: &mut Told) -> u32;
+    fn rhai_host_set_tag(handle: *mut Handle, i: usize, tag: i32, told: &mut Told) -> u32;
+    fn rhai_host_write_int(handle: *mut Handle, i: usize, n: i64, told: &mut Told) -> u32;
+    fn rhai_host_write(handle: *mut Handle, i: usize, j: usize, told: &mut Told) -> u32;
+    fn rhai_host_scan_tags(handle: *mut Handle, i: usize, tag: i32, told: &mut Told) -> u32;
+    fn rhai_host_scan_zero(handle: *mut Handle, i: usize, told: &mut Told) -> u32;
+    fn rhai_host_scan_no_share(handle: *mut Handle, i: usize, told: &mut Told) -> u32;
+    fn rhai_host_scan_cut(handle: *mut Handle, i: usize, count: usize, told: &mut Told) -> u32;
+}
+
+/// Takes this many values off the end of the hand, and appends the array of them in order.
+#[inline]
+pub fn make_array(handle: &Handle, count: usize, told: &mut Told) -> u32 {
+    // SAFETY: `handle` is zeros or what a call left, and this call's alone: it is no `Sync`, and the library comes back by
+    // the doors only. `told` is a whole `Told` that nobody else has. Any `count` will do.
+    unsafe { rhai_host_make_array(handle.lent(), count, told) }
+}
+
+/// Appends a copy of the value at the hand position.
+#[inline]
+pub fn copy(handle: &Handle, i: usize, told: &mut Told) -> u32 {
+    // SAFETY: `handle` is zeros or what a call left, and this call's alone: it is no `Sync`, and the library comes back by
+    // the doors only. `told` is a whole `Told` that nobody else has. Any `i` will do.
+    unsafe { rhai_host_copy(handle.lent(), i, told) }
+}
+
+/// Appends a copy of the value at the hand position without its holders.
+#[inline]
+pub fn flatten_clone(handle: &Handle, i: usize, told: &mut Told) -> u32 {
+    // SAFETY: `handle` is zeros or what a call left, and this call's alone: it is no `Sync`, and the library comes back by
+    // the doors only. `told` is a whole `Told` that nobody else has. Any `i` will do.
+    unsafe { rhai_host_flatten_clone(handle.lent(), i, told) }
+}
+
+/// Moves the value at the hand position to the end, and leaves unit.
+#[inline]
+pub fn take(handle: &Handle, i: usize, told: &mut Told) -> u32 {
+    // SAFETY: `handle` is zeros or what a call left, and this call's alone: it is no `Sync`, and the library comes back by
+    // the doors only. `told` is a whole `Told` that nobody else has. Any `i` will do.
+    unsafe { rhai_host_take(handle.lent(), i, told) }
+}
+
+/// Drops the last value.
+#[inline]
+pub fn drop(handle: &Handle, told: &mut Told) -> u32 {
+    // SAFETY: `handle` is zeros or what a call left, and this call's alone: it is no `Sync`, and the library comes back by
+    // the doors only. `told` is a whole `Told` that nobody else has.
+    unsafe { rhai_host_drop(handle.lent(), told) }
+}
+
+/// Moves the value at the hand position into a new cell, and leaves a holder of it; a holder stays.
+#[inline]
+pub fn share(handle: &Handle, i: usize, told: &mut Told) -> u32 {
+    // SAFETY: `handle` is zeros or what a call left, and this call's alone: it is no `Sync`, and the library comes back by
+    // the doors only. `told` is a whole `Told` that nobody else has. Any `i` will do.
+    unsafe { rhai_host_share(handle.lent(), i, told) }
+}
+
+/// Puts in the place of a holder at the hand position what is held, without its holders.
+#[inline]
+pub fn flatten(handle: &Handle, i: usize, told: &mut Told) -> u32 {
+    // SAFETY: `handle` is zeros or what a call left, and this call's alone: it is no `Sync`, and the library comes back by
+    // the doors only. `told` is a whole `Told` that nobody else has. Any `i` will do.
+    unsafe { rhai_host_flatten(handle.lent(), i, told) }
+}
+
+/// Makes the value at the hand position a constant.
+#[inline]
+pub fn make_read_only(handle: &Handle, i: usize, told: &mut Told) -> u32 {
+    // SAFETY: `handle` is zeros or what a call left, and this call's alone: it is no `Sync`, and the library comes back by
+    // the doors only. `told` is a whole `Told` that nobody else has. Any `i` will do.
+    unsafe { rhai_host_make_read_only(handle.lent(), i, told) }
+}
+
+/// Sets the tag of the value at the hand position.
+#[inline]
+pub fn set_tag(handle: &Handle, i: usize, tag: i32, told: &mut Told) -> u32 {
+    // SAFETY: `handle` is zeros or what a call left, and this call's alone: it is no `Sync`, and the library comes back by
+    // the doors only. `told` is a whole `Told` that nobody else has. Any `i`, `tag` will do.
+    unsafe { rhai_host_set_tag(handle.lent(), i, tag, told) }
+}
+
+/// Writes over the int that is held at the hand position.
+#[inline]
+pub fn write_int(handle: &Handle, i: usize, n: i64, told: &mut Told) -> u32 {
+    // SAFETY: `handle` is zeros or what a call left, and this call's alone: it is no `Sync`, and the library comes back by
+    // the doors only. `told` is a whole `Told` that nobody else has. Any `i`, `n` will do.
+    unsafe { rhai_host_write_int(handle.lent(), i, n, told) }
+}
+
+/// Writes the value at the second hand position over the first content of the one at the first, and leaves unit at the second.
+#[inline]
+pub fn write(handle: &Handle, i: usize, j: usize, told: &mut Told) -> u32 {
+    // SAFETY: `handle` is zeros or what a call left, and this call's alone: it is no `Sync`, and the library comes back by
+    // the doors only. `told` is a whole `Told` that nobody else has. Any `i`, `j` will do.
+    unsafe { rhai_host_write(handle.lent(), i, j, told) }
+}
+
+/// Sets the tag of each value that a scan of the one at the hand position comes to, and answers how many these are.
+#[inline]
+pub fn scan_tags(handle: &Handle, i: usize, tag: i32, told: &mut Told) -> u32 {
+    // SAFETY: `handle` is zeros or what a call left, and this call's alone: it is no `Sync`, and the library comes back by
+    // the doors only. `told` is a whole `Told` that nobody else has. Any `i`, `tag` will do.
+    unsafe { rhai_host_scan_tags(handle.lent(), i, tag, told) }
+}
+
+/// Makes each int 0 that a scan of the value at the hand position comes to, and answers how many values it came to.
+#[inline]
+pub fn scan_zero(handle: &Handle, i: usize, told: &mut Told) -> u32 {
+    // SAFETY: `handle` is zeros or what a call left, and this call's alone: it is no `Sync`, and the library comes back by
+    // the doors only. `told` is a whole `Told` that nobody else has. Any `i` will do.
+    unsafe { rhai_host_scan_zero(handle.lent(), i, told) }
+}
+
+/// Makes each holder unit that a scan of the value at the hand position comes to, and answers how many values it came to.
+#[inline]
+pub fn scan_no_share(handle: &Handle, i: usize, told: &mut Told) -> u32 {
+    // SAFETY: `handle` is zeros or what a call left, and this call's alone: it is no `Sync`, and the library comes back by
+    // the doors only. `told` is a whole `Told` that nobody else has. Any `i` will do.
+    unsafe { rhai_host_scan_no_share(handle.lent(), i, told) }
+}
+
+/// Keeps this many items of each array that a scan of the value at the hand position comes to, and answers how many values it came to.
+#[inline]
+pub fn scan_cut(handle: &Handle, i: usize, count: usize, told: &mut Told) -> u32 {
+    // SAFETY: `handle` is zeros or what a call left, and this call's alone: it is no `Sync`, and the library comes back by
+    // the doors only. `told` is a whole `Told` that nobody else has. Any `i`, `count` will do.
+    unsafe { rhai_host_scan_cut(handle.lent(), i, count, told) }
+}

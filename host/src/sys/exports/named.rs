@@ -1,0 +1,124 @@
+//! Of the module `named`: written by `tools/host_declarations` from the lines of `crates/rhai_host`.
+
+use crate::sys::Handle;
+use crate::sys::Told;
+
+unsafe extern "C" {
+    fn rhai_host_make_fn(handle: *mut Handle, name: usize, count: usize, told: &mut Told) -> u32;
+    fn rhai_host_push(handle: *mut Handle, name: usize, i: usize, told: &mut Told) -> u32;
+    fn rhai_host_push_dynamic(handle: *mut Handle, name: usize, i: usize, told: &mut Told) -> u32;
+    fn rhai_host_push_constant(handle: *mut Handle, name: usize, i: usize, told: &mut Told) -> u32;
+    fn rhai_host_set_entry(handle: *mut Handle, name: usize, i: usize, told: &mut Told) -> u32;
+    fn rhai_host_set_or_push(handle: *mut Handle, name: usize, i: usize, told: &mut Told) -> u32;
+    fn rhai_host_set_value(handle: *mut Handle, name: usize, i: usize, told: &mut Told) -> u32;
+    fn rhai_host_contains(handle: *mut Handle, name: usize, told: &mut Told) -> u32;
+    fn rhai_host_search(handle: *mut Handle, name: usize, told: &mut Told) -> u32;
+    fn rhai_host_is_constant(handle: *mut Handle, name: usize, told: &mut Told) -> u32;
+    fn rhai_host_get(handle: *mut Handle, name: usize, told: &mut Told) -> u32;
+    fn rhai_host_set_ref(handle: *mut Handle, name: usize, value: i64, told: &mut Told) -> u32;
+    fn rhai_host_aliases(handle: *mut Handle, name: usize, told: &mut Told) -> u32;
+}
+
+/// Takes this many values off the end of the hand, and appends the function pointer of the name with these curried in order.
+#[inline]
+pub fn make_fn(handle: &Handle, name: usize, count: usize, told: &mut Told) -> u32 {
+    // SAFETY: `handle` is zeros or what a call left, and this call's alone: it is no `Sync`, and the library comes back by
+    // the doors only. `told` is a whole `Told` that nobody else has. Any `name`, `count` will do.
+    unsafe { rhai_host_make_fn(handle.lent(), name, count, told) }
+}
+
+/// Moves the value at the hand position into a new entry of the name that may be written, and leaves unit.
+#[inline]
+pub fn push(handle: &Handle, name: usize, i: usize, told: &mut Told) -> u32 {
+    // SAFETY: `handle` is zeros or what a call left, and this call's alone: it is no `Sync`, and the library comes back by
+    // the doors only. `told` is a whole `Told` that nobody else has. Any `name`, `i` will do.
+    unsafe { rhai_host_push(handle.lent(), name, i, told) }
+}
+
+/// Moves the value at the hand position into a new entry of the name, which is a constant where the value is, and leaves unit.
+#[inline]
+pub fn push_dynamic(handle: &Handle, name: usize, i: usize, told: &mut Told) -> u32 {
+    // SAFETY: `handle` is zeros or what a call left, and this call's alone: it is no `Sync`, and the library comes back by
+    // the doors only. `told` is a whole `Told` that nobody else has. Any `name`, `i` will do.
+    unsafe { rhai_host_push_dynamic(handle.lent(), name, i, told) }
+}
+
+/// Moves the value at the hand position into a new entry of the name that is a constant, and leaves unit.
+#[inline]
+pub fn push_constant(handle: &Handle, name: usize, i: usize, told: &mut Told) -> u32 {
+    // SAFETY: `handle` is zeros or what a call left, and this call's alone: it is no `Sync`, and the library comes back by
+    // the doors only. `told` is a whole `Told` that nobody else has. Any `name`, `i` will do.
+    unsafe { rhai_host_push_constant(handle.lent(), name, i, told) }
+}
+
+/// Moves the value at the hand position over the value of the last entry of the name, and leaves unit.
+#[inline]
+pub fn set_entry(handle: &Handle, name: usize, i: usize, told: &mut Told) -> u32 {
+    // SAFETY: `handle` is zeros or what a call left, and this call's alone: it is no `Sync`, and the library comes back by
+    // the doors only. `told` is a whole `Told` that nobody else has. Any `name`, `i` will do.
+    unsafe { rhai_host_set_entry(handle.lent(), name, i, told) }
+}
+
+/// Moves the value at the hand position over the value of the last entry of the name, or into a new one where none may be written.
+#[inline]
+pub fn set_or_push(handle: &Handle, name: usize, i: usize, told: &mut Told) -> u32 {
+    // SAFETY: `handle` is zeros or what a call left, and this call's alone: it is no `Sync`, and the library comes back by
+    // the doors only. `told` is a whole `Told` that nobody else has. Any `name`, `i` will do.
+    unsafe { rhai_host_set_or_push(handle.lent(), name, i, told) }
+}
+
+/// Moves the value at the hand position over the value of the last entry of the name, or into a new one where none is there.
+#[inline]
+pub fn set_value(handle: &Handle, name: usize, i: usize, told: &mut Told) -> u32 {
+    // SAFETY: `handle` is zeros or what a call left, and this call's alone: it is no `Sync`, and the library comes back by
+    // the doors only. `told` is a whole `Told` that nobody else has. Any `name`, `i` will do.
+    unsafe { rhai_host_set_value(handle.lent(), name, i, told) }
+}
+
+/// Answers whether an entry has the name.
+#[inline]
+pub fn contains(handle: &Handle, name: usize, told: &mut Told) -> u32 {
+    // SAFETY: `handle` is zeros or what a call left, and this call's alone: it is no `Sync`, and the library comes back by
+    // the doors only. `told` is a whole `Told` that nobody else has. Any `name` will do.
+    unsafe { rhai_host_contains(handle.lent(), name, told) }
+}
+
+/// Answers the position of the last entry of the name, counted from 0, or nothing.
+#[inline]
+pub fn search(handle: &Handle, name: usize, told: &mut Told) -> u32 {
+    // SAFETY: `handle` is zeros or what a call left, and this call's alone: it is no `Sync`, and the library comes back by
+    // the doors only. `told` is a whole `Told` that nobody else has. Any `name` will do.
+    unsafe { rhai_host_search(handle.lent(), name, told) }
+}
+
+/// Answers whether the last entry of the name is a constant, or nothing.
+#[inline]
+pub fn is_constant(handle: &Handle, name: usize, told: &mut Told) -> u32 {
+    // SAFETY: `handle` is zeros or what a call left, and this call's alone: it is no `Sync`, and the library comes back by
+    // the doors only. `told` is a whole `Told` that nobody else has. Any `name` will do.
+    unsafe { rhai_host_is_constant(handle.lent(), name, told) }
+}
+
+/// Appends a copy of the value of the last entry of the name.
+#[inline]
+pub fn get(handle: &Handle, name: usize, told: &mut Told) -> u32 {
+    // SAFETY: `handle` is zeros or what a call left, and this call's alone: it is no `Sync`, and the library comes back by
+    // the doors only. `told` is a whole `Told` that nobody else has. Any `name` will do.
+    unsafe { rhai_host_get(handle.lent(), name, told) }
+}
+
+/// Writes over the int that the last entry of the name itself is; or answers nothing.
+#[inline]
+pub fn set_ref(handle: &Handle, name: usize, value: i64, told: &mut Told) -> u32 {
+    // SAFETY: `handle` is zeros or what a call left, and this call's alone: it is no `Sync`, and the library comes back by
+    // the doors only. `told` is a whole `Told` that nobody else has. Any `name`, `value` will do.
+    unsafe { rhai_host_set_ref(handle.lent(), name, value, told) }
+}
+
+/// Answers the aliases of the last entry of the name, each with a line feed.
+#[inline]
+pub fn aliases(handle: &Handle, name: usize, told: &mut Told) -> u32 {
+    // SAFETY: `handle` is zeros or what a call left, and this call's alone: it is no `Sync`, and the library comes back by
+    // the doors only. `told` is a whole `Told` that nobody else has. Any `name` will do.
+    unsafe { rhai_host_aliases(handle.lent(), name, told) }
+}

@@ -1,0 +1,50 @@
+//! Of the module `scripts`: written by `tools/host_declarations` from the lines of `crates/rhai_host`.
+
+use crate::sys::Handle;
+
+/// How a script ended. The answer is what it printed, and behind that what went wrong.
+#[repr(C)]
+#[derive(Clone, Copy, Debug, Default)]
+pub struct ScriptEnd {
+    /// 0 it ran to its end, 1 the text is no script, 2 it went wrong when it ran.
+    pub kind: u32,
+    /// The line of what went wrong, counted from 1; else 0.
+    pub line: u32,
+    /// The place on that line, counted from 1; else 0.
+    pub column: u32,
+    /// How many bytes of the answer it printed.
+    pub printed: usize,
+    /// How many bytes behind these say what went wrong.
+    pub said: usize,
+}
+
+unsafe extern "C" {
+    fn rhai_host_run_script(
+        handle: *mut Handle,
+        script: *const u8,
+        script_len: usize,
+        text: usize,
+        items: usize,
+        operations: u64,
+        calls: usize,
+        end: &mut ScriptEnd,
+    ) -> u32;
+}
+
+/// Runs a script on values of its own: the largest sizes of texts and of arrays, 0 being none, the operations, and the calls within each
+/// other are limited. What it prints is the answer, with what went wrong behind it; the handle's world stays.
+#[inline]
+pub fn run_script(
+    handle: &Handle,
+    script: &[u8],
+    text: usize,
+    items: usize,
+    operations: u64,
+    calls: usize,
+    end: &mut ScriptEnd,
+) -> u32 {
+    // SAFETY: `handle` is zeros or what a call left, and this call's alone: it is no `Sync`, and the library comes back by
+    // the doors only. `script` is a slice with its own length, and is read. `end` is a whole `ScriptEnd` that nobody else
+    // has. Any `text`, `items`, `operations`, `calls` will do.
+    unsafe { rhai_host_run_script(handle.lent(), script.as_ptr(), script.len(), text, items, operations, calls, end) }
+}

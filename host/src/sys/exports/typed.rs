@@ -1,0 +1,79 @@
+//! Of the module `typed`: written by `tools/host_declarations` from the lines of `crates/rhai_host`.
+
+use crate::sys::Handle;
+use crate::sys::Told;
+
+unsafe extern "C" {
+    fn rhai_host_cast(handle: *mut Handle, i: usize, kind: u32, told: &mut Told) -> u32;
+    fn rhai_host_is_held(handle: *mut Handle, i: usize, kind: u32, told: &mut Told) -> u32;
+    fn rhai_host_is_type(handle: *mut Handle, i: usize, kind: u32, told: &mut Told) -> u32;
+    fn rhai_host_binary(handle: *mut Handle, operator: u32, i: usize, j: usize, told: &mut Told) -> u32;
+    fn rhai_host_assign(handle: *mut Handle, operator: u32, is_entry: bool, at: usize, j: usize, told: &mut Told) -> u32;
+    fn rhai_host_get_value(handle: *mut Handle, name: usize, kind: u32, told: &mut Told) -> u32;
+    fn rhai_host_get_ref(handle: *mut Handle, name: usize, kind: u32, told: &mut Told) -> u32;
+    fn rhai_host_remove(handle: *mut Handle, name: usize, kind: u32, told: &mut Told) -> u32;
+}
+
+/// Appends what the value at the hand position is as this type, copied without its holders.
+#[inline]
+pub fn cast(handle: &Handle, i: usize, kind: u32, told: &mut Told) -> u32 {
+    // SAFETY: `handle` is zeros or what a call left, and this call's alone: it is no `Sync`, and the library comes back by
+    // the doors only. `told` is a whole `Told` that nobody else has. Any `i`, `kind` will do.
+    unsafe { rhai_host_cast(handle.lent(), i, kind, told) }
+}
+
+/// Answers whether this is the type that is held at the hand position.
+#[inline]
+pub fn is_held(handle: &Handle, i: usize, kind: u32, told: &mut Told) -> u32 {
+    // SAFETY: `handle` is zeros or what a call left, and this call's alone: it is no `Sync`, and the library comes back by
+    // the doors only. `told` is a whole `Told` that nobody else has. Any `i`, `kind` will do.
+    unsafe { rhai_host_is_held(handle.lent(), i, kind, told) }
+}
+
+/// Answers whether the value at the hand position is of this type: by its constructor, or for a holder by the held type.
+#[inline]
+pub fn is_type(handle: &Handle, i: usize, kind: u32, told: &mut Told) -> u32 {
+    // SAFETY: `handle` is zeros or what a call left, and this call's alone: it is no `Sync`, and the library comes back by
+    // the doors only. `told` is a whole `Told` that nobody else has. Any `i`, `kind` will do.
+    unsafe { rhai_host_is_type(handle.lent(), i, kind, told) }
+}
+
+/// Appends what the operator answers on the values at the two hand positions.
+#[inline]
+pub fn binary(handle: &Handle, operator: u32, i: usize, j: usize, told: &mut Told) -> u32 {
+    // SAFETY: `handle` is zeros or what a call left, and this call's alone: it is no `Sync`, and the library comes back by
+    // the doors only. `told` is a whole `Told` that nobody else has. Any `operator`, `i`, `j` will do.
+    unsafe { rhai_host_binary(handle.lent(), operator, i, j, told) }
+}
+
+/// Calls the assignment of the operator on the value at the place and the one at the hand position.
+#[inline]
+pub fn assign(handle: &Handle, operator: u32, is_entry: bool, at: usize, j: usize, told: &mut Told) -> u32 {
+    // SAFETY: `handle` is zeros or what a call left, and this call's alone: it is no `Sync`, and the library comes back by
+    // the doors only. `told` is a whole `Told` that nobody else has. Any `operator`, `is_entry`, `at`, `j` will do.
+    unsafe { rhai_host_assign(handle.lent(), operator, is_entry, at, j, told) }
+}
+
+/// Appends what the value of the last entry of the name is as this type, copied without its holders; or answers nothing.
+#[inline]
+pub fn get_value(handle: &Handle, name: usize, kind: u32, told: &mut Told) -> u32 {
+    // SAFETY: `handle` is zeros or what a call left, and this call's alone: it is no `Sync`, and the library comes back by
+    // the doors only. `told` is a whole `Told` that nobody else has. Any `name`, `kind` will do.
+    unsafe { rhai_host_get_value(handle.lent(), name, kind, told) }
+}
+
+/// Appends a copy of what the last entry of the name itself is as this type, by reference; or answers nothing.
+#[inline]
+pub fn get_ref(handle: &Handle, name: usize, kind: u32, told: &mut Told) -> u32 {
+    // SAFETY: `handle` is zeros or what a call left, and this call's alone: it is no `Sync`, and the library comes back by
+    // the doors only. `told` is a whole `Told` that nobody else has. Any `name`, `kind` will do.
+    unsafe { rhai_host_get_ref(handle.lent(), name, kind, told) }
+}
+
+/// Takes the last entry of the name out, and appends what its value is as this type, without its holders; or answers nothing.
+#[inline]
+pub fn remove(handle: &Handle, name: usize, kind: u32, told: &mut Told) -> u32 {
+    // SAFETY: `handle` is zeros or what a call left, and this call's alone: it is no `Sync`, and the library comes back by
+    // the doors only. `told` is a whole `Told` that nobody else has. Any `name`, `kind` will do.
+    unsafe { rhai_host_remove(handle.lent(), name, kind, told) }
+}

@@ -1,8 +1,6 @@
-//! The tests of runs, of `rhai_run` and `rhai_lines`, from outside: what no line says, or not in one run alone.
+//! The tests of runs, of `rhai_run` and `rhai_lines`, from outside: what no row of `rhai_rows` says.
 #![tactic(auto)]
 
-#[cfg(test)]
-mod alloc_failures;
 #[cfg(test)]
 mod both;
 #[cfg(test)]
@@ -10,14 +8,12 @@ mod collected;
 #[cfg(test)]
 mod expressions;
 #[cfg(test)]
-mod journals;
+mod faults;
 #[cfg(test)]
-mod limits;
+mod inputs;
+#[cfg(test)]
+mod journals;
 #[cfg(test)]
 mod machine;
 #[cfg(test)]
-mod page;
-#[cfg(test)]
-mod rows;
-#[cfg(test)]
-mod session;
+mod printed;

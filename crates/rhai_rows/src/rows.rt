@@ -1,9 +1,7 @@
 //! Rows of a line and its answer, `line -> answer`.
-ghost use Rattle.std.specs.Prelude.{◌≡◌, IfOk};
-ghost use Rattle.rhai_lines.specs.Output.{new_world, output};
 
-use rhai_lines::{LinesFault, command, run_lines, write_answer};
-use rhai_run::{Answer, Command};
+use rhai_lines::{command, write_answer};
+use rhai_run::{Answer, Command, World, run};
 use std::alloc::{AllocError, Global};
 
 const BAD_LINE: &str = "refused BadLine";
@@ -14,21 +12,29 @@ pub(crate) fn row_of(row: &str) -> Option<(&str, &str)> {
     Some((line, answer.strip_prefix(' ').unwrap_or(answer)))
 }
 
-/// The answers of the rows, each on a line of its own.
-pub(crate) fn wanted(alloc: Global, rows: &str) -> Result<String, AllocError> {
-    let mut text = String::new(alloc);
-    for (_, answer) in rows.lines().filter_map(row_of) {
-        text.push_str(answer)?;
-        text.push_str("\n")?;
+/// The control character whose picture this is, or the character itself.
+fn without_picture(c: char) -> char {
+    match c {
+        '\u{2421}' => '\u{7f}',
+        '\u{2400}'..='\u{241f}' => char::from_u32(u32::from(c).wrapping_sub(0x2400)).unwrap_or(c),
+        _ => c,
     }
-    Ok(text)
 }
 
-/// The answers of the rows that say a command, each on a line of its own.
-pub(crate) fn wanted_of_commands(alloc: Global, rows: &str) -> Result<String, AllocError> {
+/// A text in which each picture of a control character, `␀` to `␟` and `␡`, is that character.
+pub(crate) fn without_pictures(alloc: Global, text: &str) -> Result<String, AllocError> {
+    let mut out = String::new(alloc);
+    for c in text.chars() {
+        out.push(without_picture(c))?;
+    }
+    Ok(out)
+}
+
+/// The answers of the rows, each on a line of its own; where only commands are asked, not those of lines that say none.
+pub(crate) fn wanted(alloc: Global, rows: &str, of_all: bool) -> Result<String, AllocError> {
     let mut text = String::new(alloc);
     for (_, answer) in rows.lines().filter_map(row_of) {
-        if answer != BAD_LINE {
+        if of_all || answer != BAD_LINE {
             text.push_str(answer)?;
             text.push_str("\n")?;
         }
@@ -71,23 +77,31 @@ pub(crate) fn commands_of(alloc: Global, lines: &[&str]) -> Result<Vec<Command>,
     Ok(commands)
 }
 
-/// Answers as they are printed.
-pub(crate) fn printed_lines(alloc: Global, answers: &[Answer]) -> Result<String, AllocError> {
-    let mut out = Vec::new(alloc);
-    for answer in answers {
-        if write_answer(answer, &mut out).is_err() {
-            return Err(AllocError);
-        }
-    }
-    String::from_utf8_lossy(alloc, &out)
+/// The commands that rows say.
+pub(crate) fn commands_in(alloc: Global, rows: &str) -> Result<Vec<Command>, AllocError> {
+    let lines = lines_of(alloc, rows)?;
+    commands_of(alloc, &lines)
 }
 
-/// What is written for an input that lies in memory.
-pub(crate) fn answers(alloc: Global, input: &[u8]) -> Result<Vec<u8>, LinesFault>
-    ensures { IfOk result (λ out. out.items ≡ output new_world input.now) }
-{
-    let mut reader = input;
-    let mut out = Vec::new(alloc);
-    run_lines(alloc, &mut reader, &mut out)?;
-    Ok(out)
+/// Room for what is written, so that writing wants none.
+pub(crate) fn room(alloc: Global) -> Result<Vec<u8>, AllocError> {
+    Vec::with_capacity(alloc, 1 << 14)
+}
+
+/// Writes answers as they are printed.
+pub(crate) fn are_written(answers: &[Answer], out: &mut Vec<u8>) -> bool {
+    for answer in answers {
+        if write_answer(answer, out).is_err() {
+            return false;
+        }
+    }
+    true
+}
+
+/// Runs the commands that make a world.
+pub(crate) fn make(world: &mut World, commands: &[Command]) -> Result<(), AllocError> {
+    match run(world, commands) {
+        Ok(_) => Ok(()),
+        Err(_) => Err(AllocError),
+    }
 }

@@ -1,17 +1,14 @@
-// The shape of a tree, as a text.
+//! The shape of a tree, as a text.
 
 use example_syntax::{
-    Arm, Block, Expr, Field, Operator, Slot, Step, Symbol, SyntaxError, Term, UnaryOperator,
-    Variable, parse,
+    Arm, Block, Expr, Field, Operator, Program, Slot, Step, Symbol, Term, UnaryOperator, Variable,
 };
 use rhai_text::Token;
-use std::alloc::{AllocError, Global};
+use std::alloc::AllocError;
 
-/// The shape of a script's body, and then of its functions.
-pub fn shape(alloc: Global, text: &str) -> Result<String, SyntaxError> {
-    let program = parse(alloc, text)?;
-    let mut out = String::new(alloc);
-    add_all(&mut out, &program.body.statements)?;
+/// Adds the shape of a script's body, and then of its functions.
+pub(crate) fn add_program(out: &mut String, program: &Program) -> Result<(), AllocError> {
+    add_all(out, &program.body.statements)?;
     for function in program.functions.iter() {
         let (captured, parameters, slots) = (
             function.captured,
@@ -19,9 +16,9 @@ pub fn shape(alloc: Global, text: &str) -> Result<String, SyntaxError> {
             function.slots,
         );
         write!(out, " | {captured} {parameters} {slots}:")?;
-        add_all(&mut out, &function.body.statements)?;
+        add_all(out, &function.body.statements)?;
     }
-    Ok(out)
+    Ok(())
 }
 
 #[cycle(shape)]

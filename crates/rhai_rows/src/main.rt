@@ -1,8 +1,9 @@
 //! Answers rows, each a line and its answer, on worlds of script values, and tells those that are answered otherwise. The arguments are files of
-//! rows, and a way before them where only that is to be tried. The README says which ways there are.
+//! rows, a way before them where only that is to be tried, and `calls`. The README says which ways there are.
 #![tactic(auto)]
 
 mod alike;
+mod calls;
 mod expressions;
 mod free;
 mod rows;
@@ -101,16 +102,19 @@ fn try_file(
     Ok(())
 }
 
-/// Tries the files that the arguments name.
+/// Tries what the arguments name: files, a way in which those behind it are tried, and `calls`.
 fn try_files(
     rt: &(impl Files + Print + Eprint + Env + AllocGlobal),
     tally: &mut Tally,
 ) -> io::Result<()> {
     let mut only = None;
     for word in env::args(rt)?.skip(1) {
-        match way_named(word.as_str()) {
-            Some(way) => only = Some(way),
-            None => try_file(rt, only, word.as_str(), tally)?,
+        if word.as_str() == "calls" {
+            calls::try_calls(rt, tally)?;
+        } else if let Some(way) = way_named(word.as_str()) {
+            only = Some(way);
+        } else {
+            try_file(rt, only, word.as_str(), tally)?;
         }
     }
     Ok(())

@@ -1,22 +1,15 @@
 //! Runs over commands, on one world or on two.
 
-use crate::rows::{are_written, make, room};
+use crate::rows::{are_written, commands_of, make, room};
 use crate::sections::UNLIMITED;
 use crate::seen::{is_seen, seen, tell};
-use rhai_run::{Command, Literal, Stopped, StoppedBoth, World, run, run_both};
+use rhai_run::{Command, Stopped, StoppedBoth, World, run, run_both};
 use rhai_text::Limits;
 use std::alloc::{AllocError, Global};
 use std::io::Eprint;
 
-/// Makes cells that nothing reaches.
-const UNREACHED: [Command; 6] = [
-    Command::Put(Literal::Unit),
-    Command::Share(0),
-    Command::Drop,
-    Command::MakeArray(0),
-    Command::Share(0),
-    Command::Drop,
-];
+/// Lines that make cells which nothing reaches.
+const UNREACHED: [&str; 6] = ["unit", "share 0", "drop", "array 0", "share 0", "drop"];
 
 /// Whether a world is seen as one on which these commands ran.
 fn is_as_after(alloc: Global, world: &World, commands: &[Command]) -> Result<bool, AllocError> {
@@ -106,7 +99,7 @@ pub(super) fn both_answer(
     commands: &[Command],
     out: &mut Vec<u8>,
 ) -> Result<bool, AllocError> {
-    make(first, &UNREACHED)?;
+    make(first, &commands_of(alloc, &UNREACHED)?)?;
     let mut other_out = room(alloc)?;
     let mut second = World::new(alloc, limits);
     let is_right = run_both_at_last(rt, alloc, first, &mut second, commands, out, &mut other_out);

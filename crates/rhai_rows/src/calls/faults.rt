@@ -5,7 +5,6 @@ use std::alloc::{AllocError, Global};
 use std::cell::Cell;
 use std::io;
 use std::io::{ErrorKind, Read, Write};
-use std::test::Fail;
 
 /// Gives a byte a call, and fails once, at the call before which `calls` others stand.
 #[derive(Drop)]
@@ -82,53 +81,59 @@ fn fault(outcome: &Result<(), LinesFault>) -> &'static str {
     }
 }
 
-/// A read that was interrupted is made again; any other fault of the reader ends the run.
-#[test]
-fn reads_may_fail(rt: HostRuntime) -> Result<(), Fail> {
-    for calls in 0..30 {
-        for error in [ErrorKind::Other, ErrorKind::Interrupted] {
-            let mut reader = ByteReader {
-                bytes: INPUT,
-                calls,
-                error,
-            };
-            let mut out = Vec::new(rt.alloc());
-            let outcome = run_lines(rt.alloc(), &mut reader, &mut out);
-            if calls > INPUT.len() || error == ErrorKind::Interrupted {
-                assert_eq!(rt; fault(&outcome), "none", "at {calls}");
-                assert_eq!(rt; out.as_slice(), OUTPUT, "at {calls}");
-            } else {
-                assert_eq!(rt; fault(&outcome), "Read", "at {calls}");
-                assert!(rt; OUTPUT.starts_with(&out), "at {calls}");
-                assert!(rt; matches!(out.last(), None | Some(b'\n')), "at {calls}");
-            }
-        }
+/// Whether a run ends well where a read that was interrupted is made again, or where the reader doesn't come to its fault; and whether any other fault
+/// ends it, behind whole answers.
+fn is_read(alloc: Global, calls: usize, error: ErrorKind) -> bool {
+    let mut reader = ByteReader {
+        bytes: INPUT,
+        calls,
+        error,
+    };
+    let mut out = Vec::new(alloc);
+    let outcome = run_lines(alloc, &mut reader, &mut out);
+    if calls > INPUT.len() || error == ErrorKind::Interrupted {
+        fault(&outcome) == "none" && out.as_slice() == OUTPUT
+    } else {
+        fault(&outcome) == "Read"
+            && OUTPUT.starts_with(&out)
+            && matches!(out.last(), None | Some(b'\n'))
     }
-    Ok(())
 }
 
-#[test]
-fn writes_may_fail(rt: HostRuntime) -> Result<(), Fail> {
+pub(super) fn reads_may_fail(alloc: Global) -> bool {
     for calls in 0..30 {
-        let mut reader = INPUT;
-        let mut writer = ByteWriter {
-            bytes: Vec::new(rt.alloc()),
-            calls,
-        };
-        let outcome = run_lines(rt.alloc(), &mut reader, &mut writer);
-        // The input comes in one read: there is a flush after it, and one after the last line.
-        let wanted = if calls < OUTPUT.len() + 2 {
-            "Write"
-        } else {
-            "none"
-        };
-        assert_eq!(rt; fault(&outcome), wanted, "at {calls}");
-        assert!(rt; OUTPUT.starts_with(&writer.bytes), "at {calls}");
-        if wanted == "none" {
-            assert_eq!(rt; writer.bytes.as_slice(), OUTPUT, "at {calls}");
+        if !is_read(alloc, calls, ErrorKind::Other)
+            || !is_read(alloc, calls, ErrorKind::Interrupted)
+        {
+            return false;
         }
     }
-    Ok(())
+    true
+}
+
+/// Whether a run ends where the writer fails, behind what was written, or well where it doesn't come to its fault. The input comes in one read: there is
+/// a flush after it, and one after the last line.
+fn is_written(alloc: Global, calls: usize) -> bool {
+    let mut reader = INPUT;
+    let mut writer = ByteWriter {
+        bytes: Vec::new(alloc),
+        calls,
+    };
+    let outcome = run_lines(alloc, &mut reader, &mut writer);
+    if calls < OUTPUT.len() + 2 {
+        fault(&outcome) == "Write" && OUTPUT.starts_with(&writer.bytes)
+    } else {
+        fault(&outcome) == "none" && writer.bytes.as_slice() == OUTPUT
+    }
+}
+
+pub(super) fn writes_may_fail(alloc: Global) -> bool {
+    for calls in 0..30 {
+        if !is_written(alloc, calls) {
+            return false;
+        }
+    }
+    true
 }
 
 /// Takes no byte.
@@ -145,30 +150,40 @@ impl Write for Full {
     }
 }
 
-#[test]
-fn a_writer_that_takes_nothing_is_a_fault(rt: HostRuntime) {
+/// A writer that takes nothing is a fault of the writer.
+pub(super) fn a_writer_that_takes_nothing_is_a_fault(alloc: Global) -> bool {
     let mut reader = INPUT;
-    let outcome = run_lines(rt.alloc(), &mut reader, &mut Full {});
-    assert_eq!(rt; fault(&outcome), "Write");
+    let outcome = run_lines(alloc, &mut reader, &mut Full {});
+    fault(&outcome) == "Write"
 }
 
-/// A line that comes a byte a call, in more than a million calls.
-#[test]
-fn a_slow_reader_is_read_to_its_end(rt: HostRuntime) -> Result<(), Fail> {
-    let mut input = b"show ".to_vec(rt.alloc())?;
+/// A line that shows the value at a very long 0.
+fn long_line(alloc: Global) -> Result<Vec<u8>, AllocError> {
+    let mut input = b"show ".to_vec(alloc)?;
     for _ in 0..1_000_001 {
-        input.push(b'0').map_err(AllocError::from)?;
+        input.push(b'0')?;
     }
+    Ok(input)
+}
+
+/// Whether a line that comes a byte a call is read to its end and answered.
+fn is_answered(alloc: Global, line: &[u8], wanted: &[u8]) -> bool {
     let mut reader = ByteReader {
-        bytes: &input,
+        bytes: line,
         calls: 10,
         error: ErrorKind::Interrupted,
     };
-    let mut out = Vec::new(rt.alloc());
-    let outcome = run_lines(rt.alloc(), &mut reader, &mut out);
-    assert_eq!(rt; fault(&outcome), "none");
-    assert_eq!(rt; out.as_slice(), b"refused NoValue\n".as_slice());
-    Ok(())
+    let mut out = Vec::new(alloc);
+    let outcome = run_lines(alloc, &mut reader, &mut out);
+    fault(&outcome) == "none" && out.as_slice() == wanted
+}
+
+/// A line that comes a byte a call, in more than a million calls.
+pub(super) fn a_slow_reader_is_read_to_its_end(alloc: Global) -> bool {
+    match long_line(alloc) {
+        Ok(line) => is_answered(alloc, &line, b"refused NoValue\n"),
+        Err(_) => false,
+    }
 }
 
 /// Gives a byte a call, as a person who types and waits for each answer, and fails where an answer is kept back.
@@ -212,8 +227,8 @@ impl Write for FlushedWriter<'_> {
     }
 }
 
-#[test]
-fn answers_are_flushed_before_the_next_read(rt: HostRuntime) -> Result<(), Fail> {
+/// A reader that waits for answers is read to its end, and none is kept back then.
+pub(super) fn answers_are_flushed_before_the_next_read(alloc: Global) -> bool {
     let is_kept_back = Cell::new(false);
     let mut reader = WaitingReader {
         bytes: INPUT,
@@ -222,8 +237,6 @@ fn answers_are_flushed_before_the_next_read(rt: HostRuntime) -> Result<(), Fail>
     let mut writer = FlushedWriter {
         is_kept_back: &is_kept_back,
     };
-    let outcome = run_lines(rt.alloc(), &mut reader, &mut writer);
-    assert_eq!(rt; fault(&outcome), "none");
-    assert!(rt; !is_kept_back.get());
-    Ok(())
+    let outcome = run_lines(alloc, &mut reader, &mut writer);
+    fault(&outcome) == "none" && !is_kept_back.get()
 }

@@ -4,7 +4,6 @@ ghost use Rattle.rhai_lines.specs.Output.{new_world, output};
 
 use rhai_lines::{LinesFault, run_lines};
 use std::alloc::{AllocError, Global};
-use std::test::Fail;
 
 /// What is written for an input that lies in memory.
 fn answers(alloc: Global, input: &[u8]) -> Result<Vec<u8>, LinesFault>
@@ -24,22 +23,18 @@ fn is_answered(alloc: Global, input: &[u8], wanted: &[u8]) -> bool {
     }
 }
 
-#[test]
-fn the_last_line_may_end_with_the_input(rt: HostRuntime) {
-    for (input, wanted) in [
-        (
-            b"bool true\nbool false\nshow 1\ndrop\nshow 1\nget y".as_slice(),
-            b"ok\nok\nfalse\nok\nrefused NoValue\nrefused NoEntry\n".as_slice(),
-        ),
-        (b"int 1\n\nshow 0", b"ok\nrefused BadLine\n1\n"),
-        (b"int 1\n", b"ok\n"),
-        (b"int 1\r", b"refused BadLine\n"),
-        (b"\n", b"refused BadLine\n"),
-        (b"\xff", b"refused BadLine\n"),
-        (b"", b""),
-    ] {
-        assert!(rt; is_answered(rt.alloc(), input, wanted));
-    }
+pub(super) fn the_last_line_may_end_with_the_input(alloc: Global) -> bool {
+    let (asked, answered) = (
+        b"bool true\nbool false\nshow 1\ndrop\nshow 1\nget y",
+        b"ok\nok\nfalse\nok\nrefused NoValue\nrefused NoEntry\n",
+    );
+    is_answered(alloc, asked, answered)
+        && is_answered(alloc, b"int 1\n\nshow 0", b"ok\nrefused BadLine\n1\n")
+        && is_answered(alloc, b"int 1\n", b"ok\n")
+        && is_answered(alloc, b"int 1\r", b"refused BadLine\n")
+        && is_answered(alloc, b"\n", b"refused BadLine\n")
+        && is_answered(alloc, b"\xff", b"refused BadLine\n")
+        && is_answered(alloc, b"", b"")
 }
 
 /// The line that puts ten thousand of these digits and a 7, and one that shows it.
@@ -52,11 +47,15 @@ fn many_digits(alloc: Global, digit: u8) -> Result<Vec<u8>, AllocError> {
     Ok(input)
 }
 
-#[test]
-fn any_number_of_digits_is_read(rt: HostRuntime) -> Result<(), Fail> {
-    let zeros = many_digits(rt.alloc(), b'0')?;
-    assert!(rt; is_answered(rt.alloc(), &zeros, b"ok\n7\n"));
-    let nines = many_digits(rt.alloc(), b'9')?;
-    assert!(rt; is_answered(rt.alloc(), &nines, b"refused BadLine\nrefused NoValue\n"));
-    Ok(())
+/// Whether so many digits are answered like this.
+fn are_digits_answered(alloc: Global, digit: u8, wanted: &[u8]) -> bool {
+    match many_digits(alloc, digit) {
+        Ok(input) => is_answered(alloc, &input, wanted),
+        Err(_) => false,
+    }
+}
+
+pub(super) fn any_number_of_digits_is_read(alloc: Global) -> bool {
+    are_digits_answered(alloc, b'0', b"ok\n7\n")
+        && are_digits_answered(alloc, b'9', b"refused BadLine\nrefused NoValue\n")
 }

@@ -1,14 +1,13 @@
-//! Worlds whose unreached cells are given back. Rows are answered with a collection after each command in `rhai_rows`.
+//! Worlds whose unreached cells are given back, where a row can't show it.
 ghost use Rattle.std.specs.Prelude.{◌≡◌, IfOk};
 ghost use Rattle.rhai_run.specs.Machine.{replies};
 
-use crate::printed::is_printed;
+use super::printed::is_printed;
+use crate::rows::{commands_of, make};
+use crate::sections::UNLIMITED;
 use rhai_run::{Answer, Command, Literal, Question, Stopped, World, apply, laws, run};
-use rhai_text::Limits;
 use rhai_value::TypeId;
 use std::alloc::{AllocError, Global};
-
-const UNLIMITED: Limits = Limits { text: 0, items: 0 };
 
 /// The caller that the README of `rhai_run` shows: the answers are those of the world before.
 fn collect_and_run(world: &mut World, commands: &[Command]) -> Result<Vec<Answer>, Stopped>
@@ -19,18 +18,17 @@ fn collect_and_run(world: &mut World, commands: &[Command]) -> Result<Vec<Answer
     run(world, commands)
 }
 
-#[test]
-fn a_collected_world_runs(rt: HostRuntime) {
-    let commands = [
-        Command::Put(Literal::Bool(true)),
-        Command::Share(0),
-        Command::Drop,
-    ];
-    let mut world = World::new(rt.alloc(), UNLIMITED);
-    let first = collect_and_run(&mut world, &commands).is_ok();
-    let second = collect_and_run(&mut world, &commands).is_ok();
+/// Whether commands are answered twice behind a collection.
+fn run_twice(alloc: Global, world: &mut World) -> Result<bool, AllocError> {
+    let commands = commands_of(alloc, &["bool true", "share 0", "drop"])?;
+    Ok(collect_and_run(world, &commands).is_ok() && collect_and_run(world, &commands).is_ok())
+}
+
+pub(super) fn a_collected_world_runs(alloc: Global) -> bool {
+    let mut world = World::new(alloc, UNLIMITED);
+    let is_right = run_twice(alloc, &mut world);
     world.close();
-    assert!(rt; first && second);
+    matches!(is_right, Ok(true))
 }
 
 /// Whether a command is answered like this.
@@ -41,29 +39,20 @@ fn is_answered(alloc: Global, world: &mut World, command: &Command, wanted: &str
     }
 }
 
-/// Makes a thousand cells and lets go of them, in a world that has a value more, and then collects if that is due.
-fn come_and_go(world: &mut World) -> Result<(), AllocError> {
-    let made = [
-        Command::Put(Literal::Int(1)),
-        Command::Share(1),
-        Command::Copy(1),
-        Command::Drop,
-        Command::Drop,
-    ];
+/// Makes a thousand cells and lets go of them, and then collects if that is due.
+fn come_and_go(world: &mut World, commands: &[Command]) -> Result<(), AllocError> {
     for _ in 0..1000 {
-        for command in &made {
-            apply(world, command)?;
-        }
+        make(world, commands)?;
     }
     world.collect_if_due()
 }
 
 /// Whether a holder of 7 is kept while a hundred thousand cells come and go.
 fn is_kept(alloc: Global, world: &mut World) -> Result<bool, AllocError> {
-    apply(world, &Command::Put(Literal::Int(7)))?;
-    apply(world, &Command::Share(0))?;
+    make(world, &commands_of(alloc, &["int 7", "share 0"])?)?;
+    let commands = commands_of(alloc, &["int 1", "share 1", "copy 1", "drop", "drop"])?;
     for _ in 0..100 {
-        come_and_go(world)?;
+        come_and_go(world, &commands)?;
         if !is_answered(alloc, world, &Command::Show(0), "7 (shared)") {
             return Ok(false);
         }
@@ -71,12 +60,11 @@ fn is_kept(alloc: Global, world: &mut World) -> Result<bool, AllocError> {
     Ok(true)
 }
 
-#[test]
-fn what_is_held_is_kept_by_collections_that_are_due(rt: HostRuntime) {
-    let mut world = World::new(rt.alloc(), UNLIMITED);
-    let is_right = is_kept(rt.alloc(), &mut world);
+pub(super) fn what_is_held_is_kept_by_collections_that_are_due(alloc: Global) -> bool {
+    let mut world = World::new(alloc, UNLIMITED);
+    let is_right = is_kept(alloc, &mut world);
     world.close();
-    assert!(rt; matches!(is_right, Ok(true)));
+    matches!(is_right, Ok(true))
 }
 
 /// Cells each of which holds the one before.
@@ -99,11 +87,10 @@ fn is_held_and_dropped(alloc: Global, world: &mut World) -> Result<bool, AllocEr
 }
 
 /// No step goes as deep as the chain is long.
-#[test]
-fn a_long_chain_is_kept_and_given_back(rt: HostRuntime) {
-    let mut world = World::new(rt.alloc(), UNLIMITED);
+pub(super) fn a_long_chain_is_kept_and_given_back(alloc: Global) -> bool {
+    let mut world = World::new(alloc, UNLIMITED);
     let is_made = chain(&mut world, 100_000).is_ok();
-    let is_right = is_held_and_dropped(rt.alloc(), &mut world);
+    let is_right = is_held_and_dropped(alloc, &mut world);
     world.close();
-    assert!(rt; is_made && matches!(is_right, Ok(true)));
+    is_made && matches!(is_right, Ok(true))
 }

@@ -5,7 +5,7 @@ use Rattle.rhai_run.specs.Correspondence.{RunAlike}
 use Rattle.rhai_run.specs.KeptWorld.{Collects, kept_pairs}
 use Rattle.rhai_run.specs.Machine.{replies}
 use Rattle.rhai_run.specs.State.{State}
-use Rattle.rhai_lines_tests.proofs.collected.collect_and_run.Goals as goal
+use Rattle.rhai_rows.proofs.calls.collected.collect_and_run.Goals as goal
 
 -- whether memory was there for the collection or not, the answers are the same
 same : (w v : State) (cs : List Command) (r : Result (Unit {0}) AllocError) → OnOk r (Collects w v) → OnErr r (v ≡ w) → ((h : Collects w v) → RunAlike (kept_pairs h.cells) w v cs) → replies v cs ≡ replies w cs

@@ -3,11 +3,9 @@ ghost use Rattle.std.specs.Prelude.{◌≡◌, IfOk};
 ghost use Rattle.rhai_run.specs.declared.command.Command.TheVariants as command;
 ghost use Rattle.rhai_run.specs.Step.{step};
 
+use crate::sections::UNLIMITED;
 use rhai_run::{Answer, Command, Literal, World, apply};
-use rhai_text::Limits;
-use std::alloc::AllocError;
-
-const UNLIMITED: Limits = Limits { text: 0, items: 0 };
+use std::alloc::{AllocError, Global};
 
 /// The caller that the README of `rhai_run` shows.
 fn leave_scope(world: &mut World) -> Result<Answer, AllocError>
@@ -16,28 +14,27 @@ fn leave_scope(world: &mut World) -> Result<Answer, AllocError>
     apply(world, &Command::Pop)
 }
 
-#[test]
-fn an_empty_scope_is_not_left(rt: HostRuntime) {
-    let mut world = World::new(rt.alloc(), UNLIMITED);
+pub(super) fn an_empty_scope_is_not_left(alloc: Global) -> bool {
+    let mut world = World::new(alloc, UNLIMITED);
     let answer = leave_scope(&mut world);
-    assert!(rt; matches!(answer, Ok(Answer::Refused(_))));
     world.close();
+    matches!(answer, Ok(Answer::Refused(_)))
+}
+
+/// Whether the hand is one holder of a boolean.
+fn has_holder(world: &World) -> bool {
+    match world.hand() {
+        [value] => value.is_shared() && value.type_name(world.store()) == "bool",
+        _ => false,
+    }
 }
 
 /// A host looks at the hand and at the store.
-#[test]
-fn one_command_is_applied(rt: HostRuntime) {
-    let mut world = World::new(rt.alloc(), UNLIMITED);
+pub(super) fn one_command_is_applied(alloc: Global) -> bool {
+    let mut world = World::new(alloc, UNLIMITED);
     let put = apply(&mut world, &Command::Put(Literal::Bool(true)));
     let shared = apply(&mut world, &Command::Share(0));
-    let is_holder = world.hand().iter().all(|value| value.is_shared());
-    let name = world
-        .hand()
-        .first()
-        .map(|value| value.type_name(world.store()));
+    let is_holder = has_holder(&world);
     world.close();
-    assert!(rt; matches!(put, Ok(Answer::Done)));
-    assert!(rt; matches!(shared, Ok(Answer::Done)));
-    assert!(rt; is_holder);
-    assert_eq!(rt; name, Some("bool"));
+    is_holder && matches!(put, Ok(Answer::Done)) && matches!(shared, Ok(Answer::Done))
 }

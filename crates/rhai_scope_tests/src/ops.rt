@@ -1,4 +1,4 @@
-//! Operators and assignments, where a call alone can show it: what they come to is tested by lines in `rhai_world`.
+//! Operators and assignments, where a call alone can show it: what they come to is tested by rows of `rhai_rows`.
 // Proved callers.
 pub(crate) mod readme;
 

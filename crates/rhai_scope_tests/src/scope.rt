@@ -1,4 +1,4 @@
-//! The scope, where a call alone can show it: what entries become is tested by lines in `rhai_world`.
+//! The scope, where a call alone can show it: what entries become is tested by rows of `rhai_rows`.
 // Proved callers.
 mod readme;
 mod walker;

@@ -1,4 +1,4 @@
-//! Targets, where a call alone can show it: what a write-back makes of a value is tested by lines in `rhai_world`.
+//! Targets, where a call alone can show it: what a write-back makes of a value is tested by rows of `rhai_rows`.
 // Proved callers.
 mod callers;
 mod readme;

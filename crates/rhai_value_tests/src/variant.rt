@@ -83,7 +83,7 @@ fn is_written_as_text(value: &mut Dynamic, string: String, text: ImmutableString
     String::view(value).is_none()
         && !put::<String>(value, string)
         && put::<ImmutableString>(value, text)
-        && ImmutableString::view(value).map(|text| text.len()) == Some(2)
+        && matches!(ImmutableString::view(value), Some(text) if text.len() == 2)
 }
 
 #[test]

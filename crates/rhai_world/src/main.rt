@@ -3,9 +3,6 @@
 
 ghost use Rattle.std.specs.Prelude.{◌≡◌, OnOk, OnErr};
 
-#[cfg(test)]
-mod tests;
-
 use rhai_lines::{LinesFault, run_lines};
 use std::io;
 use std::io::BufWriter;

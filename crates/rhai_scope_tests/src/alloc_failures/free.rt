@@ -18,9 +18,7 @@ fn is_looked_up(scope: &Scope, store: &Store) -> bool {
         && !scope.contains("y")
         && scope.search("c") == Some(0)
         && scope.is_constant("c") == Some(true)
-        && scope
-            .get("x")
-            .is_some_and(|value| is_text(value, store, "hé"))
+        && matches!(scope.get("x"), Some(value) if is_text(value, store, "hé"))
         && scope.iter_raw(store).count() == 2
 }
 
@@ -35,10 +33,7 @@ fn is_lent_by_type(scope: &mut Scope, store: &Store) -> bool {
         Some(n) => *n = 4,
         None => return false,
     }
-    is_read
-        && scope
-            .get("n")
-            .is_some_and(|value| value.as_int(store) == Ok(4))
+    is_read && matches!(scope.get("n"), Some(value) if value.as_int(store) == Ok(4))
 }
 
 /// Whether entries are lent for writing, and go.

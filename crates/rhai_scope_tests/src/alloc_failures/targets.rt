@@ -11,9 +11,10 @@ use std::test::Fail;
 
 /// A holder of a text.
 fn held(alloc: Global, text: &str, store: &mut Store) -> Result<Dynamic, AllocError> {
-    Dynamic::from_text(alloc, text)?
-        .into_shared(store)
-        .map_err(|_| AllocError)
+    match Dynamic::from_text(alloc, text)?.into_shared(store) {
+        Ok(holder) => Ok(holder),
+        Err(_) => Err(AllocError),
+    }
 }
 
 /// Writes a character over the first one of a text; false where memory was refused.

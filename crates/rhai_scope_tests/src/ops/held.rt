@@ -43,7 +43,7 @@ fn is_doubled(alloc: Global, store: &mut Store, x: &mut Dynamic, y: &mut Dynamic
     let row = FnBuiltin::IntAssign(Token::PlusAssign);
     row.call(alloc, store, &UNLIMITED, x, y).is_ok()
         && y.as_int(store) == Ok(10)
-        && y.held(store).map(|held| held.tag()) == Some(6)
+        && matches!(y.held(store), Some(held) if held.tag() == 6)
 }
 
 #[test]
@@ -65,7 +65,7 @@ fn is_appended(alloc: Global, store: &mut Store, x: &mut Dynamic, y: &mut Dynami
         .call(alloc, store, &UNLIMITED, x, y)
         .is_ok()
         && y.is_unit(store)
-        && x.as_array_ref(store).map(|items| items.len()) == Ok(2)
+        && matches!(x.as_array_ref(store), Ok(items) if items.len() == 2)
 }
 
 /// An array of one value; unit where there is no room.
@@ -93,7 +93,7 @@ fn is_pushed(alloc: Global, store: &mut Store, x: &mut Dynamic, y: &mut Dynamic)
         .call(alloc, store, &UNLIMITED, x, y)
         .is_ok()
         && y.is_unit(store)
-        && x.as_array_ref(store).map(|items| items.len()) == Ok(2)
+        && matches!(x.as_array_ref(store), Ok(items) if items.len() == 2)
 }
 
 #[test]
@@ -151,7 +151,7 @@ fn is_too_many(alloc: Global, store: &mut Store, x: &mut Dynamic, y: &mut Dynami
     };
     is_refused
         && y.as_int(store) == Ok(3)
-        && x.as_array_ref(store).map(|items| items.len()) == Ok(1)
+        && matches!(x.as_array_ref(store), Ok(items) if items.len() == 1)
 }
 
 #[test]

@@ -131,23 +131,33 @@ fn replace_middle(
     Ok(part.value)
 }
 
+/// Whether that slice is "el", and 42 is written over it.
+fn is_middle_replaced(alloc: Global, text: &mut Dynamic, store: &mut Store) -> bool {
+    let Ok(before) = replace_middle(alloc, text, store, Dynamic::from_int(42)) else {
+        return false;
+    };
+    match before.as_immutable_string_ref(store) {
+        Ok(before) => before.as_str() == "el",
+        Err(_) => false,
+    }
+}
+
+/// Whether a value that is no text is refused.
+fn is_refused_of(alloc: Global, store: &mut Store, mut value: Dynamic) -> bool {
+    match replace_middle(alloc, &mut value, store, Dynamic::ONE) {
+        Ok(_) => false,
+        Err(refused) => is_refused(Err(refused), "string", "i64"),
+    }
+}
+
 #[test]
 fn a_slice_is_read_and_replaced(rt: HostRuntime) {
     let alloc = rt.alloc();
     let mut store = Store::new(alloc);
     let mut text = hello(alloc);
-    assert!(rt;
-        match replace_middle(alloc, &mut text, &mut store, Dynamic::from_int(42)) {
-            Ok(before) => before
-                .as_immutable_string_ref(&store)
-                .is_ok_and(|t| t.as_str() == "el"),
-            Err(_) => false,
-        }
-    );
+    assert!(rt; is_middle_replaced(alloc, &mut text, &mut store));
     assert!(rt; is_text(&text, "h42lo"));
-    let refused = replace_middle(alloc, &mut { Dynamic::ONE }, &mut store, Dynamic::ONE);
-    let refused = refused.map(|_| ());
-    assert!(rt; is_refused(refused, "string", "i64"));
+    assert!(rt; is_refused_of(alloc, &mut store, Dynamic::ONE));
 }
 
 /// Whether that slice of a text reads so.

@@ -23,6 +23,11 @@ fn is_told(value: &Dynamic, store: &Store, name: &str) -> bool {
         && value.read_whole(store).is_some()
 }
 
+/// The same of a value that goes then.
+fn is_told_of(value: Dynamic, store: &Store, name: &str) -> bool {
+    is_told(&value, store, name)
+}
+
 /// Whether a value has its tag and mode set, and is taken out of its place.
 fn is_marked_and_taken(value: &mut Dynamic, store: &Store) -> bool {
     value.set_tag(5);
@@ -118,6 +123,11 @@ fn is_copied(alloc: Global, value: &Dynamic, store: &Store) -> bool {
     }
 }
 
+/// The same of a value that goes then.
+fn is_copied_of(alloc: Global, value: Dynamic, store: &Store) -> bool {
+    is_copied(alloc, &value, store)
+}
+
 /// Whether a value's own constructor and mode are told.
 fn is_own(value: &Dynamic, store: &Store) -> bool {
     !value.is_shared() && !value.is_read_only(store) && value.access_mode() == AccessMode::ReadWrite
@@ -142,14 +152,10 @@ fn calls_without_memory_answer(rt: HostRuntime) -> Result<(), Fail> {
     };
     let mut path = Path::new(alloc);
     assert!(rt; is_left(&mut path, &holder, &store)?);
-    for (value, name) in [
-        (Dynamic::UNIT, "()"),
-        (Dynamic::TRUE, "bool"),
-        (Dynamic::from_int(7), "i64"),
-        (Dynamic::from_char('x'), "char"),
-    ] {
-        assert!(rt; is_told(&value, &store, name));
-    }
+    assert!(rt; is_told_of(Dynamic::UNIT, &store, "()"));
+    assert!(rt; is_told_of(Dynamic::TRUE, &store, "bool"));
+    assert!(rt; is_told_of(Dynamic::from_int(7), &store, "i64"));
+    assert!(rt; is_told_of(Dynamic::from_char('x'), &store, "char"));
     assert!(rt; is_told(&text, &store, "string"));
     assert!(rt; is_told(&holder, &store, "i64"));
     assert!(rt; is_written(alloc, &mut holder, &mut store));
@@ -187,13 +193,10 @@ fn what_is_not_held_is_not_lent(rt: HostRuntime) -> Result<(), Fail> {
 fn small_values_are_copied(rt: HostRuntime) {
     let alloc = rt.alloc();
     let store = Store::new(alloc);
-    for value in [
-        Dynamic::UNIT,
-        Dynamic::TRUE,
-        Dynamic::from_int(7),
-        Dynamic::from_char('x'),
-        Dynamic::from(ExclusiveRange { start: 1, end: 3 }),
-    ] {
-        assert!(rt; is_copied(alloc, &value, &store));
-    }
+    let range = ExclusiveRange { start: 1, end: 3 };
+    assert!(rt; is_copied_of(alloc, Dynamic::UNIT, &store));
+    assert!(rt; is_copied_of(alloc, Dynamic::TRUE, &store));
+    assert!(rt; is_copied_of(alloc, Dynamic::from_int(7), &store));
+    assert!(rt; is_copied_of(alloc, Dynamic::from_char('x'), &store));
+    assert!(rt; is_copied_of(alloc, Dynamic::from(range), &store));
 }

@@ -24,11 +24,18 @@ fn shares(rt: &impl Eprint, alloc: Global) -> Result<bool, AllocError> {
     }
 }
 
+/// A holder of a new cell with the value.
+fn held(value: Dynamic, store: &mut Store) -> Result<Dynamic, AllocError> {
+    match value.into_shared(store) {
+        Ok(holder) => Ok(holder),
+        Err(_) => Err(AllocError),
+    }
+}
+
 /// A holder of an array of one text.
 fn listed(alloc: Global, store: &mut Store) -> Result<Dynamic, AllocError> {
     let text = Dynamic::from_text(alloc, "hé")?;
-    let list = Dynamic::from_array(vec![in alloc; text]?);
-    list.into_shared(store).map_err(|_| AllocError)
+    held(Dynamic::from_array(vec![in alloc; text]?), store)
 }
 
 fn is_list(value: &Dynamic, store: &Store) -> bool {
@@ -62,27 +69,41 @@ fn has(map: &Map, store: &Store, key: &str, wanted: i64) -> bool {
     }
 }
 
-/// Whether a key is inserted; where memory is refused key and value come back, and the map has what it had.
+/// Whether a key is inserted; where memory is refused key and value come back, the map has what it had, and it is inserted then.
+fn insert_at_last(
+    rt: &impl Eprint,
+    map: &mut Map,
+    store: &Store,
+    name: String,
+    key: &str,
+    value: i64,
+) -> Result<bool, AllocError> {
+    let before = map.len();
+    let (name, int) = match map.insert(name, Dynamic::from_int(value)) {
+        Ok(_) => return Ok(true),
+        Err(back) => back,
+    };
+    tell(rt, "Map::insert");
+    let is_back = name.as_str() == key
+        && holds(&int, store, value)
+        && map.len() == before
+        && !map.contains_key(key);
+    match map.insert(name, int) {
+        Ok(_) => Ok(is_back),
+        Err(_) => Err(AllocError),
+    }
+}
+
+/// Whether five keys are inserted one by one, and the first stays.
 fn inserts(rt: &impl Eprint, alloc: Global) -> Result<bool, AllocError> {
     let store = Store::new(alloc);
     let mut map = Map::new(alloc);
     for (key, value) in [("a", 1), ("b", 2), ("c", 3), ("d", 4), ("e", 5)] {
-        let before = map.len();
         let name = String::from_str(alloc, key)?;
-        if let Err((name, int)) = map.insert(name, Dynamic::from_int(value)) {
-            tell(rt, "Map::insert");
-            if name.as_str() != key
-                || !holds(&int, &store, value)
-                || map.len() != before
-                || map.contains_key(key)
-            {
-                return Ok(false);
-            }
-            if map.insert(name, int).is_err() {
-                return Err(AllocError);
-            }
-        }
-        if !has(&map, &store, key, value) || !has(&map, &store, "a", 1) {
+        if !insert_at_last(rt, &mut map, &store, name, key, value)?
+            || !has(&map, &store, key, value)
+            || !has(&map, &store, "a", 1)
+        {
             return Ok(false);
         }
     }
@@ -94,9 +115,7 @@ fn enters(rt: &impl Eprint, alloc: Global) -> Result<bool, AllocError> {
     let mut store = Store::new(alloc);
     let mut path = Path::new(alloc);
     for i in 0..9 {
-        let holder = Dynamic::from_int(i)
-            .into_shared(&mut store)
-            .map_err(|_| AllocError)?;
+        let holder = held(Dynamic::from_int(i), &mut store)?;
         let opened = match path.enter(&store, &holder) {
             Ok(opened) => opened.is_some(),
             Err(_) => {

@@ -1,0 +1,49 @@
+//! Commands that answer where all memory is refused.
+
+use crate::rows::{commands_in, make, room, wanted};
+use crate::sections::{Section, UNLIMITED, halves};
+use rhai_lines::write_answer;
+use rhai_run::{Command, World, apply};
+use std::alloc::{AllocError, Global};
+
+fn are_applied(world: &mut World, commands: &[Command], out: &mut Vec<u8>) -> bool {
+    for command in commands {
+        match apply(world, command) {
+            Ok(answer) if write_answer(&answer, out).is_ok() => {}
+            _ => return false,
+        }
+    }
+    true
+}
+
+/// Whether commands answer behind others, and behind a request that nothing hangs on: so they do where that one and all later ones are
+/// refused.
+fn are_free(
+    alloc: Global,
+    before: &[Command],
+    commands: &[Command],
+    out: &mut Vec<u8>,
+) -> Result<bool, AllocError> {
+    let mut world = World::new(alloc, UNLIMITED);
+    let made = make(&mut world, before);
+    drop(room(alloc));
+    let is_right = are_applied(&mut world, commands, out);
+    world.close();
+    match made {
+        Ok(()) => Ok(is_right),
+        Err(error) => Err(error),
+    }
+}
+
+/// Whether the section is answered as it says.
+pub(crate) fn is_answered(
+    alloc: Global,
+    section: &Section<'_>,
+    out: &mut Vec<u8>,
+) -> Result<bool, AllocError> {
+    let (before, rows) = halves(section.rows);
+    let before = commands_in(alloc, before)?;
+    let commands = commands_in(alloc, rows)?;
+    let wanted = wanted(alloc, rows, false)?;
+    Ok(are_free(alloc, &before, &commands, out)? && out.as_slice() == wanted.as_bytes())
+}

@@ -1,0 +1,81 @@
+//! One command after another.
+
+use crate::seen::{is_seen, seen, tell};
+use rhai_lines::write_answer;
+use rhai_run::{Answer, Command, World, apply};
+use std::alloc::{AllocError, Global};
+use std::io::Eprint;
+
+fn verb(line: &str) -> &str {
+    line.split(' ').next().unwrap_or(line)
+}
+
+/// Applies a command. Where memory is refused, the world is to be seen as before, and the command is applied once more.
+fn apply_at_last(
+    rt: &impl Eprint,
+    alloc: Global,
+    world: &mut World,
+    line: &str,
+    command: &Command,
+) -> Result<Option<Answer>, AllocError> {
+    let before = seen(alloc, world)?;
+    if let Ok(answer) = apply(world, command) {
+        return Ok(Some(answer));
+    }
+    tell(rt, verb(line));
+    if !is_seen(alloc, world, &before)? {
+        return Ok(None);
+    }
+    match apply(world, command) {
+        Ok(answer) => Ok(Some(answer)),
+        Err(_) => Err(AllocError),
+    }
+}
+
+/// Applies each command.
+pub(super) fn apply_each(
+    rt: &impl Eprint,
+    alloc: Global,
+    world: &mut World,
+    lines: &[&str],
+    commands: &[Command],
+    out: &mut Vec<u8>,
+) -> Result<bool, AllocError> {
+    for (line, command) in lines.iter().zip(commands) {
+        match apply_at_last(rt, alloc, world, line, command)? {
+            Some(answer) if write_answer(&answer, out).is_ok() => {}
+            _ => return Ok(false),
+        }
+    }
+    Ok(true)
+}
+
+/// Collects. Where memory is refused, the world is to be as before, and it is collected once more; then it is to be seen as before.
+fn collect_at_last(rt: &impl Eprint, alloc: Global, world: &mut World) -> Result<bool, AllocError> {
+    let before = seen(alloc, world)?;
+    if world.collect().is_err() {
+        tell(rt, "collect");
+        if !is_seen(alloc, world, &before)? {
+            return Ok(false);
+        }
+        world.collect()?;
+    }
+    is_seen(alloc, world, &before)
+}
+
+/// Applies each command, and collects after each.
+pub(super) fn collect_after_each(
+    rt: &impl Eprint,
+    alloc: Global,
+    world: &mut World,
+    commands: &[Command],
+    out: &mut Vec<u8>,
+) -> Result<bool, AllocError> {
+    for command in commands {
+        let answer = apply(world, command)?;
+        if write_answer(&answer, out).is_err() || !collect_at_last(rt, alloc, world)? {
+            return Ok(false);
+        }
+    }
+    Ok(true)
+}

@@ -34,7 +34,7 @@ pub use Rattle.rhai_value.proofs.SameScans.{RelatedVisits, same_nodes, same_scan
 -- options that are alike, and lists that are related place by place
 pub use Rattle.rhai_value.proofs.Zips.{by_alike, by_zip, get_append, get_last, get_set_other, zip_append, zip_drop, zip_get, zip_length, zip_set, zip_take, zip_weaker}
 -- booleans
-pub use Rattle.rhai_value.proofs.Slots.{or_false}
+pub use Rattle.rhai_value.proofs.Flags.{or_false}
 -- the list of the cell numbers in a value
 pub use Rattle.rhai_value.proofs.CellNumbers.{cells_renumbered, each_in, each_of}
 -- flags, flags of lists one after the other, and rising numbers

@@ -26,6 +26,7 @@ pub mod Children
 pub mod ChildrenLeft
 pub mod Locked
 pub mod Scan
+pub mod RowWalks
 pub mod Hollow
 pub mod Reach
 pub mod Meetings

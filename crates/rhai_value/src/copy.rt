@@ -1,7 +1,7 @@
 //! Deep copies.
 ghost use Rattle.std.specs.Prelude.{◌≡◌, ◌<◌, vec_len, vec_capacity, ◌++◌, ◌∷◌, [], if◌then◌else◌, IfOk, IsOk, map};
-ghost use Rattle.rhai_value.specs.EntryWalks.{chunk_view, copied_chunk, copied_entry};
-ghost use Rattle.rhai_value.specs.Lists.{rows_of, IsWhole};
+ghost use Rattle.rhai_value.specs.RowWalks.{chunk_view, copied_chunk};
+ghost use Rattle.rhai_value.specs.Lists.{rows, rows_of, IsWhole};
 ghost use Rattle.rhai_value.specs.Rows.{copied_rows};
 ghost use Rattle.rhai_value.specs.Tree.{TakesNoMemory, copy};
 ghost use Rattle.rhai_value.specs.View.{tree_of};
@@ -226,7 +226,7 @@ fn copied_entries(
     alloc: Global,
     levels: u32,
 ) -> Result<Vec<Entry>, AllocError>
-    ensures { IfOk result (λ v. v.items ≡ map copied_entry entries.now.items) }
+    ensures { IfOk result (λ v. rows v.items ≡ copied_rows (rows entries.now.items)) }
 {
     let mut copies = Vec::with_capacity(alloc, entries.len())?;
     for entry in entries {

@@ -1,9 +1,9 @@
 //! Exchanging all values of a map.
 ghost use Rattle.std.specs.Prelude.{◌≡◌, length, map, IfSome};
 ghost use Rattle.rhai_value.specs.Children.{listed_fields};
-ghost use Rattle.rhai_value.specs.EntryWalks.{chunk_scanned, chunk_view, entry_scanned, scanned};
+ghost use Rattle.rhai_value.specs.RowWalks.{chunk_scanned, chunk_view, row_scanned, scanned};
 ghost use Rattle.rhai_value.specs.Hollow.{exchanged, parted, with_fields};
-ghost use Rattle.rhai_value.specs.Lists.{rows_of, IsWhole};
+ghost use Rattle.rhai_value.specs.Lists.{rows, rows_of, IsWhole};
 ghost use Rattle.rhai_value.specs.Rows.{fields_of};
 
 use crate::dynamic::Dynamic;
@@ -46,7 +46,7 @@ fn exchange_parts(parts: &mut MapParts, values: &mut Vec<Dynamic>)
 
 /// Exchanges the values of a list for those from a number on, if there are that many, and answers the next number.
 fn exchange_entries(entries: &mut Vec<Entry>, values: &mut Vec<Dynamic>, from: usize) -> usize
-    ensures { (parted values.new.items result, entries.new.items) ≡ scanned (entry_scanned exchanged) (parted values.old.items from) entries.old.items }
+    ensures { (parted values.new.items result, rows entries.new.items) ≡ scanned (row_scanned exchanged) (parted values.old.items from) (rows entries.old.items) }
 {
     let mut at = from;
     for entry in entries.iter_mut() {

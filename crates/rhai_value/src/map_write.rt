@@ -1,7 +1,7 @@
 //! Writing to each value of a map.
 ghost use Rattle.std.specs.Prelude.{◌≡◌, map};
-ghost use Rattle.rhai_value.specs.EntryWalks.{chunk_scanned, chunk_view, entry_scanned, scanned};
-ghost use Rattle.rhai_value.specs.Lists.{rows_of, IsWhole};
+ghost use Rattle.rhai_value.specs.RowWalks.{chunk_scanned, chunk_view, row_scanned, scanned};
+ghost use Rattle.rhai_value.specs.Lists.{rows, rows_of, IsWhole};
 ghost use Rattle.rhai_value.specs.Rows.{fields_of};
 ghost use Rattle.rhai_value.specs.Scan.{fields_scanned};
 
@@ -45,7 +45,7 @@ fn write_parts<W: ValueWriter>(parts: &mut MapParts, writer: &mut W)
 }
 
 fn write_entries<W: ValueWriter>(entries: &mut Vec<Entry>, writer: &mut W)
-    ensures { (writer.new, entries.new.items) ≡ scanned (entry_scanned W.writes) writer.old entries.old.items }
+    ensures { (writer.new, rows entries.new.items) ≡ scanned (row_scanned W.writes) writer.old (rows entries.old.items) }
 {
     for entry in entries.iter_mut() {
         writer.write(&mut entry.value);

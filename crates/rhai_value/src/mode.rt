@@ -1,6 +1,7 @@
 //! Setting the mode of a value and of what it holds.
 ghost use Rattle.std.specs.Prelude.{◌≡◌, map};
-ghost use Rattle.rhai_value.specs.EntryWalks.{chunk_view, painted_chunk, painted_entry};
+ghost use Rattle.rhai_value.specs.Lists.{rows};
+ghost use Rattle.rhai_value.specs.RowWalks.{chunk_view, painted_chunk, painted_rows};
 ghost use Rattle.rhai_value.specs.Tree.{paint, paint_fields, with_mode};
 ghost use Rattle.rhai_value.specs.Rows.{fields_of};
 ghost use Rattle.rhai_value.specs.declared.access_mode.AccessMode.TheVariants.{ReadOnly};
@@ -114,7 +115,7 @@ fn paint_map(map: &mut Map, mode: AccessMode, levels: u32)
 
 #[cycle(paint)]
 fn paint_entries(entries: &mut Vec<Entry>, mode: AccessMode, levels: u32)
-    ensures { entries.new.items ≡ map (painted_entry mode) entries.old.items }
+    ensures { rows entries.new.items ≡ painted_rows mode (rows entries.old.items) }
 {
     for entry in entries.iter_mut() {
         paint_value(&mut entry.value, mode, levels);

@@ -1,9 +1,9 @@
 //! Visits to a value and to all that it holds.
 ghost use Rattle.std.specs.Prelude.{◌≡◌, ◌+◌, ◌*◌, ◌<◌, ◌≤◌, map};
 ghost use Rattle.flat_walk.specs.Frames.{unwound, sizes, AreAll};
-ghost use Rattle.rhai_value.specs.EntryWalks.{chunk_scanned, chunk_view, entry_scanned, scanned};
+ghost use Rattle.rhai_value.specs.RowWalks.{chunk_scanned, chunk_view, row_scanned, scanned};
 ghost use Rattle.rhai_value.specs.Hollow.{hollow_after, hollow_left, hollow_scanned, IsReady, IsWaiting};
-ghost use Rattle.rhai_value.specs.Lists.{rows_of, IsWhole};
+ghost use Rattle.rhai_value.specs.Lists.{rows, rows_of, IsWhole};
 ghost use Rattle.rhai_value.specs.Rows.{trees_of, fields_of};
 ghost use Rattle.rhai_value.specs.Scan.{each_scanned, fields_scanned, children_scanned, scan};
 ghost use Rattle.rhai_value.specs.Tree.{nodes};
@@ -130,7 +130,7 @@ fn scan_parts<V: Visitor>(parts: &mut MapParts, visitor: &mut V, levels: u32)
 
 #[cycle(scan)]
 fn scan_entries<V: Visitor>(entries: &mut Vec<Entry>, visitor: &mut V, levels: u32)
-    ensures { (visitor.new, entries.new.items) ≡ scanned (entry_scanned (scan V.visited)) visitor.old entries.old.items }
+    ensures { (visitor.new, rows entries.new.items) ≡ scanned (row_scanned (scan V.visited)) visitor.old (rows entries.old.items) }
 {
     for entry in entries.iter_mut() {
         scan_value(&mut entry.value, visitor, levels);

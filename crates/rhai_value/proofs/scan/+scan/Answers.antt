@@ -1,12 +1,13 @@
-use Rattle.std.proofs.Common.{◌≡◌, ◌+◌, ◌*◌, drop, set, length-set, ap, ap₂, sym, refl, ◌∙◌, arith, rules}
+use Rattle.std.proofs.Common.{◌≡◌, ◌+◌, ◌*◌, drop, map, set, length-set, ap, ap₂, sym, refl, ◌∙◌, arith, rules}
 use Rattle.flat_walk.specs.Frames.{unwound, unwound_last, sizes, sizes_last, last_of_all}
 use Rattle.rhai_value.specs.Hollow.{with_children, hollow_scanned, hollow_after, hollow_left, IsWaiting}
 use Rattle.rhai_value.specs.Rows.{trees_of, fields_of}
-use Rattle.rhai_value.specs.Slots.{KeySlot, rows}
+use Rattle.rhai_value.specs.Lists.{row_of, rows, chunk_rows, joined}
+use Rattle.rhai_value.specs.RowWalks.{chunk_view, chunk_scanned, row_scanned}
 use Rattle.rhai_value.specs.Scan.{scan, children_scanned}
 use Rattle.rhai_value.specs.Tree.{nodes, nodes_trees, nodes_fields}
-use Rattle.rhai_value.proofs.Slots.{matched_taken}
-use Rattle.rhai_value.proofs.Scans.{nodes_drop, scan_opens, items_on, items_rest, items_end, rows_start, rows_on, rows_kept, rows_taken, rows_apart, rows_fewer, rows_end}
+use Rattle.rhai_value.proofs.RowWalks.{walk_on, walk_rest, walk_end, nodes_behind, nodes_behind_chunks}
+use Rattle.rhai_value.proofs.Scans.{nodes_drop, scan_opens, items_on, items_rest, items_end}
 use Rattle.rhai_value.proofs.Hollows.{opened_scanned, scanned_all, put_scanned, put_left, put_ready}
 use Rattle.rhai_value.proofs.scan.+scan.Goals as goal
 
@@ -37,38 +38,51 @@ scan_items-returns g t c =
     let i = c.loop-item.invariant in
     items_end (scan g.V.Visitor.visited) c.args.visitor.now c.loop-item.visitor c.loop-item.visitor (trees_of c.args.items.now.items) c.loop-item.item-items c.args.items.now.items c.loop-item.item-index c.args.items.now.len i.on i.long (omega arith) (search rules)
 
-pub scan_entries-loop-number-init : goal.scan_entries-loop-number-init
-scan_entries-loop-number-init g t c =
-    let is = c.into_iter-number-iterator.ensures.into_iter_gives ∙ c.iter-number-items.ensures.rest in
-    record {
-      on = rw is (rows_start (scan g.V.Visitor.visited) c.args.visitor.now c.args.index.now.entries c.args.slots.now.items);
-      apart = rw is c.requires.apart;
-      taken = rw is (matched_taken c.args.index.now.entries c.args.slots.now.items c.requires);
-      same = λ p. refl;
-      fewer = omega (arith, ap (λ es. nodes_fields (fields_of (rows es c.args.slots.now.items))) is);
-    }
-
-pub scan_entries-loop-number-preserved : goal.scan_entries-loop-number-preserved
-scan_entries-loop-number-preserved g t c =
-    let i = c.loop-number.invariant in
+pub scan_entries-loop-entry-preserved : goal.scan_entries-loop-entry-preserved
+scan_entries-loop-entry-preserved g t c =
+    let i = c.loop-entry.invariant in
+    let xs = c.loop-entry.entry-items in
+    let old = c.args.entries.now.items in
+    let n = c.loop-entry.entry-index in
     let f = scan g.V.Visitor.visited in
-    let e : KeySlot = (c.in-Some.field-0-0.now, c.in-Some.number.now) in
-    let next = c.in-Some.ensures.steps in
-    let old = c.args.slots.now.items in
-    let now = c.loop-number.slots.items in
-    let x = c.scan_slot.new.slot in
-    let s = c.index_mut.result.now in
+    let x = c.entry-item.result in
+    let u = record x { value = c.scan_value.new.value } in
+    let did = ap (λ y. (y.0, (x.key, y.1))) c.scan_value.ensures in
+    let rest = walk_rest row_of (row_scanned f) c.args.visitor.now c.loop-entry.visitor c.scan_value.new.visitor xs old n x u i.on i.rest (omega arith) i.long c.entry-item.is did in
     record {
-      on = rows_on f c.args.visitor.now c.loop-number.visitor c.scan_slot.new.visitor c.args.index.now.entries c.loop-number.number-iterator c.next.new.self e old now x s i.on next i.apart i.taken c.index_mut.ensures.value c.scan_slot.ensures;
-      apart = rows_apart f c.args.visitor.now c.loop-number.visitor c.scan_slot.new.visitor c.args.index.now.entries c.loop-number.number-iterator c.next.new.self e old now x s i.on next i.apart i.taken c.index_mut.ensures.value c.scan_slot.ensures;
-      taken = rows_taken f c.args.visitor.now c.loop-number.visitor c.scan_slot.new.visitor c.args.index.now.entries c.loop-number.number-iterator c.next.new.self e old now x s i.on next i.apart i.taken c.index_mut.ensures.value c.scan_slot.ensures;
-      same = λ p. rows_kept f c.args.visitor.now c.loop-number.visitor c.scan_slot.new.visitor c.args.index.now.entries c.loop-number.number-iterator c.next.new.self e old now x s i.on next i.apart i.taken c.index_mut.ensures.value c.scan_slot.ensures p ∙ i.same p;
-      fewer = omega (arith, i.fewer, rows_fewer f c.args.visitor.now c.loop-number.visitor c.scan_slot.new.visitor c.args.index.now.entries c.loop-number.number-iterator c.next.new.self e old now x s i.on next i.apart i.taken c.index_mut.ensures.value c.scan_slot.ensures);
+      on = walk_on row_of (row_scanned f) c.args.visitor.now c.loop-entry.visitor c.scan_value.new.visitor xs old n x u i.on i.rest (omega arith) i.long c.entry-item.is did;
+      rest = rest;
+      long = length-set xs n u ∙ i.long;
+      fewer = omega (arith, ap (λ ys. nodes_fields (fields_of (rows ys))) rest, nodes_behind old (n + 1));
     }
 
-pub scan_entries-returns-clause-scanned : goal.scan_entries-returns-clause-scanned
-scan_entries-returns-clause-scanned g t c =
-    rows_end (scan g.V.Visitor.visited) c.args.visitor.now c.loop-number.visitor c.loop-number.visitor c.args.index.now.entries c.loop-number.number-iterator c.args.slots.now.items c.loop-number.slots.items c.loop-number.invariant.on c.in-None.ensures.steps.0
+pub scan_entries-returns : goal.scan_entries-returns
+scan_entries-returns g t c =
+    let i = c.loop-entry.invariant in
+    walk_end row_of (row_scanned (scan g.V.Visitor.visited)) c.args.visitor.now c.loop-entry.visitor c.loop-entry.entry-items c.args.entries.now.items c.loop-entry.entry-index c.args.entries.now.len i.on i.long (omega arith) (search rules)
+
+pub scan_chunks-loop-chunk-preserved : goal.scan_chunks-loop-chunk-preserved
+scan_chunks-loop-chunk-preserved g t c =
+    let i = c.loop-chunk.invariant in
+    let xs = c.loop-chunk.chunk-items in
+    let old = c.args.rest.now.items in
+    let n = c.loop-chunk.chunk-index in
+    let f = scan g.V.Visitor.visited in
+    let x = c.chunk-item.result in
+    let u = record x { entries = c.scan_entries.new.entries } in
+    let did = ap (λ y. (y.0, (x.front, y.1))) c.scan_entries.ensures in
+    let rest = walk_rest chunk_view (chunk_scanned f) c.args.visitor.now c.loop-chunk.visitor c.scan_entries.new.visitor xs old n x u i.on i.rest (omega arith) i.long c.chunk-item.is did in
+    record {
+      on = walk_on chunk_view (chunk_scanned f) c.args.visitor.now c.loop-chunk.visitor c.scan_entries.new.visitor xs old n x u i.on i.rest (omega arith) i.long c.chunk-item.is did;
+      rest = rest;
+      long = length-set xs n u ∙ i.long;
+      fewer = omega (arith, ap (λ ys. nodes_fields (fields_of (joined (map chunk_rows ys)))) rest, nodes_behind_chunks old (n + 1));
+    }
+
+pub scan_chunks-returns : goal.scan_chunks-returns
+scan_chunks-returns g t c =
+    let i = c.loop-chunk.invariant in
+    walk_end chunk_view (chunk_scanned (scan g.V.Visitor.visited)) c.args.visitor.now c.loop-chunk.visitor c.loop-chunk.chunk-items c.args.rest.now.items c.loop-chunk.chunk-index c.args.rest.now.len i.on i.long (omega arith) (search rules)
 
 pub scan_far-returns-in-Ok : goal.scan_far-returns-in-Ok
 scan_far-returns-in-Ok g t c =

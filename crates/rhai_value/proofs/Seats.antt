@@ -1,0 +1,63 @@
+-- Places in a map's lists.
+use Rattle.std.proofs.Common.{◌≡◌, ℕ, zero, suc, ◌+◌, ◌<◌, ◌≤◌, List, [], ◌∷◌, ◌++◌, length, map, take, drop, get_or, Option, Some, None, Equal, refl, ap, sym, subst, ◌∙◌, arith}
+use Rattle.std.proofs.Math.Seq.{drop-cons}
+use Rattle.std.proofs.lemmas.Cmp.{nat_list_cmp_total}
+use Rattle.std.proofs.lemmas.List.{append_assoc, append-nil, get_or-map}
+use Rattle.std.specs.BTreeMap.{is_at}
+use Rattle.std.specs.Int.{w64, from_be_bytes}
+use Rattle.std.specs.Map.{lookup}
+use Rattle.rhai_value.specs.Lists.{Row, row_of, rows, chunk_rows, joined, lists_of, rows_of, AreBelow, AreAbove, AreFronted, Begins, IsWhole}
+use Rattle.rhai_value.specs.Rows.{Rows, bytes_cmp, AreRising}
+use Rattle.rhai_value.specs.Seats.{list_at, row_at, rows_before, rows_from, rows_past, IsFound, IsMissing, IsOpen, IsSeated}
+use Rattle.rhai_value.specs.Tree.{Tree, fresh, unit}
+use Rattle.rhai_value.specs.declared.map.Chunk.{Chunk}
+use Rattle.rhai_value.specs.declared.map.Entry.{Entry}
+use Rattle.rhai_value.specs.declared.map.MapParts.{MapParts}
+use Rattle.rhai_value.specs.declared.map_seat.Seat.{Seat}
+use Rattle.rhai_value.proofs.ChunkFronts.{rising_left, rising_right}
+use Rattle.rhai_value.proofs.Lists.{joined_at}
+use Rattle.rhai_value.proofs.Parted.{lookup_hit, lookup_gap}
+
+-- ---- the front of a chunk
+
+pub begins_some : (f : ℕ) (es : List Entry) → Begins f es → 0 < length es
+begins_some f [] h = absurd h
+begins_some f (e ∷ es) h = omega arith
+
+pub begins_with : (f : ℕ) (es : List Entry) (d : Entry) → Begins f es → f ≡ from_be_bytes w64 (get_or es 0 d).key
+begins_with f [] d h = absurd h
+begins_with f (e ∷ es) d h = h
+
+pub fronted_at : (cs : List Chunk) (m : ℕ) (d : Chunk) → AreFronted cs → m < length cs → Begins (get_or cs m d).front (get_or cs m d).entries.items
+fronted_at [] m d h lt = absurd (omega arith)
+fronted_at (c ∷ cs) zero d h lt = h.0
+fronted_at (c ∷ cs) (suc m) d h lt = fronted_at cs m d h.1 (omega arith)
+
+pub rows_some : (es : List Entry) → 0 < length es → 0 < length (rows es)
+rows_some [] h = absurd (omega (arith, h))
+rows_some (e ∷ es) h = omega arith
+
+-- ---- a place
+
+pub rows_split : (p : MapParts) (s : Seat) → s.list < length (lists_of p) → rows_of p ≡ rows_before p s ++ rows_from p s
+rows_split p s lt = joined_at (lists_of p) s.list s.at lt
+
+pub rows_next : (p : MapParts) (s : Seat) → IsSeated p s → rows_from p s ≡ row_at p s ∷ rows_past p s
+rows_next p s h = ap (λ l. l ++ joined (drop (suc s.list) (lists_of p))) (drop-cons (list_at p s.list) s.at ([], fresh unit) h.within)
+
+pub rows_seated : (p : MapParts) (s : Seat) → IsSeated p s → rows_of p ≡ rows_before p s ++ row_at p s ∷ rows_past p s
+rows_seated p s h = rows_split p s h.list ∙ ap (λ l. rows_before p s ++ l) (rows_next p s h)
+
+pub list_rising : (p : MapParts) (s : Seat) → s.list < length (lists_of p) → AreRising (rows_of p) → AreRising (list_at p s.list)
+list_rising p s lt rising =
+    let first : Seat = record { list = s.list; at = 0 } in
+    let split = subst AreRising (rows_split p first lt) rising in
+    rising_left nat_list_cmp_total (list_at p s.list) (joined (drop (suc s.list) (lists_of p))) (rising_right nat_list_cmp_total (rows_before p first) (rows_from p first) split)
+
+-- ---- what is found at a place
+
+pub found_value : (k : List ℕ) (p : MapParts) (s : Seat) → IsFound k p s → lookup (is_at (bytes_cmp k)) (rows_of p) ≡ Some (row_at p s).1
+found_value k p s h = ap (lookup (is_at (bytes_cmp k))) (rows_seated p s h.seated) ∙ lookup_hit bytes_cmp k (rows_before p s) (rows_past p s) (row_at p s) h.below h.same
+
+pub missing_value : (k : List ℕ) (p : MapParts) (s : Seat) → IsMissing k p s → lookup (is_at (bytes_cmp k)) (rows_of p) ≡ None
+missing_value k p s h = ap (lookup (is_at (bytes_cmp k))) (rows_split p s h.open.list) ∙ lookup_gap bytes_cmp k (rows_before p s) (rows_from p s) h.below h.above

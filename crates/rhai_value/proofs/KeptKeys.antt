@@ -1,5 +1,5 @@
 -- Parts of a map of which the keys stay, and what walks make of the rows of parts.
-use Rattle.std.proofs.Common.{◌≡◌, ℕ, ◌+◌, List, [], ◌∷◌, ◌++◌, length, map, Option, Some, None, Global, refl, ap, ap₂, sym, subst, ◌∙◌, ⊥}
+use Rattle.std.proofs.Common.{◌≡◌, ℕ, ◌+◌, List, [], ◌∷◌, ◌++◌, length, map, Option, Some, None, Global, refl, ap, ap₂, sym, subst, ◌∙◌}
 use Rattle.std.proofs.lemmas.List.{length-map, map-append}
 use Rattle.std.proofs.lemmas.List.Elements.{All-nil}
 use Rattle.std.specs.Int.{w64, from_be_bytes}
@@ -83,7 +83,7 @@ whole_kept p q whole first rest len =
       rising = subst (IsStrictlySortedBy bytes_cmp) (sym same) whole.rising;
       texts = subst (All IsUtf8) (sym same) whole.texts;
       fronted = chunks_fronted q.rest.items (subst KeysFronted (sym rest) (keys_fronted p.rest.items whole.fronted));
-      counted = len ∙ whole.counted ∙ sym (length-map (λ r. r.0) (rows_of p)) ∙ sym (ap length same) ∙ length-map (λ r. r.0) (rows_of q);
+      counted = len ∙ whole.counted ∙ sym (length-map (rows_of p) (λ r. r.0)) ∙ sym (ap length same) ∙ length-map (rows_of q) (λ r. r.0);
     }
 
 -- ---- a scan of parts

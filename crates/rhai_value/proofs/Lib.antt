@@ -41,6 +41,7 @@ pub mod SameScans
 pub mod SameTrees
 pub mod SameWalks
 pub mod Scans
+pub mod SeatEdits
 pub mod Seats
 pub mod Sheds
 pub mod Stepped

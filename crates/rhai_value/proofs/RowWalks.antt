@@ -81,6 +81,31 @@ pub walk_end : {S X Y : Type 0} (view : X → Y) (f : S → Y → S × Y) (first
 walk_end view f first now xs old i n on long le e =
     ap (λ l. (now, map view l)) (settled xs old n e long ∙ sym (take_all i xs le)) ∙ on ∙ ap (λ l. scanned f first (map view l)) (take_all i old (omega (arith, le, long)))
 
+-- ---- the same where each item is changed by itself
+
+pure_scanned : {Y : Type 0} (g : Y → Y) (ys : List Y) → scanned (λ (v : Unit {0}) y. (v, g y)) tt ys ≡ (tt, map g ys)
+pure_scanned g [] = refl
+pure_scanned g (y ∷ ys) = ap (before (tt, g y)) (pure_scanned g ys)
+
+module _ {X Y : Type 0} (view : X → Y) (g : Y → Y) (xs old : List X) (i : ℕ) where
+  pub map_on : (x u : X) → map view (take i xs) ≡ map g (map view (take i old)) → drop i xs ≡ drop i old → i < length xs → length xs ≡ length old → x ≡ get_or xs i x → view u ≡ g (view x)
+      → map view (take (i + 1) (set xs i u)) ≡ map g (map view (take (i + 1) old))
+  map_on x u on rest lt long is did =
+      let f = λ (v : Unit {0}) y. (v, g y) in
+      let start : (tt, map view (take i xs)) ≡ scanned f tt (map view (take i old)) = ap (λ l. (tt, l)) on ∙ sym (pure_scanned g (map view (take i old))) in
+      ap (λ y. y.1) (walk_on view f tt tt tt xs old i x u start rest lt long is (ap (λ y. (tt, y)) did) ∙ pure_scanned g (map view (take (i + 1) old)))
+
+  pub map_end : (n : ℕ) → map view (take i xs) ≡ map g (map view (take i old)) → length xs ≡ length old → length xs ≤ i → n ≡ length old → map view (take n (xs ++ drop (length xs) old)) ≡ map g (map view old)
+  map_end n on long le e =
+      ap (map view) (settled xs old n e long ∙ sym (take_all i xs le)) ∙ on ∙ ap (λ l. map g (map view l)) (take_all i old (omega (arith, le, long)))
+
+-- a list of changed items that grows
+pub more_mapped : {X Z Y : Type 0} (view : X → Y) (seen : Z → Y) (g : Y → Y) (done : List Z) (xs : List X) (i : ℕ) (x : X) (z : Z) → map seen done ≡ map g (map view (take i xs)) → i < length xs → x ≡ get_or xs i x → seen z ≡ g (view x)
+    → map seen (done ++ z ∷ []) ≡ map g (map view (take (i + 1) xs))
+more_mapped view seen g done xs i x z on lt is did =
+    map-append seen done (z ∷ []) ∙ ap₂ (λ l y. l ++ y ∷ []) on did
+    ∙ sym (map-append g (map view (take i xs)) (view x ∷ [])) ∙ ap (map g) (sym (map-append view (take i xs) (x ∷ []))) ∙ ap (λ l. map g (map view l)) (sym (taken_more xs i x lt is))
+
 -- ---- what walks make of fields
 
 pub rows_scanned : {S : Type 0} (f : Visiting S) (v : S) (rs : Rows) → fields_scanned f v (fields_of rs) ≡ ((scanned (row_scanned f) v rs).0, fields_of (scanned (row_scanned f) v rs).1)

@@ -23,7 +23,7 @@ most_trees (t ∷ ts) = omega (arith, most_trees ts)
 
 -- the nodes of rows one after another
 pub nodes_joined : (rs qs : Rows) → nodes_fields (fields_of (rs ++ qs)) ≡ nodes_fields (fields_of rs) + nodes_fields (fields_of qs)
-nodes_joined [] qs = refl
+nodes_joined [] qs = omega arith
 nodes_joined (r ∷ rs) qs = omega (arith, nodes_joined rs qs)
 
 most_entries : (es : List Entry) → most deep-Entry es ≤ map_size (rows es)

@@ -1,0 +1,120 @@
+-- What a write, an entry that comes and an entry that goes make of the rows around a place.
+use Rattle.std.proofs.Common.{◌≡◌, ℕ, zero, suc, ◌+◌, ◌<◌, ◌≤◌, List, [], ◌∷◌, ◌++◌, length, map, take, drop, set, get_or, refl, ap, ap₂, sym, subst, ◌∙◌, arith}
+use Rattle.std.proofs.lemmas.List.{append_assoc, append-nil, get_or-map, get_or-set_same, length-map, map-append, map-set, take-set}
+use Rattle.std.specs.Int.{w64, from_be_bytes}
+use Rattle.std.specs.List.{All, insert, remove}
+use Rattle.std.specs.List.Sorted.{IsStrictlySortedBy}
+use Rattle.std.specs.Map.{keys_of}
+use Rattle.std.specs.Str.{IsUtf8}
+use Rattle.rhai_value.specs.Lists.{Row, row_of, rows, chunk_rows, joined, lists_of, rows_of, AreBelow, AreAbove, AreFronted, Begins, IsWhole}
+use Rattle.rhai_value.specs.Rows.{Rows, bytes_cmp, AreRising, AreTexts}
+use Rattle.rhai_value.specs.Seats.{list_at, row_at, rows_before, rows_from, rows_past, IsOpen, IsSeated}
+use Rattle.rhai_value.specs.Tree.{Tree, fresh, unit}
+use Rattle.rhai_value.specs.declared.map.Chunk.{Chunk}
+use Rattle.rhai_value.specs.declared.map.Entry.{Entry}
+use Rattle.rhai_value.specs.declared.map.MapParts.{MapParts}
+use Rattle.rhai_value.specs.declared.map_seat.Seat.{Seat}
+use Rattle.rhai_value.proofs.Lists.{keys_valued}
+use Rattle.rhai_value.proofs.Seats.{rows_seated}
+
+-- ---- lists in which one is changed
+
+before_set : {A : Type 0} (ls : List A) (n : ℕ) (l : A) → take n (set ls n l) ≡ take n ls
+before_set ls n l = take-set ls n l
+
+behind_set : {A : Type 0} (ls : List A) (n : ℕ) (l : A) → drop (suc n) (set ls n l) ≡ drop (suc n) ls
+behind_set [] zero l = refl
+behind_set [] (suc n) l = refl
+behind_set (x ∷ xs) zero l = refl
+behind_set (x ∷ xs) (suc n) l = behind_set xs n l
+
+length_set : {A : Type 0} (ls : List A) (n : ℕ) (l : A) → length (set ls n l) ≡ length ls
+length_set [] zero l = refl
+length_set [] (suc n) l = refl
+length_set (x ∷ xs) zero l = refl
+length_set (x ∷ xs) (suc n) l = ap suc (length_set xs n l)
+
+pub joined_set : {A : Type 0} (ls : List (List A)) (n : ℕ) (l : List A) → n < length ls → joined (set ls n l) ≡ joined (take n ls) ++ (l ++ joined (drop (suc n) ls))
+joined_set [] n l lt = absurd (omega arith)
+joined_set (x ∷ xs) zero l lt = refl
+joined_set (x ∷ xs) (suc n) l lt = ap (λ y. x ++ y) (joined_set xs n l (omega arith)) ∙ sym (append_assoc x (joined (take n xs)) (l ++ joined (drop (suc n) xs)))
+
+-- ---- the value at a place is changed
+
+module _ (p q : MapParts) (s : Seat) (h : IsSeated p s) (r : Row) (is : lists_of q ≡ set (lists_of p) s.list (set (list_at p s.list) s.at r)) where
+  list_written : list_at q s.list ≡ set (list_at p s.list) s.at r
+  list_written = ap (λ ls. get_or ls s.list []) is ∙ get_or-set_same (lists_of p) s.list (set (list_at p s.list) s.at r) [] h.list
+
+  pub written_before : rows_before q s ≡ rows_before p s
+  written_before = ap₂ (λ ls l. joined ls ++ l) (ap (take s.list) is ∙ before_set (lists_of p) s.list (set (list_at p s.list) s.at r)) (ap (take s.at) list_written ∙ before_set (list_at p s.list) s.at r)
+
+  pub written_past : rows_past q s ≡ rows_past p s
+  written_past = ap₂ (λ l ls. l ++ joined ls) (ap (drop (suc s.at)) list_written ∙ behind_set (list_at p s.list) s.at r) (ap (drop (suc s.list)) is ∙ behind_set (lists_of p) s.list (set (list_at p s.list) s.at r))
+
+  pub written_row : row_at q s ≡ r
+  written_row = ap (λ l. get_or l s.at ([], fresh unit)) list_written ∙ get_or-set_same (list_at p s.list) s.at r ([], fresh unit) h.within
+
+  pub written_seated : IsSeated q s
+  written_seated = record {
+    list = subst (λ n. s.list < n) (sym (ap length is ∙ length_set (lists_of p) s.list (set (list_at p s.list) s.at r))) h.list;
+    within = subst (λ n. s.at < n) (sym (ap length list_written ∙ length_set (list_at p s.list) s.at r)) h.within;
+  }
+
+  -- the parts stay whole where the key stays
+  pub written_whole : r.0 ≡ (row_at p s).0 → AreFronted q.rest.items → q.len ≡ p.len → IsWhole p → IsWhole q
+  written_whole key fronted len whole =
+      let now : rows_of q ≡ rows_before p s ++ r ∷ rows_past p s = rows_seated q s written_seated ∙ ap₂ (λ xs ys. xs ++ row_at q s ∷ ys) written_before written_past ∙ ap (λ x. rows_before p s ++ x ∷ rows_past p s) written_row in
+      let same : keys_of (rows_of q) ≡ keys_of (rows_of p) =
+      ap keys_of now ∙ ap (λ k. keys_of (rows_before p s ++ (k, r.1) ∷ rows_past p s)) key ∙ keys_valued (row_at p s).0 r.1 (row_at p s).1 (rows_before p s) (rows_past p s) ∙ sym (ap keys_of (rows_seated p s h)) in
+      record {
+        rising = subst (IsStrictlySortedBy bytes_cmp) (sym same) whole.rising;
+        texts = subst (All IsUtf8) (sym same) whole.texts;
+        fronted = fronted;
+        counted = len ∙ whole.counted ∙ sym (length-map (rows_of p) (λ x. x.0)) ∙ sym (ap length same) ∙ length-map (rows_of q) (λ x. x.0);
+      }
+
+-- ---- the lists once an entry is changed
+
+pub rows_set : (es : List Entry) (i : ℕ) (e : Entry) → rows (set es i e) ≡ set (rows es) i (row_of e)
+rows_set es i e = map-set row_of es i e
+
+pub first_set : (p q : MapParts) (l : Rows) → rows q.first.items ≡ l → q.rest.items ≡ p.rest.items → lists_of q ≡ set (lists_of p) 0 l
+first_set p q l first rest = ap₂ (λ x cs. x ∷ map chunk_rows cs) first rest
+
+pub chunk_set : (p q : MapParts) (m : ℕ) (c : Chunk) (l : Rows) → q.first.items ≡ p.first.items → q.rest.items ≡ set p.rest.items m c → chunk_rows c ≡ l → lists_of q ≡ set (lists_of p) (suc m) l
+chunk_set p q m c l first rest is = ap₂ (λ es cs. rows es ∷ map chunk_rows cs) first rest ∙ ap (λ ls. rows p.first.items ∷ ls) (map-set chunk_rows p.rest.items m c ∙ ap (set (map chunk_rows p.rest.items) m) is)
+
+pub begins_set : (f : ℕ) (es : List Entry) (i : ℕ) (e d : Entry) → Begins f es → i < length es → e.key ≡ (get_or es i d).key → Begins f (set es i e)
+begins_set f [] i e d h lt same = absurd h
+begins_set f (x ∷ xs) zero e d h lt same = h ∙ ap (from_be_bytes w64) (sym same)
+begins_set f (x ∷ xs) (suc i) e d h lt same = h
+
+pub fronted_set : (cs : List Chunk) (m : ℕ) (c : Chunk) → AreFronted cs → Begins c.front c.entries.items → AreFronted (set cs m c)
+fronted_set [] zero c h b = h
+fronted_set [] (suc m) c h b = h
+fronted_set (x ∷ xs) zero c h b = (b, h.1)
+fronted_set (x ∷ xs) (suc m) c h b = (h.0, fronted_set xs m c h.1 b)
+
+-- ---- an entry comes
+
+module _ (p q : MapParts) (s : Seat) (h : IsOpen p s) (r : Row) (is : lists_of q ≡ set (lists_of p) s.list (insert (list_at p s.list) s.at r)) where
+  pub rows_put : rows_of q ≡ rows_before p s ++ r ∷ rows_from p s
+  rows_put =
+      let up = take s.at (list_at p s.list) in
+      let down = drop s.at (list_at p s.list) in
+      let later = joined (drop (suc s.list) (lists_of p)) in
+      ap joined is ∙ joined_set (lists_of p) s.list (insert (list_at p s.list) s.at r) h.list
+      ∙ ap (λ l. joined (take s.list (lists_of p)) ++ l) (append_assoc up (r ∷ down) later)
+      ∙ sym (append_assoc (joined (take s.list (lists_of p))) up (r ∷ (down ++ later)))
+
+-- ---- an entry goes
+
+module _ (p q : MapParts) (s : Seat) (h : IsSeated p s) (is : lists_of q ≡ set (lists_of p) s.list (remove (list_at p s.list) s.at)) where
+  pub rows_taken : rows_of q ≡ rows_before p s ++ rows_past p s
+  rows_taken =
+      let up = take s.at (list_at p s.list) in
+      let down = drop (suc s.at) (list_at p s.list) in
+      let later = joined (drop (suc s.list) (lists_of p)) in
+      ap joined is ∙ joined_set (lists_of p) s.list (remove (list_at p s.list) s.at) h.list
+      ∙ ap (λ l. joined (take s.list (lists_of p)) ++ l) (append_assoc up down later)
+      ∙ sym (append_assoc (joined (take s.list (lists_of p))) up (down ++ later))

@@ -1,0 +1,29 @@
+use Rattle.std.proofs.Common.{◌∙◌, ap, length-set, arith, rules}
+use Rattle.rhai_value.specs.Hollow.{exchanged, parted}
+use Rattle.rhai_value.specs.RowWalks.{chunk_scanned, chunk_view}
+use Rattle.rhai_value.proofs.RowWalks.{walk_on, walk_rest, walk_end}
+use Rattle.rhai_value.proofs.exchange.exchange_chunks.Goals as goal
+
+pub loop-chunk-preserved : goal.loop-chunk-preserved
+loop-chunk-preserved c =
+    let i = c.loop-chunk.invariant in
+    let xs = c.loop-chunk.chunk-items in
+    let old = c.args.rest.now.items in
+    let n = c.loop-chunk.chunk-index in
+    let f = chunk_scanned exchanged in
+    let first = parted c.args.values.now.items c.args.from in
+    let now = parted c.loop-chunk.values.items c.loop-chunk.at in
+    let later = parted c.exchange_entries.new.values.items c.exchange_entries.result in
+    let x = c.chunk-item.result in
+    let u = record x { entries = c.exchange_entries.new.entries } in
+    let did = ap (λ y. (y.0, (x.front, y.1))) c.exchange_entries.ensures in
+    record {
+      on = walk_on chunk_view f first now later xs old n x u i.on i.rest (omega arith) i.long c.chunk-item.is did;
+      rest = walk_rest chunk_view f first now later xs old n x u i.on i.rest (omega arith) i.long c.chunk-item.is did;
+      long = length-set xs n u ∙ i.long;
+    }
+
+pub returns : goal.returns
+returns c =
+    let i = c.loop-chunk.invariant in
+    walk_end chunk_view (chunk_scanned exchanged) (parted c.args.values.now.items c.args.from) (parted c.loop-chunk.values.items c.loop-chunk.at) c.loop-chunk.chunk-items c.args.rest.now.items c.loop-chunk.chunk-index c.args.rest.now.len i.on i.long (omega arith) (search rules)

@@ -42,6 +42,7 @@ pub mod SameTrees
 pub mod SameWalks
 pub mod Scans
 pub mod SeatEdits
+pub mod SeatResults
 pub mod Seats
 pub mod Sheds
 pub mod Stepped

@@ -52,7 +52,7 @@ same_behind xs ys i same = from xs i ∙ ap (drop 1) same ∙ sym (from ys i)
   where
     from : {X : Type 0} (xs : List X) (i : ℕ) → drop (i + 1) xs ≡ drop 1 (drop i xs)
     from [] zero = refl
-    from [] (suc i) = refl
+    from [] (suc i) = let e : suc i + 1 ≡ suc (i + 1) = omega arith in ap (λ k. drop k []) e
     from (y ∷ ys) zero = refl
     from (y ∷ ys) (suc i) = let e : suc i + 1 ≡ suc (i + 1) = omega arith in ap (λ k. drop k (y ∷ ys)) e ∙ from ys i
 
@@ -91,7 +91,7 @@ module _ {X Y : Type 0} (view : X → Y) (g : Y → Y) (xs old : List X) (i : �
   pub map_on : (x u : X) → map view (take i xs) ≡ map g (map view (take i old)) → drop i xs ≡ drop i old → i < length xs → length xs ≡ length old → x ≡ get_or xs i x → view u ≡ g (view x)
       → map view (take (i + 1) (set xs i u)) ≡ map g (map view (take (i + 1) old))
   map_on x u on rest lt long is did =
-      let f = λ (v : Unit {0}) y. (v, g y) in
+      let f : Unit {0} → Y → Unit {0} × Y = λ v y. (v, g y) in
       let start : (tt, map view (take i xs)) ≡ scanned f tt (map view (take i old)) = ap (λ l. (tt, l)) on ∙ sym (pure_scanned g (map view (take i old))) in
       ap (λ y. y.1) (walk_on view f tt tt tt xs old i x u start rest lt long is (ap (λ y. (tt, y)) did) ∙ pure_scanned g (map view (take (i + 1) old)))
 

@@ -1,8 +1,9 @@
 -- Places in a map's lists.
 use Rattle.std.proofs.Common.{◌≡◌, ℕ, zero, suc, ◌+◌, ◌<◌, ◌≤◌, List, [], ◌∷◌, ◌++◌, length, map, take, drop, get_or, Option, Some, None, Equal, refl, ap, sym, subst, ◌∙◌, arith}
+use Rattle.std.proofs.Math.ListN.{drop_of_length-le}
 use Rattle.std.proofs.Math.Seq.{drop-cons}
 use Rattle.std.proofs.lemmas.Cmp.{nat_list_cmp_total}
-use Rattle.std.proofs.lemmas.List.{append_assoc, append-nil, get_or-map}
+use Rattle.std.proofs.lemmas.List.{append_assoc, append-nil, get_or-map, length-map, take_all}
 use Rattle.std.specs.BTreeMap.{is_at}
 use Rattle.std.specs.Int.{w64, from_be_bytes}
 use Rattle.std.specs.Map.{lookup}
@@ -60,4 +61,35 @@ pub found_value : (k : List ℕ) (p : MapParts) (s : Seat) → IsFound k p s →
 found_value k p s h = ap (lookup (is_at (bytes_cmp k))) (rows_seated p s h.seated) ∙ lookup_hit bytes_cmp k (rows_before p s) (rows_past p s) (row_at p s) h.below h.same
 
 pub missing_value : (k : List ℕ) (p : MapParts) (s : Seat) → IsMissing k p s → lookup (is_at (bytes_cmp k)) (rows_of p) ≡ None
-missing_value k p s h = ap (lookup (is_at (bytes_cmp k))) (rows_split p s h.open.list) ∙ lookup_gap bytes_cmp k (rows_before p s) (rows_from p s) h.below h.above
+missing_value k p s h = ap (lookup (is_at (bytes_cmp k))) (rows_split p s h.seat.list) ∙ lookup_gap bytes_cmp k (rows_before p s) (rows_from p s) h.below h.above
+
+-- ---- from the end of a list to the next
+
+joined_taken : {A : Type 0} (ls : List (List A)) (n : ℕ) → n < length ls → joined (take (suc n) ls) ≡ joined (take n ls) ++ get_or ls n []
+joined_taken [] n lt = absurd (omega arith)
+joined_taken (l ∷ ls) zero lt = append-nil l
+joined_taken (l ∷ ls) (suc n) lt = ap (λ x. l ++ x) (joined_taken ls n (omega arith)) ∙ sym (append_assoc l (joined (take n ls)) (get_or ls n []))
+
+joined_dropped : {A : Type 0} (ls : List (List A)) (n : ℕ) → n < length ls → joined (drop n ls) ≡ get_or ls n [] ++ joined (drop (suc n) ls)
+joined_dropped [] n lt = absurd (omega arith)
+joined_dropped (l ∷ ls) zero lt = refl
+joined_dropped (l ∷ ls) (suc n) lt = joined_dropped ls n (omega arith)
+
+chunk_some : (p : MapParts) (m : ℕ) → AreFronted p.rest.items → m < length p.rest.items → 0 < length (list_at p (suc m))
+chunk_some p m h lt = some p.rest.items m h lt
+  where
+    some : (cs : List Chunk) (m : ℕ) → AreFronted cs → m < length cs → 0 < length (get_or (map chunk_rows cs) m [])
+    some [] m h lt = absurd (omega arith)
+    some (c ∷ cs) zero h lt = rows_some c.entries.items (begins_some c.front c.entries.items h.0)
+    some (c ∷ cs) (suc m) h lt = some cs m h.1 (omega arith)
+
+pub next_list : (p : MapParts) (s : Seat) → IsWhole p → IsOpen p s → length (list_at p s.list) ≤ s.at → s.list < length p.rest.items → (n : ℕ) → n ≡ suc s.list
+    → IsSeated p (record { list = n; at = 0 }) × (rows_before p (record { list = n; at = 0 }) ≡ rows_before p s) × (rows_from p (record { list = n; at = 0 }) ≡ rows_from p s)
+next_list p s whole open end lt n is =
+    let l = list_at p s.list in
+    let later : suc s.list < length (lists_of p) = omega (arith, lt, length-map p.rest.items chunk_rows) in
+    let before : joined (take (suc s.list) (lists_of p)) ++ [] ≡ rows_before p s =
+    append-nil (joined (take (suc s.list) (lists_of p))) ∙ joined_taken (lists_of p) s.list open.list ∙ ap (λ x. joined (take s.list (lists_of p)) ++ x) (sym (take_all s.at l end)) in
+    let from : list_at p (suc s.list) ++ joined (drop (suc (suc s.list)) (lists_of p)) ≡ rows_from p s =
+    sym (joined_dropped (lists_of p) (suc s.list) later) ∙ ap (λ x. x ++ joined (drop (suc s.list) (lists_of p))) (sym (drop_of_length-le l end)) in
+    rw is (record { list = later; within = chunk_some p s.list whole.fronted lt }, before, from)

@@ -45,7 +45,7 @@ pub record IsOpen (p : MapParts) (s : Seat) : Type 0 where
 
 -- k would stand at a place
 pub record IsMissing (k : List ℕ) (p : MapParts) (s : Seat) : Type 0 where
-  pub open : IsOpen p s
+  pub seat : IsOpen p s
   pub below : AreBelow bytes_cmp k (rows_before p s)
   pub above : AreAbove bytes_cmp k (rows_from p s)
 

@@ -1,5 +1,5 @@
 //! Where the entries of a map stand.
-ghost use Rattle.std.specs.Prelude.{◌≡◌, ◌+◌, ◌<◌, ◌≤◌, ℕ, List, length, take, drop, map, slice_index_or, IfOk, IfErr, MatchOption, []};
+ghost use Rattle.std.specs.Prelude.{◌≡◌, ◌+◌, ◌<◌, ◌≤◌, ◌++◌, ℕ, [], length, take, drop, map, slice_index_or, IfOk, IfErr, MatchOption};
 ghost use Rattle.rhai_value.specs.Lists.{chunk_rows, joined, lists_of, rows, rows_of, AreAbove, AreBelow, AreFronted, Begins, IsWhole, Row};
 ghost use Rattle.rhai_value.specs.Rows.{bytes_cmp, AreRising, Rows};
 ghost use Rattle.rhai_value.specs.Seats.{list_at, row_at, rows_before, rows_from, IsFound, IsMissing, IsOpen, IsSeated};

@@ -3,6 +3,7 @@
 use crate::dynamic::Dynamic;
 use crate::key::Key;
 use crate::map_entries::{Entries, Keys, Values};
+use crate::sought::Sought;
 use std::alloc::Global;
 use std::marker::Model;
 
@@ -135,7 +136,10 @@ impl Map {
         ensures value { option_copied_mut result ≡ lookup (is_at (bytes_cmp key.now)) self.old }
     {
         match &mut self.parts {
-            Some(parts) => parts.get_mut(key),
+            Some(parts) => match parts.seat(&Sought::of(key)) {
+                Ok(seat) => Some(parts.value_at_mut(seat)),
+                Err(_) => None,
+            },
             None => None,
         }
     }

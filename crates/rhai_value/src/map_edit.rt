@@ -1,8 +1,12 @@
 //! Entries that come into the lists of a map, and that go.
-ghost use Rattle.std.specs.Prelude.{◌≡◌, ◌+◌, ◌<◌, ◌≤◌, ◌++◌, ◌∷◌, length, take, drop, IsTrue, IfSome, OnSome, MatchOption, vec_len, vec_capacity};
+ghost use Rattle.std.specs.Prelude.{◌≡◌, ◌+◌, ◌<◌, ◌≤◌, ◌++◌, ◌∷◌, length, map, take, drop, slice_set, slice_index_or, IsTrue, IfSome, MatchOption, vec_len, vec_capacity};
+ghost use Rattle.std.specs.List.{insert, remove};
 ghost use Rattle.std.specs.Str.{IsUtf8};
-ghost use Rattle.rhai_value.specs.Lists.{row_of, rows_of, IsWhole};
-ghost use Rattle.rhai_value.specs.Seats.{row_at, rows_before, rows_from, rows_past, HasRoom, IsOpen, IsSeated};
+ghost use Rattle.rhai_value.specs.Lists.{lists_of, row_of, rows, rows_of, AreFronted, Begins, IsWhole};
+ghost use Rattle.rhai_value.specs.RowWalks.{chunk_view};
+ghost use Rattle.rhai_value.specs.Rows.{AreRising};
+ghost use Rattle.rhai_value.specs.Seats.{entry_at, list_at, row_at, rows_before, rows_from, rows_past, HasRoom, IsOpen, IsSeated};
+ghost use Rattle.rhai_value.specs.declared.map.Chunk.{Chunk};
 
 use crate::dynamic::Dynamic;
 use crate::key::Key;
@@ -117,9 +121,13 @@ impl MapParts {
         }
     }
 
+    /// Takes the entries from a place on out of the list of a number; `None` where memory for them is refused.
     fn cut_list(&mut self, number: usize, from: usize) -> Option<Vec<Entry>>
         requires list { number < length (lists_of self.old) }
-        requires within { from < length (list_at self.old number) }
+        requires within { (0 < from) × (from < length (list_at self.old number)) }
+        requires fronted { AreFronted self.old.rest.items }
+        ensures lists { MatchOption result (lists_of self.new ≡ lists_of self.old) (λ upper. (lists_of self.new ≡ slice_set (lists_of self.old) number (take from (list_at self.old number))) × (rows upper.items ≡ drop from (list_at self.old number))) }
+        ensures fronted { AreFronted self.new.rest.items }
         ensures len { self.new.len ≡ self.old.len }
         ensures count { vec_len self.new.rest ≡ vec_len self.old.rest }
         ensures room { vec_capacity self.new.rest ≡ vec_capacity self.old.rest }

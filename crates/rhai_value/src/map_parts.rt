@@ -1,12 +1,11 @@
 //! The lists of a map that has had an entry.
-ghost use Rattle.std.specs.Prelude.{◌≡◌, ◌+◌, ◌<◌, ◌≤◌, true, [], ◌∷◌, ◌++◌, None, length, option_copied, IfOk, IfErr, IfSome, IfNone, OnOk, OnErr, MatchOption, slice_set, string_bytes, vec_len, vec_capacity, IsTrue};
+ghost use Rattle.std.specs.Prelude.{◌≡◌, ◌<◌, [], None, length, option_copied, IfOk, IfErr, OnOk, OnErr, slice_set, string_bytes};
 ghost use Rattle.std.specs.BTreeMap.{insert_entry, is_at};
-ghost use Rattle.std.specs.Borrow.{Lends, LendsIf, sem};
-ghost use Rattle.std.specs.Map.{lookup, remove_entry, set_value};
-ghost use Rattle.std.specs.Option.{option_copied_mut};
+ghost use Rattle.std.specs.Borrow.{Lends, sem};
+ghost use Rattle.std.specs.Map.{lookup, remove_entry};
 ghost use Rattle.rhai_value.specs.Lists.{rows_of, IsWhole};
 ghost use Rattle.rhai_value.specs.Rows.{bytes_cmp};
-ghost use Rattle.rhai_value.specs.Seats.{row_at, rows_before, rows_past, with_key_value, with_tree, with_value, IsSeated};
+ghost use Rattle.rhai_value.specs.Seats.{entry_at, row_at, rows_before, rows_past, with_value, IsSeated};
 ghost use Rattle.rhai_value.specs.contracts.dynamic.Dynamic as dynamic_type;
 ghost use Rattle.rhai_value.specs.contracts.map.MapParts as parts_type;
 
@@ -60,7 +59,7 @@ impl MapParts {
 
     /// The value at a place, to write to.
     #[inline(always)]
-    fn value_at_mut(&mut self, seat: Seat) -> &mut Dynamic
+    pub(crate) fn value_at_mut(&mut self, seat: Seat) -> &mut Dynamic
         requires { IsSeated self.old seat }
         ensures* writes_back { sem 𝓛 (Lends parts_type.the_row dynamic_type.the_row self.entry result (with_value self.old seat)) }
         ensures value { result.now ≡ (row_at self.old seat).1 }
@@ -69,17 +68,6 @@ impl MapParts {
             &mut self.first[seat.at].value
         } else {
             &mut self.rest[seat.list - 1].entries[seat.at].value
-        }
-    }
-
-    pub(crate) fn get_mut(&mut self, key: &str) -> Option<&mut Dynamic>
-        requires { IsWhole self.old }
-        ensures* writes_back { sem 𝓛 (LendsIf parts_type.the_row dynamic_type.the_row self.entry result (with_key_value self.old key.now) self.old) }
-        ensures value { option_copied_mut result ≡ lookup (is_at (bytes_cmp key.now)) (rows_of self.old) }
-    {
-        match self.seat(&Sought::of(key)) {
-            Ok(seat) => Some(self.value_at_mut(seat)),
-            Err(_) => None,
         }
     }
 

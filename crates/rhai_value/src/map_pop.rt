@@ -1,9 +1,10 @@
 //! First and last entries of a map.
-ghost use Rattle.std.specs.Prelude.{◌≡◌, ◌+◌, ◌<◌, [], ◌∷◌, ◌++◌, IfOk, IfErr, IfNone, OnErr, MatchOption, string_bytes};
-ghost use Rattle.rhai_value.specs.Lists.{row_of, rows_of, IsWhole};
-ghost use Rattle.rhai_value.specs.Rows.{fields_of};
-ghost use Rattle.rhai_value.specs.Seats.{row_at, rows_before, IsSeated};
-ghost use Rattle.rhai_value.specs.Tree.{nodes, nodes_fields};
+ghost use Rattle.std.specs.Prelude.{◌≡◌, ◌+◌, ◌<◌, [], ◌∷◌, IfOk, IfErr, IfNone, OnErr, MatchOption, string_bytes};
+ghost use Rattle.std.specs.Option.{option_to_list};
+ghost use Rattle.rhai_value.specs.Lists.{rows_of, IsWhole};
+ghost use Rattle.rhai_value.specs.Rows.{Rows, fields_of, trees_of};
+ghost use Rattle.rhai_value.specs.Seats.{rows_before, rows_past, IsSeated};
+ghost use Rattle.rhai_value.specs.Tree.{Tree, nodes, nodes_fields, nodes_trees};
 
 use crate::dynamic::Dynamic;
 use crate::key::Key;

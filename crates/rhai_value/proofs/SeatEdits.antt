@@ -14,8 +14,8 @@ use Rattle.rhai_value.specs.declared.map.Chunk.{Chunk}
 use Rattle.rhai_value.specs.declared.map.Entry.{Entry}
 use Rattle.rhai_value.specs.declared.map.MapParts.{MapParts}
 use Rattle.rhai_value.specs.declared.map_seat.Seat.{Seat}
-use Rattle.rhai_value.proofs.Lists.{keys_valued}
-use Rattle.rhai_value.proofs.Seats.{rows_seated}
+use Rattle.rhai_value.proofs.Lists.{keys_valued, rising_taken, texts_put, texts_taken}
+use Rattle.rhai_value.proofs.Seats.{rows_seated, rows_split}
 
 -- ---- lists in which one is changed
 
@@ -118,3 +118,68 @@ module _ (p q : MapParts) (s : Seat) (h : IsSeated p s) (is : lists_of q ≡ set
       ap joined is ∙ joined_set (lists_of p) s.list (remove (list_at p s.list) s.at) h.list
       ∙ ap (λ l. joined (take s.list (lists_of p)) ++ l) (append_assoc up down later)
       ∙ sym (append_assoc (joined (take s.list (lists_of p))) up (down ++ later))
+
+pub rows_insert : (es : List Entry) (i : ℕ) (e : Entry) → rows (insert es i e) ≡ insert (rows es) i (row_of e)
+rows_insert [] zero e = refl
+rows_insert [] (suc i) e = refl
+rows_insert (x ∷ xs) zero e = refl
+rows_insert (x ∷ xs) (suc i) e = ap (λ l. row_of x ∷ l) (rows_insert xs i e)
+
+pub rows_remove : (es : List Entry) (i : ℕ) → rows (remove es i) ≡ remove (rows es) i
+rows_remove [] zero = refl
+rows_remove [] (suc i) = refl
+rows_remove (x ∷ xs) zero = refl
+rows_remove (x ∷ xs) (suc i) = ap (λ l. row_of x ∷ l) (rows_remove xs i)
+
+-- ---- parts stay whole
+
+length_joined : {A : Type 0} (xs ys : List A) → length (xs ++ ys) ≡ length xs + length ys
+length_joined [] ys = omega arith
+length_joined (x ∷ xs) ys = omega (arith, length_joined xs ys)
+
+module _ (p q : MapParts) (s : Seat) (whole : IsWhole p) (fronted : AreFronted q.rest.items) where
+  pub put_whole : (r : Row) → IsOpen p s → rows_of q ≡ rows_before p s ++ r ∷ rows_from p s → AreRising (rows_before p s ++ r ∷ rows_from p s) → IsUtf8 r.0 → q.len ≡ p.len + 1 → IsWhole q
+  put_whole r h is rising text len =
+      let split = rows_split p s h.list in
+      let count = ap length split ∙ length_joined (rows_before p s) (rows_from p s) in
+      record {
+        rising = subst AreRising (sym is) rising;
+        texts = subst AreTexts (sym is) (texts_put r.0 r.1 (rows_before p s) (rows_from p s) text (subst AreTexts split whole.texts));
+        fronted = fronted;
+        counted = omega (arith, len, whole.counted, count, ap length is ∙ length_joined (rows_before p s) (r ∷ rows_from p s));
+      }
+
+  pub taken_whole : IsSeated p s → rows_of q ≡ rows_before p s ++ rows_past p s → q.len + 1 ≡ p.len → IsWhole q
+  taken_whole h is len =
+      let split = rows_seated p s h in
+      let count = ap length split ∙ length_joined (rows_before p s) (row_at p s ∷ rows_past p s) in
+      record {
+        rising = subst AreRising (sym is) (rising_taken (row_at p s) (rows_before p s) (rows_past p s) (subst AreRising split whole.rising));
+        texts = subst AreTexts (sym is) (texts_taken (row_at p s) (rows_before p s) (rows_past p s) (subst AreTexts split whole.texts));
+        fronted = fronted;
+        counted = omega (arith, len, whole.counted, count, ap length is ∙ length_joined (rows_before p s) (rows_past p s));
+      }
+
+-- ---- a chunk that became empty goes
+
+pub removed_set : {A : Type 0} (cs : List A) (m : ℕ) (c : A) → remove (set cs m c) m ≡ remove cs m
+removed_set [] zero c = refl
+removed_set [] (suc m) c = refl
+removed_set (x ∷ xs) zero c = refl
+removed_set (x ∷ xs) (suc m) c = ap (λ l. x ∷ l) (removed_set xs m c)
+
+pub fronted_removed : (cs : List Chunk) (m : ℕ) → AreFronted cs → AreFronted (remove cs m)
+fronted_removed [] zero h = h
+fronted_removed [] (suc m) h = h
+fronted_removed (c ∷ cs) zero h = h.1
+fronted_removed (c ∷ cs) (suc m) h = (h.0, fronted_removed cs m h.1)
+
+pub joined_removed : (cs : List Chunk) (m : ℕ) (d : Chunk) → length (get_or cs m d).entries.items ≡ 0 → joined (map chunk_rows (remove cs m)) ≡ joined (map chunk_rows cs)
+joined_removed [] zero d h = refl
+joined_removed [] (suc m) d h = refl
+joined_removed (c ∷ cs) zero d h = none c.entries.items h
+  where
+    none : (es : List Entry) → length es ≡ 0 → joined (map chunk_rows cs) ≡ rows es ++ joined (map chunk_rows cs)
+    none [] h = refl
+    none (e ∷ es) h = cc
+joined_removed (c ∷ cs) (suc m) d h = ap (λ l. chunk_rows c ++ l) (joined_removed cs m d h)

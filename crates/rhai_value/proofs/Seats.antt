@@ -1,5 +1,5 @@
 -- Places in a map's lists.
-use Rattle.std.proofs.Common.{◌≡◌, ℕ, zero, suc, ◌+◌, ◌<◌, ◌≤◌, List, [], ◌∷◌, ◌++◌, length, map, take, drop, get_or, Option, Some, None, Equal, refl, ap, sym, subst, ◌∙◌, arith}
+use Rattle.std.proofs.Common.{◌≡◌, ℕ, zero, suc, ◌+◌, ◌<◌, ◌≤◌, List, [], ◌∷◌, ◌++◌, length, map, take, drop, get_or, Option, Some, None, Equal, refl, ap, ap₂, sym, subst, ◌∙◌, arith}
 use Rattle.std.proofs.Math.ListN.{drop_of_length-le}
 use Rattle.std.proofs.Math.Seq.{drop-cons}
 use Rattle.std.proofs.lemmas.Cmp.{nat_list_cmp_total}
@@ -93,3 +93,46 @@ next_list p s whole open end lt n is =
     let from : list_at p (suc s.list) ++ joined (drop (suc (suc s.list)) (lists_of p)) ≡ rows_from p s =
     sym (joined_dropped (lists_of p) (suc s.list) later) ∙ ap (λ x. x ++ joined (drop (suc s.list) (lists_of p))) (sym (drop_of_length-le l end)) in
     rw is (record { list = later; within = chunk_some p s.list whole.fronted lt }, before, from)
+
+-- ---- the first and the last entry
+
+empty_rows : (es : List Entry) → length es ≡ 0 → rows es ≡ []
+empty_rows [] h = refl
+empty_rows (e ∷ es) h = cc
+
+pub no_rows : (p : MapParts) → length p.first.items ≡ 0 → length p.rest.items ≡ 0 → rows_of p ≡ []
+no_rows p first rest = ap (λ l. l ++ joined (map chunk_rows p.rest.items)) (empty_rows p.first.items first) ∙ none p.rest.items rest
+  where
+    none : (cs : List Chunk) → length cs ≡ 0 → joined (map chunk_rows cs) ≡ []
+    none [] h = refl
+    none (c ∷ cs) h = cc
+
+pub first_seated : (p : MapParts) → 0 < length p.first.items → IsSeated p (record { list = 0; at = 0 })
+first_seated p some = record { list = omega arith; within = rows_some p.first.items some }
+
+pub chunk_seated : (p : MapParts) → AreFronted p.rest.items → length p.first.items ≡ 0 → 0 < length p.rest.items → IsSeated p (record { list = 1; at = 0 }) × (rows_before p (record { list = 1; at = 0 }) ≡ [])
+chunk_seated p fronted none some =
+    (record { list = omega (arith, some, length-map p.rest.items chunk_rows); within = chunk_some p 0 fronted some },
+      append-nil (rows p.first.items ++ []) ∙ append-nil (rows p.first.items) ∙ empty_rows p.first.items none)
+
+-- where the last list is empty, all are
+pub last_empty : (p : MapParts) → AreFronted p.rest.items → length (list_at p (length p.rest.items)) ≡ 0 → rows_of p ≡ []
+last_empty p fronted h = by p.rest.items fronted h
+  where
+    by : (cs : List Chunk) → AreFronted cs → length (get_or (rows p.first.items ∷ map chunk_rows cs) (length cs) []) ≡ 0 → rows p.first.items ++ joined (map chunk_rows cs) ≡ []
+    by [] f h = append-nil (rows p.first.items) ∙ nil (rows p.first.items) h
+      where
+        nil : (rs : Rows) → length rs ≡ 0 → rs ≡ []
+        nil [] h = refl
+        nil (r ∷ rs) h = cc
+    by (c ∷ cs) f h = absurd (last c cs f h)
+      where
+        last : (c : Chunk) (cs : List Chunk) → AreFronted (c ∷ cs) → length (get_or (chunk_rows c ∷ map chunk_rows cs) (length cs) []) ≡ 0 → ⊥
+        last c [] f h = let some = rows_some c.entries.items (begins_some c.front c.entries.items f.0) in omega (arith, some, h)
+        last c (d ∷ ds) f h = last d ds f.1 h
+
+pub last_seated : (p : MapParts) (n i : ℕ) → n ≡ length p.rest.items → suc i ≡ length (list_at p n) → IsSeated p (record { list = n; at = i }) × (rows_past p (record { list = n; at = i }) ≡ [])
+last_seated p n i is long =
+    let ends : length (map chunk_rows p.rest.items) ≤ n = omega (arith, is, length-map p.rest.items chunk_rows) in
+    (record { list = omega (arith, is, length-map p.rest.items chunk_rows); within = omega (arith, long) },
+      ap₂ (λ xs ls. xs ++ joined ls) (drop_of_length-le (list_at p n) (omega (arith, long))) (drop_of_length-le (map chunk_rows p.rest.items) ends))

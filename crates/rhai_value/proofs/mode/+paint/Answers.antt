@@ -2,10 +2,11 @@ use Rattle.std.proofs.Common.{◌≡◌, ◌+◌, map, drop, set, length-set, ap
 use Rattle.std.proofs.lemmas.Grind.{common_steps}
 use Rattle.std.proofs.lemmas.List.Edits.{map_over_more}
 use Rattle.rhai_value.specs.Rows.{fields_of}
-use Rattle.rhai_value.specs.Lists.{chunk_rows, joined, row_of, rows}
+use Rattle.rhai_value.specs.Lists.{chunk_rows, joined, row_of, rows, rows_of}
 use Rattle.rhai_value.specs.RowWalks.{chunk_view, painted_chunk, painted_row}
 use Rattle.rhai_value.specs.Tree.{paint, paint_fields, nodes_fields}
 use Rattle.rhai_value.proofs.Paints.{fields_painted}
+use Rattle.rhai_value.proofs.KeptKeys.{parts_painted, whole_opened}
 use Rattle.rhai_value.proofs.RowWalks.{behind, same_behind, map_on, map_end, nodes_behind, nodes_behind_chunks}
 use Rattle.rhai_value.proofs.mode.+paint.Goals as goal
 
@@ -56,3 +57,10 @@ pub paint_chunks-returns : goal.paint_chunks-returns
 paint_chunks-returns t c =
     let i = c.loop-chunk.invariant in
     map_end chunk_view (painted_chunk c.args.mode) c.loop-chunk.chunk-items c.args.rest.now.items c.loop-chunk.chunk-index c.args.rest.now.len i.on i.long (omega arith) (search rules)
+
+pub paint_map-returns : goal.paint_map-returns
+paint_map-returns t c =
+    let p = c.deref_mut.result.now in
+    let q = record p { first = c.paint_entries.new.entries; rest = c.paint_chunks.new.rest } in
+    let opened = whole_opened _ _ p c.in-Some.ensures.value c.deref_mut.ensures.value c.map.invariant in
+    ap fields_of (parts_painted c.args.mode p q c.paint_entries.ensures c.paint_chunks.ensures) ∙ fields_painted c.args.mode (rows_of p) ∙ ap (λ r. paint_fields c.args.mode (fields_of r)) (opened.0 ∙ c.map.view_is)

@@ -1,11 +1,13 @@
-use Rattle.std.proofs.Common.{◌≡◌, ◌+◌, ◌*◌, drop, map, set, length-set, ap, ap₂, sym, refl, ◌∙◌, arith, rules}
+use Rattle.std.proofs.Common.{◌≡◌, ◌+◌, ◌*◌, ◌<◌, drop, map, set, length-set, ap, ap₂, sym, refl, ◌∙◌, arith, rules}
 use Rattle.flat_walk.specs.Frames.{unwound, unwound_last, sizes, sizes_last, last_of_all}
 use Rattle.rhai_value.specs.Hollow.{with_children, hollow_scanned, hollow_after, hollow_left, IsWaiting}
 use Rattle.rhai_value.specs.Rows.{trees_of, fields_of}
-use Rattle.rhai_value.specs.Lists.{row_of, rows, chunk_rows, joined}
+use Rattle.rhai_value.specs.Falls.{nodes_joined}
+use Rattle.rhai_value.specs.Lists.{row_of, rows, rows_of, chunk_rows, joined}
 use Rattle.rhai_value.specs.RowWalks.{chunk_view, chunk_scanned, row_scanned}
 use Rattle.rhai_value.specs.Scan.{scan, children_scanned}
 use Rattle.rhai_value.specs.Tree.{nodes, nodes_trees, nodes_fields}
+use Rattle.rhai_value.proofs.KeptKeys.{parts_scanned, whole_scanned}
 use Rattle.rhai_value.proofs.RowWalks.{walk_on, walk_rest, walk_end, nodes_behind, nodes_behind_chunks}
 use Rattle.rhai_value.proofs.Scans.{nodes_drop, scan_opens, items_on, items_rest, items_end}
 use Rattle.rhai_value.proofs.Hollows.{opened_scanned, scanned_all, put_scanned, put_left, put_ready}
@@ -37,6 +39,30 @@ pub scan_items-returns : goal.scan_items-returns
 scan_items-returns g t c =
     let i = c.loop-item.invariant in
     items_end (scan g.V.Visitor.visited) c.args.visitor.now c.loop-item.visitor c.loop-item.visitor (trees_of c.args.items.now.items) c.loop-item.item-items c.args.items.now.items c.loop-item.item-index c.args.items.now.len i.on i.long (omega arith) (search rules)
+
+pub scan_parts-scan_entries-requires : goal.scan_parts-scan_entries-requires
+scan_parts-scan_entries-requires g t c =
+    let p = c.args.parts.now in
+    let started : 8 * nodes_fields (fields_of (rows_of p)) + 6 ≡ t = c.decreases in
+    let falls : 8 * nodes_fields (fields_of (rows p.first.items)) + 4 < t = omega (arith, nodes_joined (rows p.first.items) (joined (map chunk_rows p.rest.items))) in
+    (falls, tt)
+
+pub scan_parts-scan_chunks-requires : goal.scan_parts-scan_chunks-requires
+scan_parts-scan_chunks-requires g t c =
+    let p = c.args.parts.now in
+    let started : 8 * nodes_fields (fields_of (rows_of p)) + 6 ≡ t = c.decreases in
+    let falls : 8 * nodes_fields (fields_of (joined (map chunk_rows p.rest.items))) + 5 < t = omega (arith, nodes_joined (rows p.first.items) (joined (map chunk_rows p.rest.items))) in
+    (falls, tt)
+
+pub scan_parts-returns-clause-scanned : goal.scan_parts-returns-clause-scanned
+scan_parts-returns-clause-scanned g t c =
+    let q = record c.args.parts.now { first = c.scan_entries.new.entries; rest = c.scan_chunks.new.rest } in
+    parts_scanned (scan g.V.Visitor.visited) c.args.visitor.now c.scan_entries.new.visitor c.scan_chunks.new.visitor c.args.parts.now q c.scan_entries.ensures c.scan_chunks.ensures
+
+pub scan_parts-returns-clause-whole : goal.scan_parts-returns-clause-whole
+scan_parts-returns-clause-whole g t c =
+    let q = record c.args.parts.now { first = c.scan_entries.new.entries; rest = c.scan_chunks.new.rest } in
+    whole_scanned (scan g.V.Visitor.visited) c.args.visitor.now c.scan_entries.new.visitor c.scan_chunks.new.visitor c.args.parts.now q c.scan_entries.ensures c.scan_chunks.ensures refl c.requires
 
 pub scan_entries-loop-entry-preserved : goal.scan_entries-loop-entry-preserved
 scan_entries-loop-entry-preserved g t c =

@@ -8,7 +8,7 @@ use Rattle.std.specs.List.Sorted.{IsStrictlySortedBy}
 use Rattle.std.specs.Map.{keys_of}
 use Rattle.std.specs.Str.{IsUtf8}
 use Rattle.std.specs.declared.boxed.Box.{Box}
-use Rattle.rhai_value.specs.Lists.{Row, rows, chunk_rows, joined, rows_of, rows_in, AreFronted, Begins, IsWhole, IsWholeIn}
+use Rattle.rhai_value.specs.Lists.{Row, rows, chunk_rows, joined, lists_of, rows_of, rows_in, AreFronted, Begins, IsWhole, IsWholeIn}
 use Rattle.rhai_value.specs.RowWalks.{chunk_scanned, chunk_view, copied_chunk, painted_chunk, painted_row, painted_rows, row_scanned, scanned}
 use Rattle.rhai_value.specs.Rows.{Rows, bytes_cmp, fields_of, copied_rows, AreRising, AreTexts}
 use Rattle.rhai_value.specs.Scan.{Visiting, fields_scanned}
@@ -151,3 +151,12 @@ parts_copied p q first rest = parts_mapped (λ r. (r.0, copy r.1)) (λ r. refl) 
 
 pub whole_copied : (p q : MapParts) → rows q.first.items ≡ copied_rows (rows p.first.items) → map chunk_view q.rest.items ≡ map copied_chunk (map chunk_view p.rest.items) → q.len ≡ p.len → IsWhole p → IsWhole q
 whole_copied p q first rest = whole_mapped (λ r. (r.0, copy r.1)) (λ r. refl) p q first rest
+
+-- ---- parts of the same lists
+
+pub lists_kept : (p q : MapParts) → q.first.items ≡ p.first.items → map chunk_view q.rest.items ≡ map chunk_view p.rest.items → lists_of q ≡ lists_of p
+lists_kept p q first rest =
+    ap₂ (λ es cs. rows es ∷ cs) first (views_rows q.rest.items ∙ ap rows_in_views rest ∙ sym (views_rows p.rest.items))
+
+pub whole_same : (p q : MapParts) → q.first.items ≡ p.first.items → map chunk_view q.rest.items ≡ map chunk_view p.rest.items → q.len ≡ p.len → IsWhole p → IsWhole q
+whole_same p q first rest len whole = whole_kept p q whole (ap (λ es. keys_of (rows es)) first) (ap (map chunk_keys) rest) len

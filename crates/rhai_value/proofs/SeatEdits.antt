@@ -84,6 +84,23 @@ first_set p q l first rest = ap₂ (λ x cs. x ∷ map chunk_rows cs) first rest
 pub chunk_set : (p q : MapParts) (m : ℕ) (c : Chunk) (l : Rows) → q.first.items ≡ p.first.items → q.rest.items ≡ set p.rest.items m c → chunk_rows c ≡ l → lists_of q ≡ set (lists_of p) (suc m) l
 chunk_set p q m c l first rest is = ap₂ (λ es cs. rows es ∷ map chunk_rows cs) first rest ∙ ap (λ ls. rows p.first.items ∷ ls) (map-set chunk_rows p.rest.items m c ∙ ap (set (map chunk_rows p.rest.items) m) is)
 
+-- the list of a number is changed
+pub first_edit : (p q : MapParts) (n : ℕ) (f : Rows → Rows) → n ≡ 0 → rows q.first.items ≡ f (rows p.first.items) → q.rest.items ≡ p.rest.items → lists_of q ≡ set (lists_of p) n (f (list_at p n))
+first_edit p q n f h first rest = rw h (first_set p q (f (rows p.first.items)) first rest)
+
+pub chunk_edit : (p q : MapParts) (n m : ℕ) (c d : Chunk) (f : Rows → Rows) → n ≡ suc m → m < length p.rest.items → q.first.items ≡ p.first.items → q.rest.items ≡ set p.rest.items m c → chunk_rows c ≡ f (chunk_rows (get_or p.rest.items m d))
+    → lists_of q ≡ set (lists_of p) n (f (list_at p n))
+chunk_edit p q n m c d f h lt first rest is =
+    rw h (chunk_set p q m c (f (list_at p (suc m))) first rest (is ∙ ap f (sym (get_or-map chunk_rows p.rest.items m d [] lt))))
+
+-- where there is an entry, the parts count one
+pub some_entry : (p : MapParts) (s : Seat) → IsWhole p → IsSeated p s → 1 ≤ p.len
+some_entry p s whole h = omega (arith, whole.counted, ap length (rows_seated p s h), long (rows_before p s) (row_at p s) (rows_past p s))
+  where
+    long : (xs : Rows) (r : Row) (ys : Rows) → 1 ≤ length (xs ++ r ∷ ys)
+    long [] r ys = omega arith
+    long (x ∷ xs) r ys = omega arith
+
 pub begins_set : (f : ℕ) (es : List Entry) (i : ℕ) (e d : Entry) → Begins f es → i < length es → e.key ≡ (get_or es i d).key → Begins f (set es i e)
 begins_set f [] i e d h lt same = absurd h
 begins_set f (x ∷ xs) zero e d h lt same = h ∙ ap (from_be_bytes w64) (sym same)

@@ -85,11 +85,11 @@ chunk_some p m h lt = some p.rest.items m h lt
 
 pub next_list : (p : MapParts) (s : Seat) → IsWhole p → IsOpen p s → length (list_at p s.list) ≤ s.at → s.list < length p.rest.items → (n : ℕ) → n ≡ suc s.list
     → IsSeated p (record { list = n; at = 0 }) × (rows_before p (record { list = n; at = 0 }) ≡ rows_before p s) × (rows_from p (record { list = n; at = 0 }) ≡ rows_from p s)
-next_list p s whole open end lt n is =
+next_list p s whole opened end lt n is =
     let l = list_at p s.list in
     let later : suc s.list < length (lists_of p) = omega (arith, lt, length-map p.rest.items chunk_rows) in
     let before : joined (take (suc s.list) (lists_of p)) ++ [] ≡ rows_before p s =
-    append-nil (joined (take (suc s.list) (lists_of p))) ∙ joined_taken (lists_of p) s.list open.list ∙ ap (λ x. joined (take s.list (lists_of p)) ++ x) (sym (take_all s.at l end)) in
+    append-nil (joined (take (suc s.list) (lists_of p))) ∙ joined_taken (lists_of p) s.list opened.list ∙ ap (λ x. joined (take s.list (lists_of p)) ++ x) (sym (take_all s.at l end)) in
     let from : list_at p (suc s.list) ++ joined (drop (suc (suc s.list)) (lists_of p)) ≡ rows_from p s =
     sym (joined_dropped (lists_of p) (suc s.list) later) ∙ ap (λ x. x ++ joined (drop (suc s.list) (lists_of p))) (sym (drop_of_length-le l end)) in
     rw is (record { list = later; within = chunk_some p s.list whole.fronted lt }, before, from)
@@ -115,21 +115,21 @@ chunk_seated p fronted none some =
     (record { list = omega (arith, some, length-map p.rest.items chunk_rows); within = chunk_some p 0 fronted some },
       append-nil (rows p.first.items ++ []) ∙ append-nil (rows p.first.items) ∙ empty_rows p.first.items none)
 
+nil_rows : (rs : Rows) → length rs ≡ 0 → rs ≡ []
+nil_rows [] h = refl
+nil_rows (r ∷ rs) h = cc
+
+last_some : (c : Chunk) (cs : List Chunk) → AreFronted (c ∷ cs) → length (get_or (chunk_rows c ∷ map chunk_rows cs) (length cs) []) ≡ 0 → ⊥
+last_some c [] f h = let some = rows_some c.entries.items (begins_some c.front c.entries.items f.0) in omega (arith, some, h)
+last_some c (d ∷ ds) f h = last_some d ds f.1 h
+
 -- where the last list is empty, all are
 pub last_empty : (p : MapParts) → AreFronted p.rest.items → length (list_at p (length p.rest.items)) ≡ 0 → rows_of p ≡ []
 last_empty p fronted h = by p.rest.items fronted h
   where
     by : (cs : List Chunk) → AreFronted cs → length (get_or (rows p.first.items ∷ map chunk_rows cs) (length cs) []) ≡ 0 → rows p.first.items ++ joined (map chunk_rows cs) ≡ []
-    by [] f h = append-nil (rows p.first.items) ∙ nil (rows p.first.items) h
-      where
-        nil : (rs : Rows) → length rs ≡ 0 → rs ≡ []
-        nil [] h = refl
-        nil (r ∷ rs) h = cc
-    by (c ∷ cs) f h = absurd (last c cs f h)
-      where
-        last : (c : Chunk) (cs : List Chunk) → AreFronted (c ∷ cs) → length (get_or (chunk_rows c ∷ map chunk_rows cs) (length cs) []) ≡ 0 → ⊥
-        last c [] f h = let some = rows_some c.entries.items (begins_some c.front c.entries.items f.0) in omega (arith, some, h)
-        last c (d ∷ ds) f h = last d ds f.1 h
+    by [] f h = append-nil (rows p.first.items) ∙ nil_rows (rows p.first.items) h
+    by (c ∷ cs) f h = absurd (last_some c cs f h)
 
 pub last_seated : (p : MapParts) (n i : ℕ) → n ≡ length p.rest.items → suc i ≡ length (list_at p n) → IsSeated p (record { list = n; at = i }) × (rows_past p (record { list = n; at = i }) ≡ [])
 last_seated p n i is long =

@@ -1,6 +1,8 @@
-use Rattle.std.proofs.Common.{◌∙◌, ap, length-set, arith, rules}
+use Rattle.std.proofs.Common.{◌∙◌, ap, get_or, length-set, arith, rules}
+use Rattle.std.proofs.lemmas.List.{get_or_default}
 use Rattle.rhai_value.specs.Hollow.{exchanged, parted}
-use Rattle.rhai_value.specs.RowWalks.{chunk_scanned, chunk_view}
+use Rattle.rhai_value.specs.Lists.{rows}
+use Rattle.rhai_value.specs.RowWalks.{chunk_scanned, chunk_view, row_scanned, scanned}
 use Rattle.rhai_value.proofs.RowWalks.{walk_on, walk_rest, walk_end}
 use Rattle.rhai_value.proofs.exchange.exchange_chunks.Goals as goal
 
@@ -14,12 +16,13 @@ loop-chunk-preserved c =
     let first = parted c.args.values.now.items c.args.from in
     let now = parted c.loop-chunk.values.items c.loop-chunk.at in
     let later = parted c.exchange_entries.new.values.items c.exchange_entries.result in
-    let x = c.chunk-item.result in
+    let x = get_or xs n c.chunk-item.result in
+    let is = get_or_default xs n c.chunk-item.result x (omega arith) in
     let u = record x { entries = c.exchange_entries.new.entries } in
-    let did = ap (λ y. (y.0, (x.front, y.1))) c.exchange_entries.ensures in
+    let did = ap (λ y. (y.0, (x.front, y.1))) (c.exchange_entries.ensures ∙ ap (λ e. scanned (row_scanned exchanged) now (rows e.entries.items)) c.chunk-item.is) in
     record {
-      on = walk_on chunk_view f first now later xs old n x u i.on i.rest (omega arith) i.long c.chunk-item.is did;
-      rest = walk_rest chunk_view f first now later xs old n x u i.on i.rest (omega arith) i.long c.chunk-item.is did;
+      on = walk_on chunk_view f first now later xs old n x u i.on i.rest (omega arith) i.long is did;
+      rest = walk_rest chunk_view f first now later xs old n x u i.on i.rest (omega arith) i.long is did;
       long = length-set xs n u ∙ i.long;
     }
 

@@ -1,4 +1,5 @@
-use Rattle.std.proofs.Common.{◌∙◌, ap, length-set, arith, rules}
+use Rattle.std.proofs.Common.{◌∙◌, ap, get_or, length-set, arith, rules}
+use Rattle.std.proofs.lemmas.List.{get_or_default}
 use Rattle.rhai_value.specs.Hollow.{exchanged, parted}
 use Rattle.rhai_value.specs.Lists.{row_of}
 use Rattle.rhai_value.specs.RowWalks.{row_scanned}
@@ -15,12 +16,13 @@ loop-entry-preserved c =
     let first = parted c.args.values.now.items c.args.from in
     let now = parted c.loop-entry.values.items c.loop-entry.at in
     let later = parted c.exchange_value.new.values.items c.exchange_value.result in
-    let x = c.entry-item.result in
+    let x = get_or xs n c.entry-item.result in
+    let is = get_or_default xs n c.entry-item.result x (omega arith) in
     let u = record x { value = c.exchange_value.new.value } in
-    let did = ap (λ y. (y.0, (x.key, y.1))) c.exchange_value.ensures in
+    let did = ap (λ y. (y.0, (x.key, y.1))) (c.exchange_value.ensures ∙ ap (λ e. exchanged now e.value) c.entry-item.is) in
     record {
-      on = walk_on row_of f first now later xs old n x u i.on i.rest (omega arith) i.long c.entry-item.is did;
-      rest = walk_rest row_of f first now later xs old n x u i.on i.rest (omega arith) i.long c.entry-item.is did;
+      on = walk_on row_of f first now later xs old n x u i.on i.rest (omega arith) i.long is did;
+      rest = walk_rest row_of f first now later xs old n x u i.on i.rest (omega arith) i.long is did;
       long = length-set xs n u ∙ i.long;
     }
 

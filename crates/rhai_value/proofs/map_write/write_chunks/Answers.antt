@@ -1,5 +1,7 @@
-use Rattle.std.proofs.Common.{◌∙◌, ap, length-set, arith, rules}
-use Rattle.rhai_value.specs.RowWalks.{chunk_scanned, chunk_view}
+use Rattle.std.proofs.Common.{◌∙◌, ap, get_or, length-set, arith, rules}
+use Rattle.std.proofs.lemmas.List.{get_or_default}
+use Rattle.rhai_value.specs.Lists.{rows}
+use Rattle.rhai_value.specs.RowWalks.{chunk_scanned, chunk_view, row_scanned, scanned}
 use Rattle.rhai_value.proofs.RowWalks.{walk_on, walk_rest, walk_end}
 use Rattle.rhai_value.proofs.map_write.write_chunks.Goals as goal
 
@@ -10,12 +12,13 @@ loop-chunk-preserved g c =
     let old = c.args.rest.now.items in
     let n = c.loop-chunk.chunk-index in
     let f = chunk_scanned g.W.ValueWriter.writes in
-    let x = c.chunk-item.result in
+    let x = get_or xs n c.chunk-item.result in
+    let is = get_or_default xs n c.chunk-item.result x (omega arith) in
     let u = record x { entries = c.write_entries.new.entries } in
-    let did = ap (λ y. (y.0, (x.front, y.1))) c.write_entries.ensures in
+    let did = ap (λ y. (y.0, (x.front, y.1))) (c.write_entries.ensures ∙ ap (λ e. scanned (row_scanned g.W.ValueWriter.writes) c.loop-chunk.writer (rows e.entries.items)) c.chunk-item.is) in
     record {
-      on = walk_on chunk_view f c.args.writer.now c.loop-chunk.writer c.write_entries.new.writer xs old n x u i.on i.rest (omega arith) i.long c.chunk-item.is did;
-      rest = walk_rest chunk_view f c.args.writer.now c.loop-chunk.writer c.write_entries.new.writer xs old n x u i.on i.rest (omega arith) i.long c.chunk-item.is did;
+      on = walk_on chunk_view f c.args.writer.now c.loop-chunk.writer c.write_entries.new.writer xs old n x u i.on i.rest (omega arith) i.long is did;
+      rest = walk_rest chunk_view f c.args.writer.now c.loop-chunk.writer c.write_entries.new.writer xs old n x u i.on i.rest (omega arith) i.long is did;
       long = length-set xs n u ∙ i.long;
     }
 

@@ -1,4 +1,5 @@
-use Rattle.std.proofs.Common.{◌∙◌, ap, length-set, arith, rules}
+use Rattle.std.proofs.Common.{◌∙◌, ap, get_or, length-set, arith, rules}
+use Rattle.std.proofs.lemmas.List.{get_or_default}
 use Rattle.rhai_value.specs.Lists.{row_of}
 use Rattle.rhai_value.specs.RowWalks.{row_scanned}
 use Rattle.rhai_value.proofs.RowWalks.{walk_on, walk_rest, walk_end}
@@ -11,12 +12,13 @@ loop-entry-preserved g c =
     let old = c.args.entries.now.items in
     let n = c.loop-entry.entry-index in
     let f = row_scanned g.W.ValueWriter.writes in
-    let x = c.entry-item.result in
+    let x = get_or xs n c.entry-item.result in
+    let is = get_or_default xs n c.entry-item.result x (omega arith) in
     let u = record x { value = c.write.new.value } in
-    let did = ap (λ y. (y.0, (x.key, y.1))) c.write.ensures in
+    let did = ap (λ y. (y.0, (x.key, y.1))) (c.write.ensures ∙ ap (λ e. g.W.ValueWriter.writes c.loop-entry.writer e.value) c.entry-item.is) in
     record {
-      on = walk_on row_of f c.args.writer.now c.loop-entry.writer c.write.new.self xs old n x u i.on i.rest (omega arith) i.long c.entry-item.is did;
-      rest = walk_rest row_of f c.args.writer.now c.loop-entry.writer c.write.new.self xs old n x u i.on i.rest (omega arith) i.long c.entry-item.is did;
+      on = walk_on row_of f c.args.writer.now c.loop-entry.writer c.write.new.self xs old n x u i.on i.rest (omega arith) i.long is did;
+      rest = walk_rest row_of f c.args.writer.now c.loop-entry.writer c.write.new.self xs old n x u i.on i.rest (omega arith) i.long is did;
       long = length-set xs n u ∙ i.long;
     }
 

@@ -1,9 +1,10 @@
-use Rattle.std.proofs.Common.{◌≡◌, ◌+◌, map, drop, set, length-set, ap, arith, rules, sym, ◌∙◌}
+use Rattle.std.proofs.Common.{◌≡◌, ◌+◌, map, drop, set, get_or, length-set, ap, arith, rules, sym, ◌∙◌}
 use Rattle.std.proofs.lemmas.Grind.{common_steps}
+use Rattle.std.proofs.lemmas.List.{get_or_default}
 use Rattle.std.proofs.lemmas.List.Edits.{map_over_more}
 use Rattle.rhai_value.specs.Rows.{fields_of}
 use Rattle.rhai_value.specs.Lists.{chunk_rows, joined, row_of, rows, rows_of}
-use Rattle.rhai_value.specs.RowWalks.{chunk_view, painted_chunk, painted_row}
+use Rattle.rhai_value.specs.RowWalks.{chunk_view, painted_chunk, painted_row, painted_rows}
 use Rattle.rhai_value.specs.Tree.{paint, paint_fields, nodes_fields}
 use Rattle.rhai_value.proofs.Paints.{fields_painted}
 use Rattle.rhai_value.proofs.KeptKeys.{parts_painted, whole_opened}
@@ -22,11 +23,12 @@ paint_entries-loop-entry-preserved t c =
     let xs = c.loop-entry.entry-items in
     let old = c.args.entries.now.items in
     let n = c.loop-entry.entry-index in
-    let x = c.entry-item.result in
+    let x = get_or xs n c.entry-item.result in
+    let is = get_or_default xs n c.entry-item.result x (omega arith) in
     let u = record x { value = c.paint_value.new.value } in
     let rest : drop (n + 1) (set xs n u) ≡ drop (n + 1) old = behind xs n u (omega arith) ∙ same_behind xs old n i.rest in
     record {
-      on = map_on row_of (painted_row c.args.mode) xs old n x u i.on i.rest (omega arith) i.long c.entry-item.is (ap (λ t. (x.key, t)) c.paint_value.ensures);
+      on = map_on row_of (painted_row c.args.mode) xs old n x u i.on i.rest (omega arith) i.long is (ap (λ t. (x.key, t)) c.paint_value.ensures ∙ ap (λ e. (x.key, paint c.args.mode e.value)) c.entry-item.is);
       rest = rest;
       long = length-set xs n u ∙ i.long;
       fewer = omega (arith, ap (λ ys. nodes_fields (fields_of (rows ys))) rest, nodes_behind old (n + 1));
@@ -43,11 +45,12 @@ paint_chunks-loop-chunk-preserved t c =
     let xs = c.loop-chunk.chunk-items in
     let old = c.args.rest.now.items in
     let n = c.loop-chunk.chunk-index in
-    let x = c.chunk-item.result in
+    let x = get_or xs n c.chunk-item.result in
+    let is = get_or_default xs n c.chunk-item.result x (omega arith) in
     let u = record x { entries = c.paint_entries.new.entries } in
     let rest : drop (n + 1) (set xs n u) ≡ drop (n + 1) old = behind xs n u (omega arith) ∙ same_behind xs old n i.rest in
     record {
-      on = map_on chunk_view (painted_chunk c.args.mode) xs old n x u i.on i.rest (omega arith) i.long c.chunk-item.is (ap (λ rs. (x.front, rs)) c.paint_entries.ensures);
+      on = map_on chunk_view (painted_chunk c.args.mode) xs old n x u i.on i.rest (omega arith) i.long is (ap (λ rs. (x.front, rs)) c.paint_entries.ensures ∙ ap (λ e. (x.front, painted_rows c.args.mode (rows e.entries.items))) c.chunk-item.is);
       rest = rest;
       long = length-set xs n u ∙ i.long;
       fewer = omega (arith, ap (λ ys. nodes_fields (fields_of (joined (map chunk_rows ys)))) rest, nodes_behind_chunks old (n + 1));

@@ -1,10 +1,11 @@
-use Rattle.std.proofs.Common.{◌≡◌, ◌+◌, ◌*◌, ◌<◌, drop, map, set, length-set, ap, ap₂, sym, refl, ◌∙◌, arith, rules}
+use Rattle.std.proofs.Common.{◌≡◌, ◌+◌, ◌*◌, ◌<◌, drop, map, set, get_or, length-set, ap, ap₂, sym, refl, ◌∙◌, arith, rules}
+use Rattle.std.proofs.lemmas.List.{get_or_default}
 use Rattle.flat_walk.specs.Frames.{unwound, unwound_last, sizes, sizes_last, last_of_all}
 use Rattle.rhai_value.specs.Hollow.{with_children, hollow_scanned, hollow_after, hollow_left, IsWaiting}
 use Rattle.rhai_value.specs.Rows.{trees_of, fields_of}
 use Rattle.rhai_value.specs.Falls.{nodes_joined}
 use Rattle.rhai_value.specs.Lists.{row_of, rows, rows_of, chunk_rows, joined}
-use Rattle.rhai_value.specs.RowWalks.{chunk_view, chunk_scanned, row_scanned}
+use Rattle.rhai_value.specs.RowWalks.{chunk_view, chunk_scanned, row_scanned, scanned}
 use Rattle.rhai_value.specs.Scan.{scan, children_scanned}
 use Rattle.rhai_value.specs.Tree.{nodes, nodes_trees, nodes_fields}
 use Rattle.rhai_value.proofs.KeptKeys.{parts_scanned, whole_scanned}
@@ -71,12 +72,13 @@ scan_entries-loop-entry-preserved g t c =
     let old = c.args.entries.now.items in
     let n = c.loop-entry.entry-index in
     let f = scan g.V.Visitor.visited in
-    let x = c.entry-item.result in
+    let x = get_or xs n c.entry-item.result in
+    let is = get_or_default xs n c.entry-item.result x (omega arith) in
     let u = record x { value = c.scan_value.new.value } in
-    let did = ap (λ y. (y.0, (x.key, y.1))) c.scan_value.ensures in
-    let rest = walk_rest row_of (row_scanned f) c.args.visitor.now c.loop-entry.visitor c.scan_value.new.visitor xs old n x u i.on i.rest (omega arith) i.long c.entry-item.is did in
+    let did = ap (λ y. (y.0, (x.key, y.1))) (c.scan_value.ensures ∙ ap (λ e. f c.loop-entry.visitor e.value) c.entry-item.is) in
+    let rest = walk_rest row_of (row_scanned f) c.args.visitor.now c.loop-entry.visitor c.scan_value.new.visitor xs old n x u i.on i.rest (omega arith) i.long is did in
     record {
-      on = walk_on row_of (row_scanned f) c.args.visitor.now c.loop-entry.visitor c.scan_value.new.visitor xs old n x u i.on i.rest (omega arith) i.long c.entry-item.is did;
+      on = walk_on row_of (row_scanned f) c.args.visitor.now c.loop-entry.visitor c.scan_value.new.visitor xs old n x u i.on i.rest (omega arith) i.long is did;
       rest = rest;
       long = length-set xs n u ∙ i.long;
       fewer = omega (arith, ap (λ ys. nodes_fields (fields_of (rows ys))) rest, nodes_behind old (n + 1));
@@ -94,12 +96,13 @@ scan_chunks-loop-chunk-preserved g t c =
     let old = c.args.rest.now.items in
     let n = c.loop-chunk.chunk-index in
     let f = scan g.V.Visitor.visited in
-    let x = c.chunk-item.result in
+    let x = get_or xs n c.chunk-item.result in
+    let is = get_or_default xs n c.chunk-item.result x (omega arith) in
     let u = record x { entries = c.scan_entries.new.entries } in
-    let did = ap (λ y. (y.0, (x.front, y.1))) c.scan_entries.ensures in
-    let rest = walk_rest chunk_view (chunk_scanned f) c.args.visitor.now c.loop-chunk.visitor c.scan_entries.new.visitor xs old n x u i.on i.rest (omega arith) i.long c.chunk-item.is did in
+    let did = ap (λ y. (y.0, (x.front, y.1))) (c.scan_entries.ensures ∙ ap (λ e. scanned (row_scanned f) c.loop-chunk.visitor (rows e.entries.items)) c.chunk-item.is) in
+    let rest = walk_rest chunk_view (chunk_scanned f) c.args.visitor.now c.loop-chunk.visitor c.scan_entries.new.visitor xs old n x u i.on i.rest (omega arith) i.long is did in
     record {
-      on = walk_on chunk_view (chunk_scanned f) c.args.visitor.now c.loop-chunk.visitor c.scan_entries.new.visitor xs old n x u i.on i.rest (omega arith) i.long c.chunk-item.is did;
+      on = walk_on chunk_view (chunk_scanned f) c.args.visitor.now c.loop-chunk.visitor c.scan_entries.new.visitor xs old n x u i.on i.rest (omega arith) i.long is did;
       rest = rest;
       long = length-set xs n u ∙ i.long;
       fewer = omega (arith, ap (λ ys. nodes_fields (fields_of (joined (map chunk_rows ys)))) rest, nodes_behind_chunks old (n + 1));

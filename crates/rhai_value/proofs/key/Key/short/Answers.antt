@@ -13,7 +13,7 @@ zeros_at (suc n) zero = refl
 zeros_at (suc n) (suc k) = zeros_at n k
 
 pub loop-i-init : goal.loop-i-init
-loop-i-init c = record { long = length-replicate 30 0; front = refl; zeros = λ k le. zeros_at 30 k }
+loop-i-init c = record { long = length-replicate 30 nought; front = refl; zeros = λ k le. zeros_at 30 k }
 
 pub invariant_of-result : goal.invariant_of-result
 invariant_of-result c =

@@ -19,7 +19,7 @@ loop-chunk-preserved c =
     let x = get_or xs n c.chunk-item.result in
     let is = get_or_default xs n c.chunk-item.result x (omega arith) in
     let u = record x { entries = c.exchange_entries.new.entries } in
-    let did = ap (λ y. (y.0, (x.front, y.1))) (c.exchange_entries.ensures ∙ ap (λ e. scanned (row_scanned exchanged) now (rows e.entries.items)) c.chunk-item.is) in
+    let did = ap (λ y. (y.0, (x.front, y.1))) c.exchange_entries.ensures in
     record {
       on = walk_on chunk_view f first now later xs old n x u i.on i.rest (omega arith) i.long is did;
       rest = walk_rest chunk_view f first now later xs old n x u i.on i.rest (omega arith) i.long is did;

@@ -19,7 +19,7 @@ loop-entry-preserved c =
     let x = get_or xs n c.entry-item.result in
     let is = get_or_default xs n c.entry-item.result x (omega arith) in
     let u = record x { value = c.exchange_value.new.value } in
-    let did = ap (λ y. (y.0, (x.key, y.1))) (c.exchange_value.ensures ∙ ap (λ e. exchanged now e.value) c.entry-item.is) in
+    let did = ap (λ y. (y.0, (x.key, y.1))) c.exchange_value.ensures in
     record {
       on = walk_on row_of f first now later xs old n x u i.on i.rest (omega arith) i.long is did;
       rest = walk_rest row_of f first now later xs old n x u i.on i.rest (omega arith) i.long is did;

@@ -15,7 +15,7 @@ loop-chunk-preserved g c =
     let x = get_or xs n c.chunk-item.result in
     let is = get_or_default xs n c.chunk-item.result x (omega arith) in
     let u = record x { entries = c.write_entries.new.entries } in
-    let did = ap (λ y. (y.0, (x.front, y.1))) (c.write_entries.ensures ∙ ap (λ e. scanned (row_scanned g.W.ValueWriter.writes) c.loop-chunk.writer (rows e.entries.items)) c.chunk-item.is) in
+    let did = ap (λ y. (y.0, (x.front, y.1))) c.write_entries.ensures in
     record {
       on = walk_on chunk_view f c.args.writer.now c.loop-chunk.writer c.write_entries.new.writer xs old n x u i.on i.rest (omega arith) i.long is did;
       rest = walk_rest chunk_view f c.args.writer.now c.loop-chunk.writer c.write_entries.new.writer xs old n x u i.on i.rest (omega arith) i.long is did;

@@ -15,7 +15,7 @@ loop-entry-preserved g c =
     let x = get_or xs n c.entry-item.result in
     let is = get_or_default xs n c.entry-item.result x (omega arith) in
     let u = record x { value = c.write.new.value } in
-    let did = ap (λ y. (y.0, (x.key, y.1))) (c.write.ensures ∙ ap (λ e. g.W.ValueWriter.writes c.loop-entry.writer e.value) c.entry-item.is) in
+    let did = ap (λ y. (y.0, (x.key, y.1))) c.write.ensures in
     record {
       on = walk_on row_of f c.args.writer.now c.loop-entry.writer c.write.new.self xs old n x u i.on i.rest (omega arith) i.long is did;
       rest = walk_rest row_of f c.args.writer.now c.loop-entry.writer c.write.new.self xs old n x u i.on i.rest (omega arith) i.long is did;

@@ -28,7 +28,7 @@ paint_entries-loop-entry-preserved t c =
     let u = record x { value = c.paint_value.new.value } in
     let rest : drop (n + 1) (set xs n u) ≡ drop (n + 1) old = behind xs n u (omega arith) ∙ same_behind xs old n i.rest in
     record {
-      on = map_on row_of (painted_row c.args.mode) xs old n x u i.on i.rest (omega arith) i.long is (ap (λ t. (x.key, t)) c.paint_value.ensures ∙ ap (λ e. (x.key, paint c.args.mode e.value)) c.entry-item.is);
+      on = map_on row_of (painted_row c.args.mode) xs old n x u i.on i.rest (omega arith) i.long is (ap (λ t. (x.key, t)) c.paint_value.ensures);
       rest = rest;
       long = length-set xs n u ∙ i.long;
       fewer = omega (arith, ap (λ ys. nodes_fields (fields_of (rows ys))) rest, nodes_behind old (n + 1));
@@ -50,7 +50,7 @@ paint_chunks-loop-chunk-preserved t c =
     let u = record x { entries = c.paint_entries.new.entries } in
     let rest : drop (n + 1) (set xs n u) ≡ drop (n + 1) old = behind xs n u (omega arith) ∙ same_behind xs old n i.rest in
     record {
-      on = map_on chunk_view (painted_chunk c.args.mode) xs old n x u i.on i.rest (omega arith) i.long is (ap (λ rs. (x.front, rs)) c.paint_entries.ensures ∙ ap (λ e. (x.front, painted_rows c.args.mode (rows e.entries.items))) c.chunk-item.is);
+      on = map_on chunk_view (painted_chunk c.args.mode) xs old n x u i.on i.rest (omega arith) i.long is (ap (λ rs. (x.front, rs)) c.paint_entries.ensures);
       rest = rest;
       long = length-set xs n u ∙ i.long;
       fewer = omega (arith, ap (λ ys. nodes_fields (fields_of (joined (map chunk_rows ys)))) rest, nodes_behind_chunks old (n + 1));

@@ -75,7 +75,7 @@ scan_entries-loop-entry-preserved g t c =
     let x = get_or xs n c.entry-item.result in
     let is = get_or_default xs n c.entry-item.result x (omega arith) in
     let u = record x { value = c.scan_value.new.value } in
-    let did = ap (λ y. (y.0, (x.key, y.1))) (c.scan_value.ensures ∙ ap (λ e. f c.loop-entry.visitor e.value) c.entry-item.is) in
+    let did = ap (λ y. (y.0, (x.key, y.1))) c.scan_value.ensures in
     let rest = walk_rest row_of (row_scanned f) c.args.visitor.now c.loop-entry.visitor c.scan_value.new.visitor xs old n x u i.on i.rest (omega arith) i.long is did in
     record {
       on = walk_on row_of (row_scanned f) c.args.visitor.now c.loop-entry.visitor c.scan_value.new.visitor xs old n x u i.on i.rest (omega arith) i.long is did;
@@ -99,7 +99,7 @@ scan_chunks-loop-chunk-preserved g t c =
     let x = get_or xs n c.chunk-item.result in
     let is = get_or_default xs n c.chunk-item.result x (omega arith) in
     let u = record x { entries = c.scan_entries.new.entries } in
-    let did = ap (λ y. (y.0, (x.front, y.1))) (c.scan_entries.ensures ∙ ap (λ e. scanned (row_scanned f) c.loop-chunk.visitor (rows e.entries.items)) c.chunk-item.is) in
+    let did = ap (λ y. (y.0, (x.front, y.1))) c.scan_entries.ensures in
     let rest = walk_rest chunk_view (chunk_scanned f) c.args.visitor.now c.loop-chunk.visitor c.scan_entries.new.visitor xs old n x u i.on i.rest (omega arith) i.long is did in
     record {
       on = walk_on chunk_view (chunk_scanned f) c.args.visitor.now c.loop-chunk.visitor c.scan_entries.new.visitor xs old n x u i.on i.rest (omega arith) i.long is did;

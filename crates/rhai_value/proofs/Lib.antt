@@ -43,6 +43,7 @@ pub mod SameWalks
 pub mod Scans
 pub mod SeatEdits
 pub mod SeatResults
+pub mod SeatSearch
 pub mod SeatSplits
 pub mod Seats
 pub mod Sheds

@@ -111,9 +111,10 @@ pub first_seated : (p : MapParts) → 0 < length p.first.items → IsSeated p (r
 first_seated p some = record { list = omega arith; within = rows_some p.first.items some }
 
 pub chunk_seated : (p : MapParts) → AreFronted p.rest.items → length p.first.items ≡ 0 → 0 < length p.rest.items → IsSeated p (record { list = 1; at = 0 }) × (rows_before p (record { list = 1; at = 0 }) ≡ [])
-chunk_seated p fronted none some =
-    (record { list = omega (arith, some, length-map p.rest.items chunk_rows); within = chunk_some p 0 fronted some },
-      append-nil (rows p.first.items ++ []) ∙ append-nil (rows p.first.items) ∙ empty_rows p.first.items none)
+chunk_seated p fronted none some = (
+  record { list = omega (arith, some, length-map p.rest.items chunk_rows); within = chunk_some p 0 fronted some },
+  append-nil (rows p.first.items ++ []) ∙ append-nil (rows p.first.items) ∙ empty_rows p.first.items none,
+)
 
 nil_rows : (rs : Rows) → length rs ≡ 0 → rs ≡ []
 nil_rows [] h = refl
@@ -133,6 +134,7 @@ last_empty p fronted h = by p.rest.items fronted h
 
 pub last_seated : (p : MapParts) (n i : ℕ) → n ≡ length p.rest.items → suc i ≡ length (list_at p n) → IsSeated p (record { list = n; at = i }) × (rows_past p (record { list = n; at = i }) ≡ [])
 last_seated p n i is long =
-    let ends : length (map chunk_rows p.rest.items) ≤ n = omega (arith, is, length-map p.rest.items chunk_rows) in
-    (record { list = omega (arith, is, length-map p.rest.items chunk_rows); within = omega (arith, long) },
-      ap₂ (λ xs ls. xs ++ joined ls) (drop_of_length-le (list_at p n) (omega (arith, long))) (drop_of_length-le (map chunk_rows p.rest.items) ends))
+    let ends : length (map chunk_rows p.rest.items) ≤ n = omega (arith, is, length-map p.rest.items chunk_rows) in (
+      record { list = omega (arith, is, length-map p.rest.items chunk_rows); within = omega (arith, long) },
+      ap₂ (λ xs ls. xs ++ joined ls) (drop_of_length-le (list_at p n) (omega (arith, long))) (drop_of_length-le (map chunk_rows p.rest.items) ends),
+    )

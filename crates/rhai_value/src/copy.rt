@@ -201,11 +201,7 @@ fn copied_parts(parts: &MapParts, alloc: Global, levels: u32) -> Result<MapParts
 }
 
 #[cycle(copy)]
-fn copied_chunks(
-    rest: &Vec<Chunk>,
-    alloc: Global,
-    levels: u32,
-) -> Result<Vec<Chunk>, AllocError>
+fn copied_chunks(rest: &Vec<Chunk>, alloc: Global, levels: u32) -> Result<Vec<Chunk>, AllocError>
     ensures { IfOk result (λ v. map chunk_view v.items ≡ map copied_chunk (map chunk_view rest.now.items)) }
 {
     let mut copies = Vec::with_capacity(alloc, rest.len())?;

@@ -88,7 +88,9 @@ fn is_emptied(map: &mut Map, alloc: Global, before: &str) -> Result<bool, AllocE
     for half in 0..150_u32 {
         let number = half.wrapping_mul(2);
         match map.pop_first(alloc)? {
-            Some((key, value)) => if key != key_of(alloc, before, number)? || int_of(&value) != INT::from(number) {
+            Some((key, value)) => if key != key_of(alloc, before, number)?
+                || int_of(&value) != INT::from(number)
+            {
                 return Ok(false);
             },
             None => return Ok(false),

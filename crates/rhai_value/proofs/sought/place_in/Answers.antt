@@ -33,9 +33,11 @@ returns-in-Equal-clause-found c =
     let x = c.index-entries-middle.result in
     let within : m < length es = omega (arith, c.loop-low.invariant.within, c.loop-low-test.true) in
     let inside : m < length (rows es) = omega (arith, within, length-map es row_of) in
-    let told = row_told c.args.sought.now es m x _ _ within c.index-entries-middle.is c.order_to_entry.ensures c.in-Equal.is in
-    (inside, below_hit nat_list_cmp_total c.args.sought.now (rows es) m (row_of x) c.requires inside told,
-      λ d. ap (λ (e : Row). bytes_cmp c.args.sought.now e.0) (get_or_default (rows es) m d (row_of x) inside) ∙ told)
+    let told = row_told c.args.sought.now es m x _ _ within c.index-entries-middle.is c.order_to_entry.ensures c.in-Equal.is in (
+      inside,
+      below_hit nat_list_cmp_total c.args.sought.now (rows es) m (row_of x) c.requires inside told,
+      λ d. ap (λ (e : Row). bytes_cmp c.args.sought.now e.0) (get_or_default (rows es) m d (row_of x) inside) ∙ told,
+    )
 
 pub loop-low-preserved : goal.loop-low-preserved
 loop-low-preserved c =

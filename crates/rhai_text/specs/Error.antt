@@ -1,4 +1,5 @@
--- The place of the script that an error is about.
+-- The place of the script that an error is about, and whether it is want of memory.
+use Rattle.std.specs.Prelude.{Bool, true, false}
 use Rattle.rhai_text.specs.declared.error.EvalAltResult.{EvalAltResult}
 use Rattle.rhai_text.specs.declared.error.EvalAltResult.TheVariants.{ErrorArithmetic, ErrorDataTooLarge, ErrorMemory, ErrorDataRace, ErrorMismatchDataType}
 use Rattle.rhai_text.specs.declared.position.Position.{Position}
@@ -19,3 +20,11 @@ at_place p (ErrorDataRace q) = ErrorDataRace p
 at_place p (ErrorArithmetic fault q) = ErrorArithmetic fault p
 at_place p (ErrorDataTooLarge size q) = ErrorDataTooLarge size p
 at_place p (ErrorMemory e) = ErrorMemory e
+
+-- whether memory was refused; every other error is a refusal of the script's
+abbrev pub is_memory : EvalAltResult → Bool
+is_memory (ErrorMismatchDataType wanted found p) = false
+is_memory (ErrorDataRace p) = false
+is_memory (ErrorArithmetic fault p) = false
+is_memory (ErrorDataTooLarge size p) = false
+is_memory (ErrorMemory e) = true

@@ -1,6 +1,6 @@
 // What goes wrong when a script is evaluated.
 ghost use Rattle.std.specs.Prelude.{◌≡◌};
-ghost use Rattle.rhai_text.specs.Error.{at_place, place_of};
+ghost use Rattle.rhai_text.specs.Error.{at_place, is_memory, place_of};
 ghost use Rattle.rhai_text.specs.declared.error.EvalAltResult.TheVariants.{ErrorMemory, ErrorMismatchDataType};
 
 use crate::position::Position;
@@ -87,6 +87,19 @@ impl EvalAltResult {
             | EvalAltResult::ErrorArithmetic(_, pos)
             | EvalAltResult::ErrorDataTooLarge(_, pos) => *pos,
             EvalAltResult::ErrorMemory(_) => Position::NONE,
+        }
+    }
+
+    /// Tells whether memory was refused. Every other error is a refusal of what the script does.
+    pub fn is_memory(&self) -> bool
+        ensures { result ≡ is_memory self.now }
+    {
+        match self {
+            EvalAltResult::ErrorMismatchDataType(..)
+            | EvalAltResult::ErrorDataRace(_)
+            | EvalAltResult::ErrorArithmetic(..)
+            | EvalAltResult::ErrorDataTooLarge(..) => false,
+            EvalAltResult::ErrorMemory(_) => true,
         }
     }
 }

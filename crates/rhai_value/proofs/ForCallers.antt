@@ -3,7 +3,7 @@
 pub use Rattle.rhai_value.proofs.Trees.{by_value}
 pub use Rattle.rhai_value.proofs.Cells.{each_paired, each_renumbered, each_weaker, related_renumbered, related_self}
 -- related values
-pub use Rattle.rhai_value.proofs.SameTrees.{by_related, by_trees, same_copy, same_host, same_mode, same_paint, same_shared, same_tag, same_with_int, same_with_tag}
+pub use Rattle.rhai_value.proofs.SameTrees.{by_related, by_trees, same_copy, same_function, same_host, same_items, same_mode, same_paint, same_shared, same_tag, same_with_int, same_with_tag}
 -- related ends and stores, and what is written there
 pub use Rattle.rhai_value.proofs.RelatedCells.{by_ends, length_changed, length_store_after, marked_added, marked_store_after, same_end_type, same_held_leaf, same_held_part, same_put, same_set_mark, same_store_after, same_value_after}
 -- the end of a chain without holders, and what stands where a chain ends
@@ -22,7 +22,7 @@ pub use Rattle.rhai_value.proofs.LentPart.{own_at, far_at, found, put_back, read
 -- what is found after an insertion
 pub use Rattle.rhai_value.proofs.Inserted.{found_inserted}
 -- renamings that grow
-pub use Rattle.rhai_value.proofs.Grow.{new_last, one_more, one_pair, paired_more, pairs_join, related_more, same_added}
+pub use Rattle.rhai_value.proofs.Grow.{new_last, one_more, one_more_shared, one_pair, paired_more, pairs_join, related_more, same_added, same_shared_store, same_shared_value}
 -- marks
 pub use Rattle.rhai_value.proofs.MarkedCells.{mark_stands, marked_with_first, others_marked}
 -- walks
@@ -33,6 +33,10 @@ pub use Rattle.rhai_value.proofs.SameWalks.{AlikeVisit, Keeps, Paired, by_visits
 pub use Rattle.rhai_value.proofs.SameScans.{RelatedVisits, same_nodes, same_scan, same_visits}
 -- options that are alike, and lists that are related place by place
 pub use Rattle.rhai_value.proofs.Zips.{by_alike, by_zip, get_append, get_last, get_set_other, zip_append, zip_drop, zip_get, zip_length, zip_set, zip_take, zip_weaker}
+-- related children as lists, and ways of steps from related values
+pub use Rattle.rhai_value.proofs.SameWays.{chained, listed, same_way}
+-- the children that a list of items makes
+pub use Rattle.rhai_value.proofs.Items.{items_back}
 -- booleans
 pub use Rattle.rhai_value.proofs.Slots.{or_false}
 -- the list of the cell numbers in a value

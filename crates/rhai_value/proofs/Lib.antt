@@ -36,6 +36,7 @@ pub mod SameFlat
 pub mod SameScans
 pub mod SameTrees
 pub mod SameWalks
+pub mod SameWays
 pub mod Scans
 pub mod Sheds
 pub mod Slots

@@ -242,7 +242,7 @@ none_works s t P h = rw h tt
 
 -- ---- what is lent and put back
 
-mark_off : (b : Bool) (t v : Tree) → cond b None (Some t) ≡ Some v → false ≡ b
+pub mark_off : (b : Bool) (t v : Tree) → cond b None (Some t) ≡ Some v → false ≡ b
 mark_off true t v e = cc
 mark_off false t v e = refl
 

@@ -26,7 +26,7 @@ place_behind : (b : Bool) (n i k : ℕ) → nat_lt i n ≡ b → cond b (Some (n
 place_behind true n i k e h = let same : n - suc i ≡ k = cc in omega (arith, ltb-true i n e, same)
 place_behind false n i k e h = cc
 
-place_within : (n : ℕ) (i : ℤ) (k : ℕ) → item_place n i ≡ Some k → k < n
+pub place_within : (n : ℕ) (i : ℤ) (k : ℕ) → item_place n i ≡ Some k → k < n
 place_within n (pos i) k h = place_ahead (nat_lt i n) n i k refl h
 place_within n (negsuc i) k h = place_behind (nat_lt i n) n i k refl h
 

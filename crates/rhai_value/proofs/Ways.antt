@@ -1,18 +1,19 @@
 -- Ways of steps: what they lend of values that are no holders, and which cells they leave alone.
-use Rattle.std.proofs.Common.{◌≡◌, ◌+◌, ℕ, nat_lt, Bool, true, false, cond, List, [], ◌∷◌, length, slice_get, Some, None, Result, Ok, Err, refl, sym, ap, ◌∙◌}
+use Rattle.std.proofs.Common.{◌≡◌, ◌+◌, ℕ, zero, suc, nat_eq, nat_lt, Bool, true, false, cond, List, [], ◌∷◌, length, slice_get, Some, None, Result, Ok, Err, refl, sym, ap, ◌∙◌}
+use Rattle.std.proofs.lemmas.Bool.{eq-eqb, eqb-true}
 use Rattle.rhai_value.specs.declared.chain.Site.TheVariants.{Here, InCell}
 use Rattle.rhai_value.specs.declared.step.Step.{Step}
 use Rattle.rhai_value.specs.declared.step.PlaceErrorKind.{PlaceErrorKind}
 use Rattle.rhai_value.specs.declared.step.PlaceErrorKind.TheVariants.{TooFar}
 use Rattle.rhai_value.specs.declared.store.Cell.{Cell}
 use Rattle.rhai_value.specs.Tree.{Tree, cell_of, fresh, unit}
-use Rattle.rhai_value.specs.Store.{put, is_marked_at, set_mark}
+use Rattle.rhai_value.specs.Store.{at, put, is_marked_at, set_mark}
 use Rattle.rhai_value.specs.End.{End, end, held, stuck, closed}
 use Rattle.rhai_value.specs.Steps.{item_at, with_item}
-use Rattle.rhai_value.specs.Places.{Place, Way, no_place, whole_place, lent_out, along, around, out_of, from_end, way_held, way_on, way_in, way}
+use Rattle.rhai_value.specs.Places.{Place, Way, no_place, whole_place, lent_out, along, around, lost_at, out_of, put_back, from_end, way_held, way_on, way_in, way}
 use Rattle.rhai_value.proofs.Ends.{end_own, stands}
 use Rattle.rhai_value.proofs.MarkedCells.{others_marked}
-use Rattle.rhai_value.proofs.Placed.{lent_is_marked}
+use Rattle.rhai_value.proofs.Placed.{lent_is_marked, mark_off}
 use Rattle.rhai_value.proofs.RelatedCells.{get_unchanged, marked_put}
 use Rattle.rhai_value.proofs.Walks.{at_within}
 
@@ -86,6 +87,86 @@ alone_in (p ∷ ps) n s t = alone_on (way_held (way_in ps (n + 1)) (n + 1) s) n 
 alone_way : (b : Bool) (s : List Cell) (why p : Way) → Alone s why → Alone s p → Alone s (cond b why p)
 alone_way true s why p h k = h
 alone_way false s why p h k = k
+
+-- ---- marks that come back
+
+-- Where the store is left as it was lent, no mark is lost, and each cell is marked as before.
+record Restores (s : List Cell) (q : Place) : Type 0 where
+  pub lost : (w : Tree) → (q.back w q.store).lost ≡ None
+  pub marks : (w : Tree) (d : ℕ) → is_marked_at (q.back w q.store).store d ≡ is_marked_at s d
+
+abbrev AllBack : List Cell → Way → Type 0
+AllBack s (Ok q) = Restores s q
+AllBack s (Err why) = Unit {0}
+
+back_around : (f : Tree → Tree) (s : List Cell) (p : Way) → AllBack s p → AllBack s (along (around f) p)
+back_around f s (Ok q) h = record { lost = h.lost; marks = h.marks }
+back_around f s (Err why) h = tt
+
+unmarked_there : (s : List Cell) (c : ℕ) (v : Tree) → at s c ≡ Some v → is_marked_at s c ≡ false
+unmarked_there [] c v e = refl
+unmarked_there (x ∷ s) zero v e = sym (mark_off x.is_marked x.content v e)
+unmarked_there (x ∷ s) (suc c) v e = unmarked_there s c v e
+
+cleared_there : (s : List Cell) (c : ℕ) → is_marked_at (set_mark s c false) c ≡ false
+cleared_there [] c = refl
+cleared_there (x ∷ s) zero = refl
+cleared_there (x ∷ s) (suc c) = cleared_there s c
+
+module _ (s z : List Cell) (c : ℕ) (v w : Tree) (there : at s c ≡ Some v) (same : (d : ℕ) → is_marked_at z d ≡ is_marked_at (lent_out (Some c) s) d) where
+  own_mark : is_marked_at z c ≡ true
+  own_mark = same c ∙ lent_is_marked s c (at_within s c v there)
+
+  elsewhere : (d : ℕ) → (d ≡ c → ⊥) → is_marked_at (set_mark (put z c w) c false) d ≡ is_marked_at s d
+  elsewhere d apart =
+      others_marked (put z c w) c d false apart ∙ marked_put z c d w ∙ same d
+      ∙ marked_put (set_mark s c true) c d (fresh unit) ∙ others_marked s c d true apart
+
+  by_place : (b : Bool) (d : ℕ) → nat_eq d c ≡ b → is_marked_at (set_mark (put z c w) c false) d ≡ is_marked_at s d
+  by_place true d e =
+      let here : d ≡ c = eqb-true d c e in
+      rw here (cleared_there (put z c w) c ∙ sym (unmarked_there s c v there))
+  by_place false d e = elsewhere d (λ is. let no : true ≡ false = sym (eq-eqb d c is) ∙ e in cc)
+
+  pub marks_back : (d : ℕ) → is_marked_at (put_back (Some c) w z) d ≡ is_marked_at s d
+  marks_back d = rw own_mark (by_place (nat_eq d c) d refl)
+
+back_out : (c n : ℕ) (t v : Tree) (s : List Cell) (p : Way) → at s c ≡ Some v → AllBack (lent_out (Some c) s) p → AllBack s (along (out_of c n t) p)
+back_out c n t v s (Ok q) there h = record {
+  lost = λ w. ap (λ b. lost_at n b (q.back w q.store).lost) (own_mark s (q.back w q.store).store c v w there (h.marks w)) ∙ h.lost w;
+  marks = λ w d. marks_back s (q.back w q.store).store c v (q.back w q.store).value there (h.marks w) d;
+}
+back_out c n t v s (Err why) there h = tt
+
+module _ (go : List Cell → Tree → Way) (each : (s : List Cell) (t : Tree) → AllBack s (go s t)) (n : ℕ) (s : List Cell) (t : Tree) where
+  back_end : (e : End) → e ≡ end s [] t → AllBack s (from_end go n s t e)
+  back_end (held Here v) is = each s t
+  back_end (held (InCell c) v) is = back_out c n t v s (go (lent_out (Some c) s) v) (stands s t (InCell c) v is) (each (lent_out (Some c) s) v)
+  back_end (stuck v) is = tt
+  back_end closed is = tt
+
+  back_held : AllBack s (way_held go n s t)
+  back_held = back_end (end s [] t) refl
+
+back_on : (go : Tree → Way) (n : ℕ) (f : Tree → Tree) (s : List Cell) (o : Result Tree PlaceErrorKind) → ((y : Tree) → AllBack s (go y)) → AllBack s (way_on go n f o)
+back_on go n f s (Ok y) h = back_around f s (go y) (h y)
+back_on go n f s (Err why) h = tt
+
+back_in : (ps : List Step) (n : ℕ) (s : List Cell) (t : Tree) → AllBack s (way_in ps n s t)
+back_in [] n s t = record { lost = λ w. refl; marks = λ w d. refl }
+back_in (p ∷ ps) n s t = back_on (way_held (way_in ps (n + 1)) (n + 1) s) n (with_item p t) s (item_at p t) (λ y. back_held (way_in ps (n + 1)) (back_in ps (n + 1)) (n + 1) s y)
+
+back_way : (b : Bool) (s : List Cell) (why p : Way) → AllBack s why → AllBack s p → AllBack s (cond b why p)
+back_way true s why p h k = h
+back_way false s why p h k = k
+
+pub no_mark_is_lost : (ps : List Step) (s : List Cell) (t : Tree) (q : Place) → way ps s t ≡ Ok q → (w : Tree) → (q.back w q.store).lost ≡ None
+no_mark_is_lost ps s t q e w =
+    let all : AllBack s (way ps s t) = back_way (nat_lt 64 (length ps)) s (no_place 0 TooFar) (way_held (way_in ps 0) 0 s t) tt (back_held (way_in ps 0) (back_in ps 0) 0 s t) in
+    let one : Restores s q = rw e at all in
+    one.lost w
+
+-- ---- cells that are left alone, for a whole way
 
 pub others_stay : (ps : List Step) (s : List Cell) (t : Tree) (q : Place) → way ps s t ≡ Ok q → (w : Tree) (u : List Cell) (d : ℕ) → is_marked_at q.store d ≡ false → slice_get (q.back w u).store d ≡ slice_get u d
 others_stay ps s t q e w u d none =

@@ -13,6 +13,7 @@ use Rattle.rhai_value.specs.declared.with_held.HeldError.TheVariants.{Lost}
 use Rattle.rhai_value.specs.Tree.{Tree, fresh, unit}
 use Rattle.rhai_value.specs.Steps.{item_at, with_item}
 use Rattle.rhai_value.specs.Store.{put, is_marked_at, set_mark}
+use Rattle.rhai_value.specs.Relation.{Renaming, Related, RelatedCells}
 use Rattle.rhai_value.specs.End.{End, end, held, stuck, closed, held_cell, value_after}
 
 -- a call of f at `&mut`s to a value and to a store may give r, and leave the second two there
@@ -126,10 +127,41 @@ way_in (p ∷ ps) n s t = way_on (way_held (way_in ps (n + 1)) (n + 1) s) n (wit
 abbrev pub way : List Step → List Cell → Tree → Way
 way ps s t = if nat_lt 64 (length ps) then no_place 0 kind.TooFar else way_held (way_in ps 0) 0 s t
 
+-- related values and stores are left, with a mark lost at the same step or at none
+pub record RelatedLeft (r : Renaming) (a b : Left) : Type 0 where
+  pub value : Related r a.value b.value
+  pub store : RelatedCells r a.store b.store
+  pub lost : a.lost ≡ b.lost
+
+-- related values stand at two places, with related stores; and where related values and stores are put back there, related ones are left
+pub record RelatedPlaces (r : Renaming) (p q : Place) : Type 0 where
+  pub value : Related r p.value q.value
+  pub store : RelatedCells r p.store q.store
+  pub back : (w x : Tree) (u v : List Cell) → Related r w x → RelatedCells r u v → RelatedLeft r (p.back w u) (q.back x v)
+
+-- two ways lead to such places, or nowhere at the same step for the same reason
+abbrev pub RelatedWays : Renaming → Way → Way → Type 0
+RelatedWays r (Ok p) (Ok q) = RelatedPlaces r p q
+RelatedWays r (Err a) (Err b) = a ≡ b
+RelatedWays r _ _ = ⊥
+
 -- the answer, unless a mark was lost
 abbrev pub place_answer : {R : Type 0} → Option ℕ → R → Result R PlaceError
 place_answer None r = Ok r
 place_answer (Some n) r = Err (record { step = n; kind = kind.Lost })
+
+-- What a write of v at a place answers, and what is left of the value t and the store s: where a way leads nowhere, they stay.
+abbrev pub put_answer : Way → Result (Unit {0}) PlaceError
+put_answer (Ok q) = Ok tt
+put_answer (Err why) = Err why
+
+abbrev pub put_value : Tree → Way → Tree → Tree
+put_value v (Ok q) t = (q.back v q.store).value
+put_value v (Err why) t = t
+
+abbrev pub put_store : Tree → Way → List Cell → List Cell
+put_store v (Ok q) s = (q.back v q.store).store
+put_store v (Err why) s = s
 
 -- f is shown what stands at a place with the store, and what it makes of the two is put back
 pub record WorksIn {F R : Type 0} (g : Once F (MutBor Tree × (MutBor (List Cell) × Unit {0})) (R × (MutBor Tree × (MutBor (List Cell) × Unit {0})))) (f : F) (q : Place) (result : Result R PlaceError) (t' : Tree) (s' : List Cell) : Type 0 where

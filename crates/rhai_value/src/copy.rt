@@ -51,6 +51,19 @@ impl Dynamic {
         }
         copied(self, alloc, NEAR)
     }
+
+    /// Copies values, each as `copy` does.
+    /// Errors: memory is refused; what was copied so far is gone.
+    /// Cost: that of `copy` for each value, and memory for their list; none where there is no value.
+    pub fn copies(alloc: Global, values: &[Dynamic]) -> Result<Vec<Dynamic>, AllocError>
+        ensures value { IfOk result (λ v. v.items ≡ map copy values.now) }
+        ensures free { values.now ≡ [] → IsOk result }
+    {
+        if values.is_empty() {
+            return Ok(Vec::new(alloc));
+        }
+        copied_items(values, alloc, NEAR)
+    }
 }
 
 #[inline(always)]
@@ -145,11 +158,11 @@ fn push_short(copies: &mut Vec<Dynamic>, union: &Union, alloc: Global) -> Result
 // The copies of the items, for which room is taken once.
 #[cycle(copy)]
 pub(crate) fn copied_items(
-    items: &Vec<Dynamic>,
+    items: &[Dynamic],
     alloc: Global,
     levels: u32,
 ) -> Result<Vec<Dynamic>, AllocError>
-    ensures { IfOk result (λ v. v.items ≡ map copy items.now.items) }
+    ensures { IfOk result (λ v. v.items ≡ map copy items.now) }
 {
     let mut copies = Vec::with_capacity(alloc, items.len())?;
     for item in items {

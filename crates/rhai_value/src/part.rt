@@ -73,17 +73,6 @@ pub trait Part: Sized + Drop {
 
 /// What the value itself has or holds, if it is of one kind.
 impl Dynamic {
-    /// Lends what the value itself has, which is of this kind.
-    /// Cost: constant; no memory.
-    #[inline(always)]
-    pub fn own_part<T: Part>(&self) -> &T
-        requires { is_some (T.part_of self.now) ≡ true }
-        ensures { T.part_of self.now ≡ Some (T.meaning result.now) }
-    {
-        // Which values have a part is said by the `requires`, and by no type.
-        T::own(self).unwrap()
-    }
-
     /// Lends what is held, if it is of this kind. What the value itself has is found without a look at its holders.
     /// Cost: that of `Dynamic::held`; no memory.
     #[inline(always)]

@@ -1,5 +1,5 @@
 //! Steps down into a value.
-ghost use Rattle.std.specs.Prelude.{◌≡◌};
+ghost use Rattle.std.specs.Prelude.{◌≡◌, ◌<◌, IfSome};
 ghost use Rattle.rhai_value.specs.Steps.{item_place};
 
 use crate::type_id::TypeId;
@@ -41,8 +41,10 @@ pub enum PlaceErrorKind {
 }
 
 /// Tells the place of an item in a list of this length, if there is one; a negative index counts from the end.
+#[tactic(auto, using(crate::proofs::Stepped::place_within))]
 pub fn item_place(length: usize, index: INT) -> Option<usize>
-    ensures { result ≡ item_place length index }
+    ensures place { result ≡ item_place length index }
+    ensures within { IfSome result (λ k. k < length) }
 {
     let distance = index.unsigned_abs() as usize;
     if index < 0 {

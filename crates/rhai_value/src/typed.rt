@@ -1,6 +1,7 @@
 //! Questions about the type of what is held, which follow chains of holders to their end.
 ghost use Rattle.std.specs.Prelude.{◌≡◌, [], IfOk, IfErr, Some, None, is_some};
 ghost use Rattle.rhai_value.specs.End.{end, held_part, end_type, end_name};
+ghost use Rattle.rhai_value.specs.Items.{items_of};
 ghost use Rattle.rhai_value.specs.Parts.{unit_of, bool_of, int_of, char_of, text_of, blob_of, array_of, map_of, function_of};
 ghost use Rattle.rhai_value.specs.Rows.{trees_of, fields_of};
 ghost use Rattle.rhai_value.specs.Types.{tree_type, type_name};
@@ -214,8 +215,10 @@ impl Dynamic {
     /// Errors: the name of the held type.
     /// Cost: that of `held`; no memory.
     /// rhai: `Dynamic::as_array_ref`.
+    #[tactic(auto, using(crate::proofs::Items::items_held))]
     pub fn as_array_ref<'s>(&'s self, store: &'s Store) -> Result<&'s Array, &'static str>
         ensures ok { IfOk result (λ v. held_part array_of (end store.now [] self.now) ≡ Some (trees_of v.now.items)) }
+        ensures items { IfOk result (λ v. held_part items_of (end store.now [] self.now) ≡ Some v.now.items) }
         ensures err { IfErr result (λ name. (held_part array_of (end store.now [] self.now) ≡ None)
             × (name.now ≡ end_name (end store.now [] self.now))) }
     {

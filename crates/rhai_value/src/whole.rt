@@ -1,9 +1,9 @@
 //! The first content of a value: the value itself, or what the cell of a holder has.
-ghost use Rattle.std.specs.Prelude.{◌≡◌, [], option_map, option_copied, IfSome, None};
+ghost use Rattle.std.specs.Prelude.{◌≡◌, [], true, is_some, option_map, option_copied, IfErr, IfSome, None, OnOk};
 ghost use Rattle.std.specs.Borrow.{sem, follows_if, name_if_some};
 ghost use Rattle.std.specs.Option.{ghost_name_of};
 ghost use Rattle.rhai_value.specs.contracts.dynamic.Dynamic as dynamic_type;
-ghost use Rattle.rhai_value.specs.End.{end, held_in, held_cell, first, first_cell, first_site, constant_in};
+ghost use Rattle.rhai_value.specs.End.{end, held_in, held_cell, first, first_cell, first_site, constant_in, value_with_first, store_with_first};
 ghost use Rattle.rhai_value.specs.Lent.{LendsFirst, LendsHeld, own_ref, either_of};
 ghost use Rattle.rhai_value.specs.Seen.{near_content, near_site};
 ghost use Rattle.rhai_value.specs.Tree.{cell_of, is_constant, mode_of};
@@ -11,6 +11,7 @@ ghost use Rattle.rhai_value.specs.Tree.{cell_of, is_constant, mode_of};
 use crate::access_mode::AccessMode;
 use crate::chain::{Near, Site};
 use crate::dynamic::Dynamic;
+use crate::in_store::InStore;
 use crate::place::Place;
 use crate::store::Store;
 
@@ -61,6 +62,26 @@ impl Dynamic {
         let own = own_mut(self);
         let far = store.cell_content_mut(place);
         either(own, far)
+    }
+
+    /// Writes over the value itself, or over what the cell of a holder has.
+    /// Errors: the content comes back where that cell is marked or no cell of the store, and nothing changes.
+    /// Cost: constant, and the drop of what was there; no memory.
+    /// rhai: an assignment through `Dynamic::write_lock::<Dynamic>`.
+    pub fn set_whole(&mut self, store: &mut Store, content: Dynamic) -> Result<(), Dynamic>
+        ensures there { OnOk result (is_some (first store.old self.old) ≡ true) }
+        ensures value { OnOk result (self.new ≡ value_with_first content self.old) }
+        ensures store { OnOk result (store.new ≡ store_with_first content store.old self.old) }
+        ensures err { IfErr result (λ back. (back ≡ content) × (first store.old self.old ≡ None) × (self.new ≡ self.old) × (store.new ≡ store.old)) }
+    {
+        let mut place = InStore { value: self, store };
+        match place.whole_mut() {
+            Some(whole) => {
+                *whole = content;
+                Ok(())
+            }
+            None => Err(content),
+        }
     }
 
     /// Lends the value where the chain of holders ends, to write; `None` where the chain is stuck or closed.

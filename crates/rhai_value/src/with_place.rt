@@ -10,7 +10,7 @@ ghost use Rattle.std.specs.Str.{chars};
 ghost use Rattle.rhai_value.specs.contracts.dynamic.Dynamic as dynamic_type;
 ghost use Rattle.rhai_value.specs.contracts.map.Map as map_type;
 ghost use Rattle.rhai_value.specs.Items.{field_at};
-ghost use Rattle.rhai_value.specs.Places.{WorksAlong, way, way_in, way_held};
+ghost use Rattle.rhai_value.specs.Places.{WorksAlong, put_answer, put_store, put_value, way, way_in, way_held};
 ghost use Rattle.rhai_value.specs.Rows.{bytes_cmp, trees_of, fields_of};
 ghost use Rattle.rhai_value.specs.Steps.{with_field};
 ghost use Rattle.rhai_value.specs.Tree.{Tree, node, branch, array, fields};
@@ -52,6 +52,24 @@ impl Dynamic {
             });
         }
         work_below(self, store, steps, 0, f)
+    }
+
+    /// Writes another value at a place inside the held value: over what is held there, as `with_place` finds it.
+    /// Errors: as those of `with_place` but `Lost`, with nothing changed; the value that was to be written is dropped.
+    /// Cost: that of `with_place`, and the drop of what was there; no memory.
+    /// rhai: an assignment to a chain of indices and properties.
+    #[tactic(auto, using(crate::proofs::Ways::no_mark_is_lost))]
+    pub fn put_at(
+        &mut self,
+        store: &mut Store,
+        steps: &[Step<'_>],
+        other: Dynamic,
+    ) -> Result<(), PlaceError>
+        ensures answer { result ≡ put_answer (way steps.now store.old self.old) }
+        ensures value { self.new ≡ put_value other (way steps.now store.old self.old) self.old }
+        ensures store { store.new ≡ put_store other (way steps.now store.old self.old) store.old }
+    {
+        self.with_place(store, steps, |place, _| *place = other)
     }
 }
 

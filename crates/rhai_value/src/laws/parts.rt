@@ -7,7 +7,7 @@ ghost use Rattle.rhai_value.specs.declared.chain.Site.{Site};
 ghost use Rattle.rhai_value.specs.declared.in_store.InStore.{InStore};
 ghost use Rattle.rhai_value.specs.declared.store.Cell.{Cell};
 ghost use Rattle.rhai_value.specs.End.{End, end, held, held_part, value_after, store_after};
-ghost use Rattle.rhai_value.specs.Items.{items_of, with_items, map_get, with_rows, end_after, KeyBecomes};
+ghost use Rattle.rhai_value.specs.Items.{items_in, items_of, with_items, map_get, with_rows, end_after, KeyBecomes};
 ghost use Rattle.rhai_value.specs.Parts.{array_of, map_of, with_content};
 ghost use Rattle.rhai_value.specs.Rows.{Rows, bytes_cmp, AreRising, AreTexts, trees_of, fields_of};
 ghost use Rattle.rhai_value.specs.Tree.{Tree, cell_of};
@@ -33,10 +33,11 @@ pub fn what_is_written_is_held()
         → end_after f s t ≡ held site (f v) }
 {}
 
-/// A held array has a list of items, and once others were written there it has those: so where one item was written, the list with
+/// The children that a list of items makes are these items. A held array has a list of items, and once others were written there it has those: so where one item was written, the list with
 /// that place changed.
-#[tactic(auto, using(crate::proofs::Items::items_held, crate::proofs::Items::items_told, crate::proofs::Items::items_written))]
+#[tactic(auto, using(crate::proofs::Items::items_back, crate::proofs::Items::items_held, crate::proofs::Items::items_told, crate::proofs::Items::items_written))]
 pub fn items_are_chained()
+    ensures children { (xs : List Tree) → items_in (trees_of xs) ≡ xs }
     ensures items { (e : End) (xs : List Tree) → (held_part array_of e ≡ Some (trees_of xs)) ↔ (held_part items_of e ≡ Some xs) }
     ensures written { (s : List Cell) (t : Tree) (xs ys : List Tree) → held_part items_of (end s [] t) ≡ Some xs
         → held_part items_of (end_after (with_items ys) s t) ≡ Some ys }

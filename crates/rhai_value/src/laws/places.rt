@@ -7,7 +7,8 @@ ghost use Rattle.rhai_value.specs.declared.step.Step.TheVariants.{Index, Key};
 ghost use Rattle.rhai_value.specs.declared.store.Cell.{Cell};
 ghost use Rattle.rhai_value.specs.End.{end, held_cell, store_after};
 ghost use Rattle.rhai_value.specs.Items.{items_of};
-ghost use Rattle.rhai_value.specs.Places.{Place, around, is_kept, lent_out, put_back, way, whole_place};
+ghost use Rattle.rhai_value.specs.Places.{Place, RelatedWays, around, is_kept, lent_out, put_back, way, whole_place};
+ghost use Rattle.rhai_value.specs.Relation.{IsOneToOne, Related, RelatedCells, Renaming};
 ghost use Rattle.rhai_value.specs.Steps.{item_at, item_place, with_item};
 ghost use Rattle.rhai_value.specs.Store.{is_marked_at};
 ghost use Rattle.rhai_value.specs.Tree.{Tree, cell_of};
@@ -30,13 +31,21 @@ pub fn items_are_written_alone()
     ensures other_keys { (k q : Bor (List ℕ)) (t w : Tree) → (chars q.now ≡ chars k.now → ⊥) → item_at (Key q) (with_item (Key k) t w) ≡ item_at (Key q) t }
 {}
 
-/// A cell that isn't marked while work is done at a place is left as that work left it. No step leads to a value that is no holder, and
+/// A cell that isn't marked while work is done at a place is left as that work left it, and where the work leaves the store as it was
+/// lent, no mark is lost. No step leads to a value that is no holder, and
 /// one step to an item of it that is none: so what is written there is the item.
-#[tactic(auto, using(crate::proofs::Ways::others_stay, crate::proofs::Ways::no_step, crate::proofs::Ways::one_step))]
+#[tactic(auto, using(crate::proofs::Ways::others_stay, crate::proofs::Ways::no_mark_is_lost, crate::proofs::Ways::no_step, crate::proofs::Ways::one_step))]
 pub fn places_are_written_alone()
     ensures other_cells { (ps : List Step) (s : List Cell) (t : Tree) (q : Place) → way ps s t ≡ Ok q → (w : Tree) (u : List Cell) (d : ℕ) → is_marked_at q.store d ≡ false
         → slice_get (q.back w u).store d ≡ slice_get u d }
+    ensures marks { (ps : List Step) (s : List Cell) (t : Tree) (q : Place) → way ps s t ≡ Ok q → (w : Tree) → (q.back w q.store).lost ≡ None }
     ensures whole { (s : List Cell) (t : Tree) → cell_of t ≡ None → way [] s t ≡ Ok (whole_place s t) }
     ensures one_step { (p : Step) (s : List Cell) (t y : Tree) → cell_of t ≡ None → item_at p t ≡ Ok y → cell_of y ≡ None
         → way (p ∷ []) s t ≡ Ok (around (with_item p t) (whole_place s y)) }
+{}
+
+/// Where steps lead doesn't depend on the numbers of cells, nor does what is left once something was put back there.
+#[tactic(auto, using(crate::proofs::SameWays::same_way))]
+pub fn ways_are_renamed()
+    ensures { (r : Renaming) (s z : List Cell) (ps : List Step) (t u : Tree) → IsOneToOne r → RelatedCells r s z → Related r t u → RelatedWays r (way ps s t) (way ps z u) }
 {}

@@ -9,9 +9,9 @@ use Rattle.rhai_value.proofs.copy.+copy.Given as goal
 
 abbrev pub invariant-copied_items-loop-item : goal.invariant-copied_items-loop-item
 invariant-copied_items-loop-item l = record {
-  fewer : nodes_trees (trees_of (drop l.item-index l.item-items)) ≤ nodes_trees (trees_of l.items.items);
-  room : length l.item-items ≤ vec_capacity l.copies;
-  copied : l.copies.items ≡ map copy (take l.item-index l.item-items);
+  fewer : nodes_trees (trees_of (drop l.item-index l.items)) ≤ nodes_trees (trees_of l.items);
+  room : length l.items ≤ vec_capacity l.copies;
+  copied : l.copies.items ≡ map copy (take l.item-index l.items);
 }
 
 abbrev pub invariant-copied_entries-loop-key : goal.invariant-copied_entries-loop-key
@@ -46,7 +46,7 @@ abbrev pub decreases-copied_union : goal.decreases-copied_union
 decreases-copied_union l = 8 * nodes (tree_of l.union.now)
 
 abbrev pub decreases-copied_items : goal.decreases-copied_items
-decreases-copied_items l = 8 * nodes_trees (trees_of l.items.now.items) + 2
+decreases-copied_items l = 8 * nodes_trees (trees_of l.items.now) + 2
 
 abbrev pub decreases-copied_function : goal.decreases-copied_function
 decreases-copied_function l = 8 * nodes_trees (trees_of l.f.now.1) + 3

@@ -31,7 +31,7 @@ work_in_array-returns-in-Some g t c =
     let k = c.in-Some.place in
     let y = c.index_mut.result.now in
     let counted : c.len.result ≡ length xs = omega (arith, c.len.ensures, c.args.items.now.ok.0) in
-    let is : Some k ≡ item_place (length xs) i = c.in-Some.ensures ∙ ap₂ item_place counted (to_z-of_z c.ranges.index) in
+    let is : Some k ≡ item_place (length xs) i = c.in-Some.ensures.place ∙ ap₂ item_place counted (to_z-of_z c.ranges.index) in
     λ h n. item_works g.F.FnOnce c.args.f (way_held (way_in c.args.rest.now (c.args.gone + 1)) (c.args.gone + 1) c.args.store.now) c.args.gone (Index i) y (node (branch array (trees_of xs)) h n) c.args.store.now
     c.work_below.result c.work_below.new.value _ c.work_below.new.store
     (item_there xs i k y h n is (search rules) c.index_mut.ensures.value) (item_same xs i k y h n is (search rules) c.index_mut.ensures.value)
@@ -42,7 +42,7 @@ work_in_array-returns-in-None g t c =
     let xs = c.args.items.now.items in
     let counted : c.len.result ≡ length xs = omega (arith, c.len.ensures, c.args.items.now.ok.0) in
     let again : c.len-in-None.result ≡ length xs = omega (arith, c.len-in-None.ensures, c.args.items.now.ok.0) in
-    let is : None ≡ item_place (length xs) c.args.index = c.in-None.ensures ∙ ap₂ item_place counted (to_z-of_z c.ranges.index) in
+    let is : None ≡ item_place (length xs) c.args.index = c.in-None.ensures.place ∙ ap₂ item_place counted (to_z-of_z c.ranges.index) in
     λ h n. no_item_works g.F.FnOnce c.args.f (way_held (way_in c.args.rest.now (c.args.gone + 1)) (c.args.gone + 1) c.args.store.now) c.args.gone (Index c.args.index) (node (branch array (trees_of xs)) h n) c.args.store.now
     (NoItem _) (item_missing xs c.args.index h n is ∙ ap (λ z. Err (NoItem z)) (sym again))
 

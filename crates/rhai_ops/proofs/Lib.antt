@@ -2,6 +2,7 @@ pub mod Agree
 pub mod Bytes
 pub mod Characters
 pub mod Effects
+pub mod Found
 pub mod ForCallers
 pub mod FromBelow
 pub mod Items

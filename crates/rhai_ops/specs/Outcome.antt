@@ -9,7 +9,8 @@ use Rattle.rhai_text.specs.declared.error.SizeKind.{SizeKind}
 use Rattle.rhai_text.specs.declared.error.SizeKind.TheVariants as size
 use Rattle.rhai_text.specs.declared.limits.Limits.{Limits}
 use Rattle.rhai_text.specs.declared.position.Position.{Position}
-use Rattle.rhai_value.specs.Tree.{Tree, fresh, bool, int, text, blob}
+use Rattle.rhai_value.specs.Tree.{Tree, fresh, bool, int, text, blob, mode_of}
+use Rattle.rhai_value.specs.declared.access_mode.AccessMode.TheVariants.{ReadWrite}
 use Rattle.rhai_value.specs.Relation.{Renaming, Related}
 use Rattle.rhai_ops.specs.Numbers.{Number}
 
@@ -67,6 +68,20 @@ is_answer (fault f) = false
 is_answer (too_large k) = false
 is_answer (answers t) = true
 is_answer unsuited = false
+
+-- what a row comes to, as a result, each refusal at no place; nothing where the operands aren't those of the row
+abbrev pub result_of : Outcome → Option (Result Tree EvalAltResult)
+result_of (fault f) = Some (Err (ErrorArithmetic f no_place))
+result_of (too_large k) = Some (Err (ErrorDataTooLarge k no_place))
+result_of (answers t) = Some (Ok t)
+result_of unsuited = None
+
+-- a row comes to a refusal, or to a value that is no constant
+abbrev pub IsSuited : Outcome → Type 0
+IsSuited (fault f) = Unit {0}
+IsSuited (too_large k) = Unit {0}
+IsSuited (answers t) = mode_of t ≡ ReadWrite
+IsSuited unsuited = ⊥
 
 -- The result of a call is that of the outcome, each refusal at no place. Want of memory may stand in the place of a value alone,
 -- and only where the row may want memory.

@@ -16,7 +16,7 @@ pub(crate) fn answer(op: Token, a: bool, b: bool) -> Result<Dynamic, EvalAltResu
     requires { IsTrue (is_bits op) }
     ensures { IsOutcome ⊥ result (bool_answer (specs.both_bits op a b)) }
 {
-    Ok(Dynamic::from_bool(both_bits(op, a, b)))
+    Ok(Dynamic::from_bool(holds_of(op, a, b)))
 }
 
 /// What an assignment by one of these operators writes.
@@ -24,18 +24,26 @@ pub(crate) fn assigned(op: Token, a: bool, b: bool) -> Result<Dynamic, EvalAltRe
     requires { IsTrue (is_bits_assignment op) }
     ensures { IsOutcome ⊥ result (bool_answer (specs.both_bits (asked.without_assign op) a b)) }
 {
-    Ok(Dynamic::from_bool(both_bits(without_assign(op), a, b)))
+    Ok(Dynamic::from_bool(holds_of(without_assign(op), a, b)))
 }
 
-/// What one of the three operators makes of two booleans.
-fn both_bits(op: Token, a: bool, b: bool) -> bool
+/// Whether one of the three operators holds of two booleans.
+#[tactic(auto, using(crate::proofs::Questions::some_bits))]
+fn holds_of(op: Token, a: bool, b: bool) -> bool
     requires { IsTrue (is_bits op) }
     ensures { Some result ≡ specs.both_bits op a b }
 {
+    both_bits(op, a, b) == Some(true)
+}
+
+/// What one of the three operators makes of two booleans; nothing of another operator.
+fn both_bits(op: Token, a: bool, b: bool) -> Option<bool>
+    ensures { result ≡ specs.both_bits op a b }
+{
     match op {
-        Token::Ampersand => a && b,
-        Token::Pipe => a || b,
-        Token::XOr => a != b,
+        Token::Ampersand => Some(a && b),
+        Token::Pipe => Some(a || b),
+        Token::XOr => Some(a != b),
         Token::Plus
         | Token::Minus
         | Token::Multiply
@@ -63,8 +71,7 @@ fn both_bits(op: Token, a: bool, b: bool) -> bool
         | Token::LeftShiftAssign
         | Token::AndAssign
         | Token::OrAssign
-        // As of comparisons: that the operator suits is said by the `requires` of a row's call.
-        | Token::XOrAssign => unreachable!(),
+        | Token::XOrAssign => None,
     }
 }
 

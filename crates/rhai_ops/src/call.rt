@@ -1,10 +1,10 @@
 //! Calls of rows.
-ghost use Rattle.std.specs.Prelude.{◌≡◌, IfOk, IfErr, IfSome};
+ghost use Rattle.std.specs.Prelude.{◌≡◌, Err, IfOk, IfErr, IfSome};
 ghost use Rattle.rhai_ops.specs.Outcome.{IsOutcome, answers};
 ghost use Rattle.rhai_ops.specs.Results.{MayWant, Suits, outcome};
 ghost use Rattle.rhai_ops.specs.Order.{row_order};
 ghost use Rattle.rhai_ops.specs.Effects.{answered, first_left, second_left, store_left, effect, operator};
-ghost use Rattle.rhai_value.specs.Tree.{TakesNoMemory, copy};
+ghost use Rattle.rhai_value.specs.Tree.{Tree, TakesNoMemory, copy};
 
 use crate::answer::{part, value};
 use crate::builtin::FnBuiltin;
@@ -25,7 +25,30 @@ impl FnBuiltin {
     /// Cost: the length of the operands' texts, blobs and items; of ints, booleans and characters constant, with no memory.
     /// rhai: a call of the function that a lookup answered.
     #[inline(always)]
+    #[tactic(auto, using(crate::proofs::Effects::answered_refuses, crate::proofs::Effects::answered_value))]
     pub fn call(
+        &self,
+        alloc: Global,
+        store: &mut Store,
+        limits: &Limits,
+        left: &mut Dynamic,
+        right: &mut Dynamic,
+    ) -> Result<Dynamic, EvalAltResult>
+        requires { Suits self.now store.old left.old right.old }
+        ensures result { IsOutcome (MayWant self.now left.old right.old) result (answered (effect self.now) (outcome self.now limits.now store.old left.old right.old)) }
+        ensures first { IfOk result (λ d. left.new ≡ first_left (effect self.now) (outcome self.now limits.now store.old left.old right.old) store.old left.old) }
+        ensures second { IfOk result (λ d. right.new ≡ second_left (effect self.now) (outcome self.now limits.now store.old left.old right.old) right.old) }
+        ensures store { IfOk result (λ d. store.new ≡ store_left (effect self.now) (outcome self.now limits.now store.old left.old right.old) store.old left.old) }
+        ensures err { IfErr result (λ e. (left.new ≡ left.old) × (right.new ≡ right.old) × (store.new ≡ store.old)) }
+        ensures row { IfOk result (λ d. (t : Tree) × (outcome self.now limits.now store.old left.old right.old ≡ answers t)) }
+        ensures refusal { IfErr result (λ e. IsOutcome (MayWant self.now left.old right.old) (Err e) (outcome self.now limits.now store.old left.old right.old)) }
+    {
+        self.call_row(alloc, store, limits, left, right)
+    }
+
+    /// The same, but for what the answer says of the row.
+    #[inline(always)]
+    fn call_row(
         &self,
         alloc: Global,
         store: &mut Store,

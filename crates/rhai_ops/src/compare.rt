@@ -53,6 +53,5 @@ pub(crate) fn holds(op: Token, order: Ordering) -> bool
     requires { IsTrue (is_cmp op) }
     ensures { Some result ≡ specs.compared op order }
 {
-    // Rows name any operator, as the tables do: which ones suit is said by the `requires` of their call, and by no type.
-    compared(op, order).unwrap()
+    compared(op, order) == Some(true)
 }

@@ -129,7 +129,7 @@ fn number(op: Token, x: INT, y: INT) -> Result<INT, ArithmeticFault>
     requires { IsTrue (is_number op) }
     ensures { Some result ≡ specs.number op x y }
 {
-    // As of comparisons: that the operator suits is said by the `requires` of a row's call.
+    // Rows name any operator, as the tables do: which ones suit is said by the `requires` of their call, and by no type.
     int_answer(op, x, y).unwrap()
 }
 

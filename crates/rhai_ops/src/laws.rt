@@ -1,5 +1,7 @@
 //! Laws of the operators, each the contract of a function that does nothing.
-ghost use Rattle.std.specs.Prelude.{◌≡◌, ℕ, ℤ, Bool, true, false, [], ◌∷◌, List, Some, option_map, IsTrue};
+ghost use Rattle.std.specs.Prelude.{◌≡◌, ℕ, ℤ, Bool, true, false, [], ◌∷◌, Err, List, Some, option_map, IsTrue};
+ghost use Rattle.rhai_text.specs.Error.{is_memory};
+ghost use Rattle.rhai_text.specs.declared.error.EvalAltResult.{EvalAltResult};
 ghost use Rattle.rhai_text.specs.declared.limits.Limits.{Limits};
 ghost use Rattle.rhai_text.specs.declared.token.Token.{Token};
 ghost use Rattle.rhai_value.specs.declared.access_mode.AccessMode.{AccessMode};
@@ -12,8 +14,8 @@ ghost use Rattle.std.specs.declared.cmp.Ordering.{Ordering};
 ghost use Rattle.rhai_ops.specs.declared.builtin.FnBuiltin.{FnBuiltin as Row};
 ghost use Rattle.rhai_ops.specs.declared.builtin.FnBuiltin.TheVariants as row;
 ghost use Rattle.rhai_ops.specs.AssignTable.{assign_row};
-ghost use Rattle.rhai_ops.specs.Outcome.{Outcome, RelatedOutcomes, answers};
-ghost use Rattle.rhai_ops.specs.Results.{Suits, outcome};
+ghost use Rattle.rhai_ops.specs.Outcome.{IsOutcome, IsSuited, Outcome, RelatedOutcomes, answers, is_answer, result_of};
+ghost use Rattle.rhai_ops.specs.Results.{MayWant, Suits, outcome};
 ghost use Rattle.rhai_ops.specs.Table.{row_of};
 ghost use Rattle.rhai_ops.specs.Tokens.{without_assign};
 ghost use Rattle.rhai_ops.specs.Numbers.{compared};
@@ -34,6 +36,23 @@ pub fn rows_suit()
 pub fn operators_write_nothing()
     ensures operator { (t : Token) (s : List Cell) (x y : Tree) (b : Row) → row_of t s x y ≡ Some b → effect b ≡ operator }
     ensures assignment { (t : Token) (x y : Tree) (b : Row) → assign_row t x y ≡ Some b → IsTrue (writes (effect b)) }
+{}
+
+/// A row that was found for two operands comes to a refusal, or to a value that is no constant.
+#[tactic(auto, using(crate::proofs::Found::found_answers, crate::proofs::Found::assigned_answers, crate::proofs::Found::place_answers))]
+pub fn found_rows_answer()
+    ensures operator { (t : Token) (l : Limits) (s : List Cell) (x y : Tree) (b : Row) → row_of t s x y ≡ Some b → IsSuited (outcome b l s x y) }
+    ensures assignment { (t : Token) (l : Limits) (s : List Cell) (x y : Tree) (b : Row) → assign_row t x y ≡ Some b → IsSuited (outcome b l s x y) }
+    ensures place { (t : Token) (l : Limits) (s : List Cell) (x v y : Tree) (b : Row) → first s x ≡ Some v → assign_row t v y ≡ Some b → IsSuited (outcome b l s x y) }
+{}
+
+/// A call that fails with another error than want of memory fails as its row says, and memory is wanted for a value alone.
+#[tactic(auto, using(crate::proofs::Effects::refused_result, crate::proofs::Effects::refused_memory))]
+pub fn calls_fail_as_rows_say()
+    ensures refusal { (b : Row) (l : Limits) (s : List Cell) (x y : Tree) (e : EvalAltResult) → IsOutcome (MayWant b x y) (Err e) (outcome b l s x y)
+        → is_memory e ≡ false → result_of (outcome b l s x y) ≡ Some (Err e) }
+    ensures memory { (b : Row) (l : Limits) (s : List Cell) (x y : Tree) (e : EvalAltResult) → IsOutcome (MayWant b x y) (Err e) (outcome b l s x y)
+        → is_memory e ≡ true → is_answer (outcome b l s x y) ≡ true }
 {}
 
 /// An operator whose row orders two operands answers by that order. (`compare_values` is the order by the row of `<`)

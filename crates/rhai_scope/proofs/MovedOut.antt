@@ -14,6 +14,14 @@ length_changed f [] i = refl
 length_changed f (e ∷ es) zero = refl
 length_changed f (e ∷ es) (suc i) = ap suc (length_changed f es i)
 
+-- and every other entry stays
+pub others_stay : (f : Entry → Entry) (es : List Entry) (i j : ℕ) → (j ≡ i → ⊥) → slice_get (changed_at f es i) j ≡ slice_get es j
+others_stay f [] i j apart = refl
+others_stay f (e ∷ es) zero zero apart = absurd (apart refl)
+others_stay f (e ∷ es) zero (suc j) apart = refl
+others_stay f (e ∷ es) (suc i) zero apart = refl
+others_stay f (e ∷ es) (suc i) (suc j) apart = others_stay f es i j (λ h. apart (ap suc h))
+
 -- the entry at a place, written over
 pub set_changed : (f : Entry → Entry) (es : List Entry) (i : ℕ) (e : Entry) → i < length es → e ≡ get_or es i e → slice_set es i (f e) ≡ changed_at f es i
 set_changed f [] i e l is = absurd (omega (arith, l))

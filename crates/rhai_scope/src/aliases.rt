@@ -76,7 +76,6 @@ impl Scope {
     /// Errors: memory is refused; nothing changes.
     /// Cost: that of `search`, and the number of aliases that the entry has.
     /// rhai: `Scope::set_alias`.
-    #[tactic(auto, using(crate::proofs::Found::position_within))]
     pub fn set_alias(&mut self, name: &str, alias: &str) -> Result<(), AllocError>
         ensures ok { OnOk result (self.new ≡ changed_named (aliased (meant_alias (chars name.now) (chars alias.now))) (chars name.now) self.old) }
         ensures missing { last_position (chars name.now) self.old ≡ None → IsOk result }

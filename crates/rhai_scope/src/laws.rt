@@ -1,12 +1,12 @@
 //! Laws of the scope, each the contract of a function that does nothing.
-ghost use Rattle.std.specs.Prelude.{◌≡◌, ◌≢◌, ◌∷◌, ◌++◌, ℕ, List, length, map, nat_eq, take, Some, None, option_map};
+ghost use Rattle.std.specs.Prelude.{◌≡◌, ◌≢◌, ◌∷◌, ◌++◌, ℕ, List, length, map, nat_eq, slice_get, take, Some, None, option_map};
 ghost use Rattle.std.specs.Cmp.Lexicographic.{pointwise};
 ghost use Rattle.std.specs.List.{AllByRecursion, IsDistinct};
 ghost use Rattle.rhai_value.specs.Copied.{SameButModes};
 ghost use Rattle.rhai_value.specs.Tree.{Tree};
 ghost use Rattle.rhai_value.specs.declared.access_mode.AccessMode.{AccessMode};
-ghost use Rattle.rhai_scope.specs.Entry.{Entry, copied_entry, is_constant_entry};
-ghost use Rattle.rhai_scope.specs.Lookup.{last_position, last_entry, visible};
+ghost use Rattle.rhai_scope.specs.Entry.{Entry, copied_entry, is_constant_entry, with_value};
+ghost use Rattle.rhai_scope.specs.Lookup.{changed_at, last_position, last_entry, value_at, visible};
 ghost use Rattle.rhai_scope.specs.Pushes.{all_pushed};
 
 use crate::scope::MIN_SCOPE_ENTRIES;
@@ -43,6 +43,16 @@ pub fn copies_keep_entries()
     ensures aliases { (e : Entry) → (copied_entry e).aliases ≡ e.aliases }
     ensures value { (e : Entry) → SameButModes (copied_entry e).value e.value }
     ensures constant { (e : Entry) → is_constant_entry (copied_entry e) ≡ is_constant_entry e }
+{}
+
+/// A value is written at one position alone: the value that stood there, written again, leaves all as it was; the number of entries
+/// stays; what was written stands there; and each other entry is as it was.
+#[tactic(auto, using(crate::proofs::MovedOut::kept_there, crate::proofs::MovedOut::length_changed, crate::proofs::MovedOut::value_changed, crate::proofs::MovedOut::others_stay))]
+pub fn positions_are_written_alone()
+    ensures same { (t : Tree) (es : List Entry) (i : ℕ) → value_at es (Some i) ≡ Some t → changed_at (with_value t) es i ≡ es }
+    ensures length { (f : Entry → Entry) (es : List Entry) (i : ℕ) → length (changed_at f es i) ≡ length es }
+    ensures there { (t u : Tree) (es : List Entry) (i : ℕ) → value_at es (Some i) ≡ Some t → value_at (changed_at (with_value u) es i) (Some i) ≡ Some u }
+    ensures elsewhere { (f : Entry → Entry) (es : List Entry) (i j : ℕ) → (j ≡ i → ⊥) → slice_get (changed_at f es i) j ≡ slice_get es j }
 {}
 
 /// The room that a scope makes for its first entry is for eight.

@@ -1,5 +1,5 @@
 //! Entries by their names: the newest is found first.
-ghost use Rattle.std.specs.Prelude.{◌≡◌, ◌<◌, length, Some, option_copied, option_map, is_some, slice_get};
+ghost use Rattle.std.specs.Prelude.{◌≡◌, ◌<◌, length, IfSome, Some, option_copied, option_map, is_some, slice_get};
 ghost use Rattle.std.specs.Borrow.{Lends, LendsIf, sem};
 ghost use Rattle.std.specs.Option.{option_copied_mut};
 ghost use Rattle.std.specs.Str.{chars};
@@ -20,14 +20,15 @@ impl Scope {
     /// ordered map, so the time is in the logarithm of the number of different names; of most names that aren't there it is
     /// the walk's alone.
     /// rhai: `Scope::search`, which is private.
+    #[tactic(auto, using(crate::proofs::Found::position_within))]
     pub fn search(&self, name: &str) -> Option<usize>
-        ensures { result ≡ last_position (chars name.now) self.now }
+        ensures position { result ≡ last_position (chars name.now) self.now }
+        ensures within { IfSome result (λ i. i < length self.now) }
     {
         self.index.search(&self.records, name)
     }
 
     /// The last entry of a name.
-    #[tactic(auto, using(crate::proofs::Found::position_within))]
     pub(crate) fn entry_named(&self, name: &str) -> Option<&Record>
         ensures { option_copied result ≡ last_entry (chars name.now) self.now }
     {
@@ -38,7 +39,6 @@ impl Scope {
     }
 
     /// The position of the last entry of a name, if its value may be written.
-    #[tactic(auto, using(crate::proofs::Found::position_within))]
     pub(crate) fn writable(&self, name: &str) -> Option<usize>
         ensures { result ≡ writable_position (chars name.now) self.now }
     {
@@ -116,7 +116,6 @@ impl Scope {
     }
 
     /// The value of the last entry of a name, to write to, also of a constant.
-    #[tactic(auto, using(crate::proofs::Found::position_within))]
     pub(crate) fn last_mut(&mut self, name: &str) -> Option<&mut Dynamic>
         ensures* writes_back { sem 𝓛 (LendsIf scope_type.the_row dynamic_type.the_row self.entry result (with_value_at self.old (last_position (chars name.now) self.old)) self.old) }
         ensures value { option_copied_mut result ≡ value_at self.old (last_position (chars name.now) self.old) }
@@ -130,7 +129,6 @@ impl Scope {
     /// Tells whether the last entry of a name is a constant by its own mode.
     /// Cost: that of `search`.
     /// rhai: `Scope::is_constant`.
-    #[tactic(auto, using(crate::proofs::Found::position_within))]
     pub fn is_constant(&self, name: &str) -> Option<bool>
         ensures { result ≡ option_map is_constant_entry (last_entry (chars name.now) self.now) }
     {

@@ -156,7 +156,6 @@ impl Scope {
     /// Errors: memory is refused; the scope is as it was, and the value is gone.
     /// Cost: that of `search`; for a new entry that of `push`.
     /// rhai: `Scope::set_value`, which panics on a constant.
-    #[tactic(auto, using(crate::proofs::Found::position_within))]
     pub fn set_value<T: Variant>(&mut self, name: &str, value: T) -> Result<(), AllocError>
         requires { IfSome (last_entry (chars name.now) self.old) (λ e. is_constant_entry e ≡ false) }
         ensures free { is_type T.KIND type_id.String ≡ false → is_some (last_position (chars name.now) self.old) ≡ true → IsOk result }
@@ -231,7 +230,6 @@ impl Scope {
     /// Errors: memory is refused, for a copy out of a cell or for a `String`; the entry stays then.
     /// Cost: that of `search`, and the number of entries behind it.
     /// rhai: `Scope::remove`.
-    #[tactic(auto, using(crate::proofs::Found::position_within))]
     pub fn remove<T: Variant>(&mut self, name: &str, store: &Store) -> Result<Option<T>, AllocError>
         ensures missing { last_position (chars name.now) self.old ≡ None → IsOk result }
         ensures found { IfOk result (λ found. option_map T.tree found ≡ option_and_then (λ t. read T.KIND (flattened store.now t)) (value_named (chars name.now) self.old)) }

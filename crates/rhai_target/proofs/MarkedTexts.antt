@@ -3,17 +3,24 @@ use Rattle.std.proofs.Common.{◌≡◌, ℕ, zero, suc, Bool, true, false, List
 use Rattle.rhai_value.specs.declared.in_store.InStore.{InStore}
 use Rattle.rhai_value.specs.declared.chain.Site.TheVariants.{Here, InCell}
 use Rattle.rhai_value.specs.declared.store.Cell.{Cell}
-use Rattle.rhai_value.specs.Tree.{Tree, leaf, text}
+use Rattle.rhai_value.specs.Tree.{Tree, node, leaf, branch, fields, holder, text}
 use Rattle.rhai_value.specs.Parts.{text_of, with_content}
 use Rattle.rhai_value.specs.Store.{put, set_mark, marked_with, is_marked_at, content_at}
 use Rattle.rhai_value.specs.End.{End, end, held, stuck, closed, held_in, held_part, held_cell, value_after, store_after}
 use Rattle.rhai_value.specs.Writes.{written_at}
-use Rattle.rhai_value.proofs.ForCallers.{kept_written, marked_store_after}
+use Rattle.rhai_value.proofs.ForCallers.{end_own, kept_written, marked_store_after}
 use Rattle.rhai_target.specs.Change.{with_leaf, on_text}
 
 -- a mark outlasts what is put into the cell
 pub mark_outlasts : (s : List Cell) (c : ℕ) (t : Tree) → is_marked_at s c ≡ true → is_marked_at (put s c t) c ≡ true
 mark_outlasts s c t h = marked_store_after (λ _. t) (held (InCell c) t) s c ∙ h
+
+-- a value that has a text holds it
+pub text_held : (s : List Cell) (t : Tree) → is_some (text_of t) ≡ true → held_part text_of (end s [] t) ≡ text_of t
+text_held s (node (leaf l) g m) h = ap (held_part text_of) (end_own s [] (node (leaf l) g m) refl)
+text_held s (node (branch k ts) g m) h = cc
+text_held s (node (fields fs) g m) h = cc
+text_held s (node (holder c) g m) h = cc
 
 -- a text that is put is what a change makes of the text
 text_put : (t : Tree) (o : Option (List ℕ)) (g : List ℕ → List ℕ) (new : List ℕ) → is_some o ≡ true → IfSome o (λ cs. new ≡ g cs)

@@ -47,7 +47,7 @@ pub fn write_slice(
     let printed = display_text(alloc, value, store);
     match mark {
         None => {
-            let text = sliced(source, alloc, printed?.as_str(), slice)?;
+            let text = sliced(source, store, alloc, printed?.as_str(), slice)?;
             put_text(source, text);
             Ok(())
         }
@@ -76,14 +76,16 @@ fn write_marked_slice(
     ensures err { OnErr result (store.new ≡ store.old) }
     ensures marked { is_marked_at store.new token.now ≡ true }
 {
-    let text = sliced(store.through(token), alloc, printed?.as_str(), slice)?;
+    let text = sliced(store.through(token), store, alloc, printed?.as_str(), slice)?;
     put_text(store.through_mut(token), text);
     Ok(())
 }
 
 /// The text of a value with the slice replaced by what the working value printed as.
+#[tactic(auto, using(crate::proofs::MarkedTexts::text_held))]
 fn sliced(
     held: &Dynamic,
+    store: &Store,
     alloc: Global,
     printed: &str,
     slice: Slice,
@@ -91,7 +93,7 @@ fn sliced(
     requires { is_some (text_of held.now) ≡ true }
     ensures { IfOk result (λ new. IfSome (text_of held.now) (λ cs. new ≡ spliced (chars printed.now) slice cs)) }
 {
-    held.own_part::<ImmutableString>()
+    held.known_part::<ImmutableString>(store)
         .with_slice(alloc, slice.start, slice.end, slice.exclusive, printed)
 }
 

@@ -1,7 +1,7 @@
 -- A row of an operator is called on two values of the hand.
-use Rattle.std.proofs.Common.{◌≡◌, ℕ, true, false, nat_eq, slice_get, Some, Result, Ok, Err, refl, sym, ap, subst, ◌∙◌}
+use Rattle.std.proofs.Common.{◌≡◌, ℕ, Bool, true, false, cond, nat_eq, slice_get, Some, Result, Ok, Err, refl, sym, ap, subst, ◌∙◌}
 use Rattle.rhai_text.specs.declared.error.EvalAltResult.{EvalAltResult}
-use Rattle.rhai_text.specs.declared.error.EvalAltResult.TheVariants as error
+use Rattle.rhai_text.specs.Error.{is_memory}
 use Rattle.rhai_text.specs.declared.token.Token.{Token}
 use Rattle.rhai_value.specs.Tree.{Tree}
 use Rattle.rhai_ops.specs.Outcome as call
@@ -10,12 +10,15 @@ use Rattle.rhai_ops.specs.Results.{MayWant, outcome}
 use Rattle.rhai_ops.specs.Table.{row_of}
 use Rattle.rhai_ops.specs.Effects.{Effect, operator, assignment, answered}
 use Rattle.rhai_ops.specs.declared.builtin.FnBuiltin.{FnBuiltin}
+use Rattle.rhai_ops.proofs.ForCallers.{answered_refuses, refused_memory, refused_result}
 use Rattle.rhai_run.specs.declared.not_done.NotDone.{NotDone}
+use Rattle.rhai_run.specs.declared.not_done.NotDone.TheVariants.{Refused, Memory}
+use Rattle.rhai_run.specs.declared.answer.Refusal.TheVariants.{Fault, NoBuiltin}
 use Rattle.rhai_run.specs.State.{State, appended}
 use Rattle.rhai_run.specs.declared.answer.Answer.TheVariants.{Done}
-use Rattle.rhai_run.specs.Outcome.{growing}
+use Rattle.rhai_run.specs.Outcome.{given, growing}
 use Rattle.rhai_run.specs.Does.{Gives, IsError, not_done_of}
-use Rattle.rhai_run.specs.Operators.{called}
+use Rattle.rhai_run.specs.Operators.{called, finished}
 use Rattle.rhai_run.specs.declared.command.Command.TheVariants as command
 use Rattle.rhai_run.specs.Step.{step}
 
@@ -28,28 +31,21 @@ pub gives_value : (MayWant : Type 0) (w : State) (d : Tree) (o : call.Outcome) �
 gives_value M w d o h = ap (called w (appended w)) h
 
 -- what a call that is not done comes to
-answered_fault : (how : Effect) (o p : call.Outcome) → answered how o ≡ p → is_answer p ≡ false → o ≡ p
-answered_fault operator o p e h = e
-answered_fault (assignment q) (call.answers t) p e h = let n = rw (sym e) at h in cc
-answered_fault (assignment q) (call.fault f) p e h = e
-answered_fault (assignment q) (call.too_large x) p e h = e
-answered_fault (assignment q) call.unsuited p e h = e
-
-answered_granted : (w : State) (how : Effect) (after : Tree → State) (o : call.Outcome) → is_answer (answered how o) ≡ true → (called w after o).wants ≡ true
-answered_granted w how after (call.answers t) h = refl
-answered_granted w operator after (call.fault f) h = cc
-answered_granted w operator after (call.too_large k) h = cc
-answered_granted w operator after call.unsuited h = cc
-answered_granted w (assignment q) after (call.fault f) h = cc
-answered_granted w (assignment q) after (call.too_large x) h = cc
-answered_granted w (assignment q) after call.unsuited h = cc
+wanted : (w : State) (after : Tree → State) (o : call.Outcome) → is_answer o ≡ true → (called w after o).wants ≡ true
+wanted w after (call.answers t) h = refl
+wanted w after (call.fault f) h = cc
+wanted w after (call.too_large k) h = cc
+wanted w after call.unsuited h = cc
 
 pub refusal_of : (M : Type 0) (w : State) (how : Effect) (after : Tree → State) (e : EvalAltResult) (o : call.Outcome) → IsOutcome M (Err e) (answered how o) → IsError (not_done_of e) w (called w after o)
-refusal_of M w how after (error.ErrorArithmetic f p) o h = rw (answered_fault how o (call.fault f) h.0 refl, h.1) refl
-refusal_of M w how after (error.ErrorDataTooLarge f p) o h = rw (answered_fault how o (call.too_large f) h.0 refl, h.1) refl
-refusal_of M w how after (error.ErrorMemory a) o h = answered_granted w how after o h.1
-refusal_of M w how after (error.ErrorMismatchDataType a b p) o h = absurd h
-refusal_of M w how after (error.ErrorDataRace p) o h = absurd h
+refusal_of M w how after e o h = by (is_memory e) refl
+  where
+    own : IsOutcome M (Err e) o
+    own = answered_refuses M how o e h
+
+    by : (b : Bool) → is_memory e ≡ b → IsError (cond b Memory (Refused (Fault e))) w (called w after o)
+    by true m = wanted w after o (refused_memory M o e own m)
+    by false m = ap (λ r. given r NoBuiltin w (finished w after)) (refused_result M o e own m)
 
 -- the operands and the row of the call, in the state and in the memory that it stands for
 module _ (w v : State) (op : Token) (i j : ℕ) (x y : Tree) (row : FnBuiltin) (view : v ≡ w) (ex : slice_get w.hand i ≡ Some x) (ey : slice_get w.hand j ≡ Some y) (differ : nat_eq i j ≡ false) (found : row_of op w.store x y ≡ Some row) where

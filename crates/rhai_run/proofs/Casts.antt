@@ -21,13 +21,17 @@ castable_other _ e h = refl
 pub read_by_type : (k : TypeId) (s : List Cell) (t : Tree) → is_type k id.Shared ≡ false → is_some (read_as k (flat s t)) ≡ is_castable k (end s [] t)
 read_by_type k s t h = ap (λ b. is_some (cond b None (read k (flat s t)))) h ∙ copied_castable k s t
 
--- nothing is read as another
-pub unread : (k : TypeId) (t : Tree) → is_type k id.Shared ≡ true → read_as k t ≡ None
-unread k t h = ap (λ b. cond b None (read k t)) h
-
-pub not_some : {A : Type 0} (o : Option A) → is_some o ≡ false → o ≡ None
+not_some : {A : Type 0} (o : Option A) → is_some o ≡ false → o ≡ None
 not_some None e = refl
 not_some (Some x) e = cc
+
+-- and nothing where it can't be
+pub uncastable : (k : TypeId) (s : List Cell) (t : Tree) → is_castable k (end s [] t) ≡ false → read_as k (flat s t) ≡ None
+uncastable k s t h = by (is_type k id.Shared)
+  where
+    by : (b : Bool) → cond b None (read k (flat s t)) ≡ None
+    by true = refl
+    by false = not_some (read k (flat s t)) (copied_castable k s t ∙ h)
 
 pub moved_by_type : (k : TypeId) (s : List Cell) (t : Tree) → is_some (read_as k (flat s t)) ≡ is_some (read_as k (flattened s t))
 moved_by_type k s t = by (is_type k id.Shared)
@@ -35,6 +39,10 @@ moved_by_type k s t = by (is_type k id.Shared)
     by : (b : Bool) → is_some (cond b None (read k (flat s t))) ≡ is_some (cond b None (read k (flattened s t)))
     by true = refl
     by false = copied_castable k s t ∙ sym (moved_castable k s t)
+
+-- a value that can be cast is one of which, without holders, something is read
+pub movable : (k : TypeId) (s : List Cell) (t : Tree) → is_type k id.Shared ≡ false → is_castable k (end s [] t) ≡ is_some (read_as k (flattened s t))
+movable k s t h = sym (read_by_type k s t h) ∙ moved_by_type k s t
 
 -- but as the value itself, what is read is the content made anew
 content_read : (k : TypeId) (t : Tree) → is_type k id.Dynamic ≡ false → read k t ≡ option_map made (typed_content (held_type k) t)
@@ -82,22 +90,12 @@ viewed_flat : (k : TypeId) (s : List Cell) (t : Tree) → is_some (cell_of t) �
 viewed_flat k s t h n = ap (option_map copy) (viewed_read k t n) ∙ sym (copy_read k t) ∙ ap (read k) (sym (unshared_flat s t (not_some (cell_of t) h)))
 
 -- what is viewed of a value that is no holder is what its flat copy is cast to
-pub viewed_some : (k : TypeId) (s : List Cell) (t d : Tree) → is_some (cell_of t) ≡ false → is_type k id.String ≡ false → is_type k id.Shared ≡ false → read k (flat s t) ≡ Some d → option_map copy (viewed_as k t) ≡ Some d
-viewed_some k s t d h n f e = ap (λ b. option_map copy (cond b None (viewed k t))) f ∙ viewed_flat k s t h n ∙ e
-
-pub viewed_none : (k : TypeId) (s : List Cell) (t : Tree) → is_some (cell_of t) ≡ false → is_type k id.String ≡ false → is_some (read_as k (flat s t)) ≡ false → option_map copy (viewed_as k t) ≡ None
-viewed_none k s t h n f = by (is_type k id.Shared) f
+pub viewed_cast : (k : TypeId) (s : List Cell) (t : Tree) → is_some (cell_of t) ≡ false → is_type k id.String ≡ false → option_map copy (viewed_as k t) ≡ read_as k (flat s t)
+viewed_cast k s t h n = by (is_type k id.Shared)
   where
-    by : (b : Bool) → is_some (cond b None (read k (flat s t))) ≡ false → option_map copy (cond b None (viewed k t)) ≡ None
-    by true e = refl
-    by false e = viewed_flat k s t h n ∙ not_some (read k (flat s t)) e
-
-pub viewed_is_there : (k : TypeId) (s : List Cell) (t : Tree) → is_some (cell_of t) ≡ false → is_type k id.String ≡ false → is_some (read_as k (flat s t)) ≡ true → is_some (option_map copy (viewed_as k t)) ≡ true
-viewed_is_there k s t h n f = by (is_type k id.Shared) f
-  where
-    by : (b : Bool) → is_some (cond b None (read k (flat s t))) ≡ true → is_some (option_map copy (cond b None (viewed k t))) ≡ true
-    by true e = cc
-    by false e = ap is_some (viewed_flat k s t h n) ∙ e
+    by : (b : Bool) → option_map copy (cond b None (viewed k t)) ≡ cond b None (read k (flat s t))
+    by true = refl
+    by false = viewed_flat k s t h n
 
 -- no value is a `String`
 pub unviewed_string : (k : TypeId) (t : Tree) → is_type k id.String ≡ true → option_map copy (viewed_as k t) ≡ None

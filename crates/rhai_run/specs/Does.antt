@@ -1,10 +1,10 @@
 -- What the code of a command owes.
-use Rattle.std.specs.Prelude.{◌≡◌, true, Option, Some, None, Result, Ok, Err}
+use Rattle.std.specs.Prelude.{◌≡◌, true, Option, Some, None, Result, Ok, Err, if◌then◌else◌}
 use Rattle.rhai_run.specs.declared.answer.Answer.{Answer}
 use Rattle.rhai_run.specs.declared.not_done.NotDone.{NotDone}
 use Rattle.rhai_run.specs.declared.not_done.NotDone.TheVariants.{Refused, Memory}
 use Rattle.rhai_text.specs.declared.error.EvalAltResult.{EvalAltResult}
-use Rattle.rhai_text.specs.declared.error.EvalAltResult.TheVariants as error
+use Rattle.rhai_text.specs.Error.{is_memory}
 use Rattle.rhai_value.specs.Tree.{Tree}
 use Rattle.rhai_run.specs.declared.answer.Refusal.TheVariants.{Fault}
 use Rattle.rhai_run.specs.State.{State, appended}
@@ -42,11 +42,7 @@ IsRefusal Memory o = ⊥
 
 -- the error of a call as why a command isn't done
 abbrev pub not_done_of : EvalAltResult → NotDone
-not_done_of (error.ErrorMismatchDataType wanted found at) = Refused (Fault (error.ErrorMismatchDataType wanted found at))
-not_done_of (error.ErrorDataRace at) = Refused (Fault (error.ErrorDataRace at))
-not_done_of (error.ErrorArithmetic why at) = Refused (Fault (error.ErrorArithmetic why at))
-not_done_of (error.ErrorDataTooLarge what at) = Refused (Fault (error.ErrorDataTooLarge what at))
-not_done_of (error.ErrorMemory e) = Memory
+not_done_of e = if is_memory e then Memory else Refused (Fault e)
 
 -- A call is done, and this is the outcome; or its error is that of the outcome, and nothing has changed.
 abbrev pub Calls : Result Tree EvalAltResult → State → State → Outcome → Type 0

@@ -1,23 +1,25 @@
 -- What steps that call operators and assignments are made of.
-use Rattle.std.specs.Prelude.{ℕ, slice_set}
+use Rattle.std.specs.Prelude.{ℕ, slice_set, Result, Ok, Err}
 use Rattle.rhai_ops.specs.Outcome as call
-use Rattle.rhai_ops.specs.Outcome.{no_place}
+use Rattle.rhai_ops.specs.Outcome.{result_of}
 use Rattle.rhai_ops.specs.Effects.{Effect, operator, assignment, stays, taken, rewritten}
 use Rattle.rhai_value.specs.Tree.{Tree, fresh, unit}
 use Rattle.rhai_run.specs.State.{State, with_hand}
 use Rattle.rhai_run.specs.declared.answer.Answer.TheVariants.{Done}
 use Rattle.rhai_run.specs.declared.answer.Refusal.TheVariants.{NoBuiltin, Fault}
-use Rattle.rhai_text.specs.declared.error.EvalAltResult.TheVariants as error
-use Rattle.rhai_run.specs.Outcome.{Outcome, growing, refuse}
+use Rattle.rhai_text.specs.declared.error.EvalAltResult.{EvalAltResult}
+use Rattle.rhai_run.specs.Outcome.{Outcome, given, growing, refuse}
 use Rattle.rhai_run.specs.declared.command.Place.{Place}
 use Rattle.rhai_run.specs.Places.{changed_by}
 
--- what a row comes to: its value, of which a state is made, or its fault; a row that was looked up suits its operands
+-- a value, of which a state is made, or a fault
+abbrev pub finished : State → (Tree → State) → Result Tree EvalAltResult → Outcome
+finished w after (Ok t) = growing Done (after t)
+finished w after (Err e) = refuse (Fault e) w
+
+-- what a row comes to; one that was looked up suits its operands
 abbrev pub called : State → (Tree → State) → call.Outcome → Outcome
-called w after (call.answers t) = growing Done (after t)
-called w after (call.fault f) = refuse (Fault (error.ErrorArithmetic f no_place)) w
-called w after (call.too_large k) = refuse (Fault (error.ErrorDataTooLarge k no_place)) w
-called w after call.unsuited = refuse NoBuiltin w
+called w after o = given (result_of o) NoBuiltin w (finished w after)
 
 -- what a row leaves of its second operand: unit, where it takes it
 abbrev pub left_over : Effect → Tree → Tree

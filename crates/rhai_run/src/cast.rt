@@ -1,5 +1,5 @@
 //! Casts to a type that is known when a command is done.
-ghost use Rattle.std.specs.Prelude.{◌≡◌, [], true, false, Some, is_some, IfOk, IsTrue};
+ghost use Rattle.std.specs.Prelude.{◌≡◌, [], true, Some, is_some, IfOk, OnErr};
 ghost use Rattle.rhai_value.specs.declared.type_id.TypeId.TheVariants as type_id;
 ghost use Rattle.rhai_value.specs.End.{end, flat, flattened};
 ghost use Rattle.rhai_value.specs.Tree.{content_of, made};
@@ -49,42 +49,37 @@ fn holds_castable(value: &Dynamic, store: &Store, kind: TypeId) -> bool
     kind == TypeId::Dynamic || held_type_of(kind) == value.type_id(store)
 }
 
-/// Whether a value can be cast to a type.
-#[tactic(auto, using(crate::proofs::Casts::read_by_type))]
-pub(crate) fn can_cast(value: &Dynamic, store: &Store, kind: TypeId) -> bool
-    ensures read { result ≡ is_some (read_as kind (flat store.now value.now)) }
-    ensures castable { IsTrue result → is_castable kind (end store.now [] value.now) ≡ true }
-    ensures known { IsTrue result → is_type kind type_id.Shared ≡ false }
-{
-    if kind == TypeId::Shared {
-        return false;
-    }
-    holds_castable(value, store, kind)
-}
-
-/// A copy of a value without its holders as a type.
-fn cast_as<T: Variant>(value: &Dynamic, alloc: Global, store: &Store) -> Result<Dynamic, AllocError>
+/// A copy of a value without its holders as a type, which it can be cast to.
+fn cast_as<T: Variant>(
+    value: &Dynamic,
+    alloc: Global,
+    store: &Store,
+) -> Result<Option<Dynamic>, AllocError>
     requires { is_castable T.KIND (end store.now [] value.now) ≡ true }
-    ensures { IfOk result (λ d. read T.KIND (flat store.now value.now) ≡ Some d) }
+    ensures { IfOk result (λ o. o ≡ read T.KIND (flat store.now value.now)) }
 {
     let x = value.clone_cast::<T>(alloc, store)?;
     match Dynamic::of(alloc, x) {
-        Ok(value) => Ok(value),
+        Ok(value) => Ok(Some(value)),
         Err(_) => Err(AllocError),
     }
 }
 
-/// The same, the type being known by its name alone.
+/// A copy of a value without its holders as a type that is known by its name alone, if it can be cast to that.
+/// Errors: memory is refused for the copy.
+#[tactic(auto, using(crate::proofs::Casts::read_by_type, crate::proofs::Casts::uncastable))]
 pub(crate) fn cast_to(
     value: &Dynamic,
     alloc: Global,
     store: &Store,
     kind: TypeId,
-) -> Result<Dynamic, AllocError>
-    requires castable { is_castable kind (end store.now [] value.now) ≡ true }
-    requires known { is_type kind type_id.Shared ≡ false }
-    ensures { IfOk result (λ d. read kind (flat store.now value.now) ≡ Some d) }
+) -> Result<Option<Dynamic>, AllocError>
+    ensures value { IfOk result (λ o. o ≡ read_as kind (flat store.now value.now)) }
+    ensures err { OnErr result (is_some (read_as kind (flat store.now value.now)) ≡ true) }
 {
+    if !holds_castable(value, store, kind) {
+        return Ok(None);
+    }
     match kind {
         TypeId::Unit => cast_as::<()>(value, alloc, store),
         TypeId::Bool => cast_as::<bool>(value, alloc, store),
@@ -108,17 +103,17 @@ pub(crate) fn cast_to(
         TypeId::ExclusiveRange => cast_as::<ExclusiveRange>(value, alloc, store),
         TypeId::InclusiveRange => cast_as::<InclusiveRange>(value, alloc, store),
         TypeId::Dynamic => cast_as::<Dynamic>(value, alloc, store),
-        // `TypeId` names what is held too, of which this one is the type of what can't be looked into.
-        TypeId::Shared => unreachable!(),
+        // This is the type of what can't be looked into, as which nothing is read.
+        TypeId::Shared => Ok(None),
     }
 }
 
 /// Whether what a value is without its holders can be read as a type.
-#[tactic(auto, using(crate::proofs::Casts::moved_by_type))]
+#[tactic(auto, using(crate::proofs::Casts::movable))]
 pub(crate) fn can_move(value: &Dynamic, store: &Store, kind: TypeId) -> bool
     ensures { result ≡ is_some (read_as kind (flattened store.now value.now)) }
 {
-    can_cast(value, store, kind)
+    kind != TypeId::Shared && holds_castable(value, store, kind)
 }
 
 /// The value with tag 0 and mode ReadWrite, what stands in it being as it was.

@@ -13,7 +13,7 @@ ghost use Rattle.rhai_run.specs.declared.command.Command.TheVariants as command;
 ghost use Rattle.rhai_run.specs.Step.{step};
 
 use crate::answer::{Answer, Refusal};
-use crate::cast::{can_cast, can_move, cast_to, moved_as};
+use crate::cast::{can_move, cast_to, moved_as};
 use crate::laws;
 use crate::not_done::NotDone;
 use crate::vectors::replace_at;
@@ -72,7 +72,7 @@ impl WorldState {
     }
 
     #[inline(never)]
-    #[tactic(auto, using(rhai_scope::proofs::ForCallers::position_within, crate::proofs::LastEntry::set_entry_is))]
+    #[tactic(auto, using(crate::proofs::LastEntry::set_entry_is))]
     pub(crate) fn set_entry(&mut self, name: &ImmutableString, i: usize) -> Result<Answer, NotDone>
         ensures { Does result self.old self.new (step self.old (command.SetEntry name.now i)) }
     {
@@ -86,7 +86,7 @@ impl WorldState {
     }
 
     #[inline(never)]
-    #[tactic(auto, using(rhai_scope::proofs::ForCallers::position_within, crate::proofs::LastEntry::set_or_push_is))]
+    #[tactic(auto, using(crate::proofs::LastEntry::set_or_push_is))]
     pub(crate) fn set_or_push(
         &mut self,
         name: &ImmutableString,
@@ -105,7 +105,7 @@ impl WorldState {
     }
 
     #[inline(never)]
-    #[tactic(auto, using(rhai_scope::proofs::ForCallers::position_within, crate::proofs::LastEntry::set_value_is))]
+    #[tactic(auto, using(crate::proofs::LastEntry::set_value_is))]
     pub(crate) fn set_value(&mut self, name: &ImmutableString, i: usize) -> Result<Answer, NotDone>
         ensures { Does result self.old self.new (step self.old (command.SetValue name.now i)) }
     {
@@ -138,15 +138,14 @@ impl WorldState {
         ensures { Does result self.old self.new (step self.old (command.GetValue name.now kind)) }
     {
         let value = self.scope.get(name.as_str()).ok_or(Refusal::NoEntry)?;
-        if !can_cast(value, &self.store, kind) {
-            return Ok(Answer::Nothing);
+        match cast_to(value, self.alloc, &self.store, kind)? {
+            None => Ok(Answer::Nothing),
+            Some(value) => self.append(value),
         }
-        let value = cast_to(value, self.alloc, &self.store, kind)?;
-        self.append(value)
     }
 
     /// A copy of what the last entry of a name itself is as a type, by reference, if it is of the type.
-    #[tactic(auto, using(crate::proofs::Casts::viewed_some, crate::proofs::Casts::viewed_none, crate::proofs::Casts::unviewed_string))]
+    #[tactic(auto, using(crate::proofs::Casts::viewed_cast, crate::proofs::Casts::unviewed_string))]
     fn viewed(&self, name: &ImmutableString, kind: TypeId) -> Result<Option<Dynamic>, NotDone>
         ensures { GivesIfAny result self.now (step self.now (command.GetRef name.now kind)) }
     {
@@ -154,11 +153,10 @@ impl WorldState {
         if value.is_shared() {
             return Err(NotDone::Refused(Refusal::SharedEntry));
         }
-        if kind == TypeId::String || !can_cast(value, &self.store, kind) {
+        if kind == TypeId::String {
             return Ok(None);
         }
-        let value = cast_to(value, self.alloc, &self.store, kind)?;
-        Ok(Some(value))
+        Ok(cast_to(value, self.alloc, &self.store, kind)?)
     }
 
     pub(crate) fn get_ref(
@@ -175,7 +173,7 @@ impl WorldState {
     }
 
     #[inline(never)]
-    #[tactic(auto, using(rhai_scope::proofs::ForCallers::position_within, rhai_scope::proofs::ForCallers::kept_there, crate::proofs::LastEntry::set_ref_is, crate::proofs::LastEntry::set_ref_written))]
+    #[tactic(auto, using(rhai_scope::proofs::ForCallers::kept_there, crate::proofs::LastEntry::set_ref_is, crate::proofs::LastEntry::set_ref_written))]
     pub(crate) fn set_ref(&mut self, name: &ImmutableString, value: INT) -> Result<Answer, NotDone>
         ensures { Does result self.old self.new (step self.old (command.SetRef name.now value)) }
     {
@@ -190,7 +188,7 @@ impl WorldState {
     }
 
     #[inline(never)]
-    #[tactic(auto, using(rhai_scope::proofs::ForCallers::position_within, crate::proofs::LastEntry::remove_is))]
+    #[tactic(auto, using(crate::proofs::LastEntry::remove_is))]
     pub(crate) fn remove(&mut self, name: &ImmutableString, kind: TypeId) -> Result<Answer, NotDone>
         ensures { Does result self.old self.new (step self.old (command.Remove name.now kind)) }
     {

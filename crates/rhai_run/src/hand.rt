@@ -4,7 +4,7 @@ ghost use Rattle.rhai_run.specs.declared.command.Command.TheVariants as command;
 ghost use Rattle.rhai_run.specs.Step.{step};
 
 use crate::answer::{Answer, Refusal, mismatch};
-use crate::cast::{can_cast, cast_to};
+use crate::cast::cast_to;
 use crate::command::Literal;
 use crate::laws;
 use crate::lists::Names;
@@ -100,12 +100,10 @@ impl WorldState {
         ensures { Does result self.old self.new (step self.old (command.Cast i kind)) }
     {
         let value = self.value(i)?;
-        if !can_cast(value, &self.store, kind) {
-            let name = value.type_name(&self.store);
-            return Err(NotDone::Refused(mismatch(name)));
+        match cast_to(value, self.alloc, &self.store, kind)? {
+            Some(value) => self.append(value),
+            None => Err(NotDone::Refused(mismatch(value.type_name(&self.store)))),
         }
-        let value = cast_to(value, self.alloc, &self.store, kind)?;
-        self.append(value)
     }
 
     pub(crate) fn take(&mut self, i: usize) -> Result<Answer, NotDone>

@@ -26,12 +26,10 @@ impl From<EvalAltResult> for NotDone {
     ghost from_gives = { λ error result. result ≡ not_done_of error };
 
     fn from(error: EvalAltResult) -> NotDone {
-        match error {
-            EvalAltResult::ErrorMemory(_) => NotDone::Memory,
-            EvalAltResult::ErrorMismatchDataType(..)
-            | EvalAltResult::ErrorDataRace(_)
-            | EvalAltResult::ErrorArithmetic(..)
-            | EvalAltResult::ErrorDataTooLarge(..) => NotDone::Refused(Refusal::Fault(error)),
+        if error.is_memory() {
+            NotDone::Memory
+        } else {
+            NotDone::Refused(Refusal::Fault(error))
         }
     }
 }

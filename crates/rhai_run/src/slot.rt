@@ -21,7 +21,6 @@ pub(crate) enum Slot {
 }
 
 /// The position of the last entry of a name, which is no constant.
-#[tactic(auto, using(rhai_scope::proofs::ForCallers::position_within))]
 fn position(scope: &Scope, name: &str) -> Result<usize, NotDone>
     ensures position { IfOk result (λ k. last_position (chars name.now) scope.now ≡ Some k) }
     ensures value { IfOk result (λ k. option_map Ok (value_in [] scope.now (slot.Entry k)) ≡ Some (entry_found (last_entry (chars name.now) scope.now))) }

@@ -1,16 +1,26 @@
 //! The steps of the guide, a function each.
-ghost use Rattle.std.specs.Prelude.{◌≡◌, IfOk, IfSome, OnOk, Ok};
+ghost use Rattle.std.specs.Prelude.{◌≡◌, ◌⊎◌, [], Err, IfErr, IfOk, IfSome, IsOk, MatchOption, None, OnErr, OnOk, Some, false, option_map, string_bytes, true};
 ghost use Rattle.std.specs.Str.{chars};
-ghost use Rattle.rhai_ops.specs.Outcome.{answers};
-ghost use Rattle.rhai_ops.specs.Results.{outcome};
+ghost use Rattle.rhai_ops.specs.AssignTable.{assign_row};
+ghost use Rattle.rhai_ops.specs.Effects.{effect, first_left, store_left};
+ghost use Rattle.rhai_ops.specs.Outcome.{IsOutcome, answers};
+ghost use Rattle.rhai_ops.specs.Results.{MayWant, outcome};
 ghost use Rattle.rhai_ops.specs.Table.{row_of};
-ghost use Rattle.rhai_scope.specs.Entry.{pushed};
-ghost use Rattle.rhai_value.specs.Places.{Place, way};
-ghost use Rattle.rhai_value.specs.Tree.{mode_of};
+ghost use Rattle.rhai_scope.specs.Entry.{pushed, with_value};
+ghost use Rattle.rhai_scope.specs.Lookup.{changed_at, last_position, value_at, value_named};
+ghost use Rattle.rhai_show.specs.Text.{printed};
+ghost use Rattle.rhai_show.specs.declared.form.Form.TheVariants.{Display};
+ghost use Rattle.rhai_value.specs.End.{flat};
+ghost use Rattle.rhai_value.specs.Places.{put_answer, put_store, put_value, way};
+ghost use Rattle.rhai_value.specs.Roots.{AreCollected};
+ghost use Rattle.rhai_value.specs.Store.{shared_store, shared_value};
+ghost use Rattle.rhai_value.specs.Tree.{copy, mode_of};
+ghost use Rattle.rhai_value.specs.declared.step.PlaceError.{PlaceError as Nowhere};
 
 use rhai_ops::laws::{operators_write_nothing, rows_suit};
 use rhai_ops::{get_builtin_binary_op_fn, get_builtin_op_assignment_fn};
 use rhai_scope::Scope;
+use rhai_scope::laws::positions_are_written_alone;
 use rhai_show::display_text;
 use rhai_target::ReadPart;
 use rhai_text::{EvalAltResult, Limits, Position, Token};
@@ -18,24 +28,33 @@ use rhai_value::{Dynamic, INT, PlaceError, Roots, Step, Store};
 use std::alloc::{AllocError, Global};
 
 /// Prints a value.
-pub fn show(alloc: Global, value: &Dynamic, store: &Store) -> Result<String, AllocError> {
+/// Errors: memory for the text is refused.
+pub fn show(alloc: Global, value: &Dynamic, store: &Store) -> Result<String, AllocError>
+    ensures { IfOk result (λ t. chars (string_bytes t) ≡ printed store.now [] value.now Display) }
+{
     display_text(alloc, value, store)
 }
 
 /// Declares a variable: `let name = value`.
+/// Errors: memory for the entry is refused, and the scope is as it was.
 pub fn declare(scope: &mut Scope, name: &str, value: Dynamic) -> Result<(), AllocError>
-    ensures { OnOk result (scope.new ≡ pushed (mode_of value) (chars name.now) value scope.old) }
+    ensures ok { OnOk result (scope.new ≡ pushed (mode_of value) (chars name.now) value scope.old) }
+    ensures err { OnErr result (scope.new ≡ scope.old) }
 {
     scope.push_dynamic(name, value)
 }
 
 /// Reads a variable: a copy of its value, without holders. `None` where nothing has the name.
+/// Errors: memory for the copy is refused.
 pub fn read(
     alloc: Global,
     scope: &Scope,
     store: &Store,
     name: &str,
-) -> Result<Option<Dynamic>, AllocError> {
+) -> Result<Option<Dynamic>, AllocError>
+    ensures value { IfOk result (λ d. d ≡ option_map (flat store.now) (value_named (chars name.now) scope.now)) }
+    ensures missing { value_named (chars name.now) scope.now ≡ None → IsOk result }
+{
     match scope.get(name) {
         Some(value) => Ok(Some(value.flatten_clone(alloc, store)?)),
         None => Ok(None),
@@ -43,6 +62,7 @@ pub fn read(
 }
 
 /// Answers `x op y`, or `None` where the operator isn't built in for these two.
+/// Errors: what the row refuses, or memory for its value is refused.
 pub fn operate(
     op: Token,
     alloc: Global,
@@ -51,7 +71,8 @@ pub fn operate(
     x: &Dynamic,
     y: &Dynamic,
 ) -> Result<Option<Dynamic>, EvalAltResult>
-    ensures { IfOk result (λ d. IfSome d (λ v. IfSome (row_of op store.now x.now y.now) (λ row. outcome row limits.now store.now x.now y.now ≡ answers v))) }
+    ensures ok { IfOk result (λ d. MatchOption (row_of op store.now x.now y.now) (d ≡ None) (λ row. option_map answers d ≡ Some (outcome row limits.now store.now x.now y.now))) }
+    ensures err { IfErr result (λ e. MatchOption (row_of op store.now x.now y.now) ⊥ (λ row. IsOutcome (MayWant row x.now y.now) (Err e) (outcome row limits.now store.now x.now y.now))) }
 {
     let Some(row) = get_builtin_binary_op_fn(&op, x, y, store) else {
         return Ok(None);
@@ -61,33 +82,44 @@ pub fn operate(
     Ok(Some(row.call_ref(alloc, store, limits, x, y)?))
 }
 
-/// Captures a variable: from now on it and the answer are holders of one cell.
+/// Captures a variable: from now on it and the answer are holders of one cell. `None` where nothing has the name.
+/// Errors: memory for the cell or the holder is refused.
 pub fn capture(
     alloc: Global,
     scope: &mut Scope,
     store: &mut Store,
     name: &str,
-) -> Result<Option<Dynamic>, AllocError> {
-    let Some(variable) = scope.get_mut(name) else {
+) -> Result<Option<Dynamic>, AllocError>
+    ensures holder { IfOk result (λ d. MatchOption (last_position (chars name.now) scope.old) (d ≡ None) (λ i. d ≡ option_map (λ t. copy (shared_value store.old t)) (value_at scope.old (Some i)))) }
+    ensures scope { IfOk result (λ d. MatchOption (last_position (chars name.now) scope.old) (scope.new ≡ scope.old) (λ i. IfSome (value_at scope.old (Some i)) (λ t. scope.new ≡ changed_at (with_value (shared_value store.old t)) scope.old i))) }
+    ensures store { IfOk result (λ d. MatchOption (last_position (chars name.now) scope.old) (store.new ≡ store.old) (λ i. IfSome (value_at scope.old (Some i)) (λ t. store.new ≡ shared_store store.old t))) }
+    ensures missing { last_position (chars name.now) scope.old ≡ None → IsOk result }
+{
+    let Some(i) = scope.search(name) else {
         return Ok(None);
     };
-    variable.share_in_place(store)?;
-    Ok(Some(variable.copy(alloc)?))
+    positions_are_written_alone();
+    scope.at_mut(i).share_in_place(store)?;
+    Ok(Some(scope.at(i).copy(alloc)?))
 }
 
 /// Writes at a place: `a[i].f = other`, where `a` may be captured.
+/// Errors: the step that leads nowhere and why, and all is as it was.
 pub fn set_at(
     value: &mut Dynamic,
     store: &mut Store,
     steps: &[Step<'_>],
     other: Dynamic,
 ) -> Result<(), PlaceError>
-    ensures { IfOk result (λ _. (q : Place) × (way steps.now store.old value.old ≡ Ok q) × (value.new ≡ (q.back other q.store).value) × (store.new ≡ (q.back other q.store).store)) }
+    ensures answer { result ≡ put_answer (way steps.now store.old value.old) }
+    ensures value { value.new ≡ put_value other (way steps.now store.old value.old) value.old }
+    ensures store { store.new ≡ put_store other (way steps.now store.old value.old) store.old }
 {
-    value.with_place(store, steps, |place, _| *place = other)
+    value.put_at(store, steps, other)
 }
 
 /// Does `x op y`, as `x += y`. `Ok(false)` where the operator isn't built in for these two.
+/// Errors: what the row refuses, or memory for its value is refused; all is as it was.
 pub fn assign(
     op: Token,
     alloc: Global,
@@ -95,7 +127,13 @@ pub fn assign(
     limits: &Limits,
     x: &mut Dynamic,
     y: &mut Dynamic,
-) -> Result<bool, EvalAltResult> {
+) -> Result<bool, EvalAltResult>
+    ensures found { IfOk result (λ done. MatchOption (assign_row op x.old y.old) (done ≡ false) (λ row. done ≡ true)) }
+    ensures first { IfOk result (λ done. MatchOption (assign_row op x.old y.old) (x.new ≡ x.old) (λ row. x.new ≡ first_left (effect row) (outcome row limits.now store.old x.old y.old) store.old x.old)) }
+    ensures store { IfOk result (λ done. MatchOption (assign_row op x.old y.old) (store.new ≡ store.old) (λ row. store.new ≡ store_left (effect row) (outcome row limits.now store.old x.old y.old) store.old x.old)) }
+    ensures err { IfErr result (λ e. MatchOption (assign_row op x.old y.old) ⊥ (λ row. IsOutcome (MayWant row x.old y.old) (Err e) (outcome row limits.now store.old x.old y.old))) }
+    ensures stays { OnErr result ((x.new ≡ x.old) × (y.new ≡ y.old) × (store.new ≡ store.old)) }
+{
     let Some(row) = get_builtin_op_assignment_fn(&op, x, y) else {
         return Ok(false);
     };
@@ -105,6 +143,7 @@ pub fn assign(
 }
 
 /// Does the same at a place: `a[i].f += y`.
+/// Errors: the step that leads nowhere and why, and all is as it was; inside of `Ok` those of `assign`.
 pub fn assign_at(
     op: Token,
     alloc: Global,
@@ -113,20 +152,26 @@ pub fn assign_at(
     limits: &Limits,
     steps: &[Step<'_>],
     y: &mut Dynamic,
-) -> Result<Result<bool, EvalAltResult>, PlaceError> {
+) -> Result<Result<bool, EvalAltResult>, PlaceError>
+    ensures { (why : Nowhere) → way steps.now store.old value.old ≡ Err why → (result ≡ Err why) × (value.new ≡ value.old) × (store.new ≡ store.old) }
+{
     value.with_place(store, steps, |place, store| {
         assign(op, alloc, store, limits, place, y)
     })
 }
 
 /// Writes a character of a text: `s[i] = 'c'`. `Ok(false)` where there is none at the index.
+/// Errors: memory for the text is refused, and all is as it was.
 pub fn set_char(
     alloc: Global,
     text: &mut Dynamic,
     store: &mut Store,
     index: INT,
     character: char,
-) -> Result<bool, EvalAltResult> {
+) -> Result<bool, EvalAltResult>
+    ensures none { IfOk result (λ done. done ≡ false → (text.new ≡ text.old) × (store.new ≡ store.old)) }
+    ensures err { OnErr result ((text.new ≡ text.old) × (store.new ≡ store.old)) }
+{
     let Ok(mut part) = ReadPart::char_at(text, store, index) else {
         return Ok(false);
     };
@@ -136,6 +181,10 @@ pub fn set_char(
 }
 
 /// Gives back the cells that no value on the stack reaches, where it is time to.
-pub fn tidy(roots: &mut Roots, store: &mut Store) -> Result<(), AllocError> {
+/// Errors: memory for the search is refused, and all is as it was.
+pub fn tidy(roots: &mut Roots, store: &mut Store) -> Result<(), AllocError>
+    ensures ok { OnOk result (((roots.new ≡ roots.old) × (store.new ≡ store.old)) ⊎ AreCollected roots.old store.old roots.new store.new) }
+    ensures err { OnErr result ((roots.new ≡ roots.old) × (store.new ≡ store.old)) }
+{
     roots.collect_if_due(store)
 }

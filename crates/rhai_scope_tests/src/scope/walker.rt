@@ -11,7 +11,6 @@ use rhai_value::Dynamic;
 use std::mem;
 
 /// Where a variable stands, if there is one of the name.
-#[tactic(auto, using(rhai_scope::proofs::ForCallers::position_within))]
 pub fn resolve(scope: &Scope, name: &str) -> Option<usize>
     ensures position { result ≡ last_position (chars name.now) scope.now }
     ensures within { IfSome result (λ i. i < length scope.now) }

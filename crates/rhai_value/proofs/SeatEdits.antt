@@ -8,7 +8,7 @@ use Rattle.std.specs.Map.{keys_of}
 use Rattle.std.specs.Str.{IsUtf8}
 use Rattle.rhai_value.specs.Lists.{Row, row_of, rows, chunk_rows, joined, lists_of, rows_of, AreBelow, AreAbove, AreFronted, Begins, IsWhole}
 use Rattle.rhai_value.specs.Rows.{Rows, bytes_cmp, AreRising, AreTexts}
-use Rattle.rhai_value.specs.Seats.{list_at, row_at, rows_before, rows_from, rows_past, IsOpen, IsSeated}
+use Rattle.rhai_value.specs.Seats.{entry_at, list_at, row_at, rows_before, rows_from, rows_past, IsOpen, IsSeated}
 use Rattle.rhai_value.specs.Tree.{Tree, fresh, unit}
 use Rattle.rhai_value.specs.declared.map.Chunk.{Chunk}
 use Rattle.rhai_value.specs.declared.map.Entry.{Entry}
@@ -92,6 +92,28 @@ pub chunk_edit : (p q : MapParts) (n m : ℕ) (c d : Chunk) (f : Rows → Rows) 
     → lists_of q ≡ set (lists_of p) n (f (list_at p n))
 chunk_edit p q n m c d f h lt first rest is =
     rw h (chunk_set p q m c (f (list_at p (suc m))) first rest (is ∙ ap f (sym (get_or-map chunk_rows p.rest.items m d [] lt))))
+
+-- the entries of the list of a number
+pub list_first : (p : MapParts) (n : ℕ) → n ≡ 0 → list_at p n ≡ rows p.first.items
+list_first p n h = rw h refl
+
+pub list_chunk : (p : MapParts) (n m : ℕ) (c : Chunk) → n ≡ suc m → m < length p.rest.items → c ≡ get_or p.rest.items m c → list_at p n ≡ chunk_rows c
+list_chunk p n m c h lt is = rw h (get_or-map chunk_rows p.rest.items m c [] lt ∙ ap chunk_rows (sym is))
+
+pub row_entry : (es : List Entry) (i : ℕ) → get_or (rows es) i ([], fresh unit) ≡ row_of (entry_at es i)
+row_entry [] zero = refl
+row_entry [] (suc i) = refl
+row_entry (e ∷ es) zero = refl
+row_entry (e ∷ es) (suc i) = row_entry es i
+
+-- the row at a place is that of an entry
+pub seated_row : (p : MapParts) (s : Seat) (es : List Entry) → list_at p s.list ≡ rows es → row_at p s ≡ row_of (entry_at es s.at)
+seated_row p s es is = ap (λ l. get_or l s.at ([], fresh unit)) is ∙ row_entry es s.at
+
+-- a value is written into the entries of a list
+pub valued : (p : MapParts) (s : Seat) (es us : List Entry) (v : Tree) → list_at p s.list ≡ rows es → us ≡ set es s.at (record (entry_at es s.at) { value = v }) → rows us ≡ set (list_at p s.list) s.at ((row_at p s).0, v)
+valued p s es us v is now =
+    ap rows now ∙ rows_set es s.at (record (entry_at es s.at) { value = v }) ∙ ap₂ (λ l (r : Row). set l s.at (r.0, v)) (sym is) (sym (seated_row p s es is))
 
 -- where there is an entry, the parts count one
 pub some_entry : (p : MapParts) (s : Seat) → IsWhole p → IsSeated p s → 1 ≤ p.len
@@ -200,3 +222,8 @@ joined_removed (c ∷ cs) zero d h = none c.entries.items h
     none [] h = refl
     none (e ∷ es) h = cc
 joined_removed (c ∷ cs) (suc m) d h = ap (λ l. chunk_rows c ++ l) (joined_removed cs m d h)
+
+-- the rows stay
+pub emptied_removed : (p q : MapParts) (m : ℕ) (c : Chunk) → q.first ≡ p.first → q.rest.items ≡ remove p.rest.items m → get_or p.rest.items m c ≡ c → length c.entries.items ≡ 0 → rows_of q ≡ rows_of p
+emptied_removed p q m c first rest is none =
+    ap₂ (λ v cs. rows v.items ++ joined (map chunk_rows cs)) first rest ∙ ap (λ l. rows p.first.items ++ l) (joined_removed p.rest.items m c (ap (λ (d : Chunk). length d.entries.items) is ∙ none))

@@ -134,7 +134,8 @@ last_empty p fronted h = by p.rest.items fronted h
 
 pub last_seated : (p : MapParts) (n i : ℕ) → n ≡ length p.rest.items → suc i ≡ length (list_at p n) → IsSeated p (record { list = n; at = i }) × (rows_past p (record { list = n; at = i }) ≡ [])
 last_seated p n i is long =
-    let ends : length (map chunk_rows p.rest.items) ≤ n = omega (arith, is, length-map p.rest.items chunk_rows) in (
+    let ends : length (map chunk_rows p.rest.items) ≤ n = omega (arith, is, length-map p.rest.items chunk_rows) in
+    let here : length (list_at p n) ≤ suc i = omega (arith, long) in (
       record { list = omega (arith, is, length-map p.rest.items chunk_rows); within = omega (arith, long) },
-      ap₂ (λ xs ls. xs ++ joined ls) (drop_of_length-le (list_at p n) (omega (arith, long))) (drop_of_length-le (map chunk_rows p.rest.items) ends),
+      ap₂ (λ xs ls. xs ++ joined ls) (drop_of_length-le (list_at p n) here) (drop_of_length-le (map chunk_rows p.rest.items) ends),
     )

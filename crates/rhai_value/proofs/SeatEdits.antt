@@ -1,5 +1,5 @@
 -- What a write, an entry that comes and an entry that goes make of the rows around a place.
-use Rattle.std.proofs.Common.{◌≡◌, ℕ, zero, suc, ◌+◌, ◌<◌, ◌≤◌, List, [], ◌∷◌, ◌++◌, length, map, take, drop, set, get_or, refl, ap, ap₂, sym, subst, ◌∙◌, arith}
+use Rattle.std.proofs.Common.{◌≡◌, ℕ, zero, suc, ◌+◌, ◌<◌, ◌≤◌, List, [], ◌∷◌, ◌++◌, length, map, take, drop, set, get_or, None, refl, ap, ap₂, sym, subst, ◌∙◌, arith}
 use Rattle.std.proofs.lemmas.List.{append_assoc, append-nil, get_or-map, get_or-set_same, length-map, map-append, map-set, take-set}
 use Rattle.std.specs.Int.{w64, from_be_bytes}
 use Rattle.std.specs.List.{All, insert, remove}
@@ -14,6 +14,7 @@ use Rattle.rhai_value.specs.declared.map.Chunk.{Chunk}
 use Rattle.rhai_value.specs.declared.map.Entry.{Entry}
 use Rattle.rhai_value.specs.declared.map.MapParts.{MapParts}
 use Rattle.rhai_value.specs.declared.map_seat.Seat.{Seat}
+use Rattle.rhai_value.proofs.KeptKeys.{rising_in, texts_in}
 use Rattle.rhai_value.proofs.Lists.{keys_valued, rising_taken, texts_put, texts_taken}
 use Rattle.rhai_value.proofs.Seats.{rows_seated, rows_split}
 
@@ -123,6 +124,10 @@ some_entry p s whole h = omega (arith, whole.counted, ap length (rows_seated p s
     long [] r ys = omega arith
     long (x ∷ xs) r ys = omega arith
 
+pub begins_first : (f : ℕ) (es : List Entry) (e : Entry) → 0 < length es → e ≡ get_or es 0 e → f ≡ from_be_bytes w64 e.key → Begins f es
+begins_first f [] e some is front = absurd (omega (arith, some))
+begins_first f (x ∷ xs) e some is front = front ∙ ap (λ (d : Entry). from_be_bytes w64 d.key) is
+
 pub begins_set : (f : ℕ) (es : List Entry) (i : ℕ) (e d : Entry) → Begins f es → i < length es → e.key ≡ (get_or es i d).key → Begins f (set es i e)
 begins_set f [] i e d h lt same = absurd h
 begins_set f (x ∷ xs) zero e d h lt same = h ∙ ap (from_be_bytes w64) (sym same)
@@ -133,6 +138,26 @@ fronted_set [] zero c h b = h
 fronted_set [] (suc m) c h b = h
 fronted_set (x ∷ xs) zero c h b = (b, h.1)
 fronted_set (x ∷ xs) (suc m) c h b = (h.0, fronted_set xs m c h.1 b)
+
+-- parts of the same rows are whole
+pub same_whole : (p q : MapParts) → rows_of q ≡ rows_of p → AreFronted q.rest.items → q.len ≡ p.len → IsWhole p → IsWhole q
+same_whole p q same fronted len whole = record {
+  rising = subst AreRising (sym same) whole.rising;
+  texts = subst AreTexts (sym same) whole.texts;
+  fronted = fronted;
+  counted = len ∙ whole.counted ∙ sym (ap length same);
+}
+
+-- parts without entries
+pub empty_whole : (p : MapParts) → p.first.items ≡ [] → p.rest.items ≡ [] → p.len ≡ 0 → IsWhole p
+empty_whole p first rest len =
+    let none : rows_of p ≡ [] = ap₂ (λ es cs. rows es ++ joined (map chunk_rows cs)) first rest in
+    record {
+      rising = subst AreRising (sym none) (rising_in None tt);
+      texts = subst AreTexts (sym none) (texts_in None tt);
+      fronted = subst AreFronted (sym rest) tt;
+      counted = len ∙ sym (ap length none);
+    }
 
 -- ---- an entry comes
 
@@ -158,11 +183,24 @@ module _ (p q : MapParts) (s : Seat) (h : IsSeated p s) (is : lists_of q ≡ set
       ∙ ap (λ l. joined (take s.list (lists_of p)) ++ l) (append_assoc up down later)
       ∙ sym (append_assoc (joined (take s.list (lists_of p))) up (down ++ later))
 
+pub map_insert : {A B : Type 0} (f : A → B) (xs : List A) (i : ℕ) (x : A) → map f (insert xs i x) ≡ insert (map f xs) i (f x)
+map_insert f [] zero x = refl
+map_insert f [] (suc i) x = refl
+map_insert f (y ∷ ys) zero x = refl
+map_insert f (y ∷ ys) (suc i) x = ap (λ l. f y ∷ l) (map_insert f ys i x)
+
 pub rows_insert : (es : List Entry) (i : ℕ) (e : Entry) → rows (insert es i e) ≡ insert (rows es) i (row_of e)
-rows_insert [] zero e = refl
-rows_insert [] (suc i) e = refl
-rows_insert (x ∷ xs) zero e = refl
-rows_insert (x ∷ xs) (suc i) e = ap (λ l. row_of x ∷ l) (rows_insert xs i e)
+rows_insert es i e = map_insert row_of es i e
+
+-- a chunk comes
+pub chunk_inserted : (p q : MapParts) (m : ℕ) (c : Chunk) → q.first.items ≡ p.first.items → q.rest.items ≡ insert p.rest.items m c → lists_of q ≡ insert (lists_of p) (suc m) (chunk_rows c)
+chunk_inserted p q m c first rest = ap₂ (λ es cs. rows es ∷ map chunk_rows cs) first rest ∙ ap (λ ls. rows p.first.items ∷ ls) (map_insert chunk_rows p.rest.items m c)
+
+pub fronted_inserted : (cs : List Chunk) (m : ℕ) (c : Chunk) → AreFronted cs → Begins c.front c.entries.items → AreFronted (insert cs m c)
+fronted_inserted [] zero c h b = (b, tt)
+fronted_inserted [] (suc m) c h b = (b, tt)
+fronted_inserted (d ∷ ds) zero c h b = (b, h)
+fronted_inserted (d ∷ ds) (suc m) c h b = (h.0, fronted_inserted ds m c h.1 b)
 
 pub rows_remove : (es : List Entry) (i : ℕ) → rows (remove es i) ≡ remove (rows es) i
 rows_remove [] zero = refl
@@ -227,3 +265,18 @@ joined_removed (c ∷ cs) (suc m) d h = ap (λ l. chunk_rows c ++ l) (joined_rem
 pub emptied_removed : (p q : MapParts) (m : ℕ) (c : Chunk) → q.first ≡ p.first → q.rest.items ≡ remove p.rest.items m → get_or p.rest.items m c ≡ c → length c.entries.items ≡ 0 → rows_of q ≡ rows_of p
 emptied_removed p q m c first rest is none =
     ap₂ (λ v cs. rows v.items ++ joined (map chunk_rows cs)) first rest ∙ ap (λ l. rows p.first.items ++ l) (joined_removed p.rest.items m c (ap (λ (d : Chunk). length d.entries.items) is ∙ none))
+
+-- ---- parts of the same lists have the same places
+
+module _ (p q : MapParts) (s : Seat) (is : lists_of q ≡ lists_of p) where
+  pub same_lists_open : IsOpen p s → IsOpen q s
+  same_lists_open h = record {
+    list = subst (λ ls. s.list < length ls) (sym is) h.list;
+    within = subst (λ ls. s.at ≤ length (get_or ls s.list [])) (sym is) h.within;
+  }
+
+  pub same_lists_before : rows_before q s ≡ rows_before p s
+  same_lists_before = ap (λ ls. joined (take s.list ls) ++ take s.at (get_or ls s.list [])) is
+
+  pub same_lists_from : rows_from q s ≡ rows_from p s
+  same_lists_from = ap (λ ls. drop s.at (get_or ls s.list []) ++ joined (drop (suc s.list) ls)) is

@@ -18,7 +18,7 @@ module _ (k : List ℕ) (p : MapParts) (rising : AreRising (rows_of p)) (cs : Li
   before zero is = tt
   before (suc m) is =
       subst (λ ds. AreBelow bytes_cmp k (rows p.first.items ++ joined (take m (map chunk_rows ds)))) same
-          (below m (omega (arith, is)) (rows p.first.items) (subst (λ ds. AreRising (rows p.first.items ++ joined (map chunk_rows ds))) (sym same) rising))
+      (below m (omega (arith, is)) (rows p.first.items) (subst (λ ds. AreRising (rows p.first.items ++ joined (map chunk_rows ds))) (sym same) rising))
 
   pub inside : n < length (lists_of p)
   inside = omega (arith, bound, ap length same, length-map p.rest.items chunk_rows)

@@ -65,9 +65,9 @@ with_tree v i t = with_item v i (record (entry_at v.items i) { value = t })
 abbrev pub chunk_at : MapParts → ℕ → Chunk
 chunk_at p n = slice_index_or p.rest.items n (record { front = 0; entries = p.first })
 
+abbrev pub with_value_in : MapParts → ℕ → ℕ → Tree → MapParts
+with_value_in p zero i t = record p { first = with_tree p.first i t }
+with_value_in p (suc n) i t = record p { rest = with_item p.rest n (record (chunk_at p n) { entries = with_tree (chunk_at p n).entries i t }) }
+
 abbrev pub with_value : MapParts → Seat → Tree → MapParts
-with_value p s t = with_value_in s.list
-  where
-    with_value_in : ℕ → MapParts
-    with_value_in zero = record p { first = with_tree p.first s.at t }
-    with_value_in (suc n) = record p { rest = with_item p.rest n (record (chunk_at p n) { entries = with_tree (chunk_at p n).entries s.at t }) }
+with_value p s t = with_value_in p s.list s.at t

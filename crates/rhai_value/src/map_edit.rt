@@ -1,5 +1,5 @@
 //! Entries that come into the lists of a map, and that go.
-ghost use Rattle.std.specs.Prelude.{◌≡◌, ◌+◌, ◌<◌, ◌≤◌, ◌++◌, ◌∷◌, length, map, take, drop, slice_set, slice_index_or, IsTrue, IfSome, MatchOption, vec_len, vec_capacity};
+ghost use Rattle.std.specs.Prelude.{◌≡◌, ◌+◌, ◌<◌, ◌≤◌, ◌^◌, ◌++◌, ◌∷◌, suc, length, map, take, drop, slice_set, slice_index_or, IsTrue, IfSome, MatchOption, vec_len, vec_capacity};
 ghost use Rattle.std.specs.List.{insert, remove};
 ghost use Rattle.std.specs.Str.{IsUtf8};
 ghost use Rattle.rhai_value.specs.Lists.{lists_of, row_of, rows, rows_of, AreFronted, Begins, IsWhole};
@@ -54,17 +54,34 @@ impl MapParts {
         ensures rows { rows_of self.new ≡ rows_of self.old }
         ensures whole { IsWhole self.new }
         ensures room { IfSome result (λ s. IsOpen self.new s × HasRoom self.new s.list × (rows_before self.new s ≡ rows_before self.old seat) × (rows_from self.new s ≡ rows_from self.old seat)) }
+        ensures counted { IfSome result (λ s. self.new.len + 1 < 2 ^ 64) }
     {
-        let seat = if self.list_len(seat.list) >= MOST {
-            self.split(seat)
-        } else {
-            seat
-        };
+        // No memory has room for as many entries, since one takes 80 bytes.
+        if self.len >= usize::MAX {
+            return None;
+        }
+        let seat = self.split_full(seat);
         if self.grow_list(seat.list) {
             Some(seat)
         } else {
             None
         }
+    }
+
+    /// Splits the list of a place if it is full. Answers the place, which a split moves.
+    #[inline(always)]
+    fn split_full(&mut self, seat: Seat) -> Seat
+        requires whole { IsWhole self.old }
+        requires open { IsOpen self.old seat }
+        ensures rows { rows_of self.new ≡ rows_of self.old }
+        ensures whole { IsWhole self.new }
+        ensures seat { IsOpen self.new result × (rows_before self.new result ≡ rows_before self.old seat) × (rows_from self.new result ≡ rows_from self.old seat) }
+        ensures len { self.new.len ≡ self.old.len }
+    {
+        if self.list_len(seat.list) < MOST {
+            return seat;
+        }
+        self.split(seat)
     }
 
     #[inline(always)]
@@ -82,7 +99,7 @@ impl MapParts {
         }
     }
 
-    /// Splits a full list, of appended keys near its end. Where memory is refused, the list stays as it is, and grows past its bound.
+    /// Splits a full list. Where memory is refused, the list stays as it is, and grows past its bound.
     #[cold]
     #[inline(never)]
     fn split(&mut self, seat: Seat) -> Seat
@@ -92,28 +109,18 @@ impl MapParts {
         ensures rows { rows_of self.new ≡ rows_of self.old }
         ensures whole { IsWhole self.new }
         ensures seat { IsOpen self.new result × (rows_before self.new result ≡ rows_before self.old seat) × (rows_from self.new result ≡ rows_from self.old seat) }
+        ensures len { self.new.len ≡ self.old.len }
     {
-        let Seat { list, at } = seat;
-        if self.rest.reserve(1).is_err() {
-            return seat;
-        }
-        let len = self.list_len(list);
-        let from = if at == len && list == self.rest.len() {
-            len - 1
-        } else {
-            len / 2
-        };
-        match self.cut_list(list, from) {
+        let from = self.middle_for(seat);
+        match self.cut_list(seat.list, from) {
             Some(upper) => {
-                let front = upper[0].key.front();
-                let entries = upper;
-                drop(self.rest.insert(list, Chunk { front, entries }));
-                if at <= from {
+                self.put_chunk(seat.list, upper);
+                if seat.at <= from {
                     seat
                 } else {
                     Seat {
-                        list: list + 1,
-                        at: at - from,
+                        list: seat.list + 1,
+                        at: seat.at - from,
                     }
                 }
             }
@@ -121,7 +128,35 @@ impl MapParts {
         }
     }
 
-    /// Takes the entries from a place on out of the list of a number; `None` where memory for them is refused.
+    /// Where a full list is split for an entry that comes to a place: for an appended one near the end.
+    fn middle_for(&self, seat: Seat) -> usize
+        requires list { seat.list < length (lists_of self.now) }
+        requires some { 1 < length (list_at self.now seat.list) }
+        ensures { (0 < result) × (result < length (list_at self.now seat.list)) }
+    {
+        let len = self.list_len(seat.list);
+        if seat.at == len && seat.list == self.rest.len() {
+            len - 1
+        } else {
+            len / 2
+        }
+    }
+
+    /// Puts entries as a chunk past the list of a number.
+    fn put_chunk(&mut self, number: usize, entries: Vec<Entry>)
+        requires within { number < length (lists_of self.old) }
+        requires some { 0 < length entries.items }
+        requires room { vec_len self.old.rest < vec_capacity self.old.rest }
+        requires fronted { AreFronted self.old.rest.items }
+        ensures lists { lists_of self.new ≡ insert (lists_of self.old) (suc number) (rows entries.items) }
+        ensures fronted { AreFronted self.new.rest.items }
+        ensures len { self.new.len ≡ self.old.len }
+    {
+        let front = entries[0].key.front();
+        insert_chunk(&mut self.rest, number, Chunk { front, entries });
+    }
+
+    /// Takes the entries from a place on out of the list of a number, and makes room for one chunk more; `None` where memory for either is refused.
     fn cut_list(&mut self, number: usize, from: usize) -> Option<Vec<Entry>>
         requires list { number < length (lists_of self.old) }
         requires within { (0 < from) × (from < length (list_at self.old number)) }
@@ -129,9 +164,9 @@ impl MapParts {
         ensures lists { MatchOption result (lists_of self.new ≡ lists_of self.old) (λ upper. (lists_of self.new ≡ slice_set (lists_of self.old) number (take from (list_at self.old number))) × (rows upper.items ≡ drop from (list_at self.old number))) }
         ensures fronted { AreFronted self.new.rest.items }
         ensures len { self.new.len ≡ self.old.len }
-        ensures count { vec_len self.new.rest ≡ vec_len self.old.rest }
-        ensures room { vec_capacity self.new.rest ≡ vec_capacity self.old.rest }
+        ensures room { IfSome result (λ _. vec_len self.new.rest < vec_capacity self.new.rest) }
     {
+        self.rest.reserve(1).ok()?;
         if number == 0 {
             cut(&mut self.first, from)
         } else {
@@ -147,12 +182,13 @@ impl MapParts {
         requires room { HasRoom self.old seat.list }
         requires between { AreRising (rows_before self.old seat ++ (key, value) ∷ rows_from self.old seat) }
         requires text { IsUtf8 key }
+        requires counted { self.old.len + 1 < 2 ^ 64 }
         ensures rows { rows_of self.new ≡ rows_before self.old seat ++ (key, value) ∷ rows_from self.old seat }
         ensures whole { IsWhole self.new }
     {
         self.len += 1;
         if seat.list == 0 {
-            drop(self.first.insert(seat.at, Entry { key, value }));
+            put_entry(&mut self.first, seat.at, key, value);
         } else {
             put_in(&mut self.rest[seat.list - 1], seat.at, key, value);
         }
@@ -192,6 +228,24 @@ impl MapParts {
     }
 }
 
+fn insert_chunk(rest: &mut Vec<Chunk>, at: usize, chunk: Chunk)
+    requires within { at ≤ length rest.old.items }
+    requires room { vec_len rest.old < vec_capacity rest.old }
+    ensures { rest.new.items ≡ insert rest.old.items at chunk }
+{
+    drop(rest.insert(at, chunk));
+}
+
+/// Puts an entry into a list that has room.
+#[inline(always)]
+fn put_entry(entries: &mut Vec<Entry>, at: usize, key: Key, value: Dynamic)
+    requires within { at ≤ length entries.old.items }
+    requires room { vec_len entries.old < vec_capacity entries.old }
+    ensures { entries.new.items ≡ insert entries.old.items at (record { key = key; value = value }) }
+{
+    drop(entries.insert(at, Entry { key, value }));
+}
+
 /// Puts an entry into a chunk that has room.
 #[inline(always)]
 fn put_in(chunk: &mut Chunk, at: usize, key: Key, value: Dynamic)
@@ -204,7 +258,7 @@ fn put_in(chunk: &mut Chunk, at: usize, key: Key, value: Dynamic)
     if at == 0 {
         chunk.front = key.front();
     }
-    drop(chunk.entries.insert(at, Entry { key, value }));
+    put_entry(&mut chunk.entries, at, key, value);
 }
 
 /// Takes an entry out of a chunk.

@@ -26,9 +26,10 @@ put-requires c =
     let rising = missing_rising (string_bytes c.args.key) c.args.self.now c.in-Err.gap missing c.args.value c.requires.rising in
     record {
       whole = c.in-Some.ensures.whole;
-      open = room.0;
+      «open» = room.0;
       room = room.1;
       between = subst AreRising (ap₂ (λ xs ys. xs ++ (c.from_string.result, c.args.value) ∷ ys) (sym room.2) (sym room.3)) (subst (λ k. AreRising (rows_before c.args.self.now c.in-Err.gap ++ (k, c.args.value) ∷ rows_from c.args.self.now c.in-Err.gap)) (sym (c.from_string.ensures)) rising);
+      counted = c.in-Some.ensures.counted;
       text = subst Rattle.std.specs.Str.IsUtf8 (sym (c.from_string.ensures)) (IsUtf8-string_bytes c.args.key);
     }
 

@@ -8,12 +8,12 @@ use Rattle.rhai_value.proofs.map.MapParts.remove.Goals as goal
 pub returns-in-Ok-clause-value : goal.returns-in-Ok-clause-value
 returns-in-Ok-clause-value c =
     let found = subst (λ k. IsFound k c.args.self.now c.in-Ok.seat) c.of.ensures c.in-Ok.ensures.found in
-    ap (λ r. Some r.1) c.take.ensures.entry ∙ sym (found_value c.args.key.now c.args.self.now c.in-Ok.seat found)
+    ap (λ r. Some r.1) c.take-key.ensures.entry ∙ sym (found_value c.args.key.now c.args.self.now c.in-Ok.seat found)
 
 pub returns-in-Ok-clause-removed : goal.returns-in-Ok-clause-removed
 returns-in-Ok-clause-removed c =
     let found = subst (λ k. IsFound k c.args.self.now c.in-Ok.seat) c.of.ensures c.in-Ok.ensures.found in
-    found_removed c.args.key.now c.args.self.now c.take.new.self c.in-Ok.seat found c.take.ensures.rows
+    found_removed c.args.key.now c.args.self.now c.take-key.new.self c.in-Ok.seat found c.take-key.ensures.rows
 
 pub returns-in-Err-clause-value : goal.returns-in-Err-clause-value
 returns-in-Err-clause-value c =

@@ -7,4 +7,4 @@ use Rattle.rhai_value.proofs.map.MapParts.seat_from.Goals as goal
 pub returns : goal.returns
 returns c =
     next_list c.args.self.now c.args.seat c.requires.whole c.requires.open (omega (arith, c.if-seat-list_len.false, c.list_len.ensures))
-        (omega (arith, c.if-seat-len.false, c.requires.open.list, length-map c.args.self.now.rest.items chunk_rows, c.args.self.now.rest.ok.0)) _ (omega arith)
+    (omega (arith, c.if-seat-len.false, c.requires.open.list, length-map c.args.self.now.rest.items chunk_rows, c.args.self.now.rest.ok.0)) _ (omega arith)

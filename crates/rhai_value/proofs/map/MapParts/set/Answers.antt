@@ -24,9 +24,10 @@ put-requires c =
     let rising = missing_rising c.args.text.now c.args.self.now c.in-Err.gap missing c.args.value c.requires.rising in
     record {
       whole = c.in-Some.ensures.whole;
-      open = room.0;
+      «open» = room.0;
       room = room.1;
       between = subst AreRising (ap₂ (λ xs ys. xs ++ (c.in-Ok-from_str.key, c.args.value) ∷ ys) (sym room.2) (sym room.3)) (subst (λ k. AreRising (rows_before c.args.self.now c.in-Err.gap ++ (k, c.args.value) ∷ rows_from c.args.self.now c.in-Err.gap)) (sym (c.in-Ok-from_str.ensures.value)) rising);
+      counted = c.in-Some.ensures.counted;
       text = subst Rattle.std.specs.Str.IsUtf8 (sym (c.in-Ok-from_str.ensures.value)) (c.utf8.text);
     }
 

@@ -84,6 +84,9 @@ module _ {K X : Type 0} (R : K → K → Ordering) (k : K) where
   pub remove_hit : (xs ys : List (K × X)) (e : K × X) → AreBelow R k xs → R k e.0 ≡ Equal → remove_entry (is_at (R k)) (xs ++ e ∷ ys) ≡ xs ++ ys
   remove_hit xs ys e h is = remove_right xs (e ∷ ys) h ∙ rw is refl
 
+  pub set_hit : (xs ys : List (K × X)) (e : K × X) (w : X) → AreBelow R k xs → R k e.0 ≡ Equal → set_value (is_at (R k)) (xs ++ e ∷ ys) w ≡ xs ++ (e.0, w) ∷ ys
+  set_hit xs ys e w h is = set_right xs (e ∷ ys) w h ∙ rw is refl
+
   -- ---- in the list of chunks that has the key, or would
 
   pub lookup_joined : (cs ds : List (List (K × X))) (l : List (K × X)) → AreBelow R k (joined cs) → AreAbove R k (joined ds) → lookup (is_at (R k)) (joined (cs ++ l ∷ ds)) ≡ lookup (is_at (R k)) l

@@ -1,6 +1,6 @@
 -- What a write, an entry that comes and an entry that goes make of the rows around a place.
 use Rattle.std.proofs.Common.{◌≡◌, ℕ, zero, suc, ◌+◌, ◌<◌, ◌≤◌, List, [], ◌∷◌, ◌++◌, length, map, take, drop, set, get_or, None, refl, ap, ap₂, sym, subst, ◌∙◌, arith}
-use Rattle.std.proofs.lemmas.List.{append_assoc, append-nil, get_or-map, get_or-set_same, length-map, map-append, map-set, take-set}
+use Rattle.std.proofs.lemmas.List.{append_assoc, append-nil, get_or-map, get_or-set_same, get_or_default, length-map, map-append, map-set, take-set}
 use Rattle.std.specs.Int.{w64, from_be_bytes}
 use Rattle.std.specs.List.{All, insert, remove}
 use Rattle.std.specs.List.Sorted.{IsStrictlySortedBy}
@@ -8,7 +8,8 @@ use Rattle.std.specs.Map.{keys_of}
 use Rattle.std.specs.Str.{IsUtf8}
 use Rattle.rhai_value.specs.Lists.{Row, row_of, rows, chunk_rows, joined, lists_of, rows_of, AreBelow, AreAbove, AreFronted, Begins, IsWhole}
 use Rattle.rhai_value.specs.Rows.{Rows, bytes_cmp, AreRising, AreTexts}
-use Rattle.rhai_value.specs.Seats.{entry_at, list_at, row_at, rows_before, rows_from, rows_past, IsOpen, IsSeated}
+use Rattle.std.specs.Vec.{with_item}
+use Rattle.rhai_value.specs.Seats.{chunk_at, entry_at, with_tree, with_value, with_value_in, list_at, row_at, rows_before, rows_from, rows_past, IsOpen, IsSeated}
 use Rattle.rhai_value.specs.Tree.{Tree, fresh, unit}
 use Rattle.rhai_value.specs.declared.map.Chunk.{Chunk}
 use Rattle.rhai_value.specs.declared.map.Entry.{Entry}
@@ -16,7 +17,7 @@ use Rattle.rhai_value.specs.declared.map.MapParts.{MapParts}
 use Rattle.rhai_value.specs.declared.map_seat.Seat.{Seat}
 use Rattle.rhai_value.proofs.KeptKeys.{rising_in, texts_in}
 use Rattle.rhai_value.proofs.Lists.{keys_valued, rising_taken, texts_put, texts_taken}
-use Rattle.rhai_value.proofs.Seats.{rows_seated, rows_split}
+use Rattle.rhai_value.proofs.Seats.{fronted_at, rows_seated, rows_split}
 
 -- ---- lists in which one is changed
 
@@ -111,10 +112,26 @@ row_entry (e ∷ es) (suc i) = row_entry es i
 pub seated_row : (p : MapParts) (s : Seat) (es : List Entry) → list_at p s.list ≡ rows es → row_at p s ≡ row_of (entry_at es s.at)
 seated_row p s es is = ap (λ l. get_or l s.at ([], fresh unit)) is ∙ row_entry es s.at
 
+pub read_row : (p : MapParts) (s : Seat) (es : List Entry) (e : Entry) → list_at p s.list ≡ rows es → s.at < length es → e ≡ get_or es s.at e → row_at p s ≡ row_of e
+read_row p s es e here lt is = seated_row p s es here ∙ ap row_of (sym (is ∙ get_or_default es s.at e (record { key = []; value = fresh unit }) lt))
+
 -- a value is written into the entries of a list
 pub valued : (p : MapParts) (s : Seat) (es us : List Entry) (v : Tree) → list_at p s.list ≡ rows es → us ≡ set es s.at (record (entry_at es s.at) { value = v }) → rows us ≡ set (list_at p s.list) s.at ((row_at p s).0, v)
 valued p s es us v is now =
     ap rows now ∙ rows_set es s.at (record (entry_at es s.at) { value = v }) ∙ ap₂ (λ l (r : Row). set l s.at (r.0, v)) (sym is) (sym (seated_row p s es is))
+
+-- the parts with a value at a place
+pub with_first : (p : MapParts) (n i : ℕ) (e : Entry) (w : Tree) → n ≡ 0 → i < length p.first.items → e ≡ get_or p.first.items i e → record p { first = with_item p.first i (record e { value = w }) } ≡ with_value_in p n i w
+with_first p n i e w h lt is =
+    rw h (ap (λ (d : Entry). record p { first = with_item p.first i (record d { value = w }) }) (is ∙ get_or_default p.first.items i e (record { key = []; value = fresh unit }) lt))
+
+pub with_chunk : (p : MapParts) (n m i : ℕ) (c : Chunk) (e : Entry) (w : Tree) → n ≡ suc m → m < length p.rest.items → c ≡ get_or p.rest.items m c → i < length c.entries.items → e ≡ get_or c.entries.items i e
+    → record p { rest = with_item p.rest m (record c { entries = with_item c.entries i (record e { value = w }) }) } ≡ with_value_in p n i w
+with_chunk p n m i c e w h lt read within is =
+    let chunk : c ≡ chunk_at p m = read ∙ get_or_default p.rest.items m c (record { front = 0; entries = p.first }) lt in
+    let entry : e ≡ entry_at c.entries.items i = is ∙ get_or_default c.entries.items i e (record { key = []; value = fresh unit }) within in
+    rw h (ap (λ (d : Entry). record p { rest = with_item p.rest m (record c { entries = with_item c.entries i (record d { value = w }) }) }) entry
+    ∙ ap (λ (d : Chunk). record p { rest = with_item p.rest m (record d { entries = with_tree d.entries i w }) }) chunk)
 
 -- where there is an entry, the parts count one
 pub some_entry : (p : MapParts) (s : Seat) → IsWhole p → IsSeated p s → 1 ≤ p.len
@@ -128,10 +145,10 @@ pub begins_first : (f : ℕ) (es : List Entry) (e : Entry) → 0 < length es →
 begins_first f [] e some is front = absurd (omega (arith, some))
 begins_first f (x ∷ xs) e some is front = front ∙ ap (λ (d : Entry). from_be_bytes w64 d.key) is
 
-pub begins_set : (f : ℕ) (es : List Entry) (i : ℕ) (e d : Entry) → Begins f es → i < length es → e.key ≡ (get_or es i d).key → Begins f (set es i e)
-begins_set f [] i e d h lt same = absurd h
-begins_set f (x ∷ xs) zero e d h lt same = h ∙ ap (from_be_bytes w64) (sym same)
-begins_set f (x ∷ xs) (suc i) e d h lt same = h
+pub begins_set : (f : ℕ) (es : List Entry) (i : ℕ) (e d : Entry) → Begins f es → e.key ≡ (get_or es i d).key → Begins f (set es i e)
+begins_set f [] i e d h same = absurd h
+begins_set f (x ∷ xs) zero e d h same = h ∙ ap (from_be_bytes w64) (sym same)
+begins_set f (x ∷ xs) (suc i) e d h same = h
 
 pub fronted_set : (cs : List Chunk) (m : ℕ) (c : Chunk) → AreFronted cs → Begins c.front c.entries.items → AreFronted (set cs m c)
 fronted_set [] zero c h b = h
@@ -280,3 +297,42 @@ module _ (p q : MapParts) (s : Seat) (is : lists_of q ≡ lists_of p) where
 
   pub same_lists_from : rows_from q s ≡ rows_from p s
   same_lists_from = ap (λ ls. drop s.at (get_or ls s.list []) ++ joined (drop (suc s.list) ls)) is
+
+-- ---- parts with another value at a place
+
+entries_valued : (es : List Entry) (i : ℕ) (w : Tree) → rows (set es i (record (entry_at es i) { value = w })) ≡ set (rows es) i ((get_or (rows es) i ([], fresh unit)).0, w)
+entries_valued es i w = rows_set es i (record (entry_at es i) { value = w }) ∙ ap (λ (r : Row). set (rows es) i (r.0, w)) (sym (row_entry es i))
+
+lists_valued : (p : MapParts) (n i : ℕ) (w : Tree) → n < length (lists_of p) → lists_of (with_value_in p n i w) ≡ set (lists_of p) n (set (list_at p n) i ((get_or (list_at p n) i ([], fresh unit)).0, w))
+lists_valued p zero i w lt = first_set p (with_value_in p zero i w) (set (rows p.first.items) i ((get_or (rows p.first.items) i ([], fresh unit)).0, w)) (entries_valued p.first.items i w) refl
+lists_valued p (suc m) i w lt =
+    let x = chunk_at p m in
+    let within : m < length p.rest.items = omega (arith, lt, length-map p.rest.items chunk_rows) in
+    let here : list_at p (suc m) ≡ chunk_rows x = get_or-map chunk_rows p.rest.items m (record { front = 0; entries = p.first }) [] within in
+    chunk_set p (with_value_in p (suc m) i w) m (record x { entries = with_tree x.entries i w }) (set (list_at p (suc m)) i ((get_or (list_at p (suc m)) i ([], fresh unit)).0, w)) refl refl
+    (entries_valued x.entries.items i w ∙ ap (λ l. set l i ((get_or l i ([], fresh unit)).0, w)) (sym here))
+
+fronted_valued : (p : MapParts) (n i : ℕ) (w : Tree) → n < length (lists_of p) → AreFronted p.rest.items → AreFronted (with_value_in p n i w).rest.items
+fronted_valued p zero i w lt h = h
+fronted_valued p (suc m) i w lt h =
+    let x = chunk_at p m in
+    let within : m < length p.rest.items = omega (arith, lt, length-map p.rest.items chunk_rows) in
+    fronted_set p.rest.items m (record x { entries = with_tree x.entries i w }) h
+    (begins_set x.front x.entries.items i (record (entry_at x.entries.items i) { value = w }) (record { key = []; value = fresh unit }) (fronted_at p.rest.items m (record { front = 0; entries = p.first }) h within) refl)
+
+count_valued : (p : MapParts) (n i : ℕ) (w : Tree) → (with_value_in p n i w).len ≡ p.len
+count_valued p zero i w = refl
+count_valued p (suc m) i w = refl
+
+module _ (p : MapParts) (s : Seat) (h : IsSeated p s) (w : Tree) where
+  abbrev now : MapParts
+  now = with_value p s w
+
+  pub value_whole : IsWhole p → IsWhole now
+  value_whole whole = written_whole p now s h ((row_at p s).0, w) (lists_valued p s.list s.at w h.list) refl (fronted_valued p s.list s.at w h.list whole.fronted) (count_valued p s.list s.at w) whole
+
+  pub value_rows : rows_of now ≡ rows_before p s ++ ((row_at p s).0, w) ∷ rows_past p s
+  value_rows =
+      let is = lists_valued p s.list s.at w h.list in
+      let r : Row = ((row_at p s).0, w) in
+      rows_seated now s (written_seated p now s h r is) ∙ ap₂ (λ xs ys. xs ++ row_at now s ∷ ys) (written_before p now s h r is) (written_past p now s h r is) ∙ ap (λ x. rows_before p s ++ x ∷ rows_past p s) (written_row p now s h r is)

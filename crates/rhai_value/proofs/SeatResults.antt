@@ -1,18 +1,19 @@
 -- What look-ups, insertions and removals are by a place.
 use Rattle.std.proofs.Common.{◌≡◌, ℕ, ◌+◌, ◌<◌, ◌≤◌, List, [], ◌∷◌, ◌++◌, option_to_list, Option, Some, None, refl, ap, ap₂, sym, subst, ◌∙◌, arith}
 use Rattle.std.specs.BTreeMap.{insert_entry, is_at}
-use Rattle.std.specs.Map.{lookup, remove_entry}
+use Rattle.std.specs.Map.{lookup, remove_entry, set_value}
 use Rattle.std.proofs.lemmas.List.{append-nil}
 use Rattle.rhai_value.specs.Falls.{nodes_joined}
 use Rattle.rhai_value.specs.Lists.{Row, row_of, lists_of, rows_of}
 use Rattle.rhai_value.specs.Rows.{Rows, bytes_cmp, fields_of, trees_of, AreRising}
-use Rattle.rhai_value.specs.Seats.{row_at, rows_before, rows_from, rows_past, IsFound, IsMissing, IsSeated}
+use Rattle.rhai_value.specs.Seats.{with_value, row_at, rows_before, rows_from, rows_past, IsFound, IsMissing, IsSeated}
 use Rattle.rhai_value.specs.Tree.{Tree, nodes, nodes_fields, nodes_trees}
 use Rattle.rhai_value.specs.declared.map.Entry.{Entry}
 use Rattle.rhai_value.specs.declared.map.MapParts.{MapParts}
 use Rattle.rhai_value.specs.declared.map_seat.Seat.{Seat}
 use Rattle.rhai_value.proofs.Lists.{rising_put}
-use Rattle.rhai_value.proofs.Parted.{insert_gap, insert_hit, remove_above, remove_hit, remove_right}
+use Rattle.rhai_value.proofs.Parted.{insert_gap, insert_hit, remove_above, remove_hit, remove_right, set_hit}
+use Rattle.rhai_value.proofs.SeatEdits.{value_rows}
 use Rattle.rhai_value.proofs.Seats.{rows_seated, rows_split}
 
 -- ---- a key that is there
@@ -25,6 +26,10 @@ module _ (k : List ℕ) (p q : MapParts) (s : Seat) (h : IsFound k p s) where
 
   pub found_removed : rows_of q ≡ rows_before p s ++ rows_past p s → rows_of q ≡ remove_entry (is_at (bytes_cmp k)) (rows_of p)
   found_removed is = is ∙ sym (ap (remove_entry (is_at (bytes_cmp k))) (rows_seated p s h.seated) ∙ remove_hit bytes_cmp k (rows_before p s) (rows_past p s) (row_at p s) h.below h.same)
+
+module _ (k : List ℕ) (p : MapParts) (s : Seat) (h : IsFound k p s) where
+  pub found_valued : (v : Tree) → rows_of (with_value p s v) ≡ set_value (is_at (bytes_cmp k)) (rows_of p) v
+  found_valued v = value_rows p s h.seated v ∙ sym (ap (λ rs. set_value (is_at (bytes_cmp k)) rs v) (rows_seated p s h.seated) ∙ set_hit bytes_cmp k (rows_before p s) (rows_past p s) (row_at p s) v h.below h.same)
 
 -- ---- a key that is new
 

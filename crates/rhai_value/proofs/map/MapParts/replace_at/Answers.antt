@@ -47,12 +47,11 @@ returns-else-seat-eq0 c =
     let read : x ≡ get_or p.rest.items m x = c.index_mut.ensures.value in
     let q : MapParts = record p { rest = with_item p.rest m u } in
     let here : list_at p s.list ≡ rows es = list_chunk p s.list m x later lt read in
-    let within : s.at < length es = omega (arith, c.requires.seated.within, ap length here, length-map es row_of) in
     let now : rows us ≡ set (list_at p s.list) s.at ((row_at p s).0, v) = valued p s es us v here done.ensures.written in
     let is : lists_of q ≡ set (lists_of p) s.list (set (list_at p s.list) s.at ((row_at p s).0, v)) =
     subst (λ n. lists_of q ≡ set (lists_of p) n (set (list_at p s.list) s.at ((row_at p s).0, v))) (sym later) (chunk_set p q m u (set (list_at p s.list) s.at ((row_at p s).0, v)) refl refl now) in
     let front : Begins x.front es = subst (λ (c : Chunk). Begins c.front c.entries.items) (sym read) (fronted_at p.rest.items m x c.requires.whole.fronted lt) in
-    let begins : Begins x.front us = subst (Begins x.front) (sym done.ensures.written) (begins_set x.front es s.at (record (entry_at es s.at) { value = v }) (record { key = []; value = fresh unit }) front within refl) in
+    let begins : Begins x.front us = subst (Begins x.front) (sym done.ensures.written) (begins_set x.front es s.at (record (entry_at es s.at) { value = v }) (record { key = []; value = fresh unit }) front refl) in
     record {
       value = done.ensures.value ∙ ap (λ r. r.1) (sym (seated_row p s es here));
       before = written_before p q s c.requires.seated ((row_at p s).0, v) is;

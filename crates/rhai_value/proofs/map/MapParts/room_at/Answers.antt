@@ -18,7 +18,7 @@ returns-then-grow_list c =
       rows = ap joined is ∙ c.split_full-seat.ensures.rows;
       whole = whole_same q r done.first done.rest done.len c.split_full-seat.ensures.whole;
       room = (same_lists_open q r s is here.0, room, same_lists_before q r s is ∙ here.1, same_lists_from q r s is ∙ here.2);
-      counted = omega (arith, c.if-self.false, done.len, c.split_full-seat.ensures.len);
+      counted = omega (arith, c.if-self-ge18446744073709551615.false, done.len, c.split_full-seat.ensures.len);
     }
 
 pub returns-else-grow_list : goal.returns-else-grow_list

@@ -31,19 +31,24 @@ put-requires c =
       text = subst Rattle.std.specs.Str.IsUtf8 (sym (c.in-Ok-from_str.ensures.value)) (c.utf8.text);
     }
 
-pub returns-in-Some-clause-old : goal.returns-in-Some-clause-old
-returns-in-Some-clause-old c =
+pub returns-in-Ok-from_str-clause-old : goal.returns-in-Ok-from_str-clause-old
+returns-in-Ok-from_str-clause-old c =
     let missing = subst (λ k. IsMissing k c.args.self.now c.in-Err.gap) (c.of.ensures) c.in-Err.ensures.missing in
     sym (missing_value c.args.text.now c.args.self.now c.in-Err.gap missing)
 
-pub returns-in-Some-clause-set : goal.returns-in-Some-clause-set
-returns-in-Some-clause-set c =
+pub returns-in-Ok-from_str-clause-set : goal.returns-in-Ok-from_str-clause-set
+returns-in-Ok-from_str-clause-set c =
     let missing = subst (λ k. IsMissing k c.args.self.now c.in-Err.gap) (c.of.ensures) c.in-Err.ensures.missing in
     let room = c.in-Some.ensures.room in
     c.put.ensures.rows ∙ ap₂ (λ xs ys. xs ++ (c.in-Ok-from_str.key, c.args.value) ∷ ys) room.2 room.3 ∙ ap (λ k. rows_before c.args.self.now c.in-Err.gap ++ (k, c.args.value) ∷ rows_from c.args.self.now c.in-Err.gap) (c.in-Ok-from_str.ensures.value)
     ∙ missing_put c.args.text.now c.args.self.now c.in-Err.gap missing c.args.value
 
-pub returns-in-None-clause-absent : goal.returns-in-None-clause-absent
-returns-in-None-clause-absent c =
+pub returns-in_default-clause-absent : goal.returns-in_default-clause-absent
+returns-in_default-clause-absent c =
+    let missing = subst (λ k. IsMissing k c.args.self.now c.in-Err.gap) (c.of.ensures) c.in-Err.ensures.missing in
+    missing_value c.args.text.now c.args.self.now c.in-Err.gap missing
+
+pub returns-in-Err-from_str-clause-absent : goal.returns-in-Err-from_str-clause-absent
+returns-in-Err-from_str-clause-absent c =
     let missing = subst (λ k. IsMissing k c.args.self.now c.in-Err.gap) (c.of.ensures) c.in-Err.ensures.missing in
     missing_value c.args.text.now c.args.self.now c.in-Err.gap missing

@@ -1,13 +1,13 @@
 -- The parts of a map that is being painted.
-use Rattle.std.proofs.Common.{◌≡◌, ℕ, zero, suc, ◌+◌, ◌<◌, Option, Some, List, [], ◌∷◌, ◌++◌, Global, length, take, get_or, refl, ap, ap₂, sym, ◌∙◌, arith}
+use Rattle.std.proofs.Common.{◌≡◌, ℕ, zero, suc, ◌+◌, ◌-◌, ◌<◌, Option, Some, List, [], ◌∷◌, ◌++◌, Global, length, take, drop, get_or, subst, refl, ap, ap₂, sym, ◌∙◌, arith}
 use Rattle.std.proofs.lemmas.List.{append_assoc}
 use Rattle.std.specs.declared.boxed.Box.{Box}
-use Rattle.rhai_value.specs.Coats.{painted_past}
+use Rattle.rhai_value.specs.Coats.{painted_past, painted_with, taken_seat, IsTaken}
 use Rattle.rhai_value.specs.Lists.{joined, rows_of, rows_in, lists_of, IsWhole, IsWholeIn}
 use Rattle.rhai_value.specs.Rows.{fields_of}
 use Rattle.rhai_value.specs.RowWalks.{painted_row, painted_rows}
 use Rattle.rhai_value.specs.Seats.{list_at, row_at, rows_before, rows_from, rows_past, IsOpen, IsSeated}
-use Rattle.rhai_value.specs.Tree.{Tree, fresh, unit, nodes_fields, paint, paint_fields}
+use Rattle.rhai_value.specs.Tree.{Tree, fresh, unit, nodes, nodes_fields, paint, paint_fields}
 use Rattle.rhai_value.specs.declared.access_mode.AccessMode.{AccessMode}
 use Rattle.rhai_value.specs.declared.map.MapParts.{MapParts}
 use Rattle.rhai_value.specs.declared.map_seat.Seat.{Seat}
@@ -32,25 +32,77 @@ taken_suc [] i d lt = absurd (omega arith)
 taken_suc (x ∷ xs) zero d lt = refl
 taken_suc (x ∷ xs) (suc i) d lt = ap (λ l. x ∷ l) (taken_suc xs i d (omega arith))
 
-abbrev after_seat : Seat → Seat
-after_seat s = record { list = s.list; at = suc s.at }
+-- two places of a list, one past the other
+pub record IsPast (s t : Seat) : Type 0 where
+  pub list : t.list ≡ s.list
+  pub at : t.at ≡ suc s.at
 
-before_after : (p : MapParts) (s : Seat) → IsSeated p s → rows_before p (after_seat s) ≡ rows_before p s ++ row_at p s ∷ []
-before_after p s h =
-    ap (λ l. joined (take s.list (lists_of p)) ++ l) (taken_suc (list_at p s.list) s.at ([], fresh unit) h.within)
-    ∙ sym (append_assoc (joined (take s.list (lists_of p))) (take s.at (list_at p s.list)) (row_at p s ∷ []))
+module _ (p : MapParts) (s t : Seat) (n : IsPast s t) (h : IsSeated p s) where
+  pub past_open : IsOpen p t
+  past_open = record { list = subst (λ m. m < length (lists_of p)) (sym n.list) h.list; within = omega (arith, n.at, h.within, ap (λ m. length (list_at p m)) n.list) }
+
+  pub past_before : rows_before p t ≡ rows_before p s ++ row_at p s ∷ []
+  past_before =
+      ap₂ (λ m i. joined (take m (lists_of p)) ++ take i (list_at p m)) n.list n.at
+      ∙ ap (λ l. joined (take s.list (lists_of p)) ++ l) (taken_suc (list_at p s.list) s.at ([], fresh unit) h.within)
+      ∙ sym (append_assoc (joined (take s.list (lists_of p))) (take s.at (list_at p s.list)) (row_at p s ∷ []))
+
+  pub past_from : rows_from p t ≡ rows_past p s
+  past_from = ap₂ (λ m i. drop i (list_at p m) ++ joined (drop (suc m) (lists_of p))) n.list n.at
+
+abbrev seat : ℕ → ℕ → Seat
+seat n i = record { list = n; at = i }
+
+-- the place that was taken last
+pub taken_is : (s t : Seat) → IsPast s t → taken_seat t ≡ s
+taken_is s t n = ap₂ seat n.list (omega (arith, n.at))
+
+pub taken_past : (t : Seat) → 0 < t.at → IsPast (taken_seat t) t
+taken_past t some = record { list = refl; at = omega (arith, some) }
 
 -- the value at a place is painted, and what stands before and past it stays
-pub coat_step : (m : AccessMode) (p q : MapParts) (s : Seat) → IsSeated p s → IsSeated q s → rows_before q s ≡ rows_before p s → row_at q s ≡ painted_row m (row_at p s) → rows_past q s ≡ rows_past p s
-    → painted_past m q (after_seat s) ≡ painted_past m p s
-coat_step m p q s h g before row past =
-    ap₂ (λ xs ys. xs ++ painted_rows m ys) (before_after q s g ∙ ap₂ (λ xs r. xs ++ r ∷ []) before row) past
-    ∙ append_assoc (rows_before p s) (painted_row m (row_at p s) ∷ []) (painted_rows m (rows_past p s))
-    ∙ ap (λ ys. rows_before p s ++ painted_rows m ys) (sym (rows_next p s h))
+module _ (m : AccessMode) (p q : MapParts) (s t : Seat) (n : IsPast s t) (h : IsSeated p s) (g : IsSeated q s) (before : rows_before q s ≡ rows_before p s) (past : rows_past q s ≡ rows_past p s) where
+  pub coat_step : row_at q s ≡ painted_row m (row_at p s) → painted_past m q t ≡ painted_past m p s
+  coat_step row =
+      ap₂ (λ xs ys. xs ++ painted_rows m ys) (past_before q s t n g ∙ ap₂ (λ xs r. xs ++ r ∷ []) before row) (past_from q s t n g ∙ past)
+      ∙ append_assoc (rows_before p s) (painted_row m (row_at p s) ∷ []) (painted_rows m (rows_past p s))
+      ∙ ap (λ ys. rows_before p s ++ painted_rows m ys) (sym (rows_next p s h))
 
--- the same of a value that was taken and is under way
-pub coat_taken : (m : AccessMode) (p q : MapParts) (s : Seat) (x : Tree) → IsSeated p s → rows_before q s ≡ rows_before p s → (row_at q s).0 ≡ (row_at p s).0 → rows_past q s ≡ rows_past p s → x ≡ paint m (row_at p s).1
-    → rows_before q s ++ ((row_at q s).0, x) ∷ painted_rows m (rows_past q s) ≡ painted_past m p s
-coat_taken m p q s x h before key past is =
-    ap₂ (λ xs ys. xs ++ ((row_at q s).0, x) ∷ painted_rows m ys) before past ∙ ap₂ (λ k t. rows_before p s ++ (k, t) ∷ painted_rows m (rows_past p s)) key is
-    ∙ ap (λ ys. rows_before p s ++ painted_rows m ys) (sym (rows_next p s h))
+  -- the same of a value that was taken and is under way
+  pub coat_taken : (x : Tree) → (row_at q s).0 ≡ (row_at p s).0 → x ≡ paint m (row_at p s).1 → painted_with m q t x ≡ painted_past m p s
+  coat_taken x key is =
+      ap (λ u. rows_before q u ++ ((row_at q u).0, x) ∷ painted_rows m (rows_from q t)) (taken_is s t n)
+      ∙ ap₂ (λ xs ys. xs ++ ((row_at q s).0, x) ∷ painted_rows m ys) before (past_from q s t n g ∙ past)
+      ∙ ap₂ (λ k y. rows_before p s ++ (k, y) ∷ painted_rows m (rows_past p s)) key is
+      ∙ ap (λ ys. rows_before p s ++ painted_rows m ys) (sym (rows_next p s h))
+
+  -- fewer are left
+  pub nodes_past : nodes_fields (fields_of (rows_from q t)) + nodes (row_at p s).1 ≡ nodes_fields (fields_of (rows_from p s))
+  nodes_past = omega (arith, ap (λ rs. nodes_fields (fields_of rs)) (past_from q s t n g ∙ past), ap (λ rs. nodes_fields (fields_of rs)) (rows_next p s h))
+
+  pub rows_fewer : length (rows_from q t) < length (rows_from p s)
+  rows_fewer = omega (arith, ap length (past_from q s t n g ∙ past), ap length (rows_next p s h))
+
+  pub still_taken : IsTaken q t
+  still_taken = (omega (arith, n.at), subst (IsSeated q) (sym (taken_is s t n)) g)
+
+-- what came of the value that was taken last is put back
+module _ (m : AccessMode) (p q : MapParts) (t : Seat) (taken : IsTaken p t) (g : IsSeated q (taken_seat t)) (x : Tree) (before : rows_before q (taken_seat t) ≡ rows_before p (taken_seat t))
+    (row : row_at q (taken_seat t) ≡ ((row_at p (taken_seat t)).0, x)) (past : rows_past q (taken_seat t) ≡ rows_past p (taken_seat t)) where
+  pub coat_added : painted_past m q t ≡ painted_with m p t x
+  coat_added =
+      let s = taken_seat t in
+      let n = taken_past t taken.0 in
+      ap₂ (λ xs ys. xs ++ painted_rows m ys) (past_before q s t n g ∙ ap₂ (λ xs r. xs ++ r ∷ []) before row) (past_from q s t n g ∙ past)
+      ∙ append_assoc (rows_before p s) (((row_at p s).0, x) ∷ []) (painted_rows m (rows_past p s))
+      ∙ ap (λ ys. rows_before p s ++ ((row_at p s).0, x) ∷ painted_rows m ys) (sym (past_from p s t n taken.1))
+
+  pub left_added : rows_from q t ≡ rows_from p t
+  left_added = let s = taken_seat t in let n = taken_past t taken.0 in past_from q s t n g ∙ past ∙ sym (past_from p s t n taken.1)
+
+  pub open_added : IsOpen q t
+  open_added = past_open q (taken_seat t) t (taken_past t taken.0) g
+
+-- all are painted
+pub painted_all : (m : AccessMode) (p : MapParts) (s : Seat) → IsOpen p s → rows_from p s ≡ [] → painted_past m p s ≡ rows_of p
+painted_all m p s h none = ap (λ l. rows_before p s ++ painted_rows m l) none ∙ sym (rows_split p s h.list ∙ ap (λ l. rows_before p s ++ l) none)

@@ -138,3 +138,9 @@ pub nodes_behind_chunks : (cs : List Chunk) (i : ℕ) → nodes_fields (fields_o
 nodes_behind_chunks cs zero = omega arith
 nodes_behind_chunks [] (suc i) = omega arith
 nodes_behind_chunks (c ∷ cs) (suc i) = omega (arith, nodes_behind_chunks cs i, nodes_joined (chunk_rows c) (joined (map chunk_rows cs)))
+
+-- nor has a chunk
+pub nodes_chunk : (cs : List Chunk) (i : ℕ) (c : Chunk) → i < length cs → c ≡ get_or cs i c → nodes_fields (fields_of (chunk_rows c)) ≤ nodes_fields (fields_of (joined (map chunk_rows (drop i cs))))
+nodes_chunk [] i c lt is = absurd (omega arith)
+nodes_chunk (d ∷ ds) zero c lt is = omega (arith, ap (λ (e : Chunk). nodes_fields (fields_of (chunk_rows e))) is, nodes_joined (chunk_rows d) (joined (map chunk_rows ds)))
+nodes_chunk (d ∷ ds) (suc i) c lt is = nodes_chunk ds i c (omega arith) is

@@ -1,5 +1,5 @@
 //! Where the entries of a map stand.
-ghost use Rattle.std.specs.Prelude.{◌≡◌, ◌+◌, ◌<◌, ◌≤◌, ◌++◌, ℕ, [], length, take, drop, map, slice_index_or, IfOk, IfErr, MatchOption};
+ghost use Rattle.std.specs.Prelude.{◌≡◌, ◌+◌, ◌<◌, ◌≤◌, ◌^◌, ◌++◌, ℕ, [], length, take, drop, map, slice_index_or, IfOk, IfErr, IfSome, MatchOption};
 ghost use Rattle.rhai_value.specs.Lists.{chunk_rows, joined, lists_of, rows, rows_of, AreAbove, AreBelow, AreFronted, Begins, IsWhole, Row};
 ghost use Rattle.rhai_value.specs.Rows.{bytes_cmp, AreRising, Rows};
 ghost use Rattle.rhai_value.specs.Seats.{list_at, row_at, rows_before, rows_from, IsFound, IsMissing, IsOpen, IsSeated};
@@ -93,7 +93,8 @@ impl MapParts {
     pub(crate) fn seat_from(&self, seat: Seat) -> Option<Seat>
         requires whole { IsWhole self.now }
         requires open { IsOpen self.now seat }
-        ensures { MatchOption result (rows_from self.now seat ≡ []) (λ s. IsSeated self.now s × (rows_before self.now s ≡ rows_before self.now seat) × (rows_from self.now s ≡ rows_from self.now seat)) }
+        ensures from { MatchOption result (rows_from self.now seat ≡ []) (λ s. IsSeated self.now s × (rows_before self.now s ≡ rows_before self.now seat) × (rows_from self.now s ≡ rows_from self.now seat)) }
+        ensures fits { IfSome result (λ s. s.at + 1 < 2 ^ 64) }
     {
         if seat.at < self.list_len(seat.list) {
             return Some(seat);

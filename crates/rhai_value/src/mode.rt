@@ -1,6 +1,6 @@
 //! Setting the mode of a value and of what it holds.
 ghost use Rattle.std.specs.Prelude.{◌≡◌, map};
-ghost use Rattle.rhai_value.specs.Lists.{rows};
+ghost use Rattle.rhai_value.specs.Lists.{rows, rows_of, IsWhole};
 ghost use Rattle.rhai_value.specs.RowWalks.{chunk_view, painted_chunk, painted_rows};
 ghost use Rattle.rhai_value.specs.Tree.{paint, paint_fields, with_mode};
 ghost use Rattle.rhai_value.specs.Rows.{fields_of};
@@ -8,7 +8,7 @@ ghost use Rattle.rhai_value.specs.declared.access_mode.AccessMode.TheVariants.{R
 
 use crate::access_mode::AccessMode;
 use crate::dynamic::Dynamic;
-use crate::map::{Chunk, Entry, Map};
+use crate::map::{Chunk, Entry, Map, MapParts};
 use crate::near::NEAR;
 use crate::paint_far::paint_far;
 use crate::union::Union;
@@ -108,9 +108,18 @@ fn paint_map(map: &mut Map, mode: AccessMode, levels: u32)
     let Some(mut parts) = map.parts.take() else {
         return;
     };
+    paint_parts(&mut parts, mode, levels);
+    map.parts = Some(parts);
+}
+
+#[cycle(paint)]
+fn paint_parts(parts: &mut MapParts, mode: AccessMode, levels: u32)
+    requires { IsWhole parts.old }
+    ensures painted { fields_of (rows_of parts.new) ≡ paint_fields mode (fields_of (rows_of parts.old)) }
+    ensures whole { IsWhole parts.new }
+{
     paint_entries(&mut parts.first, mode, levels);
     paint_chunks(&mut parts.rest, mode, levels);
-    map.parts = Some(parts);
 }
 
 #[cycle(paint)]

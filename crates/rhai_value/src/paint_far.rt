@@ -168,15 +168,18 @@ impl Search for Painting {
 
     fn finish(&mut self, frame: Coat) -> Dynamic {
         let mode = self.mode;
-        let union = match frame {
-            Coat::Array(tag, items) => Union::Array(tag, mode, items.items),
+        match frame {
+            Coat::Array(tag, items) => Dynamic {
+                union: Union::Array(tag, mode, items.items),
+            },
             Coat::Fields(tag, fields) => {
                 let alloc = fields.alloc;
                 let parts = Some(fields.parts);
-                Union::Map(tag, mode, Map { parts, alloc })
+                Dynamic {
+                    union: Union::Map(tag, mode, Map { parts, alloc }),
+                }
             }
-        };
-        Dynamic { union }
+        }
     }
 }
 

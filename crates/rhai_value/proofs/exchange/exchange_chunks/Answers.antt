@@ -1,4 +1,4 @@
-use Rattle.std.proofs.Common.{◌∙◌, ap, get_or, length-set, arith, rules}
+use Rattle.std.proofs.Common.{◌≡◌, ◌∙◌, ap, get_or, length-set, arith, rules}
 use Rattle.std.proofs.lemmas.List.{get_or_default}
 use Rattle.rhai_value.specs.Hollow.{exchanged, parted}
 use Rattle.rhai_value.specs.Lists.{rows}
@@ -15,11 +15,11 @@ loop-chunk-preserved c =
     let f = chunk_scanned exchanged in
     let first = parted c.args.values.now.items c.args.from in
     let now = parted c.loop-chunk.values.items c.loop-chunk.at in
-    let later = parted c.exchange_entries.new.values.items c.exchange_entries.result in
+    let later = parted c.exchange_entries-at.new.values.items c.exchange_entries-at.result in
     let x = get_or xs n c.chunk-item.result in
     let is = get_or_default xs n c.chunk-item.result x (omega arith) in
-    let u = record x { entries = c.exchange_entries.new.entries } in
-    let did = ap (λ y. (y.0, (x.front, y.1))) c.exchange_entries.ensures in
+    let u = record x { entries = c.exchange_entries-at.new.entries } in
+    let did : (later, chunk_view u) ≡ f now (chunk_view x) = ap (λ y. (y.0, (x.front, y.1))) c.exchange_entries-at.ensures in
     record {
       on = walk_on chunk_view f first now later xs old n x u i.on i.rest (omega arith) i.long is did;
       rest = walk_rest chunk_view f first now later xs old n x u i.on i.rest (omega arith) i.long is did;

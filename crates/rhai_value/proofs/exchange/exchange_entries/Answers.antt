@@ -1,4 +1,4 @@
-use Rattle.std.proofs.Common.{◌∙◌, ap, get_or, length-set, arith, rules}
+use Rattle.std.proofs.Common.{◌≡◌, ◌∙◌, ap, get_or, length-set, arith, rules}
 use Rattle.std.proofs.lemmas.List.{get_or_default}
 use Rattle.rhai_value.specs.Hollow.{exchanged, parted}
 use Rattle.rhai_value.specs.Lists.{row_of}
@@ -15,11 +15,11 @@ loop-entry-preserved c =
     let f = row_scanned exchanged in
     let first = parted c.args.values.now.items c.args.from in
     let now = parted c.loop-entry.values.items c.loop-entry.at in
-    let later = parted c.exchange_value.new.values.items c.exchange_value.result in
+    let later = parted c.exchange_value-at.new.values.items c.exchange_value-at.result in
     let x = get_or xs n c.entry-item.result in
     let is = get_or_default xs n c.entry-item.result x (omega arith) in
-    let u = record x { value = c.exchange_value.new.value } in
-    let did = ap (λ y. (y.0, (x.key, y.1))) c.exchange_value.ensures in
+    let u = record x { value = c.exchange_value-at.new.value } in
+    let did : (later, row_of u) ≡ f now (row_of x) = ap (λ y. (y.0, (x.key, y.1))) c.exchange_value-at.ensures in
     record {
       on = walk_on row_of f first now later xs old n x u i.on i.rest (omega arith) i.long is did;
       rest = walk_rest row_of f first now later xs old n x u i.on i.rest (omega arith) i.long is did;

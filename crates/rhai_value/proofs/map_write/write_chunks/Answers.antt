@@ -1,4 +1,4 @@
-use Rattle.std.proofs.Common.{◌∙◌, ap, get_or, length-set, arith, rules}
+use Rattle.std.proofs.Common.{◌≡◌, ◌∙◌, ap, get_or, length-set, arith, rules}
 use Rattle.std.proofs.lemmas.List.{get_or_default}
 use Rattle.rhai_value.specs.Lists.{rows}
 use Rattle.rhai_value.specs.RowWalks.{chunk_scanned, chunk_view, row_scanned, scanned}
@@ -15,7 +15,7 @@ loop-chunk-preserved g c =
     let x = get_or xs n c.chunk-item.result in
     let is = get_or_default xs n c.chunk-item.result x (omega arith) in
     let u = record x { entries = c.write_entries.new.entries } in
-    let did = ap (λ y. (y.0, (x.front, y.1))) c.write_entries.ensures in
+    let did : (c.write_entries.new.writer, chunk_view u) ≡ f c.loop-chunk.writer (chunk_view x) = ap (λ y. (y.0, (x.front, y.1))) c.write_entries.ensures in
     record {
       on = walk_on chunk_view f c.args.writer.now c.loop-chunk.writer c.write_entries.new.writer xs old n x u i.on i.rest (omega arith) i.long is did;
       rest = walk_rest chunk_view f c.args.writer.now c.loop-chunk.writer c.write_entries.new.writer xs old n x u i.on i.rest (omega arith) i.long is did;

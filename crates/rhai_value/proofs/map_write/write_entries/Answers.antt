@@ -1,4 +1,4 @@
-use Rattle.std.proofs.Common.{◌∙◌, ap, get_or, length-set, arith, rules}
+use Rattle.std.proofs.Common.{◌≡◌, ◌∙◌, ap, get_or, length-set, arith, rules}
 use Rattle.std.proofs.lemmas.List.{get_or_default}
 use Rattle.rhai_value.specs.Lists.{row_of}
 use Rattle.rhai_value.specs.RowWalks.{row_scanned}
@@ -15,7 +15,7 @@ loop-entry-preserved g c =
     let x = get_or xs n c.entry-item.result in
     let is = get_or_default xs n c.entry-item.result x (omega arith) in
     let u = record x { value = c.write.new.value } in
-    let did = ap (λ y. (y.0, (x.key, y.1))) c.write.ensures in
+    let did : (c.write.new.self, row_of u) ≡ f c.loop-entry.writer (row_of x) = ap (λ y. (y.0, (x.key, y.1))) c.write.ensures in
     record {
       on = walk_on row_of f c.args.writer.now c.loop-entry.writer c.write.new.self xs old n x u i.on i.rest (omega arith) i.long is did;
       rest = walk_rest row_of f c.args.writer.now c.loop-entry.writer c.write.new.self xs old n x u i.on i.rest (omega arith) i.long is did;

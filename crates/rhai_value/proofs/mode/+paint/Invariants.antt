@@ -1,5 +1,5 @@
 use Rattle.std.proofs.Common.{◌≡◌, ◌≤◌, ◌+◌, ◌*◌, ◌++◌, length, map, take, drop}
-use Rattle.rhai_value.specs.Lists.{chunk_rows, joined, rows}
+use Rattle.rhai_value.specs.Lists.{chunk_rows, joined, rows, rows_of}
 use Rattle.rhai_value.specs.RowWalks.{chunk_view, painted_chunk, painted_rows}
 use Rattle.rhai_value.specs.Rows.{trees_of, fields_of}
 use Rattle.rhai_value.specs.Tree.{paint, nodes, nodes_trees, nodes_fields}
@@ -35,6 +35,9 @@ decreases-paint_items l = 6 * nodes_trees (trees_of l.items.now.items) + 1
 
 abbrev pub decreases-paint_map : goal.decreases-paint_map
 decreases-paint_map l = 6 * nodes_fields (fields_of l.map.now) + 4
+
+abbrev pub decreases-paint_parts : goal.decreases-paint_parts
+decreases-paint_parts l = 6 * nodes_fields (fields_of (rows_of l.parts.now)) + 3
 
 abbrev pub decreases-paint_entries : goal.decreases-paint_entries
 decreases-paint_entries l = 6 * nodes_fields (fields_of (rows l.entries.now.items)) + 1

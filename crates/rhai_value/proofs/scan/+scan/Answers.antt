@@ -8,8 +8,9 @@ use Rattle.rhai_value.specs.Lists.{row_of, rows, rows_of, chunk_rows, joined}
 use Rattle.rhai_value.specs.RowWalks.{chunk_view, chunk_scanned, row_scanned, scanned}
 use Rattle.rhai_value.specs.Scan.{scan, children_scanned}
 use Rattle.rhai_value.specs.Tree.{nodes, nodes_trees, nodes_fields}
+use Rattle.rhai_value.specs.declared.map.Chunk.{Chunk}
 use Rattle.rhai_value.proofs.KeptKeys.{parts_scanned, whole_scanned}
-use Rattle.rhai_value.proofs.RowWalks.{walk_on, walk_rest, walk_end, nodes_behind, nodes_behind_chunks}
+use Rattle.rhai_value.proofs.RowWalks.{walk_on, walk_rest, walk_end, nodes_behind, nodes_behind_chunks, nodes_chunk}
 use Rattle.rhai_value.proofs.Scans.{nodes_drop, scan_opens, items_on, items_rest, items_end}
 use Rattle.rhai_value.proofs.Hollows.{opened_scanned, scanned_all, put_scanned, put_left, put_ready}
 use Rattle.rhai_value.proofs.scan.+scan.Goals as goal
@@ -42,18 +43,18 @@ scan_items-returns g t c =
     items_end (scan g.V.Visitor.visited) c.args.visitor.now c.loop-item.visitor c.loop-item.visitor (trees_of c.args.items.now.items) c.loop-item.item-items c.args.items.now.items c.loop-item.item-index c.args.items.now.len i.on i.long (omega arith) (search rules)
 
 pub scan_parts-scan_entries-requires : goal.scan_parts-scan_entries-requires
-scan_parts-scan_entries-requires g t c =
+scan_parts-scan_entries-requires g t c κs outlives =
     let p = c.args.parts.now in
     let started : 8 * nodes_fields (fields_of (rows_of p)) + 6 ≡ t = c.decreases in
     let falls : 8 * nodes_fields (fields_of (rows p.first.items)) + 4 < t = omega (arith, nodes_joined (rows p.first.items) (joined (map chunk_rows p.rest.items))) in
-    (falls, tt)
+    (falls, outlives)
 
 pub scan_parts-scan_chunks-requires : goal.scan_parts-scan_chunks-requires
-scan_parts-scan_chunks-requires g t c =
+scan_parts-scan_chunks-requires g t c κs outlives =
     let p = c.args.parts.now in
     let started : 8 * nodes_fields (fields_of (rows_of p)) + 6 ≡ t = c.decreases in
     let falls : 8 * nodes_fields (fields_of (joined (map chunk_rows p.rest.items))) + 5 < t = omega (arith, nodes_joined (rows p.first.items) (joined (map chunk_rows p.rest.items))) in
-    (falls, tt)
+    (falls, outlives)
 
 pub scan_parts-returns-clause-scanned : goal.scan_parts-returns-clause-scanned
 scan_parts-returns-clause-scanned g t c =
@@ -75,7 +76,7 @@ scan_entries-loop-entry-preserved g t c =
     let x = get_or xs n c.entry-item.result in
     let is = get_or_default xs n c.entry-item.result x (omega arith) in
     let u = record x { value = c.scan_value.new.value } in
-    let did = ap (λ y. (y.0, (x.key, y.1))) c.scan_value.ensures in
+    let did : (c.scan_value.new.visitor, row_of u) ≡ row_scanned f c.loop-entry.visitor (row_of x) = ap (λ y. (y.0, (x.key, y.1))) c.scan_value.ensures in
     let rest = walk_rest row_of (row_scanned f) c.args.visitor.now c.loop-entry.visitor c.scan_value.new.visitor xs old n x u i.on i.rest (omega arith) i.long is did in
     record {
       on = walk_on row_of (row_scanned f) c.args.visitor.now c.loop-entry.visitor c.scan_value.new.visitor xs old n x u i.on i.rest (omega arith) i.long is did;
@@ -89,6 +90,16 @@ scan_entries-returns g t c =
     let i = c.loop-entry.invariant in
     walk_end row_of (row_scanned (scan g.V.Visitor.visited)) c.args.visitor.now c.loop-entry.visitor c.loop-entry.entry-items c.args.entries.now.items c.loop-entry.entry-index c.args.entries.now.len i.on i.long (omega arith) (search rules)
 
+pub scan_chunks-scan_entries-requires : goal.scan_chunks-scan_entries-requires
+scan_chunks-scan_entries-requires g t c κs outlives =
+    let xs = c.loop-chunk.chunk-items in
+    let n = c.loop-chunk.chunk-index in
+    let x : Chunk = get_or xs n c.chunk-item.result in
+    let is : x ≡ get_or xs n x = get_or_default xs n c.chunk-item.result x (omega arith) in
+    let started : 8 * nodes_fields (fields_of (joined (map chunk_rows c.args.rest.now.items))) + 5 ≡ t = c.decreases in
+    let falls : 8 * nodes_fields (fields_of (chunk_rows x)) + 4 < t = omega (arith, c.loop-chunk.invariant.fewer, nodes_chunk xs n x (omega arith) is) in
+    (falls, outlives)
+
 pub scan_chunks-loop-chunk-preserved : goal.scan_chunks-loop-chunk-preserved
 scan_chunks-loop-chunk-preserved g t c =
     let i = c.loop-chunk.invariant in
@@ -99,7 +110,7 @@ scan_chunks-loop-chunk-preserved g t c =
     let x = get_or xs n c.chunk-item.result in
     let is = get_or_default xs n c.chunk-item.result x (omega arith) in
     let u = record x { entries = c.scan_entries.new.entries } in
-    let did = ap (λ y. (y.0, (x.front, y.1))) c.scan_entries.ensures in
+    let did : (c.scan_entries.new.visitor, chunk_view u) ≡ chunk_scanned f c.loop-chunk.visitor (chunk_view x) = ap (λ y. (y.0, (x.front, y.1))) c.scan_entries.ensures in
     let rest = walk_rest chunk_view (chunk_scanned f) c.args.visitor.now c.loop-chunk.visitor c.scan_entries.new.visitor xs old n x u i.on i.rest (omega arith) i.long is did in
     record {
       on = walk_on chunk_view (chunk_scanned f) c.args.visitor.now c.loop-chunk.visitor c.scan_entries.new.visitor xs old n x u i.on i.rest (omega arith) i.long is did;

@@ -1,21 +1,13 @@
 -- What a comparison with the first key of a chunk tells of all chunks before it, and of all from it on.
-use Rattle.std.proofs.Common.{◌≡◌, ℕ, zero, suc, ◌<◌, List, [], ◌∷◌, ◌++◌, length, take, drop, get_or, Ordering, Less, Equal, Greater, Option, refl, sym, ap, ◌∙◌, subst, arith}
+use Rattle.std.proofs.Common.{◌≡◌, ℕ, zero, suc, ◌<◌, List, [], ◌∷◌, ◌++◌, length, take, drop, get_or, Ordering, Less, Equal, Greater, sym, subst, arith}
 use Rattle.std.proofs.lemmas.List.{append_assoc, append-nil}
 use Rattle.std.specs.Cmp.{IsTotalOrder}
 use Rattle.std.specs.List.{AllByRecursion}
 use Rattle.std.specs.List.Sorted.{IsStrictlySortedBy}
-use Rattle.std.specs.BTreeMap.{is_at}
-use Rattle.std.specs.Map.{keys_of, lookup}
+use Rattle.std.specs.Map.{keys_of}
 use Rattle.std.proofs.lemmas.Map.Keys.{sorted_head, sorted_tail}
 use Rattle.rhai_value.specs.Lists.{AreBelow, AreAbove, joined}
-use Rattle.rhai_value.proofs.Parted.{lookup_right, lookup_left}
 use Rattle.rhai_value.proofs.KeyOrder.{past, past_equal, all_above}
-
--- a chunk, what stands before it and what stands past it
-pub at_chunk : {A : Type 0} → (cs : List (List A)) (m : ℕ) (c : List A) → m < length cs → get_or cs m c ≡ c → joined cs ≡ joined (take m cs) ++ (c ++ joined (drop (suc m) cs))
-at_chunk [] m c lt is = absurd (omega arith)
-at_chunk (b ∷ cs) zero c lt is = ap (λ l. l ++ joined cs) is
-at_chunk (b ∷ cs) (suc m) c lt is = ap (λ l. b ++ l) (at_chunk cs m c (omega arith) is) ∙ sym (append_assoc b (joined (take m cs)) (c ++ joined (drop (suc m) cs)))
 
 module _ {K X : Type 0} {R : K → K → Ordering} (o : IsTotalOrder R) where
   pub rising_right : (xs ys : List (K × X)) → IsStrictlySortedBy R (keys_of (xs ++ ys)) → IsStrictlySortedBy R (keys_of ys)
@@ -75,12 +67,3 @@ module _ {K X : Type 0} {R : K → K → Ordering} (o : IsTotalOrder R) where
   below_chunk_hit k xs [] m c d lt is some s g = absurd (omega arith)
   below_chunk_hit k xs (b ∷ cs) zero c d lt is some s g = rw (append-nil xs) (first_hit k xs b (joined cs) d (rw is some) s (rw is g))
   below_chunk_hit k xs (b ∷ cs) (suc m) c d lt is some s g = subst (λ l. AreBelow R k l) (append_assoc xs b (joined (take m cs))) (below_chunk_hit k (xs ++ b) cs m c d (omega arith) is some (subst (λ l. IsStrictlySortedBy R (keys_of l)) (sym (append_assoc xs b (joined cs))) s) g)
-
-  -- what is found in all is found in the chunk
-  pub lookup_chunk : (k : K) (xs : List (K × X)) (cs : List (List (K × X))) (m : ℕ) (c : List (K × X)) → m < length cs → get_or cs m c ≡ c → AreBelow R k (xs ++ joined (take m cs)) → AreAbove R k (joined (drop (suc m) cs)) → lookup (is_at (R k)) (xs ++ joined cs) ≡ lookup (is_at (R k)) c
-  lookup_chunk k xs cs m c lt is h g =
-      let later = c ++ joined (drop (suc m) cs) in
-      ap (λ l. lookup (is_at (R k)) (xs ++ l)) (at_chunk cs m c lt is) ∙ ap (lookup (is_at (R k))) (sym (append_assoc xs (joined (take m cs)) later)) ∙ lookup_right R k (xs ++ joined (take m cs)) later h ∙ lookup_left R k c (joined (drop (suc m) cs)) g
-
-  pub rising_chunk : (xs : List (K × X)) (cs : List (List (K × X))) (m : ℕ) (c : List (K × X)) → m < length cs → get_or cs m c ≡ c → IsStrictlySortedBy R (keys_of (xs ++ joined cs)) → IsStrictlySortedBy R (keys_of c)
-  rising_chunk xs cs m c lt is s = rising_left c (joined (drop (suc m) cs)) (rising_right (joined (take m cs)) (c ++ joined (drop (suc m) cs)) (subst (λ l. IsStrictlySortedBy R (keys_of l)) (at_chunk cs m c lt is) (rising_right xs (joined cs) s)))

@@ -1,5 +1,5 @@
 -- The parts of a map that is being painted.
-use Rattle.std.proofs.Common.{◌≡◌, ℕ, zero, suc, ◌+◌, ◌-◌, ◌<◌, Option, Some, List, [], ◌∷◌, ◌++◌, Global, length, take, drop, get_or, subst, refl, ap, ap₂, sym, ◌∙◌, arith}
+use Rattle.std.proofs.Common.{◌≡◌, ℕ, zero, suc, ◌+◌, ◌<◌, Option, Some, List, [], ◌∷◌, ◌++◌, Global, length, take, drop, get_or, subst, refl, ap, ap₂, sym, ◌∙◌, arith}
 use Rattle.std.proofs.lemmas.List.{append_assoc}
 use Rattle.std.specs.declared.boxed.Box.{Box}
 use Rattle.rhai_value.specs.Coats.{painted_past, painted_with, taken_seat, IsTaken}

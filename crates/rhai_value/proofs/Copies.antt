@@ -1,12 +1,6 @@
 -- Copies of lists of values and of rows.
-use Rattle.std.proofs.Common.{◌≡◌, ℕ, zero, suc, ◌||◌, nat_eq, List, [], ◌∷◌, ◌++◌, map, Less, Greater, string_bytes, string_cmp, refl, ap, ap₂, sym, ◌∙◌, subst}
-use Rattle.std.proofs.lemmas.Cmp.{nat_list_cmp_total}
-use Rattle.std.proofs.lemmas.List.{map-append}
+use Rattle.std.proofs.Common.{◌≡◌, ℕ, List, [], ◌∷◌, ◌++◌, map, Greater, refl, ap}
 use Rattle.std.specs.BTreeMap.{insert_entry}
-use Rattle.std.specs.List.{AllByRecursion, AllZip}
-use Rattle.std.specs.List.Sorted.{IsStrictlySortedBy}
-use Rattle.std.specs.Map.{keys_of}
-use Rattle.std.specs.Ordering.{ordering_reverse}
 use Rattle.rhai_value.specs.Rows.{copied_rows, Rows, bytes_cmp, trees_of, fields_of}
 use Rattle.rhai_value.specs.Tree.{Tree, tree_then, copy, copy_trees, copy_fields}
 

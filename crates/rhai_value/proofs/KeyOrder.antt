@@ -1,10 +1,9 @@
 -- What a comparison in a sorted list tells of all that stands before, or from there on.
-use Rattle.std.proofs.Common.{◌≡◌, ℕ, zero, suc, ◌+◌, ◌<◌, ◌≤◌, List, [], ◌∷◌, ◌++◌, length, take, drop, get_or, set, Some, None, Ordering, Less, Equal, Greater, refl, ap, ◌∙◌, sym, arith}
-use Rattle.std.specs.BTreeMap.{insert_entry, is_at}
+use Rattle.std.proofs.Common.{◌≡◌, ℕ, zero, suc, ◌<◌, List, [], ◌∷◌, length, take, drop, get_or, Ordering, Less, Equal, Greater, refl, ap, ◌∙◌, sym, arith}
 use Rattle.std.specs.Cmp.{IsTotalOrder}
-use Rattle.std.specs.List.{AllByRecursion, insert, remove}
+use Rattle.std.specs.List.{AllByRecursion}
 use Rattle.std.specs.List.Sorted.{IsStrictlySortedBy}
-use Rattle.std.specs.Map.{keys_of, lookup, remove_entry}
+use Rattle.std.specs.Map.{keys_of}
 use Rattle.std.specs.Ordering.{ordering_reverse}
 use Rattle.std.proofs.lemmas.Map.Keys.{sorted_head, sorted_tail}
 use Rattle.rhai_value.specs.Lists.{AreBelow, AreAbove}
@@ -50,44 +49,3 @@ module _ {K X : Type 0} {R : K → K → Ordering} (o : IsTotalOrder R) (k : K) 
   above_from [] i d s lt g = absurd (omega arith)
   above_from (e ∷ es) zero d s lt g = (g, all_above e.0 es g (sorted_head R e.0 (keys_of es) s))
   above_from (e ∷ es) (suc i) d s lt g = above_from es i d (sorted_tail R e.0 (keys_of es) s) (omega arith) g
-
-  -- ---- a look-up and an insertion by place
-
-  above_none : (es : List (K × X)) → AreAbove R k es → lookup (is_at (R k)) es ≡ None
-  above_none [] g = refl
-  above_none (e ∷ es) g = rw g.0 (above_none es g.1)
-
-  pub lookup_place : (es : List (K × X)) (i : ℕ) (d : K × X) → i < length es → AreBelow R k (take i es) → R k (get_or es i d).0 ≡ Equal → lookup (is_at (R k)) es ≡ Some (get_or es i d).1
-  lookup_place [] i d lt h g = absurd (omega arith)
-  lookup_place (e ∷ es) zero d lt h g = rw g refl
-  lookup_place (e ∷ es) (suc i) d lt h g = rw h.0 (lookup_place es i d (omega arith) h.1 g)
-
-  pub lookup_between : (es : List (K × X)) (i : ℕ) → AreBelow R k (take i es) → AreAbove R k (drop i es) → lookup (is_at (R k)) es ≡ None
-  lookup_between [] i h g = refl
-  lookup_between (e ∷ es) zero h g = above_none (e ∷ es) g
-  lookup_between (e ∷ es) (suc i) h g = rw h.0 (lookup_between es i h.1 g)
-
-  pub insert_between : (es : List (K × X)) (i : ℕ) (v : X) → i ≤ length es → AreBelow R k (take i es) → AreAbove R k (drop i es) → insert_entry R es k v ≡ insert es i (k, v)
-  insert_between [] zero v le h g = refl
-  insert_between [] (suc i) v le h g = absurd (omega arith)
-  insert_between (e ∷ es) zero v le h g = rw g.0 refl
-  insert_between (e ∷ es) (suc i) v le h g = rw h.0 (ap (λ l. e ∷ l) (insert_between es i v (omega arith) h.1 g))
-
-  pub insert_place : (es : List (K × X)) (i : ℕ) (d : K × X) (v : X) → i < length es → AreBelow R k (take i es) → R k (get_or es i d).0 ≡ Equal → insert_entry R es k v ≡ set es i ((get_or es i d).0, v)
-  insert_place [] i d v lt h g = absurd (omega arith)
-  insert_place (e ∷ es) zero d v lt h g = rw g refl
-  insert_place (e ∷ es) (suc i) d v lt h g = rw h.0 (ap (λ l. e ∷ l) (insert_place es i d v (omega arith) h.1 g))
-
-  pub remove_place : (es : List (K × X)) (i : ℕ) (d : K × X) → i < length es → AreBelow R k (take i es) → R k (get_or es i d).0 ≡ Equal → remove_entry (is_at (R k)) es ≡ remove es i
-  remove_place [] i d lt h g = absurd (omega arith)
-  remove_place (e ∷ es) zero d lt h g = rw g refl
-  remove_place (e ∷ es) (suc i) d lt h g = rw h.0 (ap (λ l. e ∷ l) (remove_place es i d (omega arith) h.1 g))
-
-  above_kept : (es : List (K × X)) → AreAbove R k es → remove_entry (is_at (R k)) es ≡ es
-  above_kept [] g = refl
-  above_kept (e ∷ es) g = rw g.0 (ap (λ l. e ∷ l) (above_kept es g.1))
-
-  pub remove_between : (es : List (K × X)) (i : ℕ) → AreBelow R k (take i es) → AreAbove R k (drop i es) → remove_entry (is_at (R k)) es ≡ es
-  remove_between [] i h g = refl
-  remove_between (e ∷ es) zero h g = above_kept (e ∷ es) g
-  remove_between (e ∷ es) (suc i) h g = rw h.0 (ap (λ l. e ∷ l) (remove_between es i h.1 g))

@@ -1,8 +1,7 @@
 -- Lists of rows, one after another, and rows that come in between and go.
-use Rattle.std.proofs.Common.{◌≡◌, ℕ, zero, suc, ◌+◌, ◌<◌, ◌≤◌, List, [], ◌∷◌, ◌++◌, length, map, take, drop, get_or, Ordering, Less, Equal, Greater, refl, ap, sym, subst, ◌∙◌, arith, take-append-drop}
-use Rattle.std.proofs.Math.Seq.{drop-cons}
+use Rattle.std.proofs.Common.{◌≡◌, ℕ, zero, suc, ◌<◌, List, [], ◌∷◌, ◌++◌, length, take, drop, get_or, Ordering, Less, refl, ap, sym, ◌∙◌, arith, take-append-drop}
 use Rattle.std.proofs.lemmas.Cmp.{nat_list_cmp_total}
-use Rattle.std.proofs.lemmas.List.{append_assoc, append-nil}
+use Rattle.std.proofs.lemmas.List.{append_assoc}
 use Rattle.std.proofs.lemmas.List.Elements.{All-cons, All-head, All-tail}
 use Rattle.std.specs.List.{AllByRecursion}
 use Rattle.std.specs.List.Sorted.{IsStrictlySortedBy}
@@ -70,11 +69,6 @@ texts_put k v (r ∷ rs) ys u h = All-cons IsUtf8 r.0 (keys_of (rs ++ (k, v) ∷
 pub texts_taken : (e : Row) (xs ys : Rows) → AreTexts (xs ++ e ∷ ys) → AreTexts (xs ++ ys)
 texts_taken e [] ys h = All-tail IsUtf8 e.0 (keys_of ys) h
 texts_taken e (r ∷ rs) ys h = All-cons IsUtf8 r.0 (keys_of (rs ++ ys)) (All-head IsUtf8 r.0 (keys_of (rs ++ e ∷ ys)) h) (texts_taken e rs ys (All-tail IsUtf8 r.0 (keys_of (rs ++ e ∷ ys)) h))
-
--- the key of a row among others is a text
-pub text_at : (e : Row) (xs ys : Rows) → AreTexts (xs ++ e ∷ ys) → IsUtf8 e.0
-text_at e [] ys h = All-head IsUtf8 e.0 (keys_of ys) h
-text_at e (r ∷ rs) ys h = text_at e rs ys (All-tail IsUtf8 r.0 (keys_of (rs ++ e ∷ ys)) h)
 
 -- a value makes no difference to keys
 pub keys_valued : (k : List ℕ) (v w : Tree) (xs ys : Rows) → keys_of (xs ++ (k, v) ∷ ys) ≡ keys_of (xs ++ (k, w) ∷ ys)

@@ -2,10 +2,10 @@
 use Rattle.std.proofs.Common.{◌≡◌, ℕ, zero, suc, ◌+◌, ◌<◌, ◌≤◌, List, [], ◌∷◌, ◌++◌, length, map, set, get_or, take, drop, refl, sym, ap, ap₂, ◌∙◌, arith, add-one}
 use Rattle.std.proofs.Math.ListN.{drop_of_length-le}
 use Rattle.std.proofs.lemmas.Grind.{take-set_at}
-use Rattle.std.proofs.lemmas.List.{append-nil, map-append, take_all, take_at}
+use Rattle.std.proofs.lemmas.List.{map-append, take_all, take_at}
 use Rattle.std.specs.Str.{chars}
 use Rattle.rhai_value.specs.Falls.{nodes_joined}
-use Rattle.rhai_value.specs.Lists.{Row, rows, chunk_rows, joined}
+use Rattle.rhai_value.specs.Lists.{rows, chunk_rows, joined}
 use Rattle.rhai_value.specs.RowWalks.{before, scanned, row_scanned, chunk_scanned}
 use Rattle.rhai_value.specs.Rows.{Rows, fields_of}
 use Rattle.rhai_value.specs.Scan.{Visiting, field_before, fields_scanned}

@@ -1,12 +1,10 @@
 -- Scans: their equation, their steps through lists and maps, and scans that are the same up to the numbers of cells.
-use Rattle.std.proofs.Common.{◌≡◌, ℕ, zero, suc, ◌+◌, ◌-◌, ◌≤◌, ◌<◌, Bool, true, false, nat_eq, List, [], ◌∷◌, ◌++◌, length, set, get_or, cond, take, drop, append_assoc, add-one, refl, sym, ap, ap₂, ◌∙◌, arith}
+use Rattle.std.proofs.Common.{◌≡◌, ℕ, zero, suc, ◌+◌, ◌-◌, ◌≤◌, ◌<◌, List, [], ◌∷◌, ◌++◌, length, set, get_or, take, drop, append_assoc, add-one, refl, sym, ap, ap₂, ◌∙◌, arith}
 use Rattle.std.proofs.Math.ListN.{drop_of_length-le}
 use Rattle.std.proofs.Math.Seq.{drop-cons}
 use Rattle.std.proofs.lemmas.Grind.{take-set_at}
 use Rattle.std.proofs.lemmas.List.{append-nil, take_all, take_at}
-use Rattle.std.specs.Prelude.{string_bytes}
-use Rattle.std.specs.Str.{chars}
-use Rattle.rhai_value.specs.Rows.{trees_of, fields_of}
+use Rattle.rhai_value.specs.Rows.{trees_of}
 use Rattle.rhai_value.specs.Tree.{Tree, node, Content, leaf, branch, fields, holder, Trees, no_trees, tree_then, Fields, no_fields, field_then, nodes, nodes_content, nodes_trees, nodes_fields}
 use Rattle.rhai_value.specs.Scan.{Visiting, AddsNoNodes, tree_before, field_before, each_scanned, fields_scanned, content_scanned, children_scanned, scan_in, scan}
 

@@ -1,12 +1,12 @@
 -- What a write, an entry that comes and an entry that goes make of the rows around a place.
 use Rattle.std.proofs.Common.{◌≡◌, ℕ, zero, suc, ◌+◌, ◌<◌, ◌≤◌, List, [], ◌∷◌, ◌++◌, length, map, take, drop, set, get_or, None, refl, ap, ap₂, sym, subst, ◌∙◌, arith}
-use Rattle.std.proofs.lemmas.List.{append_assoc, append-nil, get_or-map, get_or-set_same, get_or_default, length-map, map-append, map-set, take-set}
+use Rattle.std.proofs.lemmas.List.{append_assoc, get_or-map, get_or-set_same, get_or_default, length-map, map-set, take-set}
 use Rattle.std.specs.Int.{w64, from_be_bytes}
 use Rattle.std.specs.List.{All, insert, remove}
 use Rattle.std.specs.List.Sorted.{IsStrictlySortedBy}
 use Rattle.std.specs.Map.{keys_of}
 use Rattle.std.specs.Str.{IsUtf8}
-use Rattle.rhai_value.specs.Lists.{Row, row_of, rows, chunk_rows, joined, lists_of, rows_of, AreBelow, AreAbove, AreFronted, Begins, IsWhole}
+use Rattle.rhai_value.specs.Lists.{Row, row_of, rows, chunk_rows, joined, lists_of, rows_of, AreFronted, Begins, IsWhole}
 use Rattle.rhai_value.specs.Rows.{Rows, bytes_cmp, AreRising, AreTexts}
 use Rattle.std.specs.Vec.{with_item}
 use Rattle.rhai_value.specs.Seats.{chunk_at, entry_at, with_tree, with_value, with_value_in, list_at, row_at, rows_before, rows_from, rows_past, IsOpen, IsSeated}
@@ -89,11 +89,6 @@ chunk_set p q m c l first rest is = ap₂ (λ es cs. rows es ∷ map chunk_rows 
 -- the list of a number is changed
 pub first_edit : (p q : MapParts) (n : ℕ) (f : Rows → Rows) → n ≡ 0 → rows q.first.items ≡ f (rows p.first.items) → q.rest.items ≡ p.rest.items → lists_of q ≡ set (lists_of p) n (f (list_at p n))
 first_edit p q n f h first rest = rw h (first_set p q (f (rows p.first.items)) first rest)
-
-pub chunk_edit : (p q : MapParts) (n m : ℕ) (c d : Chunk) (f : Rows → Rows) → n ≡ suc m → m < length p.rest.items → q.first.items ≡ p.first.items → q.rest.items ≡ set p.rest.items m c → chunk_rows c ≡ f (chunk_rows (get_or p.rest.items m d))
-    → lists_of q ≡ set (lists_of p) n (f (list_at p n))
-chunk_edit p q n m c d f h lt first rest is =
-    rw h (chunk_set p q m c (f (list_at p (suc m))) first rest (is ∙ ap f (sym (get_or-map chunk_rows p.rest.items m d [] lt))))
 
 -- the entries of the list of a number
 pub list_first : (p : MapParts) (n : ℕ) → n ≡ 0 → list_at p n ≡ rows p.first.items

@@ -1,13 +1,12 @@
 -- What look-ups, insertions and removals are by a place.
-use Rattle.std.proofs.Common.{◌≡◌, ℕ, ◌+◌, ◌<◌, ◌≤◌, List, [], ◌∷◌, ◌++◌, option_to_list, Option, Some, None, refl, ap, ap₂, sym, subst, ◌∙◌, arith}
+use Rattle.std.proofs.Common.{◌≡◌, ℕ, ◌+◌, ◌<◌, List, [], ◌∷◌, ◌++◌, ap, ap₂, sym, subst, ◌∙◌, arith}
 use Rattle.std.specs.BTreeMap.{insert_entry, is_at}
-use Rattle.std.specs.Map.{lookup, remove_entry, set_value}
-use Rattle.std.proofs.lemmas.List.{append-nil}
+use Rattle.std.specs.Map.{remove_entry, set_value}
 use Rattle.rhai_value.specs.Falls.{nodes_joined}
-use Rattle.rhai_value.specs.Lists.{Row, row_of, lists_of, rows_of}
-use Rattle.rhai_value.specs.Rows.{Rows, bytes_cmp, fields_of, trees_of, AreRising}
+use Rattle.rhai_value.specs.Lists.{row_of, rows_of}
+use Rattle.rhai_value.specs.Rows.{bytes_cmp, fields_of, AreRising}
 use Rattle.rhai_value.specs.Seats.{with_value, row_at, rows_before, rows_from, rows_past, IsFound, IsMissing, IsSeated}
-use Rattle.rhai_value.specs.Tree.{Tree, nodes, nodes_fields, nodes_trees}
+use Rattle.rhai_value.specs.Tree.{Tree, nodes, nodes_fields}
 use Rattle.rhai_value.specs.declared.map.Entry.{Entry}
 use Rattle.rhai_value.specs.declared.map.MapParts.{MapParts}
 use Rattle.rhai_value.specs.declared.map_seat.Seat.{Seat}

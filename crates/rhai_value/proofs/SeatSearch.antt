@@ -1,5 +1,5 @@
 -- Where a search through the chunks and through one list has come to.
-use Rattle.std.proofs.Common.{◌≡◌, ℕ, zero, suc, ◌+◌, ◌<◌, ◌≤◌, List, [], ◌∷◌, ◌++◌, length, map, take, drop, refl, ap, sym, subst, arith}
+use Rattle.std.proofs.Common.{◌≡◌, ℕ, zero, suc, ◌+◌, ◌<◌, ◌≤◌, List, [], ◌++◌, length, map, take, drop, refl, ap, sym, subst, arith}
 use Rattle.std.proofs.lemmas.List.{length-map}
 use Rattle.rhai_value.specs.Lists.{rows, chunk_rows, joined, lists_of, rows_of, AreAbove, AreBelow, IsGap, IsHit}
 use Rattle.rhai_value.specs.Rows.{Rows, bytes_cmp, AreRising}

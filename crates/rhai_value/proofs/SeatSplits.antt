@@ -1,11 +1,10 @@
 -- A list that is cut in two, and places in the two parts.
 use Rattle.std.proofs.Common.{◌≡◌, ℕ, zero, suc, ◌+◌, ◌-◌, ◌<◌, ◌≤◌, List, [], ◌∷◌, ◌++◌, length, map, take, drop, set, get_or, MatchOption, Vec, Option, Some, None, refl, ap, ap₂, sym, subst, ◌∙◌, arith, take-append-drop}
 use Rattle.std.proofs.Math.Seq.{map-set_same}
-use Rattle.std.proofs.lemmas.List.{append_assoc, append-nil, drop-map, length-append, length-drop, length-map, length-take-le, take-map}
+use Rattle.std.proofs.lemmas.List.{append_assoc, append-nil, drop-map, length-append, length-drop, length-take-le, take-map}
 use Rattle.std.specs.declared.alloc.Global.{Global}
 use Rattle.std.specs.List.{insert}
-use Rattle.rhai_value.specs.Lists.{Row, row_of, rows, chunk_rows, joined, lists_of, rows_of, AreFronted, Begins, IsWhole}
-use Rattle.rhai_value.specs.Rows.{Rows}
+use Rattle.rhai_value.specs.Lists.{row_of, rows, chunk_rows, joined, lists_of, rows_of, AreFronted, Begins, IsWhole}
 use Rattle.rhai_value.specs.Seats.{list_at, rows_before, rows_from, IsOpen}
 use Rattle.rhai_value.specs.declared.map.Chunk.{Chunk}
 use Rattle.rhai_value.specs.declared.map.Entry.{Entry}

@@ -1,16 +1,15 @@
 -- Places in a map's lists.
-use Rattle.std.proofs.Common.{◌≡◌, ℕ, zero, suc, ◌+◌, ◌<◌, ◌≤◌, List, [], ◌∷◌, ◌++◌, length, map, take, drop, get_or, Option, Some, None, Equal, refl, ap, ap₂, sym, subst, ◌∙◌, arith}
+use Rattle.std.proofs.Common.{◌≡◌, ℕ, zero, suc, ◌<◌, ◌≤◌, List, [], ◌∷◌, ◌++◌, length, map, take, drop, get_or, Some, None, refl, ap, ap₂, sym, subst, ◌∙◌, arith}
 use Rattle.std.proofs.Math.ListN.{drop_of_length-le}
 use Rattle.std.proofs.Math.Seq.{drop-cons}
 use Rattle.std.proofs.lemmas.Cmp.{nat_list_cmp_total}
-use Rattle.std.proofs.lemmas.List.{append_assoc, append-nil, get_or-map, length-map, take_all}
+use Rattle.std.proofs.lemmas.List.{append_assoc, append-nil, length-map, take_all}
 use Rattle.std.specs.BTreeMap.{is_at}
-use Rattle.std.specs.Int.{w64, from_be_bytes}
 use Rattle.std.specs.Map.{lookup}
-use Rattle.rhai_value.specs.Lists.{Row, row_of, rows, chunk_rows, joined, lists_of, rows_of, AreBelow, AreAbove, AreFronted, Begins, IsWhole}
+use Rattle.rhai_value.specs.Lists.{rows, chunk_rows, joined, lists_of, rows_of, AreFronted, Begins, IsWhole}
 use Rattle.rhai_value.specs.Rows.{Rows, bytes_cmp, AreRising}
 use Rattle.rhai_value.specs.Seats.{list_at, row_at, rows_before, rows_from, rows_past, IsFound, IsMissing, IsOpen, IsSeated}
-use Rattle.rhai_value.specs.Tree.{Tree, fresh, unit}
+use Rattle.rhai_value.specs.Tree.{fresh, unit}
 use Rattle.rhai_value.specs.declared.map.Chunk.{Chunk}
 use Rattle.rhai_value.specs.declared.map.Entry.{Entry}
 use Rattle.rhai_value.specs.declared.map.MapParts.{MapParts}
@@ -24,10 +23,6 @@ use Rattle.rhai_value.proofs.Parted.{lookup_hit, lookup_gap}
 pub begins_some : (f : ℕ) (es : List Entry) → Begins f es → 0 < length es
 begins_some f [] h = absurd h
 begins_some f (e ∷ es) h = omega arith
-
-pub begins_with : (f : ℕ) (es : List Entry) (d : Entry) → Begins f es → f ≡ from_be_bytes w64 (get_or es 0 d).key
-begins_with f [] d h = absurd h
-begins_with f (e ∷ es) d h = h
 
 pub fronted_at : (cs : List Chunk) (m : ℕ) (d : Chunk) → AreFronted cs → m < length cs → Begins (get_or cs m d).front (get_or cs m d).entries.items
 fronted_at [] m d h lt = absurd (omega arith)
@@ -106,9 +101,6 @@ no_rows p first rest = ap (λ l. l ++ joined (map chunk_rows p.rest.items)) (emp
     none : (cs : List Chunk) → length cs ≡ 0 → joined (map chunk_rows cs) ≡ []
     none [] h = refl
     none (c ∷ cs) h = cc
-
-pub first_seated : (p : MapParts) → 0 < length p.first.items → IsSeated p (record { list = 0; at = 0 })
-first_seated p some = record { list = omega arith; within = rows_some p.first.items some }
 
 pub chunk_seated : (p : MapParts) → AreFronted p.rest.items → length p.first.items ≡ 0 → 0 < length p.rest.items → IsSeated p (record { list = 1; at = 0 }) × (rows_before p (record { list = 1; at = 0 }) ≡ [])
 chunk_seated p fronted none some = (

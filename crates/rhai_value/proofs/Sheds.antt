@@ -1,5 +1,5 @@
 -- What a value loses where a child is taken out, and what holds of one that has none.
-use Rattle.std.proofs.Common.{refl, ◌≡◌, ℕ, suc, ◌+◌, ◌<◌, ◌≤◌, length, map, List, [], ◌∷◌, ◌++◌, ap, arith}
+use Rattle.std.proofs.Common.{refl, ◌≡◌, ◌+◌, ◌≤◌, length, map, List, [], ◌∷◌, ◌++◌, ap, arith}
 use Rattle.rhai_value.specs.Lists.{chunk_rows, joined, rows, rows_of, AreFronted, IsWhole}
 use Rattle.rhai_value.specs.Rows.{Rows, trees_of, fields_of}
 use Rattle.rhai_value.specs.Tree.{Tree, node, nodes, nodes_trees, nodes_fields}

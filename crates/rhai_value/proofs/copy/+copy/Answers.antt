@@ -1,9 +1,9 @@
-use Rattle.std.proofs.Common.{◌≡◌, ◌+◌, ◌*◌, ◌<◌, map, drop, refl, arith, sym, ap, ◌∙◌}
+use Rattle.std.proofs.Common.{◌≡◌, ◌+◌, ◌*◌, ◌<◌, map, refl, arith, sym, ap, ◌∙◌}
 use Rattle.rhai_value.specs.Falls.{nodes_joined}
-use Rattle.rhai_value.specs.Lists.{chunk_rows, joined, row_of, rows, rows_of}
+use Rattle.rhai_value.specs.Lists.{chunk_rows, joined, rows, rows_of}
 use Rattle.rhai_value.specs.RowWalks.{chunk_view, copied_chunk}
 use Rattle.rhai_value.specs.Rows.{fields_of}
-use Rattle.rhai_value.specs.Tree.{copy, nodes_fields}
+use Rattle.rhai_value.specs.Tree.{nodes_fields}
 use Rattle.rhai_value.proofs.KeptKeys.{parts_copied, whole_copied, whole_opened}
 use Rattle.rhai_value.specs.declared.map.Chunk.{Chunk}
 use Rattle.rhai_value.specs.declared.map.MapParts.{MapParts}

@@ -1,4 +1,4 @@
-use Rattle.std.proofs.Common.{◌≡◌, ◌+◌, ◌*◌, ◌≤◌, List, ◌++◌, length, map, take, drop, vec_capacity}
+use Rattle.std.proofs.Common.{◌≡◌, ◌+◌, ◌*◌, ◌≤◌, length, map, take, drop, vec_capacity}
 use Rattle.rhai_value.specs.Rows.{copied_rows, trees_of, fields_of}
 use Rattle.rhai_value.specs.Lists.{chunk_rows, joined, rows, rows_of}
 use Rattle.rhai_value.specs.RowWalks.{chunk_view, copied_chunk}

@@ -1,8 +1,7 @@
 use Rattle.std.proofs.Common.{◌≡◌, ◌∙◌, ap, get_or, length-set, arith, rules}
 use Rattle.std.proofs.lemmas.List.{get_or_default}
 use Rattle.rhai_value.specs.Hollow.{exchanged, parted}
-use Rattle.rhai_value.specs.Lists.{rows}
-use Rattle.rhai_value.specs.RowWalks.{chunk_scanned, chunk_view, row_scanned, scanned}
+use Rattle.rhai_value.specs.RowWalks.{chunk_scanned, chunk_view}
 use Rattle.rhai_value.proofs.RowWalks.{walk_on, walk_rest, walk_end}
 use Rattle.rhai_value.proofs.exchange.exchange_chunks.Goals as goal
 

@@ -1,4 +1,4 @@
-use Rattle.std.proofs.Common.{◌≡◌, length, map, take, drop}
+use Rattle.std.proofs.Common.{◌≡◌, length, take, drop}
 use Rattle.rhai_value.specs.Hollow.{exchanged, parted}
 use Rattle.rhai_value.specs.Lists.{rows}
 use Rattle.rhai_value.specs.RowWalks.{row_scanned, scanned}

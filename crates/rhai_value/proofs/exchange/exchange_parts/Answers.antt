@@ -1,4 +1,4 @@
-use Rattle.std.proofs.Common.{◌≡◌, [], refl, ap, ◌∙◌}
+use Rattle.std.proofs.Common.{[], refl, ap, ◌∙◌}
 use Rattle.rhai_value.specs.Children.{listed_fields}
 use Rattle.rhai_value.specs.Hollow.{exchanged, parted}
 use Rattle.rhai_value.specs.Lists.{rows_of}

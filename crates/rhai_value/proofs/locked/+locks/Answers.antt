@@ -1,9 +1,9 @@
 use Rattle.rhai_value.proofs.Childrens.{any_more, locked_inside, nodes_children, nodes_more}
 use Rattle.rhai_value.specs.Children.{children_of}
 use Rattle.rhai_value.specs.Locked.{any_locked}
-use Rattle.std.proofs.Common.{◌≡◌, ◌+◌, ◌*◌, ◌<◌, ◌||◌, arith, ◌∙◌, ap, sym}
-use Rattle.rhai_value.specs.Rows.{trees_of, fields_of}
-use Rattle.rhai_value.specs.Tree.{nodes_trees, nodes_fields}
+use Rattle.std.proofs.Common.{◌||◌, arith, ◌∙◌, ap, sym}
+use Rattle.rhai_value.specs.Rows.{trees_of}
+use Rattle.rhai_value.specs.Tree.{nodes_trees}
 use Rattle.rhai_value.proofs.locked.+locks.Goals as goal
 
 pub locks_far-loop-found-init : goal.locks_far-loop-found-init

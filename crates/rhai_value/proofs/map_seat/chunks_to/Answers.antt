@@ -2,7 +2,7 @@ use Rattle.std.proofs.Common.{◌≡◌, ℕ, ◌+◌, ◌-◌, ◌<◌, ◌/◌
 use Rattle.std.proofs.lemmas.Cmp.{nat_list_cmp_total}
 use Rattle.std.proofs.lemmas.List.{get_or-map, length-map}
 use Rattle.rhai_value.specs.Lists.{Row, chunk_rows, joined, AreBelow}
-use Rattle.rhai_value.specs.Rows.{Rows, bytes_cmp}
+use Rattle.rhai_value.specs.Rows.{bytes_cmp}
 use Rattle.rhai_value.specs.Tree.{fresh, unit}
 use Rattle.rhai_value.specs.declared.map.Chunk.{Chunk}
 use Rattle.rhai_value.proofs.ChunkFronts.{above_chunk, below_chunk, below_chunk_hit}

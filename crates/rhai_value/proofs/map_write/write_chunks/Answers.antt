@@ -1,7 +1,6 @@
 use Rattle.std.proofs.Common.{◌≡◌, ◌∙◌, ap, get_or, length-set, arith, rules}
 use Rattle.std.proofs.lemmas.List.{get_or_default}
-use Rattle.rhai_value.specs.Lists.{rows}
-use Rattle.rhai_value.specs.RowWalks.{chunk_scanned, chunk_view, row_scanned, scanned}
+use Rattle.rhai_value.specs.RowWalks.{chunk_scanned, chunk_view}
 use Rattle.rhai_value.proofs.RowWalks.{walk_on, walk_rest, walk_end}
 use Rattle.rhai_value.proofs.map_write.write_chunks.Goals as goal
 

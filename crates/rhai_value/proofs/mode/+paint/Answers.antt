@@ -6,8 +6,8 @@ use Rattle.rhai_value.specs.Falls.{nodes_joined}
 use Rattle.rhai_value.specs.Rows.{fields_of}
 use Rattle.rhai_value.specs.declared.map.Chunk.{Chunk}
 use Rattle.rhai_value.specs.Lists.{chunk_rows, joined, row_of, rows, rows_of}
-use Rattle.rhai_value.specs.RowWalks.{chunk_view, painted_chunk, painted_row, painted_rows}
-use Rattle.rhai_value.specs.Tree.{paint, paint_fields, nodes_fields}
+use Rattle.rhai_value.specs.RowWalks.{chunk_view, painted_chunk, painted_row}
+use Rattle.rhai_value.specs.Tree.{paint, nodes_fields}
 use Rattle.rhai_value.proofs.Paints.{fields_painted}
 use Rattle.rhai_value.proofs.KeptKeys.{parts_painted, whole_painted}
 use Rattle.rhai_value.proofs.RowWalks.{behind, same_behind, map_on, map_end, nodes_behind, nodes_behind_chunks, nodes_chunk}

@@ -1,7 +1,7 @@
-use Rattle.std.proofs.Common.{◌≡◌, ◌+◌, ◌<◌, ◌≤◌, ◌++◌, length, refl, ap, ap₂, sym, arith, ◌∙◌}
+use Rattle.std.proofs.Common.{◌≡◌, ◌+◌, ◌++◌, length, refl, ap, ap₂, arith, ◌∙◌}
 use Rattle.rhai_value.specs.Rows.{fields_of}
 use Rattle.rhai_value.specs.RowWalks.{painted_row, painted_rows}
-use Rattle.rhai_value.specs.Seats.{row_at, rows_from}
+use Rattle.rhai_value.specs.Seats.{row_at}
 use Rattle.rhai_value.specs.Tree.{nodes, nodes_fields, paint}
 use Rattle.rhai_value.specs.declared.map_seat.Seat.{Seat}
 use Rattle.rhai_value.proofs.Coatings.{coat_step, coat_taken, nodes_past, past_open, rows_fewer, still_taken, IsPast}

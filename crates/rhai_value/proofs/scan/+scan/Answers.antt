@@ -5,7 +5,7 @@ use Rattle.rhai_value.specs.Hollow.{with_children, hollow_scanned, hollow_after,
 use Rattle.rhai_value.specs.Rows.{trees_of, fields_of}
 use Rattle.rhai_value.specs.Falls.{nodes_joined}
 use Rattle.rhai_value.specs.Lists.{row_of, rows, rows_of, chunk_rows, joined}
-use Rattle.rhai_value.specs.RowWalks.{chunk_view, chunk_scanned, row_scanned, scanned}
+use Rattle.rhai_value.specs.RowWalks.{chunk_view, chunk_scanned, row_scanned}
 use Rattle.rhai_value.specs.Scan.{scan, children_scanned}
 use Rattle.rhai_value.specs.Tree.{nodes, nodes_trees, nodes_fields}
 use Rattle.rhai_value.specs.declared.map.Chunk.{Chunk}

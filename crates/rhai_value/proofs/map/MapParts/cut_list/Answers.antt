@@ -1,7 +1,7 @@
 use Rattle.std.proofs.Common.{◌≡◌, ◌-◌, ◌<◌, suc, length, set, get_or, ap, refl, subst, sym, arith, ◌∙◌}
 use Rattle.std.proofs.lemmas.List.{length-map}
 use Rattle.std.specs.Vec.{with_item}
-use Rattle.rhai_value.specs.Lists.{chunk_rows, AreFronted, Begins}
+use Rattle.rhai_value.specs.Lists.{chunk_rows, Begins}
 use Rattle.rhai_value.specs.declared.map.Chunk.{Chunk}
 use Rattle.rhai_value.specs.declared.map.MapParts.{MapParts}
 use Rattle.rhai_value.proofs.SeatEdits.{fronted_set}

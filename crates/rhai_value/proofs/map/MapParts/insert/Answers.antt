@@ -1,7 +1,6 @@
-use Rattle.std.proofs.Common.{◌≡◌, ◌++◌, ◌∷◌, Some, ap, ap₂, sym, subst, ◌∙◌}
+use Rattle.std.proofs.Common.{◌++◌, ◌∷◌, Some, ap, ap₂, sym, subst, ◌∙◌}
 use Rattle.std.proofs.lemmas.Str.{IsUtf8-string_bytes}
 use Rattle.std.proofs.Common.{string_bytes}
-use Rattle.rhai_value.specs.Lists.{rows_of}
 use Rattle.rhai_value.specs.Rows.{AreRising}
 use Rattle.rhai_value.specs.Seats.{rows_before, rows_from, IsFound, IsMissing}
 use Rattle.rhai_value.proofs.SeatResults.{found_written, missing_put, missing_rising}

@@ -1,5 +1,4 @@
-use Rattle.std.proofs.Common.{◌≡◌, Some, ap, sym, subst, ◌∙◌}
-use Rattle.rhai_value.specs.Lists.{rows_of}
+use Rattle.std.proofs.Common.{Some, ap, sym, subst, ◌∙◌}
 use Rattle.rhai_value.specs.Seats.{IsFound, IsMissing}
 use Rattle.rhai_value.proofs.SeatResults.{found_removed, missing_removed}
 use Rattle.rhai_value.proofs.Seats.{found_value, missing_value}

@@ -1,6 +1,6 @@
 use Rattle.std.proofs.Common.{◌≡◌, ◌-◌, ◌<◌, suc, [], length, set, get_or, ap, refl, subst, arith, ◌∙◌, sym}
 use Rattle.std.proofs.lemmas.List.{length-map}
-use Rattle.rhai_value.specs.Lists.{chunk_rows, lists_of, row_of, rows, Begins}
+use Rattle.rhai_value.specs.Lists.{chunk_rows, lists_of, rows, Begins}
 use Rattle.rhai_value.specs.Seats.{entry_at, list_at, row_at}
 use Rattle.rhai_value.specs.Tree.{fresh, unit}
 use Rattle.std.specs.Vec.{with_item}

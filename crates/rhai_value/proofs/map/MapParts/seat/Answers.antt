@@ -1,4 +1,4 @@
-use Rattle.std.proofs.Common.{◌≡◌, ◌<◌, length, map, ap, sym, subst, ◌∙◌}
+use Rattle.std.proofs.Common.{◌<◌, length, map, ap, sym, subst, ◌∙◌}
 use Rattle.std.proofs.lemmas.Cmp.{nat_list_cmp_total}
 use Rattle.rhai_value.specs.Lists.{chunk_rows, joined, lists_of, rows}
 use Rattle.rhai_value.specs.Rows.{AreRising}

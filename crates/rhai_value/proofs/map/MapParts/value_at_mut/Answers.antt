@@ -1,8 +1,7 @@
-use Rattle.std.proofs.Common.{◌≡◌, ◌-◌, ◌<◌, suc, length, ap, refl, sym, arith, ◌∙◌}
-use Rattle.std.proofs.lemmas.List.{get_or_default, length-map}
+use Rattle.std.proofs.Common.{◌≡◌, ◌-◌, ◌<◌, suc, length, ap, refl, sym, arith}
+use Rattle.std.proofs.lemmas.List.{length-map}
 use Rattle.rhai_value.specs.Lists.{chunk_rows, row_of, rows}
-use Rattle.rhai_value.specs.Seats.{entry_at, list_at, row_at}
-use Rattle.rhai_value.specs.Tree.{fresh, unit}
+use Rattle.rhai_value.specs.Seats.{list_at}
 use Rattle.rhai_value.specs.declared.map.Chunk.{Chunk}
 use Rattle.rhai_value.specs.declared.map.Entry.{Entry}
 use Rattle.rhai_value.proofs.SeatEdits.{list_chunk, list_first, read_row, with_chunk, with_first}

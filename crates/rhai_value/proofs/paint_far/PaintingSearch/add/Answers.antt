@@ -1,4 +1,4 @@
-use Rattle.std.proofs.Common.{◌≡◌, ◌++◌, ap, sym, subst, arith, ◌∙◌}
+use Rattle.std.proofs.Common.{◌≡◌, ap, arith, ◌∙◌}
 use Rattle.rhai_value.specs.Coats.{taken_seat, IsTaken}
 use Rattle.rhai_value.specs.Lists.{IsWhole}
 use Rattle.rhai_value.specs.Rows.{fields_of}

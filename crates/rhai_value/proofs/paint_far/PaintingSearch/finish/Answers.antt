@@ -1,4 +1,4 @@
-use Rattle.std.proofs.Common.{◌≡◌, [], rules}
+use Rattle.std.proofs.Common.{◌≡◌, rules}
 use Rattle.rhai_value.specs.Coats.{painted_past}
 use Rattle.rhai_value.specs.Lists.{rows_of}
 use Rattle.rhai_value.proofs.Coatings.{painted_all}

@@ -3,7 +3,7 @@ mod both;
 mod collected;
 mod expressions;
 mod faults;
-mod inputs;
+pub(crate) mod inputs;
 mod journals;
 mod machine;
 mod printed;

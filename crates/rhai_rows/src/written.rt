@@ -1,10 +1,9 @@
 //! Commands written as lines, and journals of runs.
-ghost use Rattle.std.specs.Prelude.{◌≡◌, IfOk};
-ghost use Rattle.rhai_lines.specs.Output.{new_world, output};
 
+use crate::calls::inputs::answers;
 use crate::rows::{are_written, commands_in, room, row_of, wanted};
 use crate::sections::UNLIMITED;
-use rhai_lines::{LinesFault, command, journal, line_of, run_lines};
+use rhai_lines::{command, journal, line_of};
 use rhai_run::{Command, World, run};
 use std::alloc::{AllocError, Global};
 
@@ -41,16 +40,6 @@ pub(crate) fn long_run(
         commands.append(&mut commands_in(alloc, rows)?)?;
     }
     Ok(commands)
-}
-
-/// What is written for an input that lies in memory.
-fn answers(alloc: Global, input: &[u8]) -> Result<Vec<u8>, LinesFault>
-    ensures { IfOk result (λ out. out.items ≡ output new_world input.now) }
-{
-    let mut reader = input;
-    let mut out = Vec::new(alloc);
-    run_lines(alloc, &mut reader, &mut out)?;
-    Ok(out)
 }
 
 /// What a run over the commands answers.

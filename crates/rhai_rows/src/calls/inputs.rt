@@ -6,7 +6,7 @@ use rhai_lines::{LinesFault, run_lines};
 use std::alloc::{AllocError, Global};
 
 /// What is written for an input that lies in memory.
-fn answers(alloc: Global, input: &[u8]) -> Result<Vec<u8>, LinesFault>
+pub(crate) fn answers(alloc: Global, input: &[u8]) -> Result<Vec<u8>, LinesFault>
     ensures { IfOk result (λ out. out.items ≡ output new_world input.now) }
 {
     let mut reader = input;

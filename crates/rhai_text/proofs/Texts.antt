@@ -5,7 +5,10 @@ use Rattle.std.proofs.lemmas.Str.{chars-append, chars_from_encodes, cons_from_en
 use Rattle.std.specs.Char.{encode_utf8}
 use Rattle.std.specs.Str.{chars, encode_utf8_all, IsUtf8, IsCharBoundary}
 
--- three texts in a row
+-- two texts in a row, and three
+pub chars_two : (xs ys : List ℕ) → IsUtf8 xs → chars (xs ++ ys) ≡ chars xs ++ chars ys
+chars_two = chars-append
+
 pub chars-three : (xs ys zs : List ℕ) → IsUtf8 xs → IsUtf8 ys → chars (xs ++ (ys ++ zs)) ≡ chars xs ++ (chars ys ++ chars zs)
 chars-three xs ys zs u v = chars-append xs (ys ++ zs) u ∙ ap (λ cs. chars xs ++ cs) (chars-append ys zs v)
 

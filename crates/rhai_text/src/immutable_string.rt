@@ -1,5 +1,5 @@
-// A text that is never changed in place, its reads and its comparisons.
-ghost use Rattle.std.specs.Prelude.{◌≡◌, ◌↔◌, ◌++◌, [], length, IfOk, IsTrue, Some, nat_eq, refl};
+// A text whose copies share its bytes, its reads and its comparisons.
+ghost use Rattle.std.specs.Prelude.{◌≡◌, ◌↔◌, ◌++◌, [], length, IfOk, IsTrue, OnErr, OnOk, Some, nat_eq, refl};
 ghost use Rattle.std.specs.Cmp.{partial_equiv_from_equiv};
 ghost use Rattle.std.specs.Cmp.Lexicographic.{bytes_decides, pointwise, slice_cmp, nat_list_eq_equiv, nat_list_cmp_total, texts_po, texts_ties};
 ghost use Rattle.std.specs.Hash as fed;
@@ -17,8 +17,8 @@ use std::hash::{Hash, Hasher};
 use std::marker::Model;
 use std::rc::Rc;
 
-/// A text that is never changed in place. Contracts see it as the list of its characters.
-/// It is one pointer wide, and its copies share their bytes.
+/// A text whose copies share its bytes: it is changed in place only where no copy sees it. Contracts see it as the list of its
+/// characters. It is one pointer wide.
 /// rhai: `ImmutableString`.
 #[derive(Drop)]
 pub struct ImmutableString {
@@ -88,6 +88,22 @@ impl ImmutableString {
             Ok(bytes) => Ok(ImmutableString { bytes }),
             Err(_) => Err(AllocError),
         }
+    }
+
+    /// Puts a text behind this one: where its bytes stand, if no copy shares them.
+    /// Errors: memory is refused, and the text is as it was.
+    /// Cost: the length of `more`, amortised, and memory where the room is used up; of a text that is shared, and of one of at most
+    /// 24 bytes that gets longer, the length of both, with memory for both.
+    /// rhai: `AddAssign<&str>` of `ImmutableString`.
+    pub fn push_str(&mut self, alloc: Global, more: &str) -> Result<(), AllocError>
+        ensures ok { OnOk result (self.new ≡ self.old ++ chars more.now) }
+        ensures err { OnErr result (self.new ≡ self.old) }
+    {
+        if let Some(own) = Rc::get_mut(&mut self.bytes) {
+            return own.push_str(alloc, more);
+        }
+        *self = self.concat(alloc, more)?;
+        Ok(())
     }
 
     /// Lends the text as a `&str`.

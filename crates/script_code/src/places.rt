@@ -8,8 +8,8 @@ use crate::quiet::is_variable;
 use example_syntax::{Expr, Step, Variable};
 
 impl<'p> Compiler<'p> {
-    /// Evaluates the indices of steps, and gives the steps with the slots of these. A variable that is an index is copied where it is
-    /// the root itself, or where another index or what is evaluated behind may change it.
+    /// Evaluates the indices of steps, and gives the steps with the slots of these. A variable that is an index is copied where it may
+    /// be shared, is the root itself, or where another index or what is evaluated behind may change it.
     #[cycle(compile)]
     pub(crate) fn steps(
         &mut self,

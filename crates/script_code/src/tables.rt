@@ -4,7 +4,7 @@ use crate::compiler::Compiler;
 use crate::error::CodeError;
 use crate::meaning::{Meaning, meaning_of};
 use crate::operations::Slot;
-use crate::program::{Callee, Path, PathStep, Program, Shape};
+use crate::program::{Callee, NO_STEPS, Path, PathStep, Program, Shape};
 use example_values::{Native, native_of};
 use rhai_value::INT;
 use std::alloc::Global;
@@ -64,6 +64,14 @@ impl<'p> Compiler<'p> {
 
     /// The number of a path.
     pub(crate) fn path(&mut self, steps: Vec<PathStep>) -> Result<u32, CodeError> {
+        if self.program.paths.is_empty() {
+            self.program.paths.push(Path {
+                steps: Vec::new(self.alloc),
+            })?;
+        }
+        if steps.is_empty() {
+            return Ok(NO_STEPS);
+        }
         let number = number_in(&self.program.paths)?;
         self.program.paths.push(Path { steps })?;
         Ok(number)

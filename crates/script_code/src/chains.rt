@@ -19,6 +19,8 @@ pub(crate) struct Called {
     /// Where the receiver is put; the arguments follow.
     pub(crate) receiver: Slot,
     pub(crate) arguments: usize,
+    /// Whether it calls the variable itself that is the root: the receiver's slot then has the first argument.
+    pub(crate) is_direct: bool,
 }
 
 /// Where a chain stands.
@@ -50,6 +52,9 @@ impl<'p> Compiler<'p> {
         to: Slot,
     ) -> Result<(), CodeError> {
         let mut methods = Vec::new(self.alloc);
+        if self.is_free(to) && to.saturating_add(1) == self.top {
+            self.top = to;
+        }
         let rest = self.operands(root, steps, &mut methods)?;
         let Some(mut at) = self.root(root, methods.as_slice())? else {
             return Ok(());
@@ -87,19 +92,39 @@ impl<'p> Compiler<'p> {
                 },
             ) = steps.get(end)
             {
-                let receiver = self.take_slot()?;
+                let is_direct = number == 0 && end == 0 && self.calls_variable(root, *callee);
+                let receiver = self.top;
+                if !is_direct {
+                    self.take_slot()?;
+                }
                 self.values(arguments)?;
+                if self.top == receiver {
+                    self.take_slot()?;
+                }
                 methods.push(Called {
                     callee: *callee,
                     position: *position,
                     path,
                     receiver,
                     arguments: arguments.len(),
+                    is_direct,
                 })?;
                 path = Vec::new(self.alloc);
             }
         }
         Ok(path)
+    }
+
+    /// Whether a method calls a variable that is a function pointer.
+    fn calls_variable(&self, root: &Expr, callee: usize) -> bool {
+        let is_variable = match root {
+            Expr::Variable {
+                variable: Variable::Known(_),
+                ..
+            } => true,
+            _ => false,
+        };
+        is_variable && matches!(self.meaning(callee), Meaning::Call)
     }
 
     /// The root of a chain; `None` where it is a name that means nothing.
@@ -173,14 +198,14 @@ impl<'p> Compiler<'p> {
     /// Calls a method, and gives the slot to which its answer comes.
     fn method(&mut self, at: Root, method: &Called) -> Result<Slot, CodeError> {
         let meaning = self.meaning(method.callee);
+        if let (Root::Variable(root, _), true) = (at, method.is_direct) {
+            return self.call_direct(root, method);
+        }
         if let Root::Variable(root, position) = at {
             match meaning {
                 Meaning::IsShared => return self.is_shared(root, method),
                 Meaning::Sort => return self.sort_at(root, position, method),
                 Meaning::Native(_) => return self.native_at(root, position, method),
-                Meaning::Call if method.path.is_empty() => {
-                    return self.call_at(root, method);
-                }
                 Meaning::Host(_)
                 | Meaning::Print
                 | Meaning::Debug
@@ -220,10 +245,13 @@ impl<'p> Compiler<'p> {
         Ok(method.receiver)
     }
 
-    /// Calls a variable that is a function pointer, which stays where it is.
-    fn call_at(&mut self, root: Slot, method: &Called) -> Result<Slot, CodeError> {
-        let first = self.at_top(method.receiver, method.arguments)?;
-        self.call_pointer(first, root, method)
+    /// Calls the variable that is the root, which stays where it is.
+    fn call_direct(&mut self, root: Slot, method: &Called) -> Result<Slot, CodeError> {
+        let count = to_slot(method.arguments)?;
+        let last = method.arguments.saturating_sub(1);
+        let first = self.at_top(method.receiver, last)?;
+        self.emit_at(Op::CallPointer(first, root, count), method.position)?;
+        Ok(first)
     }
 
     /// Calls the function pointer in a slot with the arguments behind another.

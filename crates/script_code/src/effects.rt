@@ -68,6 +68,11 @@ impl<'p> Compiler<'p> {
         match expr {
             Expr::Block(block) => self.tail_block(block),
             Expr::If { arms, otherwise } => self.tail_arms(arms, otherwise),
+            Expr::Let { .. } | Expr::Assign { .. } => {
+                self.effect(expr)?;
+                self.emit(Op::ReturnUnit)?;
+                Ok(())
+            }
             _ => {
                 let top = self.top;
                 let slot = self.operand(expr, true)?;

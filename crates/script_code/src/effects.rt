@@ -46,7 +46,7 @@ impl<'p> Compiler<'p> {
     }
 
     /// Evaluates the statements of a function, and gives the value of the last to the caller.
-    #[cycle(compile)]
+    #[cycle(tail)]
     pub(crate) fn tail_block(&mut self, block: &Block) -> Result<(), CodeError> {
         let last = block.statements.len().saturating_sub(1);
         for (number, statement) in block.statements.iter().enumerate() {
@@ -63,7 +63,7 @@ impl<'p> Compiler<'p> {
     }
 
     /// Evaluates an expression, and gives its value to the caller.
-    #[cycle(compile)]
+    #[cycle(tail)]
     fn tail(&mut self, expr: &Expr) -> Result<(), CodeError> {
         match expr {
             Expr::Block(block) => self.tail_block(block),
@@ -83,7 +83,7 @@ impl<'p> Compiler<'p> {
         }
     }
 
-    #[cycle(compile)]
+    #[cycle(tail)]
     fn tail_arms(&mut self, arms: &Vec<Arm>, otherwise: &Option<Block>) -> Result<(), CodeError> {
         for arm in arms {
             let mut skips = Vec::new(self.alloc);

@@ -45,7 +45,8 @@ impl<'p> Compiler<'p> {
                 ..
             } => {
                 let watched = self.watched(*slot);
-                !is_variable(root, *slot)
+                watched.is_plain
+                    && !is_variable(root, *slot)
                     && watched.stays(root)
                     && watched.stays_in_steps(rest, false)
             }

@@ -106,7 +106,7 @@ class Maker:
             return f"if {self.condition(depth)} {self.block(depth - 1)} else {self.block(depth - 1)}"
         if kind < 0.97:
             return self.block(depth - 1)
-        return self.pick([self.loop(depth - 1), self.attempt(depth - 1)]) if depth > 1 else self.leaf()
+        return self.pick([self.loop(depth - 1), "{ " + self.attempt(depth - 1) + " }"]) if depth > 1 else self.leaf()
 
     def condition(self, depth):
         return self.pick([f"{self.name()} {self.pick(['<', '<=', '>', '>=', '==', '!='])} {self.value(depth - 1)}", f"({self.value(depth - 1)}) == ({self.value(depth - 1)})", "true", "false", f"!({self.value(depth - 1)})", f"{self.name()} == 1 {self.pick(['&&', '||'])} {self.name()} != 2"])

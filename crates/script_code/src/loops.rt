@@ -6,6 +6,7 @@ use crate::operations::{Op, Slot, Target};
 use crate::program::Place;
 use example_syntax::{Arm, Block, Expr, Operator};
 use rhai_text::{Position, Token};
+use std::mem;
 
 impl<'p> Compiler<'p> {
     fn begin_round(&mut self, to: Option<Slot>) -> Result<(), CodeError> {
@@ -21,13 +22,11 @@ impl<'p> Compiler<'p> {
 
     /// Has the jumps to the next round of the innermost loop go to a place.
     fn land_continues(&mut self, target: Target) {
-        if let Some(round) = self.rounds.last_mut() {
-            for jump in round.continues.iter() {
-                if let Some(op) = self.ops.get_mut(*jump) {
-                    *op = op.with_target(target);
-                }
-            }
-        }
+        let jumps = match self.rounds.last_mut() {
+            Some(round) => mem::replace(&mut round.continues, Vec::new(self.alloc)),
+            None => Vec::new(self.alloc),
+        };
+        self.set_targets(jumps.as_slice(), target);
     }
 
     /// Ends a loop, whose value is unit where it wasn't left by `break`.
@@ -35,11 +34,22 @@ impl<'p> Compiler<'p> {
         let Some(round) = self.rounds.pop() else {
             return Ok(());
         };
-        if let Some(to) = round.to {
+        let Round { breaks, to, .. } = round;
+        if let Some(to) = to {
             self.emit(Op::Unit(to))?;
         }
-        self.land(round.breaks.as_slice())?;
-        self.clear_variables(first_slot, self.special.len(), round.to)
+        self.land_breaks(breaks, first_slot, to)
+    }
+
+    /// Has the jumps out of a loop go behind it, where its variables from a number on end.
+    fn land_breaks(
+        &mut self,
+        breaks: Vec<usize>,
+        first_slot: usize,
+        to: Option<Slot>,
+    ) -> Result<(), CodeError> {
+        self.land(breaks.as_slice())?;
+        self.clear_variables(first_slot, self.special.len(), to)
     }
 
     #[cycle(compile)]
@@ -99,8 +109,8 @@ impl<'p> Compiler<'p> {
         let Some(round) = self.rounds.pop() else {
             return Ok(());
         };
-        self.land(round.breaks.as_slice())?;
-        self.clear_variables(block.first_slot, self.special.len(), round.to)
+        let Round { breaks, to, .. } = round;
+        self.land_breaks(breaks, block.first_slot, to)
     }
 }
 

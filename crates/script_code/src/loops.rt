@@ -48,8 +48,9 @@ impl<'p> Compiler<'p> {
         first_slot: usize,
         to: Option<Slot>,
     ) -> Result<(), CodeError> {
+        let end = self.special.len();
         self.land(breaks.as_slice())?;
-        self.clear_variables(first_slot, self.special.len(), to)
+        self.clear_variables(first_slot, end, to)
     }
 
     #[cycle(compile)]

@@ -9,6 +9,7 @@ mod conditions;
 mod effects;
 mod error;
 mod expressions;
+mod literals;
 mod loops;
 mod meaning;
 mod operations;

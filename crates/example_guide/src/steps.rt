@@ -2,7 +2,7 @@
 ghost use Rattle.std.specs.Prelude.{◌≡◌, ◌⊎◌, [], Err, IfErr, IfOk, IfSome, IsOk, MatchOption, None, OnErr, OnOk, Some, false, option_map, string_bytes, true};
 ghost use Rattle.std.specs.Str.{chars};
 ghost use Rattle.rhai_ops.specs.AssignTable.{assign_row};
-ghost use Rattle.rhai_ops.specs.Effects.{effect, first_left, store_left};
+ghost use Rattle.rhai_ops.specs.Effects.{effect, first_left, second_left, store_left};
 ghost use Rattle.rhai_ops.specs.Outcome.{IsOutcome, answers};
 ghost use Rattle.rhai_ops.specs.Results.{MayWant, outcome};
 ghost use Rattle.rhai_ops.specs.Table.{row_of};
@@ -130,6 +130,7 @@ pub fn assign(
 ) -> Result<bool, EvalAltResult>
     ensures found { IfOk result (λ done. MatchOption (assign_row op x.old y.old) (done ≡ false) (λ row. done ≡ true)) }
     ensures first { IfOk result (λ done. MatchOption (assign_row op x.old y.old) (x.new ≡ x.old) (λ row. x.new ≡ first_left (effect row) (outcome row limits.now store.old x.old y.old) store.old x.old)) }
+    ensures second { IfOk result (λ done. MatchOption (assign_row op x.old y.old) (y.new ≡ y.old) (λ row. y.new ≡ second_left (effect row) (outcome row limits.now store.old x.old y.old) y.old)) }
     ensures store { IfOk result (λ done. MatchOption (assign_row op x.old y.old) (store.new ≡ store.old) (λ row. store.new ≡ store_left (effect row) (outcome row limits.now store.old x.old y.old) store.old x.old)) }
     ensures err { IfErr result (λ e. MatchOption (assign_row op x.old y.old) ⊥ (λ row. IsOutcome (MayWant row x.old y.old) (Err e) (outcome row limits.now store.old x.old y.old))) }
     ensures stays { OnErr result ((x.new ≡ x.old) × (y.new ≡ y.old) × (store.new ≡ store.old)) }

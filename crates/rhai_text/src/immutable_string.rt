@@ -1,14 +1,15 @@
 // A text whose copies share its bytes, its reads and its comparisons.
-ghost use Rattle.std.specs.Prelude.{◌≡◌, ◌↔◌, ◌++◌, [], length, IfOk, IsTrue, OnErr, OnOk, Some, nat_eq, refl};
+ghost use Rattle.std.specs.Prelude.{◌≡◌, ◌↔◌, ◌++◌, [], length, IfOk, IsTrue, OnErr, OnOk, Some, nat_eq, refl, string_bytes};
 ghost use Rattle.std.specs.Cmp.{partial_equiv_from_equiv};
 ghost use Rattle.std.specs.Cmp.Lexicographic.{bytes_decides, pointwise, slice_cmp, nat_list_eq_equiv, nat_list_cmp_total, texts_po, texts_ties};
 ghost use Rattle.std.specs.Hash as fed;
 ghost use Rattle.std.specs.Ordering.{nat_cmp};
-ghost use Rattle.std.specs.Str.{chars, encode_utf8_all};
+ghost use Rattle.std.specs.Str.{chars, encode_utf8_all, IsAscii};
 ghost use Rattle.std.proofs.Common.{ap};
 ghost use Rattle.rhai_text.specs.Bytes.{text_bytes};
 
 use crate::bytes_order::{equal_texts, order_of_texts};
+use crate::long_text::LongText;
 use crate::text_bytes::{SHORT_BYTES, TextBytes};
 use arrayvec::ArrayString;
 use std::alloc::{AllocError, Global};
@@ -77,14 +78,14 @@ impl ImmutableString {
         long.push_str(front)?;
         long.push_str(middle)?;
         long.push_str(back)?;
-        ImmutableString::from_bytes(alloc, TextBytes::Long(long))
+        ImmutableString::from_string(alloc, long)
     }
 
-    // The text of these bytes. It takes memory for a count of the copies, beside which few bytes stand.
-    pub(crate) fn from_bytes(alloc: Global, bytes: TextBytes) -> Result<ImmutableString, AllocError>
-        ensures { IfOk result (λ t. t ≡ chars (text_bytes bytes)) }
+    // The text of a `String`. It takes memory for a count of the copies.
+    pub(crate) fn from_string(alloc: Global, text: String) -> Result<ImmutableString, AllocError>
+        ensures { IfOk result (λ t. t ≡ chars (string_bytes text)) }
     {
-        match Rc::new(alloc, bytes) {
+        match Rc::new(alloc, TextBytes::Long(LongText::new(text))) {
             Ok(bytes) => Ok(ImmutableString { bytes }),
             Err(_) => Err(AllocError),
         }
@@ -113,6 +114,14 @@ impl ImmutableString {
         ensures bytes { result.now ≡ encode_utf8_all self.now }
     {
         self.bytes.as_str()
+    }
+
+    // Whether each character is known to be one byte.
+    #[inline(always)]
+    pub(crate) fn is_ascii(&self) -> bool
+        ensures { IsTrue result → IsAscii (encode_utf8_all self.now) }
+    {
+        self.bytes.is_ascii()
     }
 
     /// Tells the length in UTF-8 bytes.

@@ -1,8 +1,9 @@
 // Where the bytes of a text stand.
 ghost use Rattle.std.specs.Prelude.{◌≡◌, ◌++◌, ◌+◌, ◌≤◌, length, IsTrue, OnErr, OnOk};
-ghost use Rattle.std.specs.Str.{chars};
+ghost use Rattle.std.specs.Str.{chars, IsAscii};
 ghost use Rattle.rhai_text.specs.Bytes.{text_bytes};
 
+use crate::long_text::LongText;
 use arrayvec::ArrayString;
 use std::alloc::{AllocError, Global};
 
@@ -13,7 +14,7 @@ pub(crate) const SHORT_BYTES: usize = 24;
 #[derive(Drop)]
 pub(crate) enum TextBytes {
     Short(ArrayString<SHORT_BYTES>),
-    Long(String),
+    Long(LongText),
 }
 
 impl TextBytes {
@@ -52,13 +53,21 @@ impl TextBytes {
                 let mut long = String::with_capacity(alloc, room_for(len, more.len()))?;
                 long.push_str(short.as_str())?;
                 long.push_str(more)?;
-                *self = TextBytes::Long(long);
+                *self = TextBytes::Long(LongText::new(long));
                 Ok(())
             }
-            TextBytes::Long(long) => match long.push_str(more) {
-                Ok(()) => Ok(()),
-                Err(_) => Err(AllocError),
-            },
+            TextBytes::Long(long) => long.push_str(more),
+        }
+    }
+
+    /// Tells whether each character is known to be one byte. Of few bytes that isn't known: they are walked over as quickly.
+    #[inline(always)]
+    pub(crate) fn is_ascii(&self) -> bool
+        ensures { IsTrue result → IsAscii (text_bytes self.now) }
+    {
+        match self {
+            TextBytes::Short(_) => false,
+            TextBytes::Long(long) => long.is_ascii(),
         }
     }
 

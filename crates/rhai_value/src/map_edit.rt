@@ -1,5 +1,5 @@
 //! Entries that come into the lists of a map, and that go.
-ghost use Rattle.std.specs.Prelude.{◌≡◌, ◌+◌, ◌<◌, ◌≤◌, ◌^◌, ◌++◌, ◌∷◌, suc, length, map, take, drop, slice_set, slice_index_or, IsTrue, IfSome, MatchOption, vec_len, vec_capacity};
+ghost use Rattle.std.specs.Prelude.{◌≡◌, ◌+◌, ◌<◌, ◌≤◌, ◌^◌, ◌++◌, ◌∷◌, suc, length, map, take, drop, slice_set, slice_index_or, IsTrue, IfSome, MatchOption, None, vec_len, vec_capacity};
 ghost use Rattle.std.specs.List.{insert, remove};
 ghost use Rattle.std.specs.Str.{IsUtf8};
 ghost use Rattle.rhai_value.specs.Lists.{lists_of, row_of, rows, rows_of, AreFronted, Begins, IsWhole};
@@ -56,9 +56,8 @@ impl MapParts {
         ensures room { IfSome result (λ s. IsOpen self.new s × HasRoom self.new s.list × (rows_before self.new s ≡ rows_before self.old seat) × (rows_from self.new s ≡ rows_from self.old seat)) }
         ensures counted { IfSome result (λ s. self.new.len + 1 < 2 ^ 64) }
     {
-        // No memory has room for as many entries, since one takes 80 bytes.
         if self.len >= usize::MAX {
-            return None;
+            return self.past_all_memory();
         }
         let seat = self.split_full(seat);
         if self.grow_list(seat.list) {
@@ -66,6 +65,19 @@ impl MapParts {
         } else {
             None
         }
+    }
+
+    /// Asks for the room of more entries than a word counts, which is refused: one takes 80 bytes.
+    #[cold]
+    #[inline(never)]
+    fn past_all_memory(&mut self) -> Option<Seat>
+        requires { IsWhole self.old }
+        ensures rows { rows_of self.new ≡ rows_of self.old }
+        ensures whole { IsWhole self.new }
+        ensures none { result ≡ None }
+    {
+        drop(self.first.reserve_exact(usize::MAX));
+        None
     }
 
     /// Splits the list of a place if it is full. Answers the place, which a split moves.

@@ -1,7 +1,7 @@
 use Rattle.std.proofs.Common.{◌≡◌, ◌∙◌, sym, refl, ℕ, Option, Some, None, option_map}
 use Rattle.std.proofs.lemmas.Iterator.{YieldsList-from_chars}
 use Rattle.std.proofs.lemmas.Iterator.Consumers.{nth_from_yields_List}
-use Rattle.rhai_target.proofs.read.char_in.Goals as goal
+use Rattle.rhai_text.proofs.characters.nth.Goals as goal
 
 itself : (o : Option ℕ) → option_map (λ c. c) o ≡ o
 itself None = refl
@@ -9,5 +9,5 @@ itself (Some c) = refl
 
 pub returns : goal.returns
 returns c =
-    sym (nth_from_yields_List c.nth.result c.nth.new.self c.args.index c.nth.ensures.ran (YieldsList-from_chars c.args.text.now c.utf8.text c.chars.ensures.rest))
-    ∙ itself c.nth.result
+    sym (itself c.nth.result)
+    ∙ nth_from_yields_List c.nth.result c.nth.new.self c.args.index c.nth.ensures.ran (YieldsList-from_chars c.args.text.now c.utf8.text c.chars.ensures.rest)

@@ -46,6 +46,10 @@ impl ImmutableString {
         ensures characters { IfOk result (λ t. t ≡ chars text.now) }
         ensures bytes { IfOk result (λ t. encode_utf8_all t ≡ text.now) }
     {
+        if SHORT_BYTES < text.len() {
+            let long = String::from_str(alloc, text)?;
+            return ImmutableString::from_string(alloc, long);
+        }
         ImmutableString::of_three(alloc, text, "", "")
     }
 

@@ -28,7 +28,7 @@ impl LongText {
     pub(crate) fn new(text: String) -> LongText
         ensures { result ≡ string_bytes text }
     {
-        let is_ascii = is_ascii(text.as_str());
+        let is_ascii = text.as_str().is_ascii();
         LongText { text, is_ascii }
     }
 
@@ -55,21 +55,10 @@ impl LongText {
     {
         match self.text.push_str(more) {
             Ok(()) => {
-                self.is_ascii = self.is_ascii && is_ascii(more);
+                self.is_ascii = self.is_ascii && more.is_ascii();
                 Ok(())
             }
             Err(_) => Err(AllocError),
         }
     }
-}
-
-/// Tells whether all bytes are ASCII. All are read, since nearly all texts are, and a loop without an exit reads many at once.
-fn is_ascii(text: &str) -> bool
-    ensures { IsTrue result → IsAscii text.now }
-{
-    let mut top: u8 = 0;
-    for byte in text.as_bytes() {
-        top = top.max(*byte);
-    }
-    top < 128
 }

@@ -152,7 +152,7 @@ pub(crate) fn debug_texts(alloc: Global, n: usize) -> Result<u64, AllocError> {
 
 #[inline(never)]
 pub(crate) fn display_map(alloc: Global, n: usize) -> Result<u64, AllocError> {
-    let keys = keys(alloc, 100)?;
+    let keys = keys(alloc, "key", 100)?;
     let map = map_of(alloc, &keys)?;
     displays(alloc, &Dynamic::from_map(map), n)
 }

@@ -1,7 +1,7 @@
 //! Values to work on.
 
 use rhai_text::ImmutableString;
-use rhai_value::{Dynamic, Map, Store};
+use rhai_value::{Dynamic, Key, Map, Store};
 use std::alloc::{AllocError, Global};
 
 /// An array of the ints from 0 on.
@@ -88,12 +88,12 @@ pub(crate) fn sum_of(values: &[Dynamic], store: &Store) -> u64 {
     sum
 }
 
-/// Keys in a scattered order.
-pub(crate) fn keys(alloc: Global, count: u32) -> Result<Vec<String>, AllocError> {
+/// Keys in a scattered order, which begin alike.
+pub(crate) fn keys(alloc: Global, front: &str, count: u32) -> Result<Vec<String>, AllocError> {
     let mut keys = Vec::with_capacity(alloc, count as usize)?;
     for i in 0..count {
         let scattered = i.wrapping_mul(2_654_435_761);
-        let key = format!(in alloc; "key{scattered:010}")?;
+        let key = format!(in alloc; "{front}{scattered:010}")?;
         keys.push(key)?;
     }
     Ok(keys)
@@ -104,8 +104,8 @@ pub(crate) fn map_of(alloc: Global, keys: &[String]) -> Result<Map, AllocError> 
     let mut map = Map::new(alloc);
     let mut i = 0_i64;
     for key in keys {
-        let key = String::from_str(alloc, key.as_str())?;
-        match map.insert(key, Dynamic::from_int(i)) {
+        let key = Key::from_str(alloc, key.as_str())?;
+        match map.insert_key(key, Dynamic::from_int(i)) {
             Ok(_) => {}
             Err(_) => return Err(AllocError),
         }

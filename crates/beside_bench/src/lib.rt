@@ -79,12 +79,12 @@ fn shared(alloc: Global, which: u32, n: usize) -> Result<u64, AllocError> {
 
 fn keyed(alloc: Global, which: u32, n: usize) -> Result<u64, AllocError> {
     match which {
-        60 => maps::insert(alloc, n, 10),
-        61 => maps::insert(alloc, n, 100),
-        62 => maps::insert(alloc, n, 100_000),
-        63 => maps::get(alloc, n, 10),
-        64 => maps::get(alloc, n, 100),
-        65 => maps::get(alloc, n, 100_000),
+        60 => maps::insert(alloc, n, "key", 10),
+        61 => maps::insert(alloc, n, "key", 100),
+        62 => maps::insert(alloc, n, "key", 100_000),
+        63 => maps::get(alloc, n, "key", 10),
+        64 => maps::get(alloc, n, "key", 100),
+        65 => maps::get(alloc, n, "key", 100_000),
         66 => maps::remove_insert(alloc, n, 10),
         67 => maps::remove_insert(alloc, n, 100),
         68 => maps::remove_insert(alloc, n, 100_000),
@@ -93,6 +93,36 @@ fn keyed(alloc: Global, which: u32, n: usize) -> Result<u64, AllocError> {
         71 => maps::iterate(alloc, n, 100_000),
         72 => maps::copy(alloc, n, 100),
         73 => maps::get_through(alloc, n, 100),
+        74 => maps::set(alloc, n, 10),
+        75 => maps::set(alloc, n, 100),
+        76 => maps::set(alloc, n, 1000),
+        77 => maps::set(alloc, n, 100_000),
+        78 => maps::copy(alloc, n, 100_000),
+        _ => keyed_alike(alloc, which, n),
+    }
+}
+
+/// Keys of 20 and of 40 bytes that differ in the last ten.
+fn keyed_alike(alloc: Global, which: u32, n: usize) -> Result<u64, AllocError> {
+    let twenty = "some_name_";
+    let forty = "some_name_that_is_much_longer_";
+    match which {
+        200 => maps::insert(alloc, n, twenty, 10),
+        201 => maps::insert(alloc, n, twenty, 100),
+        202 => maps::insert(alloc, n, twenty, 1000),
+        203 => maps::insert(alloc, n, twenty, 100_000),
+        204 => maps::get(alloc, n, twenty, 10),
+        205 => maps::get(alloc, n, twenty, 100),
+        206 => maps::get(alloc, n, twenty, 1000),
+        207 => maps::get(alloc, n, twenty, 100_000),
+        208 => maps::insert(alloc, n, forty, 10),
+        209 => maps::insert(alloc, n, forty, 100),
+        210 => maps::insert(alloc, n, forty, 1000),
+        211 => maps::insert(alloc, n, forty, 100_000),
+        212 => maps::get(alloc, n, forty, 10),
+        213 => maps::get(alloc, n, forty, 100),
+        214 => maps::get(alloc, n, forty, 1000),
+        215 => maps::get(alloc, n, forty, 100_000),
         _ => texted(alloc, which, n),
     }
 }
@@ -110,6 +140,10 @@ fn texted(alloc: Global, which: u32, n: usize) -> Result<u64, AllocError> {
         88 => texts::minus(alloc, n),
         89 => texts::with_char(alloc, n),
         90 => texts::minus_char(alloc, n),
+        91 => texts::char_count(alloc, n),
+        92 => texts::char_at(alloc, n),
+        93 => ops::append_text(alloc, n),
+        94 => ops::append_char(alloc, n),
         _ => operated(alloc, which, n),
     }
 }

@@ -139,6 +139,35 @@ pub(crate) fn assign_ints(alloc: Global, n: usize) -> Result<u64, AllocError> {
     Ok(sum_of(&sums, &store))
 }
 
+/// The same value put a hundred thousand times behind a text that starts empty.
+fn append(alloc: Global, more: &Dynamic, n: usize) -> Result<u64, AllocError> {
+    let mut store = Store::new(alloc);
+    let mut sum = 0_u64;
+    for _ in 0..n {
+        let mut x = Dynamic::from_text(alloc, "")?;
+        for _ in 0..100_000 {
+            let mut more = more.copy(alloc)?;
+            assign(Token::PlusAssign, alloc, &mut store, &mut x, &mut more);
+        }
+        if let Ok(text) = x.as_immutable_string_ref(&store) {
+            sum = sum.wrapping_add(text.len() as u64);
+        }
+    }
+    Ok(sum)
+}
+
+/// Five characters, a hundred thousand times.
+#[inline(never)]
+pub(crate) fn append_text(alloc: Global, n: usize) -> Result<u64, AllocError> {
+    append(alloc, &Dynamic::from_text(alloc, "abcde")?, n)
+}
+
+/// A character, a hundred thousand times.
+#[inline(never)]
+pub(crate) fn append_char(alloc: Global, n: usize) -> Result<u64, AllocError> {
+    append(alloc, &Dynamic::from_char('a'), n)
+}
+
 /// A thousand ints onto an array or a blob that starts empty.
 #[inline(never)]
 pub(crate) fn push_1000(alloc: Global, to_blob: bool, n: usize) -> Result<u64, AllocError> {

@@ -168,3 +168,31 @@ pub(crate) fn with_char(alloc: Global, n: usize) -> Result<u64, AllocError> {
     }
     Ok(sum)
 }
+
+/// Counts the characters of a thousand.
+#[inline(never)]
+pub(crate) fn char_count(alloc: Global, n: usize) -> Result<u64, AllocError> {
+    let texts = sixteen(alloc, 1000)?;
+    let mut sum = 0_u64;
+    for i in 0..n {
+        if let Some(text) = texts.get(i & 15) {
+            sum = sum.wrapping_add(text.char_count() as u64);
+        }
+    }
+    Ok(sum)
+}
+
+/// Reads the character in the middle of a thousand.
+#[inline(never)]
+pub(crate) fn char_at(alloc: Global, n: usize) -> Result<u64, AllocError> {
+    let texts = sixteen(alloc, 1000)?;
+    let mut sum = 0_u64;
+    for i in 0..n {
+        if let Some(text) = texts.get(i & 15) {
+            if let Some(character) = text.char_at(500) {
+                sum = sum.wrapping_add(u64::from(u32::from(character)));
+            }
+        }
+    }
+    Ok(sum)
+}

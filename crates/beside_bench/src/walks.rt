@@ -52,7 +52,7 @@ pub(crate) fn hash_ints(alloc: Global, n: usize) -> Result<u64, AllocError> {
 /// A map of ten maps of ten ints.
 #[inline(never)]
 pub(crate) fn hash_maps(alloc: Global, n: usize) -> Result<u64, AllocError> {
-    let keys = keys(alloc, 10)?;
+    let keys = keys(alloc, "key", 10)?;
     let mut outer = Map::new(alloc);
     for key in &keys {
         let inner = Dynamic::from_map(map_of(alloc, &keys)?);

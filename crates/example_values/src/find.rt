@@ -98,7 +98,7 @@ fn int_of(index: &Dynamic, store: &Store) -> Result<INT, FaultKind> {
 /// How many characters the held text has.
 fn characters_in(source: &Dynamic, store: &Store) -> usize {
     match source.as_immutable_string_ref(store) {
-        Ok(text) => text.as_str().chars().count(),
+        Ok(text) => text.char_count(),
         Err(_) => 0,
     }
 }

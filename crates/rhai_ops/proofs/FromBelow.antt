@@ -4,10 +4,10 @@ use Rattle.rhai_text.specs.declared.error.EvalAltResult.{EvalAltResult}
 use Rattle.rhai_value.specs.declared.store.Cell.{Cell}
 use Rattle.rhai_value.specs.declared.type_id.TypeId.{TypeId}
 use Rattle.rhai_value.specs.declared.type_id.TypeId.TheVariants as id
-use Rattle.rhai_value.specs.Kinds.{int_reads, blob_reads, array_reads}
-use Rattle.rhai_value.specs.Tree.{Tree, Trees, Content, node, leaf, branch, array, int, blob, made}
+use Rattle.rhai_value.specs.Kinds.{int_reads, blob_reads, array_reads, text_reads}
+use Rattle.rhai_value.specs.Tree.{Tree, Trees, Content, node, leaf, branch, array, int, blob, text, made}
 use Rattle.rhai_value.specs.Types.{typed_content}
-use Rattle.rhai_value.specs.Parts.{int_of, blob_of, array_of, with_content}
+use Rattle.rhai_value.specs.Parts.{int_of, blob_of, text_of, array_of, with_content}
 use Rattle.rhai_value.specs.End.{end, held_part, value_after, store_after}
 use Rattle.rhai_value.proofs.ForCallers.{held_over}
 use Rattle.rhai_ops.specs.Outcome.{IsOutcome, Outcome, answers, both}
@@ -49,6 +49,9 @@ same_int = record { kind = id.Int; reads = int_reads }
 
 pub same_blob : Same blob_of (λ bs. leaf (blob bs))
 same_blob = record { kind = id.Blob; reads = blob_reads }
+
+pub same_text : Same text_of (λ v. leaf (text v))
+same_text = record { kind = id.ImmutableString; reads = text_reads }
 
 pub same_array : Same array_of (branch array)
 same_array = record { kind = id.Array; reads = array_reads }

@@ -6,7 +6,8 @@ pub mod Found
 pub mod ForCallers
 pub mod FromBelow
 pub mod Items
-pub mod Labels
+pub mod Joined
+mod Labels
 pub mod Lengths
 pub mod Lines
 pub mod Orders

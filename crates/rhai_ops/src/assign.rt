@@ -1,12 +1,12 @@
 //! Assignments that write what their operators answer.
-ghost use Rattle.std.specs.Prelude.{◌≡◌, ◌++◌, ◌∷◌, [], Ok, IsTrue};
+ghost use Rattle.std.specs.Prelude.{◌≡◌, ◌∷◌, [], Ok, IsTrue};
 ghost use Rattle.rhai_text.specs.Text.{minus, minus_char};
 ghost use Rattle.rhai_value.specs.End.{end, value_after, store_after};
 ghost use Rattle.rhai_value.specs.Parts.{bool_of, char_of, text_of};
 ghost use Rattle.rhai_value.specs.Tree.{fresh, text, unit};
 ghost use Rattle.rhai_ops.specs.Numbers.{both_bits};
-ghost use Rattle.rhai_ops.specs.Outcome.{answers, bool_answer, both, limited_text};
-ghost use Rattle.rhai_ops.specs.Results.{Holds, joined_texts, joined_to_char, part as part_in};
+ghost use Rattle.rhai_ops.specs.Outcome.{answers, bool_answer, both};
+ghost use Rattle.rhai_ops.specs.Results.{Holds, joined_to_char, part as part_in};
 ghost use Rattle.rhai_ops.specs.Tokens as asked;
 ghost use Rattle.rhai_ops.specs.Tokens.{is_bits_assignment};
 ghost use Rattle.rhai_ops.specs.Effects.{IsAssigned, rewritten};
@@ -59,27 +59,6 @@ pub(crate) fn two_chars(
     )
 }
 
-/// A text behind a text.
-#[inline(never)]
-#[tactic(auto, using(crate::proofs::Effects::still_answer))]
-pub(crate) fn text_and_text(
-    alloc: Global,
-    store: &mut Store,
-    limits: &Limits,
-    left: &mut Dynamic,
-    right: &Dynamic,
-) -> Result<Dynamic, EvalAltResult>
-    requires first { Holds text_of store.old left.old }
-    requires second { Holds text_of store.old right.now }
-    ensures { IsAssigned (Unit {0}) result (both (joined_texts limits.now) (part_in text_of store.old left.old) (part_in text_of store.old right.now)) left.old left.new store.old store.new }
-{
-    put(
-        texts::append(alloc, limits, store, left, right)?,
-        store,
-        left,
-    )
-}
-
 /// The occurrences of a text out of a text.
 #[inline(never)]
 #[tactic(auto, using(crate::proofs::Effects::still_answer))]
@@ -94,27 +73,6 @@ pub(crate) fn text_minus_text(
     ensures { IsAssigned (Unit {0}) result (both (λ v w. answers (fresh (text (minus v w)))) (part_in text_of store.old left.old) (part_in text_of store.old right.now)) left.old left.new store.old store.new }
 {
     put(texts::minus(alloc, store, left, right)?, store, left)
-}
-
-/// A character behind a text.
-#[inline(never)]
-#[tactic(auto, using(crate::proofs::Effects::still_answer))]
-pub(crate) fn text_and_char(
-    alloc: Global,
-    store: &mut Store,
-    limits: &Limits,
-    left: &mut Dynamic,
-    right: &Dynamic,
-) -> Result<Dynamic, EvalAltResult>
-    requires first { Holds text_of store.old left.old }
-    requires second { Holds char_of store.old right.now }
-    ensures { IsAssigned (Unit {0}) result (both (λ v d. limited_text limits.now (v ++ (d ∷ []))) (part_in text_of store.old left.old) (part_in char_of store.old right.now)) left.old left.new store.old store.new }
-{
-    put(
-        texts::join_char(alloc, limits, store, left, right)?,
-        store,
-        left,
-    )
 }
 
 /// A character out of a text.

@@ -9,7 +9,7 @@ ghost use Rattle.rhai_value.specs.Tree.{Tree, TakesNoMemory, copy};
 use crate::answer::{part, value};
 use crate::builtin::FnBuiltin;
 use crate::operand_kind::{own_int, own_text};
-use crate::{assign, blobs, bools, chars, ints, push, ranges, texts};
+use crate::{assign, blobs, bools, chars, grow, ints, push, ranges, texts};
 use rhai_text::{EvalAltResult, ImmutableString, Limits};
 use rhai_value::{Dynamic, INT, Store};
 use std::alloc::Global;
@@ -103,11 +103,11 @@ impl FnBuiltin {
             FnBuiltin::IntAssign(t) => ints::assign(t, store, left, right),
             FnBuiltin::BoolAssign(t) => assign::bits(t, store, left, right),
             FnBuiltin::CharJoinAssign => assign::two_chars(alloc, store, left, right),
-            FnBuiltin::TextJoinAssign => assign::text_and_text(alloc, store, limits, left, right),
+            FnBuiltin::TextJoinAssign => grow::text_and_text(alloc, store, limits, left, right),
             FnBuiltin::TextMinusAssign => assign::text_minus_text(alloc, store, left, right),
             FnBuiltin::ArrayAppend => push::append_items(alloc, limits, store, left, right),
             FnBuiltin::BlobAppend => push::append_blob(alloc, limits, store, left, right),
-            FnBuiltin::TextCharAssign => assign::text_and_char(alloc, store, limits, left, right),
+            FnBuiltin::TextCharAssign => grow::text_and_char(alloc, store, limits, left, right),
             FnBuiltin::TextMinusCharAssign => assign::text_minus_char(alloc, store, left, right),
             FnBuiltin::CharTextAssign => assign::char_and_text(alloc, store, limits, left, right),
             FnBuiltin::ArrayPush => push::push_item(limits, store, left, right),

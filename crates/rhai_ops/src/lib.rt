@@ -10,6 +10,7 @@ mod builtin;
 mod call;
 mod chars;
 mod compare;
+mod grow;
 mod ints;
 pub mod laws;
 mod lookup;

@@ -5,7 +5,7 @@ ghost use Rattle.rhai_value.specs.Parts.{char_of, text_of};
 ghost use Rattle.rhai_value.specs.Tree.{fresh, text as a_text};
 ghost use Rattle.rhai_ops.specs.Numbers as specs;
 ghost use Rattle.rhai_ops.specs.Outcome.{IsOutcome, answers, bool_answer, both, limited_text};
-ghost use Rattle.rhai_ops.specs.Results.{Holds, joined_texts, part as part_in, text_order};
+ghost use Rattle.rhai_ops.specs.Results.{Holds, part as part_in, text_order};
 ghost use Rattle.rhai_ops.specs.Tokens.{is_cmp};
 
 use crate::answer::{is_allowed, part, value};
@@ -45,29 +45,6 @@ fn joined(
         return Err(EvalAltResult::ErrorDataTooLarge(SizeKind::Text, Position::NONE));
     }
     Ok(Dynamic::from(a.concat(alloc, b.as_str())?))
-}
-
-/// A text behind a text. Beside an empty one no limit is tested.
-pub(crate) fn append(
-    alloc: Global,
-    limits: &Limits,
-    store: &Store,
-    left: &Dynamic,
-    right: &Dynamic,
-) -> Result<Dynamic, EvalAltResult>
-    requires first { Holds text_of store.now left.now }
-    requires second { Holds text_of store.now right.now }
-    ensures { IsOutcome (Unit {0}) result (both (joined_texts limits.now) (part_in text_of store.now left.now) (part_in text_of store.now right.now)) }
-{
-    let a = part::<ImmutableString>(left, store);
-    let b = part::<ImmutableString>(right, store);
-    if b.is_empty() {
-        return Ok(Dynamic::from(a.copy(alloc)?));
-    }
-    if a.is_empty() {
-        return Ok(Dynamic::from(b.copy(alloc)?));
-    }
-    joined(alloc, limits, a, b)
 }
 
 /// A text without the occurrences of a text.

@@ -121,7 +121,7 @@ pub fn mixin(map: &mut Map, other: Map) -> Result<(), AllocError>
     ensures err { OnErr result (IsPartly mixed map.old other map.new) }
 {
     for (key, value) in other {
-        match map.insert(key, value) {
+        match map.insert_key(key, value) {
             Ok(_) => {}
             Err(_) => return Err(AllocError),
         }
@@ -142,7 +142,7 @@ pub fn fill_with(map: &mut Map, other: Map) -> Result<(), AllocError>
         if map.contains_key(key.as_str()) {
             continue;
         }
-        match map.insert(key, value) {
+        match map.insert_key(key, value) {
             Ok(_) => {}
             Err(_) => return Err(AllocError),
         }

@@ -21,12 +21,12 @@ use rhai_value::{Array, Dynamic, INT};
 use std::alloc::{AllocError, Global};
 
 /// Counts the characters.
-/// Cost: the length of the text.
+/// Cost: constant for a text of ASCII, else its length.
 /// rhai: `len`.
 pub fn len(text: &ImmutableString) -> usize
     ensures { result ≡ length text.now }
 {
-    count(text.as_str())
+    text.char_count()
 }
 
 fn count(text: &str) -> usize

@@ -7,8 +7,6 @@ pub use Rattle.rhai_scope.proofs.SameEntries.{same_aliased, same_changed_if, sam
 pub use Rattle.rhai_scope.proofs.SameEntries.{same_copied, same_copies, same_extended, same_extended_flagged, same_extended_values, same_flagged_values, same_visible, same_zip}
 -- texts, bytes and items
 pub use Rattle.rhai_scope.proofs.SamePrints.{same_bytes, same_flat_values, same_names_text, same_shown_flat, same_shown_raw, same_text}
--- an entry that is found
-pub use Rattle.rhai_scope.proofs.Found.{position_within}
 -- an entry whose value changes where it stands, or that goes
 pub use Rattle.rhai_scope.proofs.MovedOut.{kept_there, length_changed, taken, value_changed, written_there}
 -- what calls of `next` of an iterator gave

@@ -1,6 +1,5 @@
 //! Parts of a source that are found by a whole number: read, worked on beside the source, and written back.
 ghost use Rattle.std.specs.Prelude.{◌≡◌, [], true, false, length, option_and_then, IfOk, OnOk, OnErr};
-ghost use Rattle.std.specs.Str.{chars};
 ghost use Rattle.rhai_value.specs.End.{end, end_name, held_part};
 ghost use Rattle.rhai_value.specs.Parts.{int_of, text_of, blob_of};
 ghost use Rattle.rhai_target.specs.Change.{value_changed, store_changed, IsAnswer};
@@ -8,11 +7,10 @@ ghost use Rattle.rhai_target.specs.Part.{IsRead, HasPlace, bit_part, field_part,
 
 use crate::bits::{bit_of, field_of};
 use crate::offset::calc_index;
-use crate::read::char_in;
 use crate::slice::{Slice, write_slice};
 use crate::target::Target;
 use crate::write_back::{write_bit, write_byte, write_char, write_field};
-use rhai_text::{EvalAltResult, Position};
+use rhai_text::{EvalAltResult, ImmutableString, Position};
 use rhai_value::{Dynamic, INT, Store};
 use std::alloc::{AllocError, Global};
 
@@ -129,20 +127,21 @@ impl ReadPart {
 
     /// Reads the character at that place of the held text. A negative place counts from the end.
     /// Errors: `Mismatch` for another type; `OutOfRange` where there is no such character.
-    /// Cost: the length of the text up to the character, and for a negative place all of it first; no memory.
+    /// Cost: constant for a text of ASCII, else the length of the text up to the character, and for a negative place all of it first; no
+    /// memory.
     /// rhai: a text indexed by an int.
     pub fn char_at(source: &Dynamic, store: &Store, index: INT) -> Result<ReadPart, NoPart>
         ensures read { IsRead (held_part text_of (end store.now [] source.now)) (end_name (end store.now [] source.now)) (char_part index) false result }
         ensures place { IfOk result (λ p. HasPlace store.now source.now p.place) }
     {
         let text = match source.as_immutable_string_ref(store) {
-            Ok(text) => text.as_str(),
+            Ok(text) => text,
             Err(found) => return Err(NoPart::Mismatch(found)),
         };
         let Some(place) = char_place(text, index) else {
             return Err(NoPart::OutOfRange);
         };
-        let Some(character) = char_in(text, place) else {
+        let Some(character) = text.char_at(place) else {
             return Err(NoPart::OutOfRange);
         };
         Ok(ReadPart {
@@ -270,19 +269,12 @@ impl<'a> Target<'a> {
 
 /// The place of a character in a text; a negative one counts from the end, for which the characters are counted. A place past the end is
 /// answered as it is.
-fn char_place(text: &str, index: INT) -> Option<usize>
-    ensures { option_and_then (char_read (chars text.now)) result ≡ char_part index (chars text.now) }
+fn char_place(text: &ImmutableString, index: INT) -> Option<usize>
+    ensures { option_and_then (char_read text.now) result ≡ char_part index text.now }
 {
     if index < 0 {
-        calc_index(count_chars(text), index, true)
+        calc_index(text.char_count(), index, true)
     } else {
         Some(index.unsigned_abs() as usize)
     }
-}
-
-/// How many characters a text has.
-fn count_chars(text: &str) -> usize
-    ensures { result ≡ length (chars text.now) }
-{
-    text.chars().count()
 }

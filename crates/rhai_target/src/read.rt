@@ -1,7 +1,6 @@
 //! Reads of a part of what a source holds, under the conditions of the write-back of that part, and by the terms of its laws. Each finds
 //! the end of the source's chain once.
 ghost use Rattle.std.specs.Prelude.{◌≡◌, ◌<◌, [], true, length, is_some, slice_get, option_and_then, option_map, IfOk, MatchOption, Some};
-ghost use Rattle.std.specs.Str.{chars};
 ghost use Rattle.rhai_value.specs.End.{end, held_part};
 ghost use Rattle.rhai_value.specs.Parts.{int_of, text_of, blob_of};
 ghost use Rattle.rhai_target.specs.Bits.{bit as bit_in, field};
@@ -47,18 +46,18 @@ pub fn read_byte(source: &Dynamic, store: &Store, index: usize) -> u8
 }
 
 /// Reads one character of the held text: what `write_char` writes; `None` past the end of the text.
-/// Cost: the length of the text up to that character; no memory.
+/// Cost: constant for a text of ASCII, else the length of the text up to that character; no memory.
 pub fn read_char(source: &Dynamic, store: &Store, index: usize) -> Option<char>
     requires { is_some (held_part text_of (end store.now [] source.now)) ≡ true }
     ensures { option_and_then (λ cs. slice_get cs index) (held_part text_of (end store.now [] source.now)) ≡ result }
 {
     let text = source.known_part::<ImmutableString>(store);
-    char_in(text.as_str(), index)
+    text.char_at(index)
 }
 
 /// Reads the characters of the held text that `write_slice` replaces; none where the slice ends before it starts.
 /// Errors: memory for the new text is refused.
-/// Cost: the length of the text up to the end of the slice; memory for one new text.
+/// Cost: that of `ImmutableString::slice`; memory for one new text.
 pub fn read_slice(
     alloc: Global,
     source: &Dynamic,
@@ -70,11 +69,4 @@ pub fn read_slice(
 {
     let text = source.known_part::<ImmutableString>(store);
     text.slice(alloc, slice.start, slice.end, slice.exclusive)
-}
-
-/// The character at that place, counted in characters.
-pub(crate) fn char_in(text: &str, index: usize) -> Option<char>
-    ensures { slice_get (chars text.now) index ≡ result }
-{
-    text.chars().nth(index)
 }

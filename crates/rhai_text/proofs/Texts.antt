@@ -1,13 +1,34 @@
 -- The characters of texts that are put together or cut.
 use Rattle.std.proofs.Common.{◌≡◌, ℕ, ◌+◌, ◌-◌, ◌≤◌, suc, List, [], ◌∷◌, ◌++◌, length, take, drop, set, sym, ◌∙◌, ap, subst, add-one, arith, length-append, length-drop}
 use Rattle.std.proofs.lemmas.List.{append-nil, take-append-drop, drop-drop, drop_all, set_split, take_at, drop_at}
-use Rattle.std.proofs.lemmas.Str.{chars-append, chars_from_encodes, cons_from_encodes, encodes-append, encodes-chars, length-le-encodes, IsUtf8-take, IsCharBoundary-at_seam}
+use Rattle.std.proofs.lemmas.Str.{chars-append, chars_from_encodes, cons_from_encodes, encodes-append, encodes-chars, length-le-encodes, IsUtf8-from_ascii, chars-IsAscii, encodes-IsAscii, IsAscii-drop, IsUtf8-take, IsCharBoundary-at_seam}
 use Rattle.std.specs.Char.{encode_utf8}
-use Rattle.std.specs.Str.{chars, encode_utf8_all, IsUtf8, IsCharBoundary}
+use Rattle.std.specs.Str.{chars, encode_utf8_all, IsAscii, IsUtf8, IsCharBoundary}
 
--- three texts in a row
+-- two texts in a row, and three
+pub chars_two : (xs ys : List ℕ) → IsUtf8 xs → chars (xs ++ ys) ≡ chars xs ++ chars ys
+chars_two = chars-append
+
 pub chars-three : (xs ys zs : List ℕ) → IsUtf8 xs → IsUtf8 ys → chars (xs ++ (ys ++ zs)) ≡ chars xs ++ (chars ys ++ chars zs)
 chars-three xs ys zs u v = chars-append xs (ys ++ zs) u ∙ ap (λ cs. chars xs ++ cs) (chars-append ys zs v)
+
+-- the bytes of a text that are ASCII encode its characters, and are these
+pub ascii_encodes : (bs cs : List ℕ) → chars bs ≡ cs → IsAscii bs → IsAscii (encode_utf8_all cs)
+ascii_encodes bs cs e a = subst IsAscii (sym (encodes-chars bs (IsUtf8-from_ascii bs a)) ∙ ap encode_utf8_all e) a
+
+pub ascii_is : (bs cs : List ℕ) → chars bs ≡ cs → bs ≡ encode_utf8_all cs → IsAscii (encode_utf8_all cs) → bs ≡ cs
+ascii_is bs cs e f a = sym (chars-IsAscii bs (subst IsAscii (sym f) a)) ∙ e
+
+-- what is left of a text of ASCII
+module _ (text : List ℕ) (n : ℕ) (a : IsAscii text) where
+  pub drop_encodes : drop n text ≡ encode_utf8_all (drop n (chars text))
+  drop_encodes = sym (encodes-IsAscii (drop n text) (IsAscii-drop text n a)) ∙ ap (λ bs. encode_utf8_all (drop n bs)) (sym (chars-IsAscii text a))
+
+  pub nothing_encodes : length text ≤ n → [] ≡ encode_utf8_all (drop n (chars text))
+  nothing_encodes h = sym (drop_all n text h) ∙ drop_encodes
+
+  pub IsAscii-rest : (rest : List ℕ) → rest ≡ encode_utf8_all (drop n (chars text)) → IsAscii rest
+  IsAscii-rest rest e = subst IsAscii (drop_encodes ∙ sym e) (IsAscii-drop text n a)
 
 -- one character on from what spells a text's characters from i on
 pub encodes-drop_next : (cs rest : List ℕ) (i c : ℕ) → encode_utf8_all (drop i cs) ≡ encode_utf8 c ++ rest → rest ≡ encode_utf8_all (drop (i + 1) cs)

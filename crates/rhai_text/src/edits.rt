@@ -1,10 +1,9 @@
 // The edits: each makes a new text of one, and fails only where memory for that is refused.
-ghost use Rattle.std.specs.Prelude.{◌≡◌, ◌+◌, ◌-◌, ◌++◌, if◌then◌else◌, IfOk, slice_set, take, drop};
-ghost use Rattle.std.specs.Str.{chars, encode_utf8_all};
+ghost use Rattle.std.specs.Prelude.{◌≡◌, ◌+◌, ◌-◌, ◌++◌, if◌then◌else◌, IfOk, IsTrue, slice_set, take, drop};
+ghost use Rattle.std.specs.Str.{chars, encode_utf8_all, IsAscii};
 ghost use Rattle.rhai_text.specs.Text.{minus, minus_char, slice_of, with_slice};
 
 use crate::immutable_string::ImmutableString;
-use crate::text_bytes::TextBytes;
 use std::alloc::{AllocError, Global};
 
 impl ImmutableString {
@@ -30,7 +29,7 @@ impl ImmutableString {
             return self.copy(alloc);
         }
         let text = self.as_str().replace(alloc, pattern, "")?;
-        ImmutableString::from_bytes(alloc, TextBytes::Long(text))
+        ImmutableString::from_string(alloc, text)
     }
 
     /// Takes each `character` out of this text.
@@ -44,7 +43,7 @@ impl ImmutableString {
         for run in self.as_str().split(character) {
             text.push_str(run)?;
         }
-        ImmutableString::from_bytes(alloc, TextBytes::Long(text))
+        ImmutableString::from_string(alloc, text)
     }
 
     /// Puts `character` in place of the one at `index`, counted in characters from 0; past the end it copies this text.
@@ -60,7 +59,7 @@ impl ImmutableString {
         ensures { IfOk result (λ t. t ≡ slice_set self.now index character) }
     {
         let text = self.as_str();
-        let (front, rest) = split_at_char(text, index);
+        let (front, rest) = split_at_char(text, index, self.is_ascii());
         let mut after = rest.chars();
         match after.next() {
             Some(_) => {}
@@ -87,14 +86,14 @@ impl ImmutableString {
     ) -> Result<ImmutableString, AllocError>
         ensures { IfOk result (λ t. t ≡ with_slice self.now start end exclusive (chars slice.now)) }
     {
-        let (front, back) = parts_around(self.as_str(), start, end, exclusive);
+        let (front, back) = parts_around(self.as_str(), start, end, exclusive, self.is_ascii());
         joined(alloc, front, slice, back)
     }
 
     /// Copies the characters from `start` to `end`, which is included unless `exclusive`: those that `with_slice` would
     /// replace. There are none where `end` lies before `start`.
     /// Errors: memory for the new text is refused.
-    /// Cost: the length of this text up to `end`; memory for the new one.
+    /// Cost: of a text of ASCII the length of the new one, else that of this text up to `end`; memory for the new one.
     /// rhai: a text indexed by a range.
     pub fn slice(
         &self,
@@ -105,7 +104,8 @@ impl ImmutableString {
     ) -> Result<ImmutableString, AllocError>
         ensures { IfOk result (λ t. t ≡ slice_of self.now start end exclusive) }
     {
-        ImmutableString::from_str(alloc, part_between(self.as_str(), start, end, exclusive))
+        let part = part_between(self.as_str(), start, end, exclusive, self.is_ascii());
+        ImmutableString::from_str(alloc, part)
     }
 }
 
@@ -122,58 +122,73 @@ fn joined(
     ImmutableString::of_three(alloc, front, middle, back)
 }
 
-// The first `count` characters of the text, or all where it has fewer, and the rest.
-fn split_at_char(text: &str, count: usize) -> (&str, &str)
+// The first `count` characters of the text, or all where it has fewer, and the rest. This and the next four take characters for bytes where
+// the text is known to be ASCII.
+fn split_at_char(text: &str, count: usize, is_ascii: bool) -> (&str, &str)
+    requires { IsTrue is_ascii → IsAscii text.now }
     ensures front { chars result.0.now ≡ take count (chars text.now) }
     ensures back { chars result.1.now ≡ drop count (chars text.now) }
     ensures back_bytes { result.1.now ≡ encode_utf8_all (drop count (chars text.now)) }
 {
-    let back = skip_chars(text, count);
+    let back = skip_chars(text, count, is_ascii);
     text.split_at(text.len() - back.len())
 }
 
 // What stands before `start`, and what stands from `end` on, or from after the character there unless `exclusive`.
-fn parts_around(text: &str, start: usize, end: usize, exclusive: bool) -> (&str, &str)
+fn parts_around(
+    text: &str,
+    start: usize,
+    end: usize,
+    exclusive: bool,
+    is_ascii: bool,
+) -> (&str, &str)
+    requires { IsTrue is_ascii → IsAscii text.now }
     ensures front { chars result.0.now ≡ take start (chars text.now) }
     ensures back { chars result.1.now ≡ drop (if exclusive then end else end + 1) (chars text.now) }
 {
-    let (front, rest) = split_at_char(text, start);
+    let (front, rest) = split_at_char(text, start, is_ascii);
     if start <= end {
-        (front, text_after(rest, end - start, exclusive))
+        (front, text_after(rest, end - start, exclusive, is_ascii))
     } else {
-        (front, text_after(text, end, exclusive))
+        (front, text_after(text, end, exclusive, is_ascii))
     }
 }
 
 // The characters from `start` to `end`, or to after the one there unless `exclusive`.
-fn part_between(text: &str, start: usize, end: usize, exclusive: bool) -> &str
+fn part_between(text: &str, start: usize, end: usize, exclusive: bool, is_ascii: bool) -> &str
+    requires { IsTrue is_ascii → IsAscii text.now }
     ensures { chars result.now ≡ slice_of (chars text.now) start end exclusive }
 {
     if end < start {
         return "";
     }
-    let rest = skip_chars(text, start);
-    let after = text_after(rest, end - start, exclusive);
+    let rest = skip_chars(text, start, is_ascii);
+    let after = text_after(rest, end - start, exclusive, is_ascii);
     rest.split_at(rest.len() - after.len()).0
 }
 
 // The text from `end` on, or from after the character there unless `exclusive`.
-fn text_after(text: &str, end: usize, exclusive: bool) -> &str
+fn text_after(text: &str, end: usize, exclusive: bool, is_ascii: bool) -> &str
+    requires { IsTrue is_ascii → IsAscii text.now }
     ensures characters { chars result.now ≡ drop (if exclusive then end else end + 1) (chars text.now) }
     ensures bytes { result.now ≡ encode_utf8_all (drop (if exclusive then end else end + 1) (chars text.now)) }
 {
-    let from_end = skip_chars(text, end);
+    let from_end = skip_chars(text, end, is_ascii);
     if exclusive {
         from_end
     } else {
-        skip_chars(from_end, 1)
+        skip_chars(from_end, 1, is_ascii)
     }
 }
 
 // The text from after its first `count` characters on.
-fn skip_chars(text: &str, count: usize) -> &str
+fn skip_chars(text: &str, count: usize, is_ascii: bool) -> &str
+    requires { IsTrue is_ascii → IsAscii text.now }
     ensures { result.now ≡ encode_utf8_all (drop count (chars text.now)) }
 {
+    if is_ascii {
+        return skip_bytes(text, count);
+    }
     let mut rest = text.chars();
     for _ in 0..count {
         match rest.next() {
@@ -182,4 +197,15 @@ fn skip_chars(text: &str, count: usize) -> &str
         }
     }
     rest.as_str()
+}
+
+// The text from after its first `count` bytes on, each of which is a character.
+fn skip_bytes(text: &str, count: usize) -> &str
+    requires { IsAscii text.now }
+    ensures { result.now ≡ encode_utf8_all (drop count (chars text.now)) }
+{
+    if text.len() <= count {
+        return "";
+    }
+    text.split_at(count).1
 }

@@ -1,14 +1,15 @@
-// A text that is never changed in place, its reads and its comparisons.
-ghost use Rattle.std.specs.Prelude.{◌≡◌, ◌↔◌, ◌++◌, [], length, IfOk, IsTrue, Some, nat_eq, refl};
+// A text whose copies share its bytes, its reads and its comparisons.
+ghost use Rattle.std.specs.Prelude.{◌≡◌, ◌↔◌, ◌++◌, [], length, IfOk, IsTrue, OnErr, OnOk, Some, nat_eq, refl, string_bytes};
 ghost use Rattle.std.specs.Cmp.{partial_equiv_from_equiv};
 ghost use Rattle.std.specs.Cmp.Lexicographic.{bytes_decides, pointwise, slice_cmp, nat_list_eq_equiv, nat_list_cmp_total, texts_po, texts_ties};
 ghost use Rattle.std.specs.Hash as fed;
 ghost use Rattle.std.specs.Ordering.{nat_cmp};
-ghost use Rattle.std.specs.Str.{chars, encode_utf8_all};
+ghost use Rattle.std.specs.Str.{chars, encode_utf8_all, IsAscii};
 ghost use Rattle.std.proofs.Common.{ap};
 ghost use Rattle.rhai_text.specs.Bytes.{text_bytes};
 
 use crate::bytes_order::{equal_texts, order_of_texts};
+use crate::long_text::LongText;
 use crate::text_bytes::{SHORT_BYTES, TextBytes};
 use arrayvec::ArrayString;
 use std::alloc::{AllocError, Global};
@@ -17,8 +18,8 @@ use std::hash::{Hash, Hasher};
 use std::marker::Model;
 use std::rc::Rc;
 
-/// A text that is never changed in place. Contracts see it as the list of its characters.
-/// It is one pointer wide, and its copies share their bytes.
+/// A text whose copies share its bytes: it is changed in place only where no copy sees it. Contracts see it as the list of its
+/// characters. It is one pointer wide.
 /// rhai: `ImmutableString`.
 #[derive(Drop)]
 pub struct ImmutableString {
@@ -45,6 +46,10 @@ impl ImmutableString {
         ensures characters { IfOk result (λ t. t ≡ chars text.now) }
         ensures bytes { IfOk result (λ t. encode_utf8_all t ≡ text.now) }
     {
+        if SHORT_BYTES < text.len() {
+            let long = String::from_str(alloc, text)?;
+            return ImmutableString::from_string(alloc, long);
+        }
         ImmutableString::of_three(alloc, text, "", "")
     }
 
@@ -77,17 +82,33 @@ impl ImmutableString {
         long.push_str(front)?;
         long.push_str(middle)?;
         long.push_str(back)?;
-        ImmutableString::from_bytes(alloc, TextBytes::Long(long))
+        ImmutableString::from_string(alloc, long)
     }
 
-    // The text of these bytes. It takes memory for a count of the copies, beside which few bytes stand.
-    pub(crate) fn from_bytes(alloc: Global, bytes: TextBytes) -> Result<ImmutableString, AllocError>
-        ensures { IfOk result (λ t. t ≡ chars (text_bytes bytes)) }
+    // The text of a `String`. It takes memory for a count of the copies.
+    pub(crate) fn from_string(alloc: Global, text: String) -> Result<ImmutableString, AllocError>
+        ensures { IfOk result (λ t. t ≡ chars (string_bytes text)) }
     {
-        match Rc::new(alloc, bytes) {
+        match Rc::new(alloc, TextBytes::Long(LongText::new(text))) {
             Ok(bytes) => Ok(ImmutableString { bytes }),
             Err(_) => Err(AllocError),
         }
+    }
+
+    /// Puts a text behind this one: where its bytes stand, if no copy shares them.
+    /// Errors: memory is refused, and the text is as it was.
+    /// Cost: the length of `more`, amortised, and memory where the room is used up; of a text that is shared, and of one of at most
+    /// 24 bytes that gets longer, the length of both, with memory for both.
+    /// rhai: `AddAssign<&str>` of `ImmutableString`.
+    pub fn push_str(&mut self, alloc: Global, more: &str) -> Result<(), AllocError>
+        ensures ok { OnOk result (self.new ≡ self.old ++ chars more.now) }
+        ensures err { OnErr result (self.new ≡ self.old) }
+    {
+        if let Some(own) = Rc::get_mut(&mut self.bytes) {
+            return own.push_str(alloc, more);
+        }
+        *self = self.concat(alloc, more)?;
+        Ok(())
     }
 
     /// Lends the text as a `&str`.
@@ -97,6 +118,14 @@ impl ImmutableString {
         ensures bytes { result.now ≡ encode_utf8_all self.now }
     {
         self.bytes.as_str()
+    }
+
+    // Whether each character is known to be one byte.
+    #[inline(always)]
+    pub(crate) fn is_ascii(&self) -> bool
+        ensures { IsTrue result → IsAscii (encode_utf8_all self.now) }
+    {
+        self.bytes.is_ascii()
     }
 
     /// Tells the length in UTF-8 bytes.

@@ -3,11 +3,13 @@
 #![tactic(auto)]
 
 mod bytes_order;
+mod characters;
 mod edits;
 mod error;
 mod immutable_string;
 pub mod laws;
 mod limits;
+mod long_text;
 mod position;
 mod quote;
 mod text_bytes;

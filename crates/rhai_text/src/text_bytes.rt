@@ -1,8 +1,11 @@
 // Where the bytes of a text stand.
-ghost use Rattle.std.specs.Prelude.{◌≡◌, ◌++◌, ◌+◌, ◌≤◌, length, IsTrue};
+ghost use Rattle.std.specs.Prelude.{◌≡◌, ◌++◌, ◌+◌, ◌≤◌, length, IsTrue, OnErr, OnOk};
+ghost use Rattle.std.specs.Str.{chars, IsAscii};
 ghost use Rattle.rhai_text.specs.Bytes.{text_bytes};
 
+use crate::long_text::LongText;
 use arrayvec::ArrayString;
+use std::alloc::{AllocError, Global};
 
 /// How many bytes a text has at the most that needs no second block of memory: a name mostly has fewer.
 pub(crate) const SHORT_BYTES: usize = 24;
@@ -11,7 +14,7 @@ pub(crate) const SHORT_BYTES: usize = 24;
 #[derive(Drop)]
 pub(crate) enum TextBytes {
     Short(ArrayString<SHORT_BYTES>),
-    Long(String),
+    Long(LongText),
 }
 
 impl TextBytes {
@@ -33,6 +36,41 @@ impl TextBytes {
         }
     }
 
+    /// Puts a text behind these bytes, where they stand: few bytes stay beside the count, more get a block that grows.
+    /// Errors: memory is refused, and the bytes are as they were.
+    #[tactic(auto, using(crate::proofs::Texts::chars_two))]
+    pub(crate) fn push_str(&mut self, alloc: Global, more: &str) -> Result<(), AllocError>
+        ensures ok { OnOk result (chars (text_bytes self.new) ≡ chars (text_bytes self.old) ++ chars more.now) }
+        ensures err { OnErr result (text_bytes self.new ≡ text_bytes self.old) }
+    {
+        let len = self.as_str().len();
+        match self {
+            TextBytes::Short(short) => {
+                if len.saturating_add(more.len()) <= SHORT_BYTES {
+                    short.push_str(more);
+                    return Ok(());
+                }
+                let mut long = String::with_capacity(alloc, room_for(len, more.len()))?;
+                long.push_str(short.as_str())?;
+                long.push_str(more)?;
+                *self = TextBytes::Long(LongText::new(long));
+                Ok(())
+            }
+            TextBytes::Long(long) => long.push_str(more),
+        }
+    }
+
+    /// Tells whether each character is known to be one byte. Of few bytes that isn't known: they are walked over as quickly.
+    #[inline(always)]
+    pub(crate) fn is_ascii(&self) -> bool
+        ensures { IsTrue result → IsAscii (text_bytes self.now) }
+    {
+        match self {
+            TextBytes::Short(_) => false,
+            TextBytes::Long(long) => long.is_ascii(),
+        }
+    }
+
     #[inline(always)]
     pub(crate) fn as_str(&self) -> &str
         ensures { result.now ≡ text_bytes self.now }
@@ -42,4 +80,9 @@ impl TextBytes {
             TextBytes::Long(long) => long.as_str(),
         }
     }
+}
+
+/// The bytes for which a text that grows gets room: twice those that it has, or all that it needs.
+fn room_for(len: usize, more: usize) -> usize {
+    len.saturating_mul(2).max(len.saturating_add(more))
 }

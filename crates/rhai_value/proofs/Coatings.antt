@@ -1,72 +1,108 @@
 -- The parts of a map that is being painted.
-use Rattle.std.proofs.Common.{◌≡◌, ℕ, zero, suc, ◌+◌, ◌<◌, Bool, true, false, cond, nat_eq, Option, Some, List, [], ◌∷◌, length, map, set, get_or, refl, ap, sym, ◌∙◌, arith}
-use Rattle.std.proofs.lemmas.List.{get_or_default}
-use Rattle.std.specs.declared.alloc.Global.{Global}
+use Rattle.std.proofs.Common.{◌≡◌, ℕ, zero, suc, ◌+◌, ◌<◌, Option, Some, List, [], ◌∷◌, ◌++◌, Global, length, take, drop, get_or, subst, refl, ap, ap₂, sym, ◌∙◌, arith}
+use Rattle.std.proofs.lemmas.List.{append_assoc}
 use Rattle.std.specs.declared.boxed.Box.{Box}
-use Rattle.rhai_value.specs.Coats.{slot_nodes, slots_nodes}
-use Rattle.rhai_value.specs.Falls.{same_nat}
+use Rattle.rhai_value.specs.Coats.{painted_past, painted_with, taken_seat, IsTaken}
+use Rattle.rhai_value.specs.Lists.{joined, rows_of, rows_in, lists_of, IsWhole, IsWholeIn}
 use Rattle.rhai_value.specs.Rows.{fields_of}
-use Rattle.rhai_value.specs.Slots.{KeySlot, rows, rows_in, tree_in, slot_at, is_named, is_taken, painted_slot, AreMatched, AreWhole, IsWhole, IsWholeIn}
-use Rattle.rhai_value.specs.Tree.{Tree, nodes, nodes_fields, paint_fields}
+use Rattle.rhai_value.specs.RowWalks.{painted_row, painted_rows}
+use Rattle.rhai_value.specs.Seats.{list_at, row_at, rows_before, rows_from, rows_past, IsOpen, IsSeated}
+use Rattle.rhai_value.specs.Tree.{Tree, fresh, unit, nodes, nodes_fields, paint, paint_fields}
 use Rattle.rhai_value.specs.declared.access_mode.AccessMode.{AccessMode}
 use Rattle.rhai_value.specs.declared.map.MapParts.{MapParts}
-use Rattle.rhai_value.specs.declared.map.Slot.{Slot}
-use Rattle.rhai_value.specs.declared.map.Slot.TheVariants.{Vacant, Taken}
+use Rattle.rhai_value.specs.declared.map_seat.Seat.{Seat}
 use Rattle.rhai_value.proofs.Paints.{fields_painted}
-use Rattle.rhai_value.proofs.Slots.{taken_below, rows_other, self_eq, taken_set, matched_taken}
+use Rattle.rhai_value.proofs.Seats.{rows_next, rows_split}
 
--- a slot that is emptied
-nodes_emptied : (ts : List Slot) (p : ℕ) → p < length ts → slots_nodes (set ts p (Vacant 0)) + slot_nodes (slot_at ts p) ≡ slots_nodes ts
-nodes_emptied [] p lt = absurd (omega arith)
-nodes_emptied (t ∷ ts) zero lt = omega arith
-nodes_emptied (t ∷ ts) (suc p) lt = omega (arith, nodes_emptied ts p (omega arith))
+abbrev start : Seat
+start = record { list = 0; at = 0 }
 
-none_taken : (ts : List Slot) → ((p : ℕ) → is_taken (slot_at ts p) ≡ false) → slots_nodes ts ≡ 0
-none_taken [] h = refl
-none_taken (Vacant next ∷ ts) h = omega (arith, none_taken ts (λ p. h (suc p)))
-none_taken (Taken t ∷ ts) h = let no : true ≡ false = h 0 in cc
-
-slot_tree : (s : Slot) → is_taken s ≡ true → slot_nodes s ≡ nodes (tree_in s)
-slot_tree (Vacant next) h = cc
-slot_tree (Taken t) h = refl
-
--- the slots have the nodes of the rows
-pub slots_rows : (es : List KeySlot) (ts : List Slot) → AreMatched es ts → slots_nodes ts ≡ nodes_fields (fields_of (rows es ts))
-slots_rows [] ts matched = none_taken ts matched.same
-slots_rows (e ∷ es) ts matched =
-    let taken : is_taken (slot_at ts e.1) ≡ true = matched.same e.1 ∙ rw (self_eq e.1) refl in
-    let lt = taken_below ts e.1 taken in
-    let less = set ts e.1 (Vacant 0) in
-    let later : AreMatched es less = record { apart = matched.apart.1; same = λ q. taken_set ts e.1 q (Vacant 0) lt ∙ left q (nat_eq q e.1) refl } in
-    let same : rows es less ≡ rows es ts = rows_other es ts e.1 (Vacant 0) lt matched.apart.0 in
-    let rest : slots_nodes less ≡ nodes_fields (fields_of (rows es ts)) = slots_rows es less later ∙ ap (λ rs. nodes_fields (fields_of rs)) same in
-    omega (arith, nodes_emptied ts e.1 lt, slot_tree (slot_at ts e.1) taken, rest)
-  where
-    left : (q : ℕ) (b : Bool) → nat_eq q e.1 ≡ b → cond b false (is_taken (slot_at ts q)) ≡ is_named q es
-    left q true is = rw (same_nat q e.1 is) (sym matched.apart.0)
-    left q false is = matched.same q ∙ rw is refl
-
--- where as many slots are taken as before, the parts are whole
-pub whole_kept : (es : List KeySlot) (ts us : List Slot) → ((p : ℕ) → is_taken (slot_at us p) ≡ is_taken (slot_at ts p)) → AreWhole es ts → AreWhole es us
-whole_kept es ts us same whole = record { matched = record { apart = whole.matched.apart; same = λ p. same p ∙ whole.matched.same p }; rising = whole.rising }
-
-pub taken_kept : (ts : List Slot) (p q : ℕ) (x : Tree) → is_taken (slot_at ts p) ≡ true → is_taken (slot_at (set ts p (Taken x)) q) ≡ is_taken (slot_at ts q)
-taken_kept ts p q x taken = taken_set ts p q (Taken x) (taken_below ts p taken) ∙ kept (nat_eq q p) refl
-  where
-    kept : (b : Bool) → nat_eq q p ≡ b → cond b true (is_taken (slot_at ts q)) ≡ is_taken (slot_at ts q)
-    kept true is = rw (same_nat q p is) (sym taken)
-    kept false is = refl
-
+-- nothing is painted yet
 pub opened_painted : (m : AccessMode) (o : Option (Box MapParts Global)) (b : Box MapParts Global) → Some b ≡ o → IsWholeIn o
-    → (fields_of (rows b.value.index.entries (map (painted_slot m) b.value.slots.items)) ≡ paint_fields m (fields_of (rows_in o))) × (slots_nodes b.value.slots.items ≡ nodes_fields (fields_of (rows_in o))) × IsWhole b.value
+    → (fields_of (painted_past m b.value start) ≡ paint_fields m (fields_of (rows_in o))) × (nodes_fields (fields_of (rows_from b.value start)) ≡ nodes_fields (fields_of (rows_in o))) × IsOpen b.value start × IsWhole b.value
 opened_painted m o b is whole =
     let w : IsWhole b.value = rw (sym is) at whole in
-    rw (sym is) (fields_painted m b.value.index.entries b.value.slots.items (matched_taken _ _ w.matched), slots_rows b.value.index.entries b.value.slots.items w.matched, w)
+    let all : rows_of b.value ≡ rows_from b.value start = rows_split b.value start (omega arith) in
+    rw (sym is) (ap (λ rs. fields_of (painted_rows m rs)) (sym all) ∙ fields_painted m (rows_of b.value), ap (λ rs. nodes_fields (fields_of rs)) (sym all), record { list = omega arith; within = omega arith }, w)
 
-pub slot_got : (ts : List Slot) (p : ℕ) (s : Slot) → p < length ts → s ≡ get_or ts p s → s ≡ slot_at ts p
-slot_got ts p s lt is = is ∙ get_or_default ts p s (Vacant 0) lt
+-- ---- a step
 
-pub set_same : (ts : List Slot) (p : ℕ) (s : Slot) → p < length ts → s ≡ get_or ts p s → set ts p s ≡ ts
-set_same [] p s lt is = absurd (omega arith)
-set_same (t ∷ ts) zero s lt is = ap (λ x. x ∷ ts) is
-set_same (t ∷ ts) (suc p) s lt is = ap (λ l. t ∷ l) (set_same ts p s (omega arith) is)
+taken_suc : {A : Type 0} (xs : List A) (i : ℕ) (d : A) → i < length xs → take (suc i) xs ≡ take i xs ++ get_or xs i d ∷ []
+taken_suc [] i d lt = absurd (omega arith)
+taken_suc (x ∷ xs) zero d lt = refl
+taken_suc (x ∷ xs) (suc i) d lt = ap (λ l. x ∷ l) (taken_suc xs i d (omega arith))
+
+-- two places of a list, one past the other
+pub record IsPast (s t : Seat) : Type 0 where
+  pub list : t.list ≡ s.list
+  pub at : t.at ≡ suc s.at
+
+module _ (p : MapParts) (s t : Seat) (n : IsPast s t) (h : IsSeated p s) where
+  pub past_open : IsOpen p t
+  past_open = record { list = subst (λ m. m < length (lists_of p)) (sym n.list) h.list; within = omega (arith, n.at, h.within, ap (λ m. length (list_at p m)) n.list) }
+
+  pub past_before : rows_before p t ≡ rows_before p s ++ row_at p s ∷ []
+  past_before =
+      ap₂ (λ m i. joined (take m (lists_of p)) ++ take i (list_at p m)) n.list n.at
+      ∙ ap (λ l. joined (take s.list (lists_of p)) ++ l) (taken_suc (list_at p s.list) s.at ([], fresh unit) h.within)
+      ∙ sym (append_assoc (joined (take s.list (lists_of p))) (take s.at (list_at p s.list)) (row_at p s ∷ []))
+
+  pub past_from : rows_from p t ≡ rows_past p s
+  past_from = ap₂ (λ m i. drop i (list_at p m) ++ joined (drop (suc m) (lists_of p))) n.list n.at
+
+abbrev seat : ℕ → ℕ → Seat
+seat n i = record { list = n; at = i }
+
+-- the place that was taken last
+pub taken_is : (s t : Seat) → IsPast s t → taken_seat t ≡ s
+taken_is s t n = ap₂ seat n.list (omega (arith, n.at))
+
+pub taken_past : (t : Seat) → 0 < t.at → IsPast (taken_seat t) t
+taken_past t some = record { list = refl; at = omega (arith, some) }
+
+-- the value at a place is painted, and what stands before and past it stays
+module _ (m : AccessMode) (p q : MapParts) (s t : Seat) (n : IsPast s t) (h : IsSeated p s) (g : IsSeated q s) (before : rows_before q s ≡ rows_before p s) (past : rows_past q s ≡ rows_past p s) where
+  pub coat_step : row_at q s ≡ painted_row m (row_at p s) → painted_past m q t ≡ painted_past m p s
+  coat_step row =
+      ap₂ (λ xs ys. xs ++ painted_rows m ys) (past_before q s t n g ∙ ap₂ (λ xs r. xs ++ r ∷ []) before row) (past_from q s t n g ∙ past)
+      ∙ append_assoc (rows_before p s) (painted_row m (row_at p s) ∷ []) (painted_rows m (rows_past p s))
+      ∙ ap (λ ys. rows_before p s ++ painted_rows m ys) (sym (rows_next p s h))
+
+  -- the same of a value that was taken and is under way
+  pub coat_taken : (x : Tree) → (row_at q s).0 ≡ (row_at p s).0 → x ≡ paint m (row_at p s).1 → painted_with m q t x ≡ painted_past m p s
+  coat_taken x key is =
+      ap (λ u. rows_before q u ++ ((row_at q u).0, x) ∷ painted_rows m (rows_from q t)) (taken_is s t n)
+      ∙ ap₂ (λ xs ys. xs ++ ((row_at q s).0, x) ∷ painted_rows m ys) before (past_from q s t n g ∙ past)
+      ∙ ap₂ (λ k y. rows_before p s ++ (k, y) ∷ painted_rows m (rows_past p s)) key is
+      ∙ ap (λ ys. rows_before p s ++ painted_rows m ys) (sym (rows_next p s h))
+
+  -- fewer are left
+  pub nodes_past : nodes_fields (fields_of (rows_from q t)) + nodes (row_at p s).1 ≡ nodes_fields (fields_of (rows_from p s))
+  nodes_past = omega (arith, ap (λ rs. nodes_fields (fields_of rs)) (past_from q s t n g ∙ past), ap (λ rs. nodes_fields (fields_of rs)) (rows_next p s h))
+
+  pub rows_fewer : length (rows_from q t) < length (rows_from p s)
+  rows_fewer = omega (arith, ap length (past_from q s t n g ∙ past), ap length (rows_next p s h))
+
+  pub still_taken : IsTaken q t
+  still_taken = (omega (arith, n.at), subst (IsSeated q) (sym (taken_is s t n)) g)
+
+-- what came of the value that was taken last is put back
+module _ (m : AccessMode) (p q : MapParts) (t : Seat) (taken : IsTaken p t) (g : IsSeated q (taken_seat t)) (x : Tree) (before : rows_before q (taken_seat t) ≡ rows_before p (taken_seat t))
+    (row : row_at q (taken_seat t) ≡ ((row_at p (taken_seat t)).0, x)) (past : rows_past q (taken_seat t) ≡ rows_past p (taken_seat t)) where
+  pub coat_added : painted_past m q t ≡ painted_with m p t x
+  coat_added =
+      let s = taken_seat t in
+      let n = taken_past t taken.0 in
+      ap₂ (λ xs ys. xs ++ painted_rows m ys) (past_before q s t n g ∙ ap₂ (λ xs r. xs ++ r ∷ []) before row) (past_from q s t n g ∙ past)
+      ∙ append_assoc (rows_before p s) (((row_at p s).0, x) ∷ []) (painted_rows m (rows_past p s))
+      ∙ ap (λ ys. rows_before p s ++ ((row_at p s).0, x) ∷ painted_rows m ys) (sym (past_from p s t n taken.1))
+
+  pub left_added : rows_from q t ≡ rows_from p t
+  left_added = let s = taken_seat t in let n = taken_past t taken.0 in past_from q s t n g ∙ past ∙ sym (past_from p s t n taken.1)
+
+  pub open_added : IsOpen q t
+  open_added = past_open q (taken_seat t) t (taken_past t taken.0) g
+
+-- all are painted
+pub painted_all : (m : AccessMode) (p : MapParts) (s : Seat) → IsOpen p s → rows_from p s ≡ [] → painted_past m p s ≡ rows_of p
+painted_all m p s h none = ap (λ l. rows_before p s ++ painted_rows m l) none ∙ sym (rows_split p s h.list ∙ ap (λ l. rows_before p s ++ l) none)

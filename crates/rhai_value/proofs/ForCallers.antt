@@ -38,7 +38,7 @@ pub use Rattle.rhai_value.proofs.SameWays.{chained, listed, same_way}
 -- the children that a list of items makes
 pub use Rattle.rhai_value.proofs.Items.{items_back}
 -- booleans
-pub use Rattle.rhai_value.proofs.Slots.{or_false}
+pub use Rattle.rhai_value.proofs.Flags.{or_false}
 -- the list of the cell numbers in a value
 pub use Rattle.rhai_value.proofs.CellNumbers.{cells_renumbered, each_in, each_of}
 -- flags, flags of lists one after the other, and rising numbers

@@ -1,19 +1,12 @@
 -- Scans: their equation, their steps through lists and maps, and scans that are the same up to the numbers of cells.
-use Rattle.std.proofs.Common.{◌≡◌, ℕ, zero, suc, ◌+◌, ◌-◌, ◌≤◌, ◌<◌, Bool, true, false, nat_eq, List, [], ◌∷◌, ◌++◌, length, set, get_or, cond, take, drop, append_assoc, add-one, refl, sym, ap, ap₂, ◌∙◌, arith}
+use Rattle.std.proofs.Common.{◌≡◌, ℕ, zero, suc, ◌+◌, ◌-◌, ◌≤◌, ◌<◌, List, [], ◌∷◌, ◌++◌, length, set, get_or, take, drop, append_assoc, add-one, refl, sym, ap, ap₂, ◌∙◌, arith}
 use Rattle.std.proofs.Math.ListN.{drop_of_length-le}
 use Rattle.std.proofs.Math.Seq.{drop-cons}
 use Rattle.std.proofs.lemmas.Grind.{take-set_at}
 use Rattle.std.proofs.lemmas.List.{append-nil, take_all, take_at}
-use Rattle.std.specs.Prelude.{string_bytes}
-use Rattle.std.specs.Str.{chars}
-use Rattle.rhai_value.specs.Falls.{same_nat}
-use Rattle.rhai_value.specs.Rows.{trees_of, fields_of}
-use Rattle.rhai_value.specs.declared.map.Slot.{Slot}
-use Rattle.rhai_value.specs.declared.map.Slot.TheVariants.{Vacant, Taken}
-use Rattle.rhai_value.specs.Slots.{KeySlot, rows, slot_at, tree_in, is_named, is_taken, AreApart, AreTaken}
-use Rattle.rhai_value.proofs.Slots.{or_false, taken_below, slot_read, slot_same, slot_other, taken_set, rows_other}
+use Rattle.rhai_value.specs.Rows.{trees_of}
 use Rattle.rhai_value.specs.Tree.{Tree, node, Content, leaf, branch, fields, holder, Trees, no_trees, tree_then, Fields, no_fields, field_then, nodes, nodes_content, nodes_trees, nodes_fields}
-use Rattle.rhai_value.specs.Scan.{Visiting, AddsNoNodes, tree_before, field_before, each_scanned, fields_scanned, content_scanned, children_scanned, scan_in, scan, slot_scanned}
+use Rattle.rhai_value.specs.Scan.{Visiting, AddsNoNodes, tree_before, field_before, each_scanned, fields_scanned, content_scanned, children_scanned, scan_in, scan}
 
 -- visits that agree on small values agree on what these hold
 module _ {S : Type 0} (f h : Visiting S) (n : ℕ) (same : (v : S) (t : Tree) → nodes t ≤ n → f v t ≡ h v t) where
@@ -66,10 +59,6 @@ module _ {S : Type 0} (f : Visiting S) (adds : AddsNoNodes f) where
 pub record OnThroughItems {S : Type 0} (f : Visiting S) (first now : S) (all : Trees) (done : List Tree) (rest : Trees) : Type 0 where
   pub ends : (w : S) (us : List Tree) → (w, trees_of us) ≡ each_scanned f now rest → (w, trees_of (done ++ us)) ≡ each_scanned f first all
 
--- A scan has come to these keys of a map: what it makes of the rest goes on to make the whole.
-pub record OnThroughRows {S : Type 0} (f : Visiting S) (first now : S) (keys rest : List KeySlot) (old new : List Slot) : Type 0 where
-  pub ends : (w : S) (us : List Slot) → ((p : ℕ) → is_named p rest ≡ false → slot_at us p ≡ slot_at new p) → (w, fields_of (rows rest us)) ≡ fields_scanned f now (fields_of (rows rest new)) → (w, fields_of (rows keys us)) ≡ fields_scanned f first (fields_of (rows keys old))
-
 settled : {A : Type 0} (xs ys : List A) (n : ℕ) → n ≡ length ys → length xs ≡ length ys → take n (xs ++ drop (length xs) ys) ≡ xs
 settled xs ys n e long =
     ap₂ (λ k zs. take k (xs ++ zs)) (e ∙ sym long) (drop_of_length-le ys (omega arith)) ∙ take_at xs [] (length xs) refl
@@ -86,10 +75,6 @@ pub nodes_drop : (xs : List Tree) (i : ℕ) → nodes_trees (trees_of (drop i xs
 nodes_drop xs zero = omega arith
 nodes_drop [] (suc i) = omega arith
 nodes_drop (x ∷ xs) (suc i) = omega (arith, nodes_drop xs i)
-
-taken_kept : (es : List KeySlot) (ts us : List Slot) → ((p : ℕ) → is_taken (slot_at us p) ≡ is_taken (slot_at ts p)) → AreTaken es ts → AreTaken es us
-taken_kept [] ts us same h = tt
-taken_kept (e ∷ es) ts us same h = (same e.1 ∙ h.0, taken_kept es ts us same h.1)
 
 abbrev head_or : {A : Type 0} → A → List A → A
 head_or a [] = a
@@ -129,61 +114,6 @@ module _ {S : Type 0} (f : Visiting S) (first now later : S) where
       let whole : take i xs ++ [] ≡ xs = append-nil (take i xs) ∙ take_all i xs le in
       ap (λ ys. (now, trees_of ys)) (settled xs old n e long ∙ sym whole) ∙ on.ends now [] (ap (λ ys. each_scanned f now (trees_of ys)) (sym none))
 
-  -- a slot that was scanned
-  slot_did : (s x : Slot) → is_taken s ≡ true → (later, x) ≡ slot_scanned f now s → ((later, tree_in x) ≡ f now (tree_in s)) × (is_taken x ≡ true)
-  slot_did (Vacant n) x t did = cc
-  slot_did (Taken t) x h did = (ap (λ y. (y.0, tree_in y.1)) did, ap (λ y. is_taken y.1) did)
-
-  -- the scan goes on by a key
-  module _ (keys rest es : List KeySlot) (e : KeySlot) (old new : List Slot) (x s : Slot) (on : OnThroughRows f first now keys rest old new) (is : rest ≡ e ∷ es) (apart : AreApart rest) (taken : AreTaken rest new) (found : s ≡ get_or new e.1 s) (did : (later, x) ≡ slot_scanned f now s) where
-    own_taken : is_taken (slot_at new e.1) ≡ true
-    own_taken = (rw is at taken).0
-
-    alone : is_named e.1 es ≡ false
-    alone = (rw is at apart).0
-
-    lt : e.1 < length new
-    lt = taken_below new e.1 own_taken
-
-    done : ((later, tree_in x) ≡ f now (tree_in (slot_at new e.1))) × (is_taken x ≡ true)
-    done = slot_did (slot_at new e.1) x own_taken (did ∙ ap (slot_scanned f now) (slot_read new e.1 s own_taken found))
-
-    pub rows_on : OnThroughRows f first later keys es old (set new e.1 x)
-    rows_on = record {
-      ends = λ w us away p.
-          let k = chars (string_bytes e.0) in
-          let here : slot_at us e.1 ≡ x = away e.1 alone ∙ slot_same new e.1 x lt in
-          let q : (w, fields_of (rows (e ∷ es) us)) ≡ fields_scanned f now (fields_of (rows (e ∷ es) new)) =
-          ap (λ y. (w, field_then k (tree_in y) (fields_of (rows es us)))) here
-          ∙ ap₂ (field_before k) done.0 (p ∙ ap (λ rs. fields_scanned f later (fields_of rs)) (rows_other es new e.1 x lt alone) ∙ ap (λ a. fields_scanned f a.0 (fields_of (rows es new))) done.0) in
-          on.ends w us (λ p h. let b = or_false (nat_eq p e.1) (is_named p es) (ap (is_named p) (sym is) ∙ h) in away p b.1 ∙ slot_other new e.1 p x lt b.0) (rw is q);
-    }
-
-    pub rows_kept : (p : ℕ) → is_taken (slot_at (set new e.1 x) p) ≡ is_taken (slot_at new p)
-    rows_kept p = taken_set new e.1 p x lt ∙ pick (nat_eq p e.1) refl
-      where
-        pick : (b : Bool) → nat_eq p e.1 ≡ b → cond b (is_taken x) (is_taken (slot_at new p)) ≡ is_taken (slot_at new p)
-        pick true same = done.1 ∙ sym own_taken ∙ ap (λ q. is_taken (slot_at new q)) (sym (same_nat p e.1 same))
-        pick false other = refl
-
-    pub rows_taken : AreTaken es (set new e.1 x)
-    rows_taken = taken_kept es new (set new e.1 x) rows_kept (rw is at taken).1
-
-    pub rows_apart : AreApart es
-    rows_apart = (rw is at apart).1
-
-    pub rows_fewer : nodes_fields (fields_of (rows es (set new e.1 x))) ≤ nodes_fields (fields_of (rows rest new))
-    rows_fewer = omega (arith, ap (λ rs. nodes_fields (fields_of rs)) (rows_other es new e.1 x lt alone), ap (λ rs. nodes_fields (fields_of (rows rs new))) is)
-
-    pub slot_nodes : nodes (tree_in s) ≤ nodes_fields (fields_of (rows rest new))
-    slot_nodes = omega (arith, ap (λ y. nodes (tree_in y)) (slot_read new e.1 s own_taken found), ap (λ rs. nodes_fields (fields_of (rows rs new))) is)
-
-  pub rows_end : (keys rest : List KeySlot) (old new : List Slot) → OnThroughRows f first now keys rest old new → rest ≡ [] → (now, fields_of (rows keys new)) ≡ fields_scanned f first (fields_of (rows keys old))
-  rows_end keys rest old new on is = on.ends now new (λ p h. refl) (rw is refl)
-
 -- a scan begins
-pub rows_start : {S : Type 0} (f : Visiting S) (first : S) (keys : List KeySlot) (old : List Slot) → OnThroughRows f first first keys keys old old
-rows_start f first keys old = record { ends = λ w us away p. p }
-
 pub items_start : {S : Type 0} (f : Visiting S) (first : S) (xs : List Tree) → OnThroughItems f first first (trees_of xs) [] (trees_of xs)
 items_start f first xs = record { ends = λ w us p. p }

@@ -2,7 +2,9 @@ pub mod Tree
 pub mod Code
 pub mod Copied
 pub mod Rows
-pub mod Slots
+pub mod Keys
+pub mod Lists
+pub mod Seats
 pub mod Parts
 pub mod Bytes
 pub mod View
@@ -24,6 +26,7 @@ pub mod Children
 pub mod ChildrenLeft
 pub mod Locked
 pub mod Scan
+pub mod RowWalks
 pub mod Hollow
 pub mod Reach
 pub mod Meetings

@@ -4,8 +4,6 @@ use Rattle.std.proofs.Common.{arith}
 use Rattle.rhai_value.specs.Tree.{Tree, node, Content, leaf, branch, fields, holder, Trees, no_trees, tree_then, Fields, no_fields, field_then, nodes, nodes_content, fresh, unit}
 use Rattle.rhai_value.specs.Parts.{with_content}
 use Rattle.rhai_value.specs.Relation.{Renaming, Related}
-use Rattle.rhai_value.specs.declared.map.Slot.{Slot}
-use Rattle.rhai_value.specs.declared.map.Slot.TheVariants.{Vacant, Taken}
 
 -- what a visit makes of the visitor and of a value
 abbrev pub Visiting : Type 0 → Type 0
@@ -54,11 +52,6 @@ scan f v t = scan_in f (nodes t) v t
 -- a visit makes the same of a visitor, and related values, of related values
 abbrev pub SameVisits : {S : Type 0} → Renaming → Visiting S → Type 0
 SameVisits {S} r f = (v : S) (t u : Tree) → Related r t u → ((f v t).0 ≡ (f v u).0) × Related r (f v t).1 (f v u).1
-
--- a slot of a map, whose value is scanned
-abbrev pub slot_scanned : {S : Type 0} → Visiting S → S → Slot → S × Slot
-slot_scanned f v (Vacant next) = (v, Vacant next)
-slot_scanned f v (Taken t) = ((f v t).0, Taken (f v t).1)
 
 -- a content without children in the place of another adds no nodes
 pub nodes_kept : (b : Bool) (c : Content) (t : Tree) → nodes_content c ≡ 0 → nodes (if b then with_content c t else t) ≤ nodes t

@@ -2,6 +2,7 @@
 
 use crate::dynamic::Dynamic;
 use crate::map::MapParts;
+use crate::map_seat::Seat;
 use crate::union::Tag;
 use std::alloc::Global;
 
@@ -9,7 +10,7 @@ use std::alloc::Global;
 #[derive(Drop)]
 pub(crate) enum Coat {
     Array(Tag, CoatedItems),
-    Fields(Tag, CoatedSlots),
+    Fields(Tag, CoatedFields),
 }
 
 /// The items of an array, and how many of these were taken to be painted.
@@ -19,10 +20,10 @@ pub(crate) struct CoatedItems {
     pub(crate) next: usize,
 }
 
-/// The parts of a map, and how many of the slots were taken to be painted.
+/// The parts of a map, and the place up to which the entries were taken to be painted.
 #[derive(Drop)]
-pub(crate) struct CoatedSlots {
+pub(crate) struct CoatedFields {
     pub(crate) parts: Box<MapParts>,
     pub(crate) alloc: Global,
-    pub(crate) next: usize,
+    pub(crate) next: Seat,
 }

@@ -1,7 +1,8 @@
 //! Deep copies.
 ghost use Rattle.std.specs.Prelude.{◌≡◌, ◌<◌, vec_len, vec_capacity, ◌++◌, ◌∷◌, [], if◌then◌else◌, IfOk, IsOk, map};
+ghost use Rattle.rhai_value.specs.RowWalks.{chunk_view, copied_chunk};
+ghost use Rattle.rhai_value.specs.Lists.{rows, rows_of, IsWhole};
 ghost use Rattle.rhai_value.specs.Rows.{copied_rows};
-ghost use Rattle.rhai_value.specs.Slots.{AreTaken, IsWhole, rows, rows_of, copied_slot};
 ghost use Rattle.rhai_value.specs.Tree.{TakesNoMemory, copy};
 ghost use Rattle.rhai_value.specs.View.{tree_of};
 
@@ -9,20 +10,17 @@ use crate::access_mode::AccessMode;
 use crate::copy_far::copied_far;
 use crate::dynamic::Dynamic;
 use crate::fn_ptr::FnPtr;
-use crate::map::{Map, MapParts, Slot};
-use crate::map_key::MapKey;
-use crate::map_parts::value_at;
+use crate::map::{Chunk, Entry, Map, MapParts};
 use crate::near::NEAR;
 use crate::union::Union;
 use std::alloc::{AllocError, Global};
-use std::collections::BTreeMap;
 
 impl Dynamic {
     /// Copies the value with all that it holds, every mode being ReadWrite; the copy of a holder names the same cell.
     /// Errors: memory is refused; what was copied so far is gone.
-    /// Cost: the number of values inside, of bytes in blobs, and of slots in maps; texts share their bytes. Memory is asked
-    /// once for each array, blob and map, and for a list below the 64th level. The keys of a map there, or of which more
-    /// than half of the slots are vacant, are inserted one by one.
+    /// Cost: the number of values inside, and of bytes in blobs; texts share their bytes. Memory is asked once for each array,
+    /// blob, list of a map and key of more than 30 bytes, and for a list below the 64th level. The keys of a map there are
+    /// inserted one by one.
     /// rhai: `Clone` of `Dynamic`.
     // Inlined, the kinds that are copied most often are made where the caller wants them.
     #[inline(always)]
@@ -190,10 +188,6 @@ pub(crate) fn copied_map(map: &Map, alloc: Global, levels: u32) -> Result<Map, A
         None => Ok(Map::new(alloc)),
         Some(parts) => {
             let parts: &MapParts = parts;
-            // a map with few keys for its slots is copied without those that are vacant
-            if parts.slots.len() / 2 > parts.index.len() {
-                return copied_entries(&parts.index, &parts.slots, alloc, levels);
-            }
             let parts = Box::new(alloc, copied_parts(parts, alloc, levels)?)?;
             Ok(Map {
                 parts: Some(parts),
@@ -203,108 +197,56 @@ pub(crate) fn copied_map(map: &Map, alloc: Global, levels: u32) -> Result<Map, A
     }
 }
 
-// The index as a whole, and the slots one by one.
+// List by list.
 #[cycle(copy)]
 fn copied_parts(parts: &MapParts, alloc: Global, levels: u32) -> Result<MapParts, AllocError>
     requires { IsWhole parts.now }
     ensures rows { IfOk result (λ p. rows_of p ≡ copied_rows (rows_of parts.now)) }
     ensures whole { IfOk result (λ p. IsWhole p) }
 {
-    let index = parts.index.clone()?;
-    let slots = copied_slots(&parts.slots, alloc, levels)?;
+    let first = copied_entries(&parts.first, alloc, levels)?;
+    let rest = copied_chunks(&parts.rest, alloc, levels)?;
     Ok(MapParts {
-        index,
-        slots,
-        vacant: parts.vacant,
+        first,
+        rest,
+        len: parts.len,
     })
 }
 
 #[cycle(copy)]
-fn copied_slots(slots: &Vec<Slot>, alloc: Global, levels: u32) -> Result<Vec<Slot>, AllocError>
-    ensures { IfOk result (λ v. v.items ≡ map copied_slot slots.now.items) }
+fn copied_chunks(rest: &Vec<Chunk>, alloc: Global, levels: u32) -> Result<Vec<Chunk>, AllocError>
+    ensures { IfOk result (λ v. map chunk_view v.items ≡ map copied_chunk (map chunk_view rest.now.items)) }
 {
-    let mut copies = Vec::with_capacity(alloc, slots.len())?;
-    for slot in slots {
-        if !push_short_slot(&mut copies, slot, alloc)? {
-            copies.push_reserved(slot_copy(slot, alloc, levels)?);
-        }
+    let mut copies = Vec::with_capacity(alloc, rest.len())?;
+    for chunk in rest {
+        let entries = copied_entries(&chunk.entries, alloc, levels)?;
+        copies.push_reserved(Chunk {
+            front: chunk.front,
+            entries,
+        });
     }
     Ok(copies)
 }
 
-// Adds the copy of what the slots of maps hold most often, as `push_short` does for arrays.
-#[inline(always)]
-fn push_short_slot(copies: &mut Vec<Slot>, slot: &Slot, alloc: Global) -> Result<bool, AllocError>
-    requires { vec_len copies.old < vec_capacity copies.old }
-    ensures room { vec_capacity copies.new ≡ vec_capacity copies.old }
-    ensures copied { IfOk result (λ done. copies.new.items ≡ (if done then copies.old.items ++ copied_slot slot.now ∷ [] else copies.old.items)) }
-{
-    let Slot::Taken(value) = slot else {
-        return Ok(false);
-    };
-    let mode = AccessMode::ReadWrite;
-    match &value.union {
-        Union::Int(tag, _, value) => {
-            let union = Union::Int(*tag, mode, *value);
-            copies.push_reserved(Slot::Taken(Dynamic { union }));
-            Ok(true)
-        }
-        Union::Str(tag, _, text) => {
-            let union = Union::Str(*tag, mode, text.copy(alloc)?);
-            copies.push_reserved(Slot::Taken(Dynamic { union }));
-            Ok(true)
-        }
-        Union::Bool(tag, _, value) => {
-            let union = Union::Bool(*tag, mode, *value);
-            copies.push_reserved(Slot::Taken(Dynamic { union }));
-            Ok(true)
-        }
-        Union::Shared(tag, _, cell) => {
-            let union = Union::Shared(*tag, mode, *cell);
-            copies.push_reserved(Slot::Taken(Dynamic { union }));
-            Ok(true)
-        }
-        Union::Unit(_, _, _)
-        | Union::Char(_, _, _)
-        | Union::Array(_, _, _)
-        | Union::Blob(_, _, _)
-        | Union::Map(_, _, _)
-        | Union::FnPtr(_, _, _)
-        | Union::Variant(_, _, _) => Ok(false),
-    }
-}
-
-#[cycle(copy)]
-fn slot_copy(slot: &Slot, alloc: Global, levels: u32) -> Result<Slot, AllocError>
-    ensures { IfOk result (λ s. s ≡ copied_slot slot.now) }
-{
-    match slot {
-        Slot::Vacant(next) => Ok(Slot::Vacant(*next)),
-        Slot::Taken(value) => Ok(Slot::Taken(copied(value, alloc, levels)?)),
-    }
-}
-
-// Inserts the keys in their order, so that each goes last.
+// Ints, which the lists of maps hold most often, are copied where they go.
 #[cycle(copy)]
 fn copied_entries(
-    index: &BTreeMap<MapKey, usize>,
-    slots: &Vec<Slot>,
+    entries: &Vec<Entry>,
     alloc: Global,
     levels: u32,
-) -> Result<Map, AllocError>
-    requires { AreTaken index.now.entries slots.now.items }
-    ensures { IfOk result (λ m. m ≡ copied_rows (rows index.now.entries slots.now.items)) }
+) -> Result<Vec<Entry>, AllocError>
+    ensures { IfOk result (λ v. rows v.items ≡ copied_rows (rows entries.now.items)) }
 {
-    let mut copies = Map::new(alloc);
-    for (key, number) in index.iter() {
-        let key = String::from_str(alloc, key.as_str())?;
-        let value = copied(value_at(slots, *number), alloc, levels)?;
-        match copies.insert(key, value) {
-            Ok(old) => drop(old),
-            Err(back) => {
-                drop(back);
-                return Err(AllocError);
-            }
+    let mut copies = Vec::with_capacity(alloc, entries.len())?;
+    for entry in entries {
+        let key = entry.key.copy()?;
+        if let Union::Int(tag, _, n) = &entry.value.union {
+            let union = Union::Int(*tag, AccessMode::ReadWrite, *n);
+            let value = Dynamic { union };
+            copies.push_reserved(Entry { key, value });
+        } else {
+            let value = copied(&entry.value, alloc, levels)?;
+            copies.push_reserved(Entry { key, value });
         }
     }
     Ok(copies)

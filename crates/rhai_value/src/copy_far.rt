@@ -83,7 +83,7 @@ fn fields_step<'a>(
 {
     while let Some((key, value)) = fields.rest.next() {
         match opened(&value.union, alloc)? {
-            Ok(union) => insert_copy(&mut fields.done, key, Dynamic { union }, alloc)?,
+            Ok(union) => insert_copy(&mut fields.done, key, Dynamic { union })?,
             Err(level) => {
                 fields.key = key;
                 return Ok(Some(level));
@@ -93,11 +93,10 @@ fn fields_step<'a>(
     Ok(None)
 }
 
-fn insert_copy(done: &mut Map, key: &str, copied: Dynamic, alloc: Global) -> Result<(), AllocError>
+fn insert_copy(done: &mut Map, key: &str, copied: Dynamic) -> Result<(), AllocError>
     ensures { OnOk result (done.new ≡ insert_entry bytes_cmp done.old key.now copied) }
 {
-    let key = String::from_str(alloc, key)?;
-    match done.insert(key, copied) {
+    match done.set(key, copied) {
         Ok(old) => {
             drop(old);
             Ok(())
@@ -156,7 +155,7 @@ impl<'a> Job for Copying<'a> {
             Level::Function(_, _, items) => Ok(items.done.push(done)?),
             Level::Fields(_, fields) => {
                 let key = fields.key;
-                insert_copy(&mut fields.done, key, done, self.alloc)
+                insert_copy(&mut fields.done, key, done)
             }
         }
     }

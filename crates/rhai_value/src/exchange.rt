@@ -1,16 +1,14 @@
 //! Exchanging all values of a map.
-ghost use Rattle.std.specs.Prelude.{◌≡◌, length, IfSome};
+ghost use Rattle.std.specs.Prelude.{◌≡◌, length, map, IfSome};
 ghost use Rattle.rhai_value.specs.Children.{listed_fields};
+ghost use Rattle.rhai_value.specs.RowWalks.{chunk_scanned, chunk_view, row_scanned, scanned};
 ghost use Rattle.rhai_value.specs.Hollow.{exchanged, parted, with_fields};
+ghost use Rattle.rhai_value.specs.Lists.{rows, rows_of, IsWhole};
 ghost use Rattle.rhai_value.specs.Rows.{fields_of};
-ghost use Rattle.rhai_value.specs.Scan.{fields_scanned, slot_scanned};
-ghost use Rattle.rhai_value.specs.Slots.{rows, rows_of, AreMatched, IsWhole};
 
 use crate::dynamic::Dynamic;
-use crate::map::{Map, MapParts, Slot};
-use crate::map_key::MapKey;
+use crate::map::{Chunk, Entry, Map, MapParts};
 use std::alloc::Global;
-use std::collections::BTreeMap;
 use std::mem;
 
 /// A list of `count` units; `None` where memory is refused.
@@ -42,33 +40,30 @@ fn exchange_parts(parts: &mut MapParts, values: &mut Vec<Dynamic>)
     ensures taken { length values.old.items ≡ length (listed_fields (fields_of (rows_of parts.old))) → values.new.items ≡ listed_fields (fields_of (rows_of parts.old)) }
     ensures whole { IsWhole parts.new }
 {
-    exchange_entries(&parts.index, &mut parts.slots, values);
+    let at = exchange_entries(&mut parts.first, values, 0);
+    exchange_chunks(&mut parts.rest, values, at);
 }
 
-fn exchange_entries(
-    index: &BTreeMap<MapKey, usize>,
-    slots: &mut Vec<Slot>,
-    values: &mut Vec<Dynamic>,
-) -> usize
-    requires { AreMatched index.now.entries slots.old.items }
-    ensures exchanged { (parted values.new.items result, fields_of (rows index.now.entries slots.new.items)) ≡ fields_scanned exchanged (parted values.old.items 0) (fields_of (rows index.now.entries slots.old.items)) }
-    ensures matched { AreMatched index.now.entries slots.new.items }
+/// Exchanges the values of a list for those from a number on, if there are that many, and answers the next number.
+fn exchange_entries(entries: &mut Vec<Entry>, values: &mut Vec<Dynamic>, from: usize) -> usize
+    ensures { (parted values.new.items result, rows entries.new.items) ≡ scanned (row_scanned exchanged) (parted values.old.items from) (rows entries.old.items) }
 {
-    let mut at = 0;
-    for (_, number) in index.iter() {
-        at = exchange_slot(&mut slots[*number], values, at);
+    let mut at = from;
+    for entry in entries.iter_mut() {
+        at = exchange_value(&mut entry.value, values, at);
     }
     at
 }
 
-/// Exchanges the value in a slot for that of a number, if there are that many, and answers the next number.
-fn exchange_slot(slot: &mut Slot, values: &mut Vec<Dynamic>, at: usize) -> usize
-    ensures { (parted values.new.items result, slot.new) ≡ slot_scanned exchanged (parted values.old.items at) slot.old }
+/// The same of chunks.
+fn exchange_chunks(rest: &mut Vec<Chunk>, values: &mut Vec<Dynamic>, from: usize) -> usize
+    ensures { (parted values.new.items result, map chunk_view rest.new.items) ≡ scanned (chunk_scanned exchanged) (parted values.old.items from) (map chunk_view rest.old.items) }
 {
-    match slot {
-        Slot::Vacant(_) => at,
-        Slot::Taken(value) => exchange_value(value, values, at),
+    let mut at = from;
+    for chunk in rest.iter_mut() {
+        at = exchange_entries(&mut chunk.entries, values, at);
     }
+    at
 }
 
 fn exchange_value(value: &mut Dynamic, values: &mut Vec<Dynamic>, at: usize) -> usize

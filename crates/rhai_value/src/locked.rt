@@ -1,20 +1,17 @@
 //! Values that hold a locked cell.
 ghost use Rattle.std.specs.Prelude.{◌≡◌, ◌+◌, ◌<◌, ◌∷◌, true, false, None};
-ghost use Rattle.rhai_value.specs.Slots.{AreTaken, rows};
 ghost use Rattle.rhai_value.specs.Locked.{is_locked, is_one_locked, is_field_locked, any_locked};
 ghost use Rattle.rhai_value.specs.Rows.{trees_of, fields_of};
 ghost use Rattle.rhai_value.specs.Tree.{cell_of, nodes, nodes_trees};
 
 use crate::dynamic::Dynamic;
-use crate::map::{Map, MapParts, Slot};
-use crate::map_key::MapKey;
-use crate::map_parts::value_at;
+use crate::map::Map;
 use crate::near::NEAR;
 use crate::store::Store;
 use crate::union::Union;
 use crate::visits::Visits;
 use std::alloc::Global;
-use std::collections::BTreeMap;
+use std::iter::Iterator;
 
 impl Dynamic {
     /// Tells whether the value is, or has inside it at any depth, a holder of a cell that is marked or no cell of the
@@ -137,27 +134,8 @@ fn locks_items(items: &Vec<Dynamic>, store: &Store, levels: u32) -> bool
 fn locks_map(map: &Map, store: &Store, levels: u32) -> bool
     ensures { result ≡ is_field_locked store.now (fields_of map.now) }
 {
-    match &map.parts {
-        None => false,
-        Some(parts) => {
-            let parts: &MapParts = parts;
-            locks_entries(&parts.index, &parts.slots, store, levels)
-        }
-    }
-}
-
-#[cycle(locks)]
-fn locks_entries(
-    index: &BTreeMap<MapKey, usize>,
-    slots: &Vec<Slot>,
-    store: &Store,
-    levels: u32,
-) -> bool
-    requires { AreTaken index.now.entries slots.now.items }
-    ensures { result ≡ is_field_locked store.now (fields_of (rows index.now.entries slots.now.items)) }
-{
-    for (_, number) in index.iter() {
-        if locks(value_at(slots, *number), store, levels) {
+    for (_, value) in map.iter() {
+        if locks(value, store, levels) {
             return true;
         }
     }

@@ -1,10 +1,10 @@
 //! Maps from texts to values, in the order of the keys.
 
 use crate::dynamic::Dynamic;
+use crate::key::Key;
 use crate::map_entries::{Entries, Keys, Values};
-use crate::map_key::MapKey;
+use crate::sought::Sought;
 use std::alloc::Global;
-use std::collections::BTreeMap;
 use std::marker::Model;
 
 /// A map from texts to values. Contracts see its rows: each key, as its bytes, with its value, by rising keys.
@@ -17,23 +17,29 @@ pub struct Map {
     pub(crate) alloc: Global,
 }
 
-/// The number of each key's slot, the slots, and the number of the first vacant one.
-///
-/// The vacant slots are a list, each having the number of the next; it ends at a slot that is taken or past the last one.
+/// The first entries, chunks of those that follow, and how many entries there are. Where there are chunks, the first list may be empty.
 #[cycle(dynamic)]
 #[derive(Drop)]
 pub(crate) struct MapParts {
-    pub(crate) index: BTreeMap<MapKey, usize>,
-    pub(crate) slots: Vec<Slot>,
-    pub(crate) vacant: usize,
+    pub(crate) first: Vec<Entry>,
+    pub(crate) rest: Vec<Chunk>,
+    pub(crate) len: usize,
 }
 
-/// Where a value stands: vacant, with the number of the next vacant one, or taken.
+/// Entries, at least one, and the front of the first key.
 #[cycle(dynamic)]
 #[derive(Drop)]
-pub(crate) enum Slot {
-    Vacant(usize),
-    Taken(Dynamic),
+pub(crate) struct Chunk {
+    pub(crate) front: u64,
+    pub(crate) entries: Vec<Entry>,
+}
+
+/// A key with its value.
+#[cycle(dynamic)]
+#[derive(Drop)]
+pub(crate) struct Entry {
+    pub(crate) key: Key,
+    pub(crate) value: Dynamic,
 }
 
 impl Model for Map {
@@ -48,7 +54,7 @@ impl Model for Map {
 
     ghost coded = { coded_list (coded× (coded_list coded_ℕ) (tree_code (Prim.hlevel (codes, access_mode.the_row.coded, host_kind.the_row.coded)))) };
 
-    ghost use Rattle.rhai_value.specs.Slots.{rows_in, map_size, IsWholeIn};
+    ghost use Rattle.rhai_value.specs.Lists.{rows_in, map_size, IsWholeIn};
 
     ghost view = { λ m. rows_in m.parts };
 
@@ -130,7 +136,10 @@ impl Map {
         ensures value { option_copied_mut result ≡ lookup (is_at (bytes_cmp key.now)) self.old }
     {
         match &mut self.parts {
-            Some(parts) => parts.get_mut(key),
+            Some(parts) => match parts.seat(&Sought::of(key)) {
+                Ok(seat) => Some(parts.value_at_mut(seat)),
+                Err(_) => None,
+            },
             None => None,
         }
     }
@@ -138,8 +147,8 @@ impl Map {
     /// Puts a value at a key, and answers the value that was there. A key that is there keeps its own text, and is never
     /// refused.
     /// Errors: key and value come back where the key is new and the memory for its entry is refused.
-    /// Cost: the logarithm of the number of entries; now and then the list of slots grows, which takes time in their
-    /// number. A map has at most one slot more than it has had keys at once.
+    /// Cost: the logarithm of the number of entries, and the moves of up to 31 entries; now and then a list is split, which
+    /// takes time in the number of lists.
     /// rhai: `BTreeMap::insert`, which drops the key.
     pub fn insert(
         &mut self,
@@ -162,10 +171,33 @@ impl Map {
         }
     }
 
+    /// Puts a value at a key that was made before: `insert` of a key.
+    /// Errors: key and value come back where the key is new and the memory for its entry is refused.
+    /// Cost: that of `insert`.
+    /// rhai: `BTreeMap::insert`.
+    pub fn insert_key(
+        &mut self,
+        key: Key,
+        value: Dynamic,
+    ) -> Result<Option<Dynamic>, (Key, Dynamic)>
+        ensures old { IfOk result (λ old. old ≡ lookup (is_at (bytes_cmp key)) self.old) }
+        ensures inserted { OnOk result (self.new ≡ insert_entry bytes_cmp self.old key value) }
+        ensures err { IfErr result (λ back. (back ≡ (key, value)) × (self.new ≡ self.old)) }
+        ensures absent { OnErr result (lookup (is_at (bytes_cmp key)) self.old ≡ None) }
+    {
+        if self.parts.is_none() {
+            self.prepare();
+        }
+        match &mut self.parts {
+            Some(parts) => parts.insert_key(key, value),
+            None => Err((key, value)),
+        }
+    }
+
     /// Takes memory for the parts of a map that has none, if it isn't refused.
     #[cold]
     #[inline(never)]
-    fn prepare(&mut self)
+    pub(crate) fn prepare(&mut self)
         ensures { self.new ≡ self.old }
     {
         if self.parts.is_none() {
@@ -187,29 +219,6 @@ impl Map {
         }
     }
 
-    /// Takes the first entry out, which is that of the least key.
-    /// Cost: the logarithm of the number of entries; no memory.
-    pub fn pop_first(&mut self) -> Option<(String, Dynamic)>
-        ensures { MatchOption result ((self.old ≡ []) × (self.new ≡ [])) (λ x. self.old ≡ (string_bytes x.0, x.1) ∷ self.new) }
-    {
-        match &mut self.parts {
-            Some(parts) => parts.pop_first(),
-            None => None,
-        }
-    }
-
-    /// Takes the value of the last entry out, and puts `with` in its place, if there is an entry. It takes no memory.
-    pub(crate) fn swap_last(&mut self, with: Dynamic) -> Result<Dynamic, Dynamic>
-        ensures ok { IfOk result (λ x. (nodes_fields (fields_of self.new) + nodes x ≡ nodes_fields (fields_of self.old) + nodes with) × (nodes x < 1 + nodes_fields (fields_of self.old))) }
-        ensures err { IfErr result (λ back. (back ≡ with) × (self.new ≡ self.old)) }
-        ensures none { IfErr result (λ _. self.new ≡ []) }
-    {
-        match &mut self.parts {
-            Some(parts) => parts.swap_last(with),
-            None => Err(with),
-        }
-    }
-
     /// Takes all entries out, and gives their memory back.
     /// Cost: their drop.
     pub fn clear(&mut self)
@@ -219,8 +228,7 @@ impl Map {
     }
 
     /// Lends the entries one by one, by rising keys.
-    /// Cost: no memory; the whole walk takes time in the number of entries. The values lie in the order of their insertion,
-    /// so that a walk through many entries reads memory here and there.
+    /// Cost: no memory; the whole walk takes time in the number of entries.
     pub fn iter(&self) -> Entries<'_>
         ensures entries { result ≡ self.now }
         ensures ordered { AreRising self.now }

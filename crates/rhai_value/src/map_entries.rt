@@ -1,24 +1,16 @@
 //! Going over the entries of a map.
 
 use crate::dynamic::Dynamic;
-use crate::map::{Map, MapParts, Slot};
-use crate::map_key::MapKey;
-use crate::map_parts::value_in;
-use std::collections::btree_map;
+use crate::map::{Chunk, Entry, Map, MapParts};
 use std::iter::{ExactSizeIterator, FusedIterator, IntoIterator, Iterator};
 use std::marker::Model;
 
 /// The entries of a map that are left, by rising keys. Contracts see their rows.
 #[derive(Drop)]
 pub struct Entries<'a> {
-    rest: Option<Rest<'a>>,
-}
-
-/// The keys that are left with the numbers of their slots, and all slots.
-#[derive(Drop)]
-pub(crate) struct Rest<'a> {
-    pub(crate) index: btree_map::Iter<'a, MapKey, usize>,
-    pub(crate) slots: &'a Vec<Slot>,
+    list: &'a [Entry],
+    rest: &'a [Chunk],
+    len: usize,
 }
 
 impl<'a> Model for Entries<'a> {
@@ -33,21 +25,25 @@ impl<'a> Model for Entries<'a> {
 
     ghost coded = { coded_list (coded× (coded_list coded_ℕ) (tree_code (Prim.hlevel (codes, access_mode.the_row.coded, host_kind.the_row.coded)))) };
 
-    ghost use Rattle.rhai_value.specs.Slots.{rows_left, AreTakenIn};
+    ghost use Rattle.rhai_value.specs.Lists.{rows_left, AreLeft};
 
-    ghost view = { λ a. rows_left a.rest };
+    ghost view = { λ a. rows_left a.list.now a.rest.now };
 
-    ghost invariant = { λ a. AreTakenIn a.rest };
+    ghost invariant = { λ a. AreLeft a.list.now a.rest.now a.len };
 }
 
 impl<'a> Entries<'a> {
     ghost use Rattle.std.specs.Prelude.{◌≡◌, []};
-    ghost use Rattle.rhai_value.specs.Slots.{rows_of, IsWhole};
+    ghost use Rattle.rhai_value.specs.Lists.{rows_of, IsWhole};
 
     pub(crate) fn none() -> Entries<'a>
         ensures { result ≡ [] }
     {
-        Entries { rest: None }
+        Entries {
+            list: &[],
+            rest: &[],
+            len: 0,
+        }
     }
 
     pub(crate) fn of_parts(parts: &'a MapParts) -> Entries<'a>
@@ -55,10 +51,9 @@ impl<'a> Entries<'a> {
         ensures { result ≡ rows_of parts.now }
     {
         Entries {
-            rest: Some(Rest {
-                index: parts.index.iter(),
-                slots: &parts.slots,
-            }),
+            list: parts.first.as_slice(),
+            rest: parts.rest.as_slice(),
+            len: parts.len,
         }
     }
 }
@@ -73,12 +68,19 @@ impl<'a> Iterator for Entries<'a> {
 
     ghost remaining = { item_count (λ rest. rest) };
 
+    #[inline(always)]
     fn next(&mut self) -> Option<(&'a str, &'a Dynamic)> {
-        let rest = self.rest.as_mut()?;
-        match rest.index.next() {
-            Some((key, number)) => {
-                let slots = rest.slots;
-                Some((key.as_str(), value_in(&slots[*number])))
+        if self.list.is_empty() {
+            if let Some((chunk, rest)) = self.rest.split_first() {
+                self.list = chunk.entries.as_slice();
+                self.rest = rest;
+            }
+        }
+        match self.list.split_first() {
+            Some((entry, list)) => {
+                self.list = list;
+                self.len -= 1;
+                Some((entry.key.as_str(), &entry.value))
             }
             None => None,
         }
@@ -92,10 +94,7 @@ impl<'a> Iterator for Entries<'a> {
 
 impl<'a> ExactSizeIterator for Entries<'a> {
     fn len(&self) -> usize {
-        match &self.rest {
-            Some(rest) => rest.index.len(),
-            None => 0,
-        }
+        self.len
     }
 }
 

@@ -1,13 +1,12 @@
 //! Writing to each value of a map.
-ghost use Rattle.std.specs.Prelude.{◌≡◌};
+ghost use Rattle.std.specs.Prelude.{◌≡◌, map};
+ghost use Rattle.rhai_value.specs.RowWalks.{chunk_scanned, chunk_view, row_scanned, scanned};
+ghost use Rattle.rhai_value.specs.Lists.{rows, rows_of, IsWhole};
 ghost use Rattle.rhai_value.specs.Rows.{fields_of};
-ghost use Rattle.rhai_value.specs.Scan.{fields_scanned, slot_scanned};
-ghost use Rattle.rhai_value.specs.Slots.{rows, rows_of, AreMatched, IsWhole};
+ghost use Rattle.rhai_value.specs.Scan.{fields_scanned};
 
 use crate::dynamic::Dynamic;
-use crate::map::{Map, MapParts, Slot};
-use crate::map_key::MapKey;
-use std::collections::BTreeMap;
+use crate::map::{Chunk, Entry, Map, MapParts};
 
 /// What `Map::write_values` does with each value.
 pub trait ValueWriter {
@@ -41,28 +40,22 @@ fn write_parts<W: ValueWriter>(parts: &mut MapParts, writer: &mut W)
     ensures written { (writer.new, fields_of (rows_of parts.new)) ≡ fields_scanned W.writes writer.old (fields_of (rows_of parts.old)) }
     ensures whole { IsWhole parts.new }
 {
-    write_entries(&parts.index, &mut parts.slots, writer);
+    write_entries(&mut parts.first, writer);
+    write_chunks(&mut parts.rest, writer);
 }
 
-// The slots of the keys, in the order of these.
-fn write_entries<W: ValueWriter>(
-    index: &BTreeMap<MapKey, usize>,
-    slots: &mut Vec<Slot>,
-    writer: &mut W,
-)
-    requires { AreMatched index.now.entries slots.old.items }
-    ensures scanned { (writer.new, fields_of (rows index.now.entries slots.new.items)) ≡ fields_scanned W.writes writer.old (fields_of (rows index.now.entries slots.old.items)) }
-    ensures matched { AreMatched index.now.entries slots.new.items }
+fn write_entries<W: ValueWriter>(entries: &mut Vec<Entry>, writer: &mut W)
+    ensures { (writer.new, rows entries.new.items) ≡ scanned (row_scanned W.writes) writer.old (rows entries.old.items) }
 {
-    for (_, number) in index.iter() {
-        write_slot(&mut slots[*number], writer);
+    for entry in entries.iter_mut() {
+        writer.write(&mut entry.value);
     }
 }
 
-fn write_slot<W: ValueWriter>(slot: &mut Slot, writer: &mut W)
-    ensures { (writer.new, slot.new) ≡ slot_scanned W.writes writer.old slot.old }
+fn write_chunks<W: ValueWriter>(rest: &mut Vec<Chunk>, writer: &mut W)
+    ensures { (writer.new, map chunk_view rest.new.items) ≡ scanned (chunk_scanned W.writes) writer.old (map chunk_view rest.old.items) }
 {
-    if let Slot::Taken(value) = slot {
-        writer.write(value);
+    for chunk in rest.iter_mut() {
+        write_entries(&mut chunk.entries, writer);
     }
 }

@@ -1,13 +1,14 @@
 //! Setting the mode of a value and of what it holds.
 ghost use Rattle.std.specs.Prelude.{◌≡◌, map};
+ghost use Rattle.rhai_value.specs.Lists.{rows, rows_of, IsWhole};
+ghost use Rattle.rhai_value.specs.RowWalks.{chunk_view, painted_chunk, painted_rows};
 ghost use Rattle.rhai_value.specs.Tree.{paint, paint_fields, with_mode};
 ghost use Rattle.rhai_value.specs.Rows.{fields_of};
-ghost use Rattle.rhai_value.specs.Slots.{painted_slot};
 ghost use Rattle.rhai_value.specs.declared.access_mode.AccessMode.TheVariants.{ReadOnly};
 
 use crate::access_mode::AccessMode;
 use crate::dynamic::Dynamic;
-use crate::map::{Map, Slot};
+use crate::map::{Chunk, Entry, Map, MapParts};
 use crate::near::NEAR;
 use crate::paint_far::paint_far;
 use crate::union::Union;
@@ -15,7 +16,7 @@ use crate::union::Union;
 impl Dynamic {
     /// Sets the mode of the value and of all that it holds through arrays and maps. Curried values keep their modes, and so
     /// does what is in a cell.
-    /// Cost: the number of values inside, and of the slots of maps; no memory for values of up to 64 levels. Below them it
+    /// Cost: the number of values inside; no memory for values of up to 64 levels. Below them it
     /// asks for a list, and goes on by calls for another 64 levels where that is refused.
     /// rhai: `Dynamic::set_access_mode`.
     pub fn set_access_mode(&mut self, mode: AccessMode)
@@ -107,24 +108,34 @@ fn paint_map(map: &mut Map, mode: AccessMode, levels: u32)
     let Some(mut parts) = map.parts.take() else {
         return;
     };
-    paint_slots(&mut parts.slots, mode, levels);
+    paint_parts(&mut parts, mode, levels);
     map.parts = Some(parts);
 }
 
 #[cycle(paint)]
-fn paint_slots(slots: &mut Vec<Slot>, mode: AccessMode, levels: u32)
-    ensures { slots.new.items ≡ map (painted_slot mode) slots.old.items }
+fn paint_parts(parts: &mut MapParts, mode: AccessMode, levels: u32)
+    requires { IsWhole parts.old }
+    ensures painted { fields_of (rows_of parts.new) ≡ paint_fields mode (fields_of (rows_of parts.old)) }
+    ensures whole { IsWhole parts.new }
 {
-    for slot in slots.iter_mut() {
-        paint_slot(slot, mode, levels);
+    paint_entries(&mut parts.first, mode, levels);
+    paint_chunks(&mut parts.rest, mode, levels);
+}
+
+#[cycle(paint)]
+fn paint_entries(entries: &mut Vec<Entry>, mode: AccessMode, levels: u32)
+    ensures { rows entries.new.items ≡ painted_rows mode (rows entries.old.items) }
+{
+    for entry in entries.iter_mut() {
+        paint_value(&mut entry.value, mode, levels);
     }
 }
 
 #[cycle(paint)]
-fn paint_slot(slot: &mut Slot, mode: AccessMode, levels: u32)
-    ensures { slot.new ≡ painted_slot mode slot.old }
+fn paint_chunks(rest: &mut Vec<Chunk>, mode: AccessMode, levels: u32)
+    ensures { map chunk_view rest.new.items ≡ map (painted_chunk mode) (map chunk_view rest.old.items) }
 {
-    if let Slot::Taken(value) = slot {
-        paint_value(value, mode, levels);
+    for chunk in rest.iter_mut() {
+        paint_entries(&mut chunk.entries, mode, levels);
     }
 }

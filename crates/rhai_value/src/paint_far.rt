@@ -1,15 +1,16 @@
 //! Painting of values that are nested deep.
-ghost use Rattle.std.specs.Prelude.{◌≡◌, ◌+◌, ◌-◌, ◌<◌, ◌≤◌, ℕ, true, false, length, drop, slice_set, slice_index_or, MatchOption, MatchResult};
-ghost use Rattle.rhai_value.specs.Coats.{painted_from, slots_from, slots_nodes, coat_whole, coat_left, IsReady};
+ghost use Rattle.std.specs.Prelude.{◌≡◌, ◌+◌, ◌-◌, ◌<◌, ◌≤◌, [], length, drop, slice_set, slice_index_or, MatchOption, MatchResult};
+ghost use Rattle.rhai_value.specs.Coats.{painted_from, painted_past, painted_with, coat_whole, coat_left, IsReady, IsTaken};
+ghost use Rattle.rhai_value.specs.Lists.{rows_in, IsWhole, IsWholeIn};
 ghost use Rattle.rhai_value.specs.Rows.{trees_of, fields_of};
-ghost use Rattle.rhai_value.specs.Slots.{is_taken, slot_at, rows_in, IsWholeIn};
+ghost use Rattle.rhai_value.specs.Seats.{rows_from, IsOpen};
 ghost use Rattle.rhai_value.specs.Tree.{node, fields, paint, paint_fields, nodes, nodes_trees, nodes_fields, fresh, unit};
-ghost use Rattle.rhai_value.specs.declared.map.Slot.TheVariants.{Taken};
 
 use crate::access_mode::AccessMode;
-use crate::coat::{Coat, CoatedItems, CoatedSlots};
+use crate::coat::{Coat, CoatedFields, CoatedItems};
 use crate::dynamic::Dynamic;
-use crate::map::{Map, MapParts, Slot};
+use crate::map::{Map, MapParts};
+use crate::map_seat::Seat;
 use crate::mode::set_own_mode;
 use crate::union::{Tag, Union};
 use flat_walk::{Search, searched};
@@ -55,12 +56,9 @@ fn coated_parts(
             union: Union::Map(tag, mode, Map::new(alloc)),
         }),
         Some(parts) => {
-            let slots = CoatedSlots {
-                parts,
-                alloc,
-                next: 0,
-            };
-            Err(Coat::Fields(tag, slots))
+            let next = Seat { list: 0, at: 0 };
+            let fields = CoatedFields { parts, alloc, next };
+            Err(Coat::Fields(tag, fields))
         }
     }
 }
@@ -94,38 +92,23 @@ fn items_coat_step(items: &mut Vec<Dynamic>, next: &mut usize, mode: AccessMode)
     None
 }
 
-/// Takes the value of a slot out, and leaves unit in its place.
-fn taken_in(slots: &mut Vec<Slot>, at: usize) -> Option<Dynamic>
-    requires { at < length slots.old.items }
-    ensures { MatchOption result
-        ((is_taken (slot_at slots.old.items at) ≡ false) × (slots.new.items ≡ slots.old.items))
-        (λ t. (slot_at slots.old.items at ≡ Taken t) × (slots.new.items ≡ slice_set slots.old.items at (Taken (fresh unit)))) }
-{
-    let slot = &mut slots[at];
-    match slot {
-        Slot::Vacant(_) => None,
-        Slot::Taken(value) => Some(mem::replace(value, Dynamic::UNIT)),
-    }
-}
-
-/// The same of slots.
-fn slots_coat_step(slots: &mut Vec<Slot>, next: &mut usize, mode: AccessMode) -> Option<Coat>
-    requires { next.old ≤ length slots.old.items }
-    ensures same { (p : ℕ) → is_taken (slot_at slots.new.items p) ≡ is_taken (slot_at slots.old.items p) }
+/// The same of the entries of a map from a place on.
+fn fields_coat_step(parts: &mut MapParts, next: &mut Seat, mode: AccessMode) -> Option<Coat>
+    requires whole { IsWhole parts.old }
+    requires open { IsOpen parts.old next.old }
+    ensures whole { IsWhole parts.new }
     ensures steps { MatchOption result
-        ((slots_from mode next.new slots.new.items ≡ slots_from mode next.old slots.old.items) × (next.new ≡ length slots.new.items))
-        (λ c. (slots_from mode next.new (slice_set slots.new.items (next.new - 1) (Taken (coat_whole mode c))) ≡ slots_from mode next.old slots.old.items)
-        × (slots_nodes (drop next.new slots.new.items) + coat_left c < slots_nodes (drop next.old slots.old.items))
-        × (0 < next.new) × (next.new ≤ length slots.new.items) × (is_taken (slot_at slots.new.items (next.new - 1)) ≡ true) × IsReady c) }
+        ((rows_from parts.new next.new ≡ []) × IsOpen parts.new next.new × (painted_past mode parts.new next.new ≡ painted_past mode parts.old next.old))
+        (λ c. IsTaken parts.new next.new × (painted_with mode parts.new next.new (coat_whole mode c) ≡ painted_past mode parts.old next.old)
+        × (nodes_fields (fields_of (rows_from parts.new next.new)) + coat_left c < nodes_fields (fields_of (rows_from parts.old next.old))) × IsReady c) }
 {
-    while *next < slots.len() {
-        let at = *next;
-        *next += 1;
-        if let Some(value) = taken_in(slots, at) {
-            match coated(value, mode) {
-                Ok(painted) => slots[at] = Slot::Taken(painted),
-                Err(coat) => return Some(coat),
-            }
+    while let Some(seat) = parts.seat_from(*next) {
+        next.list = seat.list;
+        next.at = seat.at + 1;
+        let value = parts.replace_at(seat, Dynamic::UNIT);
+        match coated(value, mode) {
+            Ok(painted) => drop(parts.replace_at(seat, painted)),
+            Err(coat) => return Some(coat),
         }
     }
     None
@@ -167,8 +150,7 @@ impl Search for Painting {
         match frame {
             Coat::Array(_, items) => items_coat_step(&mut items.items, &mut items.next, self.mode),
             Coat::Fields(_, fields) => {
-                let parts: &mut MapParts = &mut fields.parts;
-                slots_coat_step(&mut parts.slots, &mut fields.next, self.mode)
+                fields_coat_step(&mut fields.parts, &mut fields.next, self.mode)
             }
         }
     }
@@ -177,23 +159,27 @@ impl Search for Painting {
         match frame {
             Coat::Array(_, items) => items.items[items.next - 1] = done,
             Coat::Fields(_, fields) => {
-                let at = fields.next - 1;
-                fields.parts.slots[at] = Slot::Taken(done);
+                let Seat { list, at } = fields.next;
+                let seat = Seat { list, at: at - 1 };
+                drop(fields.parts.replace_at(seat, done));
             }
         }
     }
 
     fn finish(&mut self, frame: Coat) -> Dynamic {
         let mode = self.mode;
-        let union = match frame {
-            Coat::Array(tag, items) => Union::Array(tag, mode, items.items),
+        match frame {
+            Coat::Array(tag, items) => Dynamic {
+                union: Union::Array(tag, mode, items.items),
+            },
             Coat::Fields(tag, fields) => {
                 let alloc = fields.alloc;
                 let parts = Some(fields.parts);
-                Union::Map(tag, mode, Map { parts, alloc })
+                Dynamic {
+                    union: Union::Map(tag, mode, Map { parts, alloc }),
+                }
             }
-        };
-        Dynamic { union }
+        }
     }
 }
 

@@ -1,20 +1,19 @@
 //! Visits to a value and to all that it holds.
-ghost use Rattle.std.specs.Prelude.{◌≡◌, ◌+◌, ◌*◌, ◌<◌, ◌≤◌};
+ghost use Rattle.std.specs.Prelude.{◌≡◌, ◌+◌, ◌*◌, ◌<◌, ◌≤◌, map};
 ghost use Rattle.flat_walk.specs.Frames.{unwound, sizes, AreAll};
+ghost use Rattle.rhai_value.specs.RowWalks.{chunk_scanned, chunk_view, row_scanned, scanned};
 ghost use Rattle.rhai_value.specs.Hollow.{hollow_after, hollow_left, hollow_scanned, IsReady, IsWaiting};
+ghost use Rattle.rhai_value.specs.Lists.{rows, rows_of, IsWhole};
 ghost use Rattle.rhai_value.specs.Rows.{trees_of, fields_of};
-ghost use Rattle.rhai_value.specs.Scan.{each_scanned, fields_scanned, children_scanned, scan, slot_scanned};
-ghost use Rattle.rhai_value.specs.Slots.{rows, rows_of, AreMatched, IsWhole};
+ghost use Rattle.rhai_value.specs.Scan.{each_scanned, fields_scanned, children_scanned, scan};
 ghost use Rattle.rhai_value.specs.Tree.{nodes};
 
 use crate::dynamic::Dynamic;
 use crate::hollow::{Hollow, go_down};
-use crate::map::{Map, MapParts, Slot};
-use crate::map_key::MapKey;
+use crate::map::{Chunk, Entry, Map, MapParts};
 use crate::near::NEAR;
 use crate::union::Union;
 use std::alloc::Global;
-use std::collections::BTreeMap;
 
 /// What `deep_scan` does with each value that it comes to.
 pub trait Visitor {
@@ -125,32 +124,25 @@ fn scan_parts<V: Visitor>(parts: &mut MapParts, visitor: &mut V, levels: u32)
     ensures scanned { (visitor.new, fields_of (rows_of parts.new)) ≡ fields_scanned (scan V.visited) visitor.old (fields_of (rows_of parts.old)) }
     ensures whole { IsWhole parts.new }
 {
-    scan_entries(&parts.index, &mut parts.slots, visitor, levels);
+    scan_entries(&mut parts.first, visitor, levels);
+    scan_chunks(&mut parts.rest, visitor, levels);
 }
 
-// The slots of the keys, in the order of these.
 #[cycle(scan)]
-fn scan_entries<V: Visitor>(
-    index: &BTreeMap<MapKey, usize>,
-    slots: &mut Vec<Slot>,
-    visitor: &mut V,
-    levels: u32,
-)
-    requires { AreMatched index.now.entries slots.old.items }
-    ensures scanned { (visitor.new, fields_of (rows index.now.entries slots.new.items)) ≡ fields_scanned (scan V.visited) visitor.old (fields_of (rows index.now.entries slots.old.items)) }
-    ensures matched { AreMatched index.now.entries slots.new.items }
+fn scan_entries<V: Visitor>(entries: &mut Vec<Entry>, visitor: &mut V, levels: u32)
+    ensures { (visitor.new, rows entries.new.items) ≡ scanned (row_scanned (scan V.visited)) visitor.old (rows entries.old.items) }
 {
-    for (_, number) in index.iter() {
-        scan_slot(&mut slots[*number], visitor, levels);
+    for entry in entries.iter_mut() {
+        scan_value(&mut entry.value, visitor, levels);
     }
 }
 
 #[cycle(scan)]
-fn scan_slot<V: Visitor>(slot: &mut Slot, visitor: &mut V, levels: u32)
-    ensures { (visitor.new, slot.new) ≡ slot_scanned (scan V.visited) visitor.old slot.old }
+fn scan_chunks<V: Visitor>(rest: &mut Vec<Chunk>, visitor: &mut V, levels: u32)
+    ensures { (visitor.new, map chunk_view rest.new.items) ≡ scanned (chunk_scanned (scan V.visited)) visitor.old (map chunk_view rest.old.items) }
 {
-    if let Slot::Taken(value) = slot {
-        scan_value(value, visitor, levels);
+    for chunk in rest.iter_mut() {
+        scan_entries(&mut chunk.entries, visitor, levels);
     }
 }
 

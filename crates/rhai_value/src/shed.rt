@@ -2,12 +2,11 @@
 ghost use Rattle.std.specs.Prelude.{◌≡◌, ◌<◌, ◌≤◌, ◌+◌, [], IfOk, IfErr, IfNone, IsTrue};
 ghost use Rattle.std.specs.Option.{option_to_list};
 ghost use Rattle.rhai_value.specs.Rows.{trees_of};
-ghost use Rattle.rhai_value.specs.Slots.{AreVacant};
 ghost use Rattle.rhai_value.specs.Tree.{nodes, nodes_trees};
 
 use crate::dynamic::Dynamic;
 use crate::fn_ptr::FnPtr;
-use crate::map::{Map, Slot};
+use crate::map::{Chunk, Entry, Map, MapParts};
 use crate::union::Union;
 use std::mem;
 
@@ -53,20 +52,34 @@ fn shed_map(map: Map, levels: u32) {
         return;
     }
     if let Some(parts) = map.parts {
-        let parts = Box::into_inner(parts);
-        shed_slots(parts.slots, levels - 1);
+        let MapParts {
+            first,
+            rest,
+            len: _,
+        } = Box::into_inner(parts);
+        shed_entries(first, levels - 1);
+        shed_chunks(rest, levels - 1);
     }
 }
 
 #[cycle(shed)]
-fn shed_slots(slots: Vec<Slot>, levels: u32) {
-    let mut slots = slots;
-    while let Some(slot) = slots.pop() {
-        if let Slot::Taken(value) = slot {
-            shed(value, levels);
-        }
+fn shed_chunks(rest: Vec<Chunk>, levels: u32) {
+    let mut rest = rest;
+    while let Some(chunk) = rest.pop() {
+        shed_entries(chunk.entries, levels);
     }
-    slots.destroy_empty();
+    rest.destroy_empty();
+}
+
+#[cycle(shed)]
+fn shed_entries(entries: Vec<Entry>, levels: u32) {
+    let mut entries = entries;
+    while let Some(entry) = entries.pop() {
+        let Entry { key, value } = entry;
+        drop(key);
+        shed(value, levels);
+    }
+    entries.destroy_empty();
 }
 
 // Takes the children of `whole` one after another. Most hold no other, and go at once. Where one has children of its own, the loop goes
@@ -102,7 +115,6 @@ fn shed_far(value: Dynamic) {
 
 /// Drops a value that holds no other.
 #[tactic(auto, using(crate::proofs::Sheds::bare_trees, crate::proofs::Sheds::bare_rows))]
-#[cycle(close)]
 fn close(value: Dynamic)
     requires { nodes value ≤ 1 }
 {
@@ -121,31 +133,19 @@ fn close(value: Dynamic)
     }
 }
 
-#[tactic(auto, using(crate::proofs::Sheds::bare_slots))]
-#[cycle(close)]
+#[tactic(auto, using(crate::proofs::Sheds::bare_parts))]
 fn close_map(map: Map)
     requires { map ≡ [] }
 {
     if let Some(parts) = map.parts {
-        let parts = Box::into_inner(parts);
-        close_slots(parts.slots);
+        let MapParts {
+            first,
+            rest,
+            len: _,
+        } = Box::into_inner(parts);
+        first.destroy_empty();
+        rest.destroy_empty();
     }
-}
-
-#[tactic(auto, using(crate::proofs::Sheds::vacant_before, crate::proofs::Sheds::vacant_last))]
-#[cycle(close)]
-fn close_slots(slots: Vec<Slot>)
-    requires { AreVacant slots.items }
-{
-    let mut slots = slots;
-    while let Some(slot) = slots.pop() {
-        match slot {
-            Slot::Vacant(_) => {}
-            // None of these is taken.
-            Slot::Taken(value) => close(value),
-        }
-    }
-    slots.destroy_empty();
 }
 
 /// Whether the value holds no other.
@@ -168,7 +168,7 @@ fn is_bare(value: &Dynamic) -> bool
     }
 }
 
-/// Takes a child out, if there is one: the last of an array, the first of a map.
+/// Takes a child out, if there is one: the last.
 #[tactic(auto, using(crate::proofs::Sheds::nodes_append, crate::proofs::Sheds::no_nodes))]
 fn take_child(value: &mut Dynamic) -> Option<Dynamic>
     ensures fewer { nodes value.new + nodes_trees (trees_of (option_to_list result)) ≡ nodes value.old }
@@ -177,10 +177,7 @@ fn take_child(value: &mut Dynamic) -> Option<Dynamic>
     match &mut value.union {
         Union::Array(_, _, items) => items.pop(),
         Union::FnPtr(_, _, f) => f.curry.pop(),
-        Union::Map(_, _, map) => match map.pop_first() {
-            Some((_, value)) => Some(value),
-            None => None,
-        },
+        Union::Map(_, _, map) => map.pop_last(),
         Union::Unit(_, _, _)
         | Union::Bool(_, _, _)
         | Union::Str(_, _, _)
@@ -201,7 +198,7 @@ fn swap_child(value: &mut Dynamic, with: Dynamic) -> Result<Dynamic, Dynamic>
     match &mut value.union {
         Union::Array(_, _, items) => swap_item(items, with),
         Union::FnPtr(_, _, f) => swap_item(&mut f.curry, with),
-        Union::Map(_, _, map) => map.swap_last(with),
+        Union::Map(_, _, map) => map.swap_first(with),
         Union::Unit(_, _, _)
         | Union::Bool(_, _, _)
         | Union::Str(_, _, _)

@@ -1,6 +1,7 @@
 //! Work at a place inside a held value, with the store at hand.
-ghost use Rattle.std.specs.Prelude.{◌≡◌, ◌+◌, ◌≤◌, ◌<◌, ◌∷◌, ℤ, length};
+ghost use Rattle.std.specs.Prelude.{◌≡◌, ◌+◌, ◌≤◌, ◌<◌, ◌∷◌, ℤ, Err, Ok, length};
 ghost use Rattle.rhai_value.specs.declared.access_mode.AccessMode.{AccessMode};
+ghost use Rattle.rhai_value.specs.declared.step.PlaceError.{PlaceError as Nowhere};
 ghost use Rattle.rhai_value.specs.declared.step.Step.TheVariants.{Index, Key};
 ghost use Rattle.std.specs.BTreeMap.{is_at};
 ghost use Rattle.std.specs.Borrow.{LendsIf, sem};
@@ -10,7 +11,7 @@ ghost use Rattle.std.specs.Str.{chars};
 ghost use Rattle.rhai_value.specs.contracts.dynamic.Dynamic as dynamic_type;
 ghost use Rattle.rhai_value.specs.contracts.map.Map as map_type;
 ghost use Rattle.rhai_value.specs.Items.{field_at};
-ghost use Rattle.rhai_value.specs.Places.{WorksAlong, put_answer, put_store, put_value, way, way_in, way_held};
+ghost use Rattle.rhai_value.specs.Places.{Place, WorksAlong, WorksIn, put_answer, put_store, put_value, way, way_in, way_held};
 ghost use Rattle.rhai_value.specs.Rows.{bytes_cmp, trees_of, fields_of};
 ghost use Rattle.rhai_value.specs.Steps.{with_field};
 ghost use Rattle.rhai_value.specs.Tree.{Tree, node, branch, array, fields};
@@ -43,7 +44,9 @@ impl Dynamic {
         f: F,
     ) -> Result<R, PlaceError>
         requires { F.IsAlwaysCallable f }
-        ensures { WorksAlong F.FnOnce f (way steps.now store.old self.old) self.old store.old result self.new store.new }
+        ensures works { WorksAlong F.FnOnce f (way steps.now store.old self.old) self.old store.old result self.new store.new }
+        ensures there { (q : Place) → way steps.now store.old self.old ≡ Ok q → WorksIn F.FnOnce f q result self.new store.new }
+        ensures nowhere { (why : Nowhere) → way steps.now store.old self.old ≡ Err why → (result ≡ Err why) × (self.new ≡ self.old) × (store.new ≡ store.old) }
     {
         if steps.len() > MOST_STEPS {
             return Err(PlaceError {

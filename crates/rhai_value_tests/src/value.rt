@@ -8,6 +8,7 @@ mod readme;
 mod containers;
 mod entries;
 mod in_place;
+mod many_keys;
 mod maps;
 mod marks;
 mod places;

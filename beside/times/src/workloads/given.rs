@@ -69,11 +69,11 @@ pub fn sum_of(values: &[Dynamic]) -> u64 {
     sum
 }
 
-pub fn keys(count: u32) -> Vec<String> {
+pub fn keys(front: &str, count: u32) -> Vec<String> {
     let mut keys = Vec::with_capacity(count as usize);
     for i in 0..count {
         let scattered = i.wrapping_mul(2_654_435_761);
-        keys.push(format!("key{scattered:010}"));
+        keys.push(format!("{front}{scattered:010}"));
     }
     keys
 }

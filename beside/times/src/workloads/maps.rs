@@ -4,8 +4,8 @@ use super::given::*;
 use rhai::*;
 
 #[inline(never)]
-pub fn insert(n: usize, count: u32) -> u64 {
-    let keys = keys(count);
+pub fn insert(n: usize, front: &str, count: u32) -> u64 {
+    let keys = keys(front, count);
     let mut sum = 0_u64;
     for _ in 0..n {
         sum = sum.wrapping_add(map_of(&keys).len() as u64);
@@ -13,8 +13,8 @@ pub fn insert(n: usize, count: u32) -> u64 {
     sum
 }
 #[inline(never)]
-pub fn get(n: usize, count: u32) -> u64 {
-    let keys = keys(count);
+pub fn get(n: usize, front: &str, count: u32) -> u64 {
+    let keys = keys(front, count);
     let map = map_of(&keys);
     let mut sum = 0_u64;
     for _ in 0..n {
@@ -30,7 +30,7 @@ pub fn get(n: usize, count: u32) -> u64 {
 }
 #[inline(never)]
 pub fn get_through(n: usize, count: u32) -> u64 {
-    let keys = keys(count);
+    let keys = keys("key", count);
     let value = Dynamic::from_map(map_of(&keys));
     let mut sum = 0_u64;
     for _ in 0..n {
@@ -48,7 +48,7 @@ pub fn get_through(n: usize, count: u32) -> u64 {
 }
 #[inline(never)]
 pub fn remove_insert(n: usize, count: u32) -> u64 {
-    let keys = keys(count);
+    let keys = keys("key", count);
     let mut map = map_of(&keys);
     for _ in 0..n {
         for key in &keys {
@@ -61,7 +61,7 @@ pub fn remove_insert(n: usize, count: u32) -> u64 {
 }
 #[inline(never)]
 pub fn iterate(n: usize, count: u32) -> u64 {
-    let keys = keys(count);
+    let keys = keys("key", count);
     let map = map_of(&keys);
     let mut sum = 0_u64;
     for _ in 0..n {
@@ -76,7 +76,7 @@ pub fn iterate(n: usize, count: u32) -> u64 {
 }
 #[inline(never)]
 pub fn copy_map(n: usize, count: u32) -> u64 {
-    let value = Dynamic::from_map(map_of(&keys(count)));
+    let value = Dynamic::from_map(map_of(&keys("key", count)));
     let mut sum = 0_u64;
     for _ in 0..n {
         let copy = value.clone();

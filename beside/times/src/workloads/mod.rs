@@ -13,6 +13,10 @@ mod walks;
 use self::{arrays::*, given::*, maps::*, ops::*, scopes::*, shares::*, singles::*, texts::*, walks::*};
 use rhai::{Dynamic, ImmutableString, Map, Token, Union};
 
+/// What keys of 20 and of 40 bytes begin with.
+const TWENTY: &str = "some_name_";
+const FORTY: &str = "some_name_that_is_much_longer_";
+
 pub fn workload(which: u32, n: usize) -> u64 {
     match which {
         0 => make_int(n),
@@ -32,7 +36,7 @@ pub fn workload(which: u32, n: usize) -> u64 {
         24 => set_mode_1000(n),
         25 => displays(&ints(100), n),
         26 => debugs(&nested(4), n),
-        27 => displays(&Dynamic::from_map(map_of(&keys(100))), n),
+        27 => displays(&Dynamic::from_map(map_of(&keys("key", 100))), n),
         28 => len_of(&ints(n)),
         29 => len_of(&nested(n)),
         30 => sum_ints(n),
@@ -47,12 +51,12 @@ pub fn workload(which: u32, n: usize) -> u64 {
         46 => flattens(&sixty_four(), n),
         47 => flattens(&holders(), n),
         48 => push_through(n),
-        60 => insert(n, 10),
-        61 => insert(n, 100),
-        62 => insert(n, 100_000),
-        63 => get(n, 10),
-        64 => get(n, 100),
-        65 => get(n, 100_000),
+        60 => insert(n, "key", 10),
+        61 => insert(n, "key", 100),
+        62 => insert(n, "key", 100_000),
+        63 => get(n, "key", 10),
+        64 => get(n, "key", 100),
+        65 => get(n, "key", 100_000),
         66 => remove_insert(n, 10),
         67 => remove_insert(n, 100),
         68 => remove_insert(n, 100_000),
@@ -61,6 +65,11 @@ pub fn workload(which: u32, n: usize) -> u64 {
         71 => iterate(n, 100_000),
         72 => copy_map(n, 100),
         73 => get_through(n, 100),
+        74 => insert(n, "key", 10),
+        75 => insert(n, "key", 100),
+        76 => insert(n, "key", 1000),
+        77 => insert(n, "key", 100_000),
+        78 => copy_map(n, 100_000),
         80 => makes(sixteen(5)[0].as_str(), n),
         81 => makes(sixteen(100)[0].as_str(), n),
         82 => text_copy(n),
@@ -72,6 +81,10 @@ pub fn workload(which: u32, n: usize) -> u64 {
         88 => minus(n),
         89 => with_char(n),
         90 => minus_char(n),
+        91 => char_count(n),
+        92 => char_at(n),
+        93 => append(&Dynamic::from("abcde"), n),
+        94 => append(&Dynamic::from_char('a'), n),
         100 => lookups(&sixty_four(), n),
         101 => lookups(&mixed(), n),
         102 => on_ints(Token::Plus, n),
@@ -114,6 +127,22 @@ pub fn workload(which: u32, n: usize) -> u64 {
         171 => write_byte(n),
         172 => write_bit(n),
         173 => write_shared(n),
+        200 => insert(n, TWENTY, 10),
+        201 => insert(n, TWENTY, 100),
+        202 => insert(n, TWENTY, 1000),
+        203 => insert(n, TWENTY, 100_000),
+        204 => get(n, TWENTY, 10),
+        205 => get(n, TWENTY, 100),
+        206 => get(n, TWENTY, 1000),
+        207 => get(n, TWENTY, 100_000),
+        208 => insert(n, FORTY, 10),
+        209 => insert(n, FORTY, 100),
+        210 => insert(n, FORTY, 1000),
+        211 => insert(n, FORTY, 100_000),
+        212 => get(n, FORTY, 10),
+        213 => get(n, FORTY, 100),
+        214 => get(n, FORTY, 1000),
+        215 => get(n, FORTY, 100_000),
         _ => 0,
     }
 }

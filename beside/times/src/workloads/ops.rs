@@ -83,6 +83,18 @@ pub fn assign_ints(n: usize) -> u64 {
     sum_of(&sums)
 }
 #[inline(never)]
+pub fn append(more: &Dynamic, n: usize) -> u64 {
+    let mut sum = 0_u64;
+    for _ in 0..n {
+        let mut x = Dynamic::from("");
+        for _ in 0..100_000 {
+            assign(Token::PlusAssign, &mut x, &mut more.clone());
+        }
+        sum = sum.wrapping_add(x.as_immutable_string_ref().map_or(0, |t| t.len() as u64));
+    }
+    sum
+}
+#[inline(never)]
 pub fn push_1000_by_operator(to_blob: bool, n: usize) -> u64 {
     let mut sum = 0_u64;
     for _ in 0..n {

@@ -133,5 +133,15 @@ pub fn with_char(n: usize) -> u64 {
     }
     sum
 }
+#[inline(never)]
+pub fn char_count(n: usize) -> u64 {
+    let texts = sixteen(1000);
+    (0..n).filter_map(|i| texts.get(i & 15)).map(|text| text.chars().count() as u64).sum()
+}
+#[inline(never)]
+pub fn char_at(n: usize) -> u64 {
+    let texts = sixteen(1000);
+    (0..n).filter_map(|i| texts.get(i & 15)?.chars().nth(500)).map(|c| u64::from(u32::from(c))).sum()
+}
 
 // ---- operators

@@ -21,7 +21,7 @@ pub fn hashes(value: &Dynamic, n: usize) -> u64 {
 }
 #[inline(never)]
 pub fn maps() -> Dynamic {
-    let keys = keys(10);
+    let keys = keys("key", 10);
     let mut outer = Map::new();
     for key in &keys {
         outer.insert(key.as_str().into(), Dynamic::from_map(map_of(&keys)));

@@ -52,10 +52,25 @@ fn debugs(rt: &impl Eprint, alloc: Global) -> Result<bool, AllocError> {
     Ok(text.as_str() == r#""é\n""#)
 }
 
+/// Whether a text grows, and where memory is refused is as it was.
+fn grows(rt: &impl Eprint, alloc: Global, front: &str) -> Result<bool, AllocError> {
+    let mut text = ImmutableString::from_str(alloc, front)?;
+    if text.push_str(alloc, LONG).is_err() {
+        tell(rt, "ImmutableString::push_str");
+        if text.as_str() != front {
+            return Ok(false);
+        }
+        text.push_str(alloc, LONG)?;
+    }
+    Ok(text.as_str().starts_with(front) && text.as_str().ends_with(LONG))
+}
+
 #[test]
 fn texts_are_whole_or_not_at_all(rt: HostRuntime) -> Result<(), Fail> {
     assert!(rt; quotes(&rt, rt.alloc())?);
     assert!(rt; quotes_char(&rt, rt.alloc())?);
     assert!(rt; debugs(&rt, rt.alloc())?);
+    assert!(rt; grows(&rt, rt.alloc(), "ab")?);
+    assert!(rt; grows(&rt, rt.alloc(), LONG)?);
     Ok(())
 }

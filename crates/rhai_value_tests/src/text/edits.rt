@@ -41,3 +41,57 @@ fn characters_and_slices_are_replaced(rt: HostRuntime) -> Result<(), Fail> {
     assert!(rt; is_made(nothing.with_slice(alloc, 0, 0, false, "x"), "x"));
     Ok(())
 }
+
+/// A text of ASCII and one that isn't, each too long to stand beside its count.
+const PLAIN: &str = "0123456789abcdefghijklmnopqrstuvwxyz";
+
+const MIXED: &str = "0123456789abcdefghijklmnopqrstuvwxyzé";
+
+#[test]
+fn characters_have_places(rt: HostRuntime) -> Result<(), Fail> {
+    let alloc = rt.alloc();
+    let short = text(alloc, "é1")?;
+    let plain = text(alloc, PLAIN)?;
+    let mixed = text(alloc, MIXED)?;
+    assert_eq!(rt; short.char_count(), 2);
+    assert_eq!(rt; plain.char_count(), 36);
+    assert_eq!(rt; mixed.char_count(), 37);
+    assert!(rt; short.char_at(0) == Some('é') && short.char_at(2).is_none());
+    assert!(rt; plain.char_at(35) == Some('z') && plain.char_at(36).is_none());
+    assert!(rt; mixed.char_at(36) == Some('é') && mixed.char_at(37).is_none());
+    assert!(rt;
+        is_made(
+            plain.with_char(alloc, 35, 'é'),
+            "0123456789abcdefghijklmnopqrstuvwxyé"
+        )
+    );
+    assert!(rt; is_made(plain.slice(alloc, 34, 99, true), "yz"));
+    assert!(rt; is_made(mixed.slice(alloc, 35, 36, false), "zé"));
+    Ok(())
+}
+
+/// What is left of a text behind which another is put, and of the copy of it that shared its bytes.
+fn grown(
+    alloc: Global,
+    mut grows: ImmutableString,
+    more: &str,
+) -> Result<(ImmutableString, ImmutableString), AllocError> {
+    let copy = grows.copy(alloc)?;
+    grows.push_str(alloc, more)?;
+    grows.push_str(alloc, more)?;
+    Ok((grows, copy))
+}
+
+#[test]
+fn texts_grow_and_their_copies_stay(rt: HostRuntime) -> Result<(), Fail> {
+    let alloc = rt.alloc();
+    let (short, kept) = grown(alloc, text(alloc, "ab")?, "cd")?;
+    assert!(rt; short.as_str() == "abcdcd" && kept.as_str() == "ab");
+    let (long, kept) = grown(alloc, short, "0123456789é")?;
+    assert!(rt; long.as_str() == "abcdcd0123456789é0123456789é" && kept.as_str() == "abcdcd");
+    let (longer, kept) = grown(alloc, long, "!")?;
+    assert!(rt; longer.as_str() == "abcdcd0123456789é0123456789é!!" && kept.char_count() == 28);
+    let (accented, _) = grown(alloc, text(alloc, PLAIN)?, "é")?;
+    assert!(rt; accented.char_count() == 38 && accented.char_at(37) == Some('é'));
+    Ok(())
+}

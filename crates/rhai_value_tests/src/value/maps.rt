@@ -30,10 +30,10 @@ fn take(map: &mut Map, key: &str) -> INT {
 }
 
 /// Takes the first entry out, and says whether it was this one.
-fn begins_with(map: &mut Map, key: &str, value: INT) -> bool {
-    match map.pop_first() {
-        Some((found, item)) => found.as_str() == key && int_of(&item) == value,
-        None => false,
+fn begins_with(map: &mut Map, alloc: Global, key: &str, value: INT) -> bool {
+    match map.pop_first(alloc) {
+        Ok(Some((found, item))) => found.as_str() == key && int_of(&item) == value,
+        Ok(None) | Err(_) => false,
     }
 }
 
@@ -120,7 +120,7 @@ fn is_put_again(map: &mut Map, alloc: Global) -> bool {
     take(map, "b") == 2
         && take(map, "b") == -1
         && take(map, "é") == 4
-        && begins_with(map, "", 0)
+        && begins_with(map, alloc, "", 0)
         && has_entries(map, &[("a", 1), ("ba", 3)])
         && put(map, alloc, "z", 9) == -1
         && put(map, alloc, "c", 5) == -1
@@ -136,9 +136,9 @@ fn is_put_again(map: &mut Map, alloc: Global) -> bool {
 fn is_cleared(map: &mut Map, alloc: Global) -> bool {
     map.clear();
     map.is_empty()
-        && !begins_with(map, "a", 1)
+        && !begins_with(map, alloc, "a", 1)
         && put(map, alloc, "x", 1) == -1
-        && begins_with(map, "x", 1)
+        && begins_with(map, alloc, "x", 1)
         && map.is_empty()
 }
 

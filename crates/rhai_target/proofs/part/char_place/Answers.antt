@@ -1,7 +1,6 @@
 use Rattle.std.proofs.Common.{◌≡◌, ℕ, zero, suc, ℤ, pos, negsuc, ◌≤◌, Bool, true, false, nat_lt, List, [], ◌∷◌, length, slice_get, Some, None, option_map, option_and_then, refl, sym, ap, ◌∙◌, arith, cond}
 use Rattle.std.proofs.Math.Facts.{to_z-of_z}
 use Rattle.std.proofs.lemmas.Bool.{ltb-false}
-use Rattle.std.specs.Str.{chars}
 use Rattle.rhai_target.specs.Part.{char_read, char_part}
 use Rattle.rhai_target.proofs.part.char_place.Goals as goal
 use lib.Signed.{lt_z}
@@ -23,4 +22,4 @@ ahead cs (negsuc k) n e same = cc
 pub returns-else-index-lt0 : goal.returns-else-index-lt0
 returns-else-index-lt0 c =
     let kept = to_z-of_z c.ranges.index in
-    ahead (chars c.args.text.now) c.args.index c.unsigned_abs.result (ap (λ z. lt_z z (pos 0)) (sym kept) ∙ c.if-index-lt0.false) (c.unsigned_abs.ensures.value ∙ ap nat_abs kept)
+    ahead c.args.text.now c.args.index c.unsigned_abs.result (ap (λ z. lt_z z (pos 0)) (sym kept) ∙ c.if-index-lt0.false) (c.unsigned_abs.ensures.value ∙ ap nat_abs kept)

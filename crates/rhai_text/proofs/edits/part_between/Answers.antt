@@ -1,7 +1,7 @@
 use Rattle.std.proofs.Common.{◌≡◌, ℕ, ◌+◌, ◌-◌, ◌≤◌, ◌<◌, Bool, true, false, if◌then◌else◌, take, drop, ap, sym, ◌∙◌, arith, refl, rules}
 use Rattle.std.proofs.lemmas.Str.{chars-nil, chars_from_encodes}
 use Rattle.std.specs.Str.{chars}
-use Rattle.rhai_text.proofs.Texts.{IsCharBoundary-cut, chars-front_cut, length-le-cut}
+use Rattle.rhai_text.proofs.Texts.{IsAscii-rest, IsCharBoundary-cut, chars-front_cut, length-le-cut}
 use Rattle.rhai_text.proofs.edits.part_between.Goals as goal
 
 -- how many characters a slice has that ends no sooner than it starts
@@ -40,3 +40,6 @@ returns c =
     c.text_after-after.result.now c.text_after-after.utf8 c.text_after-after.ensures.bytes
     ∙ ap (take (if c.args.exclusive then c.args.end - c.args.start else c.args.end - c.args.start + 1)) rest
     ∙ ap (λ n. take n (drop c.args.start cs)) (room c.args.start c.args.end c.args.exclusive (search rules))
+
+pub text_after-after-requires : goal.text_after-after-requires
+text_after-after-requires c h = IsAscii-rest c.args.text.now c.args.start (c.requires h) c.skip_chars-rest.result.now c.skip_chars-rest.ensures

@@ -2,6 +2,7 @@ use Rattle.std.proofs.Common.{◌≡◌, ◌+◌, if◌then◌else◌, drop, sym
 use Rattle.std.proofs.lemmas.List.{drop-drop}
 use Rattle.std.proofs.lemmas.Str.{chars_from_encodes}
 use Rattle.std.specs.Str.{chars, encode_utf8_all}
+use Rattle.rhai_text.proofs.Texts.{IsAscii-rest}
 use Rattle.rhai_text.proofs.edits.text_after.Goals as goal
 
 pub returns-then-exclusive-clause-characters : goal.returns-then-exclusive-clause-characters
@@ -34,3 +35,6 @@ returns-else-exclusive-clause-bytes c =
     c.skip_chars.ensures
     ∙ ap encode_utf8_all (ap (drop 1) from_end ∙ drop-drop 1 c.args.end cs)
     ∙ ap (λ b. encode_utf8_all (drop (if b then c.args.end else c.args.end + 1) cs)) (sym c.if-exclusive.false)
+
+pub skip_chars-requires : goal.skip_chars-requires
+skip_chars-requires c h = IsAscii-rest c.args.text.now c.args.end (c.requires h) c.skip_chars-from_end.result.now c.skip_chars-from_end.ensures

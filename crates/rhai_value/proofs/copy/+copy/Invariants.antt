@@ -1,8 +1,7 @@
-use Rattle.std.proofs.Common.{◌≡◌, ◌+◌, ◌*◌, ◌≤◌, List, ◌++◌, length, map, take, drop, vec_capacity}
-use denote.Param.Weighed.{most}
+use Rattle.std.proofs.Common.{◌≡◌, ◌+◌, ◌*◌, ◌≤◌, length, map, take, drop, vec_capacity}
 use Rattle.rhai_value.specs.Rows.{copied_rows, trees_of, fields_of}
-use Rattle.rhai_value.specs.Slots.{AreTaken, KeySlot, rows, rows_of, map_size, copied_slot}
-use Rattle.rhai_value.specs.declared.dynamic.Dynamic.TheDeep.{deep-Slot}
+use Rattle.rhai_value.specs.Lists.{chunk_rows, joined, rows, rows_of}
+use Rattle.rhai_value.specs.RowWalks.{chunk_view, copied_chunk}
 use Rattle.rhai_value.specs.Tree.{copy, nodes, nodes_trees, nodes_fields}
 use Rattle.rhai_value.specs.View.{tree_of}
 use Rattle.rhai_value.proofs.copy.+copy.Given as goal
@@ -14,30 +13,25 @@ invariant-copied_items-loop-item l = record {
   copied : l.copies.items ≡ map copy (take l.item-index l.items);
 }
 
-abbrev pub invariant-copied_entries-loop-key : goal.invariant-copied_entries-loop-key
-invariant-copied_entries-loop-key l = record {
-  taken : AreTaken l.key-iterator l.slots.items;
-  fewer : nodes_fields (fields_of (rows l.key-iterator l.slots.items)) ≤ nodes_fields (fields_of (rows l.index.entries l.slots.items));
-  done : List KeySlot;
-  all : l.index.entries ≡ done ++ l.key-iterator;
-  copied : l.copies ≡ copied_rows (rows done l.slots.items);
+abbrev pub invariant-copied_entries-loop-entry : goal.invariant-copied_entries-loop-entry
+invariant-copied_entries-loop-entry l = record {
+  fewer : nodes_fields (fields_of (rows (drop l.entry-index l.entry-items))) ≤ nodes_fields (fields_of (rows l.entries.items));
+  room : length l.entry-items ≤ vec_capacity l.copies;
+  copied : rows l.copies.items ≡ copied_rows (rows (take l.entry-index l.entry-items));
 }
 
-abbrev pub invariant-copied_slots-loop-slot : goal.invariant-copied_slots-loop-slot
-invariant-copied_slots-loop-slot l = record {
-  lighter : most deep-Slot (drop l.slot-index l.slot-items) ≤ most deep-Slot l.slots.items;
-  room : length l.slot-items ≤ vec_capacity l.copies;
-  copied : l.copies.items ≡ map copied_slot (take l.slot-index l.slot-items);
+abbrev pub invariant-copied_chunks-loop-chunk : goal.invariant-copied_chunks-loop-chunk
+invariant-copied_chunks-loop-chunk l = record {
+  fewer : nodes_fields (fields_of (joined (map chunk_rows (drop l.chunk-index l.chunk-items)))) ≤ nodes_fields (fields_of (joined (map chunk_rows l.rest.items)));
+  room : length l.chunk-items ≤ vec_capacity l.copies;
+  copied : map chunk_view l.copies.items ≡ map copied_chunk (map chunk_view (take l.chunk-index l.chunk-items));
 }
 
 abbrev pub decreases-copied_parts : goal.decreases-copied_parts
-decreases-copied_parts l = 4 * map_size (rows_of l.parts.now) + 2
+decreases-copied_parts l = 8 * nodes_fields (fields_of (rows_of l.parts.now)) + 4
 
-abbrev pub decreases-copied_slots : goal.decreases-copied_slots
-decreases-copied_slots l = 4 * most deep-Slot l.slots.now.items + 1
-
-abbrev pub decreases-slot_copy : goal.decreases-slot_copy
-decreases-slot_copy l = 4 * deep-Slot l.slot.now
+abbrev pub decreases-copied_chunks : goal.decreases-copied_chunks
+decreases-copied_chunks l = 8 * nodes_fields (fields_of (joined (map chunk_rows l.rest.now.items))) + 3
 
 abbrev pub decreases-copied : goal.decreases-copied
 decreases-copied l = 8 * nodes l.value.now + 1
@@ -52,7 +46,7 @@ abbrev pub decreases-copied_function : goal.decreases-copied_function
 decreases-copied_function l = 8 * nodes_trees (trees_of l.f.now.1) + 3
 
 abbrev pub decreases-copied_map : goal.decreases-copied_map
-decreases-copied_map l = 4 * map_size l.map.now + 3
+decreases-copied_map l = 8 * nodes_fields (fields_of l.map.now) + 5
 
 abbrev pub decreases-copied_entries : goal.decreases-copied_entries
-decreases-copied_entries l = 8 * nodes_fields (fields_of (rows l.index.now.entries l.slots.now.items)) + 2
+decreases-copied_entries l = 8 * nodes_fields (fields_of (rows l.entries.now.items)) + 2

@@ -1,13 +1,12 @@
-use Rattle.std.proofs.Common.{◌≡◌, ℕ}
+use Rattle.std.proofs.Common.{◌≡◌, length, take, drop}
 use Rattle.rhai_value.specs.Hollow.{exchanged, parted}
-use Rattle.rhai_value.specs.Slots.{is_taken, slot_at, AreApart, AreTaken}
-use Rattle.rhai_value.proofs.Scans.{OnThroughRows}
+use Rattle.rhai_value.specs.Lists.{rows}
+use Rattle.rhai_value.specs.RowWalks.{row_scanned, scanned}
 use Rattle.rhai_value.proofs.exchange.exchange_entries.Given as goal
 
-abbrev pub invariant-loop-number : goal.invariant-loop-number
-invariant-loop-number l = record {
-  on : OnThroughRows exchanged (parted l.fn.values.items 0) (parted l.values.items l.at) l.index.entries l.number-iterator l.fn.slots.items l.slots.items;
-  apart : AreApart l.number-iterator;
-  taken : AreTaken l.number-iterator l.slots.items;
-  same : (p : ℕ) → is_taken (slot_at l.slots.items p) ≡ is_taken (slot_at l.fn.slots.items p);
+abbrev pub invariant-loop-entry : goal.invariant-loop-entry
+invariant-loop-entry l = record {
+  on : (parted l.values.items l.at, rows (take l.entry-index l.entry-items)) ≡ scanned (row_scanned exchanged) (parted l.fn.values.items l.from) (rows (take l.entry-index l.fn.entries.items));
+  rest : drop l.entry-index l.entry-items ≡ drop l.entry-index l.fn.entries.items;
+  long : length l.entry-items ≡ length l.fn.entries.items;
 }

@@ -1,5 +1,4 @@
 use Rattle.std.proofs.Common.{◌≡◌, ◌+◌, ◌*◌, ◌<◌, ◌≤◌, drop}
-use Rattle.rhai_value.specs.Slots.{AreTaken, rows}
 use Rattle.rhai_value.specs.Locked.{any_locked, is_locked, is_one_locked, is_field_locked}
 use Rattle.rhai_value.specs.Rows.{trees_of, fields_of}
 use Rattle.rhai_value.specs.Tree.{nodes, nodes_trees, nodes_fields}
@@ -11,13 +10,11 @@ invariant-locks_items-loop-item l = record {
   same : is_one_locked l.store (trees_of (drop l.item-index l.item-items)) ≡ is_one_locked l.store (trees_of l.items.items);
 }
 
-abbrev pub invariant-locks_entries-loop-number : goal.invariant-locks_entries-loop-number
-invariant-locks_entries-loop-number l =
-    record {
-      taken : AreTaken l.number-iterator l.slots.items;
-      fewer : nodes_fields (fields_of (rows l.number-iterator l.slots.items)) ≤ nodes_fields (fields_of (rows l.index.entries l.slots.items));
-      same : is_field_locked l.store (fields_of (rows l.number-iterator l.slots.items)) ≡ is_field_locked l.store (fields_of (rows l.index.entries l.slots.items));
-    }
+abbrev pub invariant-locks_map-loop-value : goal.invariant-locks_map-loop-value
+invariant-locks_map-loop-value l = record {
+  fewer : nodes_fields (fields_of l.value-iterator) ≤ nodes_fields (fields_of l.map);
+  same : is_field_locked l.store (fields_of l.value-iterator) ≡ is_field_locked l.store (fields_of l.map);
+}
 
 abbrev pub decreases-locks : goal.decreases-locks
 decreases-locks l = 4 * nodes l.value.now + 1
@@ -27,9 +24,6 @@ decreases-locks_items l = 4 * nodes_trees (trees_of l.items.now.items) + 2
 
 abbrev pub decreases-locks_map : goal.decreases-locks_map
 decreases-locks_map l = 4 * nodes_fields (fields_of l.map.now) + 3
-
-abbrev pub decreases-locks_entries : goal.decreases-locks_entries
-decreases-locks_entries l = 4 * nodes_fields (fields_of (rows l.index.now.entries l.slots.now.items)) + 2
 
 abbrev pub decreases-locks_far : goal.decreases-locks_far
 decreases-locks_far l = 4 * nodes l.value.now

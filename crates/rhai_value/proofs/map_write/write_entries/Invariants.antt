@@ -1,12 +1,11 @@
-use Rattle.std.proofs.Common.{◌≡◌, ℕ}
-use Rattle.rhai_value.specs.Slots.{is_taken, slot_at, AreApart, AreTaken}
-use Rattle.rhai_value.proofs.Scans.{OnThroughRows}
+use Rattle.std.proofs.Common.{◌≡◌, length, take, drop}
+use Rattle.rhai_value.specs.Lists.{rows}
+use Rattle.rhai_value.specs.RowWalks.{row_scanned, scanned}
 use Rattle.rhai_value.proofs.map_write.write_entries.Given as goal
 
-abbrev pub invariant-loop-number : goal.invariant-loop-number
-invariant-loop-number o l = record {
-  on : OnThroughRows o.W.ValueWriter.writes l.fn.writer l.writer l.index.entries l.number-iterator l.fn.slots.items l.slots.items;
-  apart : AreApart l.number-iterator;
-  taken : AreTaken l.number-iterator l.slots.items;
-  same : (p : ℕ) → is_taken (slot_at l.slots.items p) ≡ is_taken (slot_at l.fn.slots.items p);
+abbrev pub invariant-loop-entry : goal.invariant-loop-entry
+invariant-loop-entry o l = record {
+  on : (l.writer, rows (take l.entry-index l.entry-items)) ≡ scanned (row_scanned o.W.ValueWriter.writes) l.fn.writer (rows (take l.entry-index l.fn.entries.items));
+  rest : drop l.entry-index l.entry-items ≡ drop l.entry-index l.fn.entries.items;
+  long : length l.entry-items ≡ length l.fn.entries.items;
 }

@@ -1,9 +1,8 @@
-use Rattle.std.proofs.Common.{◌≡◌, ◌≤◌, ◌+◌, ◌*◌, ◌++◌, map, take, drop}
-use denote.Param.Weighed.{most}
-use Rattle.rhai_value.specs.Tree.{paint, nodes, nodes_trees}
-use Rattle.rhai_value.specs.Rows.{trees_of}
-use Rattle.rhai_value.specs.Slots.{map_size, painted_slot}
-use Rattle.rhai_value.specs.declared.dynamic.Dynamic.TheDeep.{deep-Slot}
+use Rattle.std.proofs.Common.{◌≡◌, ◌≤◌, ◌+◌, ◌*◌, ◌++◌, length, map, take, drop}
+use Rattle.rhai_value.specs.Lists.{chunk_rows, joined, rows, rows_of}
+use Rattle.rhai_value.specs.RowWalks.{chunk_view, painted_chunk, painted_rows}
+use Rattle.rhai_value.specs.Rows.{trees_of, fields_of}
+use Rattle.rhai_value.specs.Tree.{paint, nodes, nodes_trees, nodes_fields}
 use Rattle.rhai_value.proofs.mode.+paint.Given as goal
 
 abbrev pub invariant-paint_items-loop-item : goal.invariant-paint_items-loop-item
@@ -12,10 +11,20 @@ invariant-paint_items-loop-item l = record {
   painted : l.item-items ≡ map (paint l.mode) (take l.item-index l.fn.items.items) ++ drop l.item-index l.fn.items.items;
 }
 
-abbrev pub invariant-paint_slots-loop-slot : goal.invariant-paint_slots-loop-slot
-invariant-paint_slots-loop-slot l = record {
-  lighter : most deep-Slot (drop l.slot-index l.slot-items) ≤ most deep-Slot l.fn.slots.items;
-  painted : l.slot-items ≡ map (painted_slot l.mode) (take l.slot-index l.fn.slots.items) ++ drop l.slot-index l.fn.slots.items;
+abbrev pub invariant-paint_entries-loop-entry : goal.invariant-paint_entries-loop-entry
+invariant-paint_entries-loop-entry l = record {
+  on : rows (take l.entry-index l.entry-items) ≡ painted_rows l.mode (rows (take l.entry-index l.fn.entries.items));
+  rest : drop l.entry-index l.entry-items ≡ drop l.entry-index l.fn.entries.items;
+  long : length l.entry-items ≡ length l.fn.entries.items;
+  fewer : nodes_fields (fields_of (rows (drop l.entry-index l.entry-items))) ≤ nodes_fields (fields_of (rows l.fn.entries.items));
+}
+
+abbrev pub invariant-paint_chunks-loop-chunk : goal.invariant-paint_chunks-loop-chunk
+invariant-paint_chunks-loop-chunk l = record {
+  on : map chunk_view (take l.chunk-index l.chunk-items) ≡ map (painted_chunk l.mode) (map chunk_view (take l.chunk-index l.fn.rest.items));
+  rest : drop l.chunk-index l.chunk-items ≡ drop l.chunk-index l.fn.rest.items;
+  long : length l.chunk-items ≡ length l.fn.rest.items;
+  fewer : nodes_fields (fields_of (joined (map chunk_rows (drop l.chunk-index l.chunk-items)))) ≤ nodes_fields (fields_of (joined (map chunk_rows l.fn.rest.items)));
 }
 
 abbrev pub decreases-paint_value : goal.decreases-paint_value
@@ -25,10 +34,13 @@ abbrev pub decreases-paint_items : goal.decreases-paint_items
 decreases-paint_items l = 6 * nodes_trees (trees_of l.items.now.items) + 1
 
 abbrev pub decreases-paint_map : goal.decreases-paint_map
-decreases-paint_map l = 3 * map_size l.map.now + 2
+decreases-paint_map l = 6 * nodes_fields (fields_of l.map.now) + 4
 
-abbrev pub decreases-paint_slots : goal.decreases-paint_slots
-decreases-paint_slots l = 3 * most deep-Slot l.slots.now.items + 1
+abbrev pub decreases-paint_parts : goal.decreases-paint_parts
+decreases-paint_parts l = 6 * nodes_fields (fields_of (rows_of l.parts.now)) + 3
 
-abbrev pub decreases-paint_slot : goal.decreases-paint_slot
-decreases-paint_slot l = 3 * deep-Slot l.slot.now
+abbrev pub decreases-paint_entries : goal.decreases-paint_entries
+decreases-paint_entries l = 6 * nodes_fields (fields_of (rows l.entries.now.items)) + 1
+
+abbrev pub decreases-paint_chunks : goal.decreases-paint_chunks
+decreases-paint_chunks l = 6 * nodes_fields (fields_of (joined (map chunk_rows l.rest.now.items))) + 2

@@ -1,12 +1,17 @@
-use Rattle.std.proofs.Common.{◌≡◌, ◌+◌, ◌*◌, drop, set, length-set, ap, ap₂, sym, refl, ◌∙◌, arith, rules}
+use Rattle.std.proofs.Common.{◌≡◌, ◌+◌, ◌*◌, ◌<◌, drop, map, set, get_or, length-set, ap, ap₂, sym, refl, ◌∙◌, arith, rules}
+use Rattle.std.proofs.lemmas.List.{get_or_default}
 use Rattle.flat_walk.specs.Frames.{unwound, unwound_last, sizes, sizes_last, last_of_all}
 use Rattle.rhai_value.specs.Hollow.{with_children, hollow_scanned, hollow_after, hollow_left, IsWaiting}
 use Rattle.rhai_value.specs.Rows.{trees_of, fields_of}
-use Rattle.rhai_value.specs.Slots.{KeySlot, rows}
+use Rattle.rhai_value.specs.Falls.{nodes_joined}
+use Rattle.rhai_value.specs.Lists.{row_of, rows, rows_of, chunk_rows, joined}
+use Rattle.rhai_value.specs.RowWalks.{chunk_view, chunk_scanned, row_scanned}
 use Rattle.rhai_value.specs.Scan.{scan, children_scanned}
 use Rattle.rhai_value.specs.Tree.{nodes, nodes_trees, nodes_fields}
-use Rattle.rhai_value.proofs.Slots.{matched_taken}
-use Rattle.rhai_value.proofs.Scans.{nodes_drop, scan_opens, items_on, items_rest, items_end, rows_start, rows_on, rows_kept, rows_taken, rows_apart, rows_fewer, rows_end}
+use Rattle.rhai_value.specs.declared.map.Chunk.{Chunk}
+use Rattle.rhai_value.proofs.KeptKeys.{parts_scanned, whole_scanned}
+use Rattle.rhai_value.proofs.RowWalks.{walk_on, walk_rest, walk_end, nodes_behind, nodes_behind_chunks, nodes_chunk}
+use Rattle.rhai_value.proofs.Scans.{nodes_drop, scan_opens, items_on, items_rest, items_end}
 use Rattle.rhai_value.proofs.Hollows.{opened_scanned, scanned_all, put_scanned, put_left, put_ready}
 use Rattle.rhai_value.proofs.scan.+scan.Goals as goal
 
@@ -37,38 +42,87 @@ scan_items-returns g t c =
     let i = c.loop-item.invariant in
     items_end (scan g.V.Visitor.visited) c.args.visitor.now c.loop-item.visitor c.loop-item.visitor (trees_of c.args.items.now.items) c.loop-item.item-items c.args.items.now.items c.loop-item.item-index c.args.items.now.len i.on i.long (omega arith) (search rules)
 
-pub scan_entries-loop-number-init : goal.scan_entries-loop-number-init
-scan_entries-loop-number-init g t c =
-    let is = c.into_iter-number-iterator.ensures.into_iter_gives ∙ c.iter-number-items.ensures.rest in
-    record {
-      on = rw is (rows_start (scan g.V.Visitor.visited) c.args.visitor.now c.args.index.now.entries c.args.slots.now.items);
-      apart = rw is c.requires.apart;
-      taken = rw is (matched_taken c.args.index.now.entries c.args.slots.now.items c.requires);
-      same = λ p. refl;
-      fewer = omega (arith, ap (λ es. nodes_fields (fields_of (rows es c.args.slots.now.items))) is);
-    }
+pub scan_parts-scan_entries-requires : goal.scan_parts-scan_entries-requires
+scan_parts-scan_entries-requires g t c κs outlives =
+    let p = c.args.parts.now in
+    let started : 8 * nodes_fields (fields_of (rows_of p)) + 6 ≡ t = c.decreases in
+    let falls : 8 * nodes_fields (fields_of (rows p.first.items)) + 4 < t = omega (arith, nodes_joined (rows p.first.items) (joined (map chunk_rows p.rest.items))) in
+    (falls, outlives)
 
-pub scan_entries-loop-number-preserved : goal.scan_entries-loop-number-preserved
-scan_entries-loop-number-preserved g t c =
-    let i = c.loop-number.invariant in
+pub scan_parts-scan_chunks-requires : goal.scan_parts-scan_chunks-requires
+scan_parts-scan_chunks-requires g t c κs outlives =
+    let p = c.args.parts.now in
+    let started : 8 * nodes_fields (fields_of (rows_of p)) + 6 ≡ t = c.decreases in
+    let falls : 8 * nodes_fields (fields_of (joined (map chunk_rows p.rest.items))) + 5 < t = omega (arith, nodes_joined (rows p.first.items) (joined (map chunk_rows p.rest.items))) in
+    (falls, outlives)
+
+pub scan_parts-returns-clause-scanned : goal.scan_parts-returns-clause-scanned
+scan_parts-returns-clause-scanned g t c =
+    let q = record c.args.parts.now { first = c.scan_entries.new.entries; rest = c.scan_chunks.new.rest } in
+    parts_scanned (scan g.V.Visitor.visited) c.args.visitor.now c.scan_entries.new.visitor c.scan_chunks.new.visitor c.args.parts.now q c.scan_entries.ensures c.scan_chunks.ensures
+
+pub scan_parts-returns-clause-whole : goal.scan_parts-returns-clause-whole
+scan_parts-returns-clause-whole g t c =
+    let q = record c.args.parts.now { first = c.scan_entries.new.entries; rest = c.scan_chunks.new.rest } in
+    whole_scanned (scan g.V.Visitor.visited) c.args.visitor.now c.scan_entries.new.visitor c.scan_chunks.new.visitor c.args.parts.now q c.scan_entries.ensures c.scan_chunks.ensures refl c.requires
+
+pub scan_entries-loop-entry-preserved : goal.scan_entries-loop-entry-preserved
+scan_entries-loop-entry-preserved g t c =
+    let i = c.loop-entry.invariant in
+    let xs = c.loop-entry.entry-items in
+    let old = c.args.entries.now.items in
+    let n = c.loop-entry.entry-index in
     let f = scan g.V.Visitor.visited in
-    let e : KeySlot = (c.in-Some.field-0-0.now, c.in-Some.number.now) in
-    let next = c.in-Some.ensures.steps in
-    let old = c.args.slots.now.items in
-    let now = c.loop-number.slots.items in
-    let x = c.scan_slot.new.slot in
-    let s = c.index_mut.result.now in
+    let x = get_or xs n c.entry-item.result in
+    let is = get_or_default xs n c.entry-item.result x (omega arith) in
+    let u = record x { value = c.scan_value.new.value } in
+    let did : (c.scan_value.new.visitor, row_of u) ≡ row_scanned f c.loop-entry.visitor (row_of x) = ap (λ y. (y.0, (x.key, y.1))) c.scan_value.ensures in
+    let rest = walk_rest row_of (row_scanned f) c.args.visitor.now c.loop-entry.visitor c.scan_value.new.visitor xs old n x u i.on i.rest (omega arith) i.long is did in
     record {
-      on = rows_on f c.args.visitor.now c.loop-number.visitor c.scan_slot.new.visitor c.args.index.now.entries c.loop-number.number-iterator c.next.new.self e old now x s i.on next i.apart i.taken c.index_mut.ensures.value c.scan_slot.ensures;
-      apart = rows_apart f c.args.visitor.now c.loop-number.visitor c.scan_slot.new.visitor c.args.index.now.entries c.loop-number.number-iterator c.next.new.self e old now x s i.on next i.apart i.taken c.index_mut.ensures.value c.scan_slot.ensures;
-      taken = rows_taken f c.args.visitor.now c.loop-number.visitor c.scan_slot.new.visitor c.args.index.now.entries c.loop-number.number-iterator c.next.new.self e old now x s i.on next i.apart i.taken c.index_mut.ensures.value c.scan_slot.ensures;
-      same = λ p. rows_kept f c.args.visitor.now c.loop-number.visitor c.scan_slot.new.visitor c.args.index.now.entries c.loop-number.number-iterator c.next.new.self e old now x s i.on next i.apart i.taken c.index_mut.ensures.value c.scan_slot.ensures p ∙ i.same p;
-      fewer = omega (arith, i.fewer, rows_fewer f c.args.visitor.now c.loop-number.visitor c.scan_slot.new.visitor c.args.index.now.entries c.loop-number.number-iterator c.next.new.self e old now x s i.on next i.apart i.taken c.index_mut.ensures.value c.scan_slot.ensures);
+      on = walk_on row_of (row_scanned f) c.args.visitor.now c.loop-entry.visitor c.scan_value.new.visitor xs old n x u i.on i.rest (omega arith) i.long is did;
+      rest = rest;
+      long = length-set xs n u ∙ i.long;
+      fewer = omega (arith, ap (λ ys. nodes_fields (fields_of (rows ys))) rest, nodes_behind old (n + 1));
     }
 
-pub scan_entries-returns-clause-scanned : goal.scan_entries-returns-clause-scanned
-scan_entries-returns-clause-scanned g t c =
-    rows_end (scan g.V.Visitor.visited) c.args.visitor.now c.loop-number.visitor c.loop-number.visitor c.args.index.now.entries c.loop-number.number-iterator c.args.slots.now.items c.loop-number.slots.items c.loop-number.invariant.on c.in-None.ensures.steps.0
+pub scan_entries-returns : goal.scan_entries-returns
+scan_entries-returns g t c =
+    let i = c.loop-entry.invariant in
+    walk_end row_of (row_scanned (scan g.V.Visitor.visited)) c.args.visitor.now c.loop-entry.visitor c.loop-entry.entry-items c.args.entries.now.items c.loop-entry.entry-index c.args.entries.now.len i.on i.long (omega arith) (search rules)
+
+pub scan_chunks-scan_entries-requires : goal.scan_chunks-scan_entries-requires
+scan_chunks-scan_entries-requires g t c κs outlives =
+    let xs = c.loop-chunk.chunk-items in
+    let n = c.loop-chunk.chunk-index in
+    let x : Chunk = get_or xs n c.chunk-item.result in
+    let is : x ≡ get_or xs n x = get_or_default xs n c.chunk-item.result x (omega arith) in
+    let started : 8 * nodes_fields (fields_of (joined (map chunk_rows c.args.rest.now.items))) + 5 ≡ t = c.decreases in
+    let falls : 8 * nodes_fields (fields_of (chunk_rows x)) + 4 < t = omega (arith, c.loop-chunk.invariant.fewer, nodes_chunk xs n x (omega arith) is) in
+    (falls, outlives)
+
+pub scan_chunks-loop-chunk-preserved : goal.scan_chunks-loop-chunk-preserved
+scan_chunks-loop-chunk-preserved g t c =
+    let i = c.loop-chunk.invariant in
+    let xs = c.loop-chunk.chunk-items in
+    let old = c.args.rest.now.items in
+    let n = c.loop-chunk.chunk-index in
+    let f = scan g.V.Visitor.visited in
+    let x = get_or xs n c.chunk-item.result in
+    let is = get_or_default xs n c.chunk-item.result x (omega arith) in
+    let u = record x { entries = c.scan_entries.new.entries } in
+    let did : (c.scan_entries.new.visitor, chunk_view u) ≡ chunk_scanned f c.loop-chunk.visitor (chunk_view x) = ap (λ y. (y.0, (x.front, y.1))) c.scan_entries.ensures in
+    let rest = walk_rest chunk_view (chunk_scanned f) c.args.visitor.now c.loop-chunk.visitor c.scan_entries.new.visitor xs old n x u i.on i.rest (omega arith) i.long is did in
+    record {
+      on = walk_on chunk_view (chunk_scanned f) c.args.visitor.now c.loop-chunk.visitor c.scan_entries.new.visitor xs old n x u i.on i.rest (omega arith) i.long is did;
+      rest = rest;
+      long = length-set xs n u ∙ i.long;
+      fewer = omega (arith, ap (λ ys. nodes_fields (fields_of (joined (map chunk_rows ys)))) rest, nodes_behind_chunks old (n + 1));
+    }
+
+pub scan_chunks-returns : goal.scan_chunks-returns
+scan_chunks-returns g t c =
+    let i = c.loop-chunk.invariant in
+    walk_end chunk_view (chunk_scanned (scan g.V.Visitor.visited)) c.args.visitor.now c.loop-chunk.visitor c.loop-chunk.chunk-items c.args.rest.now.items c.loop-chunk.chunk-index c.args.rest.now.len i.on i.long (omega arith) (search rules)
 
 pub scan_far-returns-in-Ok : goal.scan_far-returns-in-Ok
 scan_far-returns-in-Ok g t c =

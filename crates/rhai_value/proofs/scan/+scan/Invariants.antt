@@ -1,11 +1,12 @@
-use Rattle.std.proofs.Common.{◌≡◌, ℕ, ◌≤◌, ◌+◌, ◌-◌, ◌*◌, length, take, drop}
+use Rattle.std.proofs.Common.{◌≡◌, ◌≤◌, ◌+◌, ◌-◌, ◌*◌, length, map, take, drop}
 use Rattle.flat_walk.specs.Frames.{unwound, sizes, AreAll}
 use Rattle.rhai_value.specs.Hollow.{hollow_after, hollow_left, hollow_scanned, IsReady, IsWaiting}
 use Rattle.rhai_value.specs.Tree.{nodes, nodes_trees, nodes_fields}
 use Rattle.rhai_value.specs.Rows.{trees_of, fields_of}
 use Rattle.rhai_value.specs.Scan.{scan}
-use Rattle.rhai_value.specs.Slots.{rows, rows_of, tree_in, is_taken, slot_at, AreApart, AreTaken}
-use Rattle.rhai_value.proofs.Scans.{OnThroughItems, OnThroughRows}
+use Rattle.rhai_value.specs.Lists.{chunk_rows, joined, rows, rows_of}
+use Rattle.rhai_value.specs.RowWalks.{chunk_scanned, chunk_view, row_scanned, scanned}
+use Rattle.rhai_value.proofs.Scans.{OnThroughItems}
 use Rattle.rhai_value.proofs.scan.+scan.Given as goal
 
 abbrev pub decreases-scan_value : goal.decreases-scan_value
@@ -23,8 +24,11 @@ decreases-scan_map o l = 8 * nodes_fields (fields_of l.map.now) + 7
 abbrev pub decreases-scan_parts : goal.decreases-scan_parts
 decreases-scan_parts o l = 8 * nodes_fields (fields_of (rows_of l.parts.now)) + 6
 
-abbrev pub decreases-scan_slot : goal.decreases-scan_slot
-decreases-scan_slot o l = 8 * nodes (tree_in l.slot.now) + 4
+abbrev pub decreases-scan_entries : goal.decreases-scan_entries
+decreases-scan_entries o l = 8 * nodes_fields (fields_of (rows l.entries.now.items)) + 4
+
+abbrev pub decreases-scan_chunks : goal.decreases-scan_chunks
+decreases-scan_chunks o l = 8 * nodes_fields (fields_of (joined (map chunk_rows l.rest.now.items))) + 5
 
 abbrev pub invariant-scan_items-loop-item : goal.invariant-scan_items-loop-item
 invariant-scan_items-loop-item o l = record {
@@ -34,16 +38,20 @@ invariant-scan_items-loop-item o l = record {
   fewer : nodes_trees (trees_of (drop l.item-index l.item-items)) ≤ nodes_trees (trees_of l.fn.items.items);
 }
 
-abbrev pub decreases-scan_entries : goal.decreases-scan_entries
-decreases-scan_entries o l = 8 * nodes_fields (fields_of (rows l.index.now.entries l.slots.now.items)) + 5
+abbrev pub invariant-scan_entries-loop-entry : goal.invariant-scan_entries-loop-entry
+invariant-scan_entries-loop-entry o l = record {
+  on : (l.visitor, rows (take l.entry-index l.entry-items)) ≡ scanned (row_scanned (scan o.V.Visitor.visited)) l.fn.visitor (rows (take l.entry-index l.fn.entries.items));
+  rest : drop l.entry-index l.entry-items ≡ drop l.entry-index l.fn.entries.items;
+  long : length l.entry-items ≡ length l.fn.entries.items;
+  fewer : nodes_fields (fields_of (rows (drop l.entry-index l.entry-items))) ≤ nodes_fields (fields_of (rows l.fn.entries.items));
+}
 
-abbrev pub invariant-scan_entries-loop-number : goal.invariant-scan_entries-loop-number
-invariant-scan_entries-loop-number o l = record {
-  on : OnThroughRows (scan o.V.Visitor.visited) l.fn.visitor l.visitor l.index.entries l.number-iterator l.fn.slots.items l.slots.items;
-  apart : AreApart l.number-iterator;
-  taken : AreTaken l.number-iterator l.slots.items;
-  same : (p : ℕ) → is_taken (slot_at l.slots.items p) ≡ is_taken (slot_at l.fn.slots.items p);
-  fewer : nodes_fields (fields_of (rows l.number-iterator l.slots.items)) ≤ nodes_fields (fields_of (rows l.index.entries l.fn.slots.items));
+abbrev pub invariant-scan_chunks-loop-chunk : goal.invariant-scan_chunks-loop-chunk
+invariant-scan_chunks-loop-chunk o l = record {
+  on : (l.visitor, map chunk_view (take l.chunk-index l.chunk-items)) ≡ scanned (chunk_scanned (scan o.V.Visitor.visited)) l.fn.visitor (map chunk_view (take l.chunk-index l.fn.rest.items));
+  rest : drop l.chunk-index l.chunk-items ≡ drop l.chunk-index l.fn.rest.items;
+  long : length l.chunk-items ≡ length l.fn.rest.items;
+  fewer : nodes_fields (fields_of (joined (map chunk_rows (drop l.chunk-index l.chunk-items)))) ≤ nodes_fields (fields_of (joined (map chunk_rows l.fn.rest.items)));
 }
 
 abbrev pub decreases-scan_far : goal.decreases-scan_far

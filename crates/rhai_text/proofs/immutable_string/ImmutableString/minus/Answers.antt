@@ -18,7 +18,7 @@ returns c =
     let text = c.in_ok-text.text in
     let pattern = c.args.pattern in
     let bytes = ReplacesMatches-minus c.in_ok-text.ensures.ok.0 pattern c.as_str.result.now (string_bytes text) c.utf8.pattern some c.as_str.utf8 c.in_ok-text.ensures.ok.1 in
-    subst (λ cs. IfOk c.from_bytes.result (λ t. t ≡ cs))
+    subst (λ cs. IfOk c.from_string.result (λ t. t ≡ cs))
     (sym (chars_from_encodes (minus (chars c.as_str.result.now) (chars pattern.now)) (string_bytes text) (IsUtf8-string_bytes text) (sym bytes))
     ∙ ap (λ cs. minus cs (chars pattern.now)) c.as_str.ensures.characters)
-    c.from_bytes.ensures
+    c.from_string.ensures

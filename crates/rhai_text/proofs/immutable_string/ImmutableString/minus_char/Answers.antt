@@ -33,6 +33,6 @@ returns c =
     ∙ ap (λ bs. string_bytes text ++ encode_utf8_all (minus_char bs c.args.character)) (sym (ap chars empty ∙ chars-nil))
     ∙ c.loop-run.invariant.left
     in
-    subst (λ cs. IfOk c.from_bytes.result (λ t. t ≡ cs))
+    subst (λ cs. IfOk c.from_string.result (λ t. t ≡ cs))
     (sym (chars_from_encodes (minus_char c.args.self.now c.args.character) (string_bytes text) (IsUtf8-string_bytes text) (sym bytes)))
-    c.from_bytes.ensures
+    c.from_string.ensures

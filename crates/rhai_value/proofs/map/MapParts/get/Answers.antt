@@ -1,12 +1,10 @@
-use Rattle.std.proofs.Common.{Some, ap, ◌∙◌}
-use Rattle.rhai_value.proofs.Edits.{found_taken, found_row}
+use Rattle.std.proofs.Common.{Some, ap, sym, subst, ◌∙◌}
+use Rattle.rhai_value.specs.Seats.{IsFound, IsMissing}
+use Rattle.rhai_value.proofs.Seats.{found_value, missing_value}
 use Rattle.rhai_value.proofs.map.MapParts.get.Goals as goal
 
-pub value_at-requires : goal.value_at-requires
-value_at-requires c = found_taken _ _ _ _ c.requires.matched c.in-Some.ensures
+pub returns-in-Ok : goal.returns-in-Ok
+returns-in-Ok c = ap Some c.value_at.ensures ∙ sym (found_value c.args.key.now c.args.self.now c.in-Ok.seat (subst (λ k. IsFound k c.args.self.now c.in-Ok.seat) c.of.ensures c.in-Ok.ensures.found))
 
-pub returns-in-Some : goal.returns-in-Some
-returns-in-Some c = ap Some c.value_at.ensures ∙ found_row _ c.args.self.now.index.entries c.args.self.now.slots.items _ c.in-Some.ensures
-
-pub returns-in-None : goal.returns-in-None
-returns-in-None c = found_row _ c.args.self.now.index.entries c.args.self.now.slots.items _ c.in-None.ensures
+pub returns-in-Err : goal.returns-in-Err
+returns-in-Err c = sym (missing_value c.args.key.now c.args.self.now c.in-Err.field-0 (subst (λ k. IsMissing k c.args.self.now c.in-Err.field-0) c.of.ensures c.in-Err.ensures.missing))

@@ -1,0 +1,20 @@
+-- How a key holds its bytes.
+use Rattle.std.specs.Prelude.{◌≡◌, ℕ, ◌≤◌, List, take, length, slice_index_or, string_bytes, ⊤}
+use Rattle.std.specs.Str.{IsUtf8}
+use Rattle.rhai_value.specs.declared.key.KeyForm.{KeyForm}
+use Rattle.rhai_value.specs.declared.key.KeyForm.TheVariants.{Short, Long}
+
+abbrev pub key_bytes : KeyForm → List ℕ
+key_bytes (Short n bs) = take n bs
+key_bytes (Long s) = string_bytes s
+
+-- n bytes that are a text, and zeros past them
+pub record IsShort (n : ℕ) (bs : List ℕ) : Type 0 where
+  pub within : n ≤ 30
+  pub long : length bs ≡ 30
+  pub text : ∥ IsUtf8 (take n bs) ∥₁
+  pub zeros : (i : ℕ) → n ≤ i → slice_index_or bs i 0 ≡ 0
+
+abbrev pub IsKey : KeyForm → Type 0
+IsKey (Short n bs) = IsShort n bs
+IsKey (Long s) = ⊤

@@ -1,0 +1,199 @@
+//! Calls of functions by name.
+
+use crate::compiler::{Compiler, to_slot};
+use crate::error::CodeError;
+use crate::meaning::Meaning;
+use crate::operations::{Op, Slot};
+use crate::program::Place;
+use crate::quiet::known_variable;
+use crate::tables::to_number;
+use example_syntax::Expr;
+use rhai_text::Position;
+
+/// The variable that is the only argument, if it is one.
+fn only_variable(arguments: &[Expr]) -> Option<example_syntax::Slot> {
+    if let [argument] = arguments {
+        known_variable(argument)
+    } else {
+        None
+    }
+}
+
+impl<'p> Compiler<'p> {
+    /// Calls a function, whose value comes to a slot.
+    #[cycle(compile)]
+    pub(crate) fn call(
+        &mut self,
+        callee: usize,
+        arguments: &Vec<Expr>,
+        position: Position,
+        to: Slot,
+        levels: u32,
+    ) -> Result<(), CodeError> {
+        let function = match self.script.callees.get(callee) {
+            Some(callee) => callee.function,
+            None => None,
+        };
+        if let Some(function) = function {
+            return self.call_script(function, arguments, position, to, levels);
+        }
+        let meaning = self.meaning(callee);
+        match meaning {
+            Meaning::IsShared => self.ask_shared(arguments, position, to, levels),
+            Meaning::Print => self.print(arguments, false, position, to, levels),
+            Meaning::Debug => self.print(arguments, true, position, to, levels),
+            Meaning::Native(_) => self.call_native(callee, arguments, position, to, levels),
+            Meaning::Each(kind) => {
+                let first = self.values(arguments, levels)?;
+                self.each(first, kind, arguments.len().saturating_sub(1), position)?;
+                self.moved(to, first)
+            }
+            Meaning::Sort => self.sort_first(arguments, position, to, levels),
+            Meaning::Host(_) | Meaning::Call | Meaning::Curry => {
+                let first = self.values(arguments, levels)?;
+                if arguments.is_empty() {
+                    self.take_slot()?;
+                }
+                self.call_values(meaning, callee, first, arguments.len(), position)?;
+                self.moved(to, first)
+            }
+        }
+    }
+
+    #[cycle(compile)]
+    fn call_script(
+        &mut self,
+        function: usize,
+        arguments: &Vec<Expr>,
+        position: Position,
+        to: Slot,
+        levels: u32,
+    ) -> Result<(), CodeError> {
+        let is_last = self.is_free(to) && to.saturating_add(1) == self.top;
+        if is_last {
+            self.top = to;
+        }
+        let first = self.values(arguments, levels)?;
+        if arguments.is_empty() {
+            self.take_slot()?;
+        }
+        let function = to_number(function)?;
+        self.emit_at(Op::Call(first, function), position)?;
+        self.moved(to, first)
+    }
+
+    /// Whether a variable is shared; a value that is none isn't.
+    #[cycle(compile)]
+    fn ask_shared(
+        &mut self,
+        arguments: &Vec<Expr>,
+        position: Position,
+        to: Slot,
+        levels: u32,
+    ) -> Result<(), CodeError> {
+        if let Some(slot) = only_variable(arguments) {
+            let slot = self.slot_of(slot)?;
+            let path = self.path(Vec::new(self.alloc))?;
+            self.emit_at(Op::IsShared(to, slot, path), position)?;
+            return Ok(());
+        }
+        self.values(arguments, levels)?;
+        self.emit_at(Op::Bool(to, false), position)?;
+        Ok(())
+    }
+
+    #[cycle(compile)]
+    fn print(
+        &mut self,
+        arguments: &Vec<Expr>,
+        is_debug: bool,
+        position: Position,
+        to: Slot,
+        levels: u32,
+    ) -> Result<(), CodeError> {
+        for argument in arguments {
+            let slot = self.operand(argument, true, levels)?;
+            self.emit_at(Op::Print(slot, is_debug), position)?;
+        }
+        self.emit(Op::Unit(to))?;
+        Ok(())
+    }
+
+    /// Calls a function of the packages: a variable that it is given first is left where it is.
+    #[cycle(compile)]
+    fn call_native(
+        &mut self,
+        callee: usize,
+        arguments: &Vec<Expr>,
+        position: Position,
+        to: Slot,
+        levels: u32,
+    ) -> Result<(), CodeError> {
+        let number = to_number(callee)?;
+        if let Some((first, others)) = arguments.split_first() {
+            if let Some(slot) = known_variable(first) {
+                return self.native_on(number, slot, others, position, to, levels);
+            }
+        }
+        let first = self.values(arguments, levels)?;
+        if arguments.is_empty() {
+            self.take_slot()?;
+            self.emit(Op::Unit(first))?;
+        }
+        self.emit_at(Op::Native(first, number), position)?;
+        self.moved(to, first)
+    }
+
+    /// Calls a function of the packages on a variable, with other arguments.
+    #[cycle(compile)]
+    fn native_on(
+        &mut self,
+        number: u32,
+        slot: example_syntax::Slot,
+        others: &[Expr],
+        position: Position,
+        to: Slot,
+        levels: u32,
+    ) -> Result<(), CodeError> {
+        let stays = self.watched(slot).stays_in_all(others);
+        let variable = self.slot_of(slot)?;
+        let base = self.take_slot()?;
+        if !stays {
+            self.emit(Op::Copy(base, variable))?;
+        }
+        self.values(others, levels)?;
+        let place = Place {
+            position,
+            flag: !stays,
+            ..self.place()
+        };
+        self.emit_with(Op::NativeOn(base, variable, number), place)?;
+        self.moved(to, base)
+    }
+
+    /// Calls what isn't the script's with so many values, those from a slot on, where its answer comes.
+    pub(crate) fn call_values(
+        &mut self,
+        meaning: Meaning,
+        callee: usize,
+        first: Slot,
+        count: usize,
+        position: Position,
+    ) -> Result<(), CodeError> {
+        let op = match meaning {
+            Meaning::Host(number) => Op::CallHost(first, number),
+            Meaning::Print => Op::Print(first, false),
+            Meaning::Debug => Op::Print(first, true),
+            Meaning::IsShared => Op::Bool(first, false),
+            Meaning::Curry => Op::Curry(first, to_slot(count.saturating_sub(1))?),
+            Meaning::Native(_) | Meaning::Call | Meaning::Each(_) | Meaning::Sort => {
+                Op::Native(first, to_number(callee)?)
+            }
+        };
+        self.emit_at(op, position)?;
+        if let Meaning::Print | Meaning::Debug = meaning {
+            self.emit(Op::Unit(first))?;
+        }
+        Ok(())
+    }
+}

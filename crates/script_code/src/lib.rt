@@ -1,0 +1,28 @@
+//! Compiles a script of a small language to flat code: operations on slots, as plain data that many runs may share.
+#![tactic(auto)]
+
+mod callbacks;
+mod calls;
+mod chains;
+mod compiler;
+mod conditions;
+mod effects;
+mod error;
+mod expressions;
+mod literals;
+mod loops;
+mod meaning;
+mod operations;
+mod operators;
+mod places;
+mod program;
+mod quiet;
+mod scan;
+mod tables;
+mod writes;
+
+pub use compiler::compile;
+pub use error::CodeError;
+pub use meaning::{EachKind, HostName, Meaning, meaning_of};
+pub use operations::{Op, Slot, Target};
+pub use program::{Callee, Code, Method, NO_STEPS, Path, PathStep, Place, Program, Shape};

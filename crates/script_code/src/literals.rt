@@ -1,0 +1,103 @@
+//! Literals of arrays and maps.
+
+use crate::compiler::{Compiler, to_slot};
+use crate::error::CodeError;
+use crate::operations::{Op, Slot};
+use crate::tables::number_in;
+use example_syntax::{Expr, Field};
+
+/// So many items of a literal are evaluated before they are put together.
+const ITEMS_AT_ONCE: usize = 32;
+
+impl<'p> Compiler<'p> {
+    #[cycle(compile)]
+    pub(crate) fn array(
+        &mut self,
+        items: &Vec<Expr>,
+        to: Slot,
+        levels: u32,
+    ) -> Result<(), CodeError> {
+        if items.len() <= ITEMS_AT_ONCE {
+            let first = self.values(items, levels)?;
+            self.emit(Op::Array(to, first, to_slot(items.len())?))?;
+            return Ok(());
+        }
+        let made = self.take_slot()?;
+        self.emit(Op::Array(made, made, 0))?;
+        let first = self.top;
+        for (number, item) in items.iter().enumerate() {
+            let slot = self.take_slot()?;
+            self.value(item, slot, levels)?;
+            let count = usize::from(self.top).saturating_sub(usize::from(first));
+            if count >= ITEMS_AT_ONCE || number.saturating_add(1) == items.len() {
+                self.emit(Op::ArrayMore(made, first, to_slot(count)?))?;
+                self.top = first;
+            }
+        }
+        self.emit(Op::Move(to, made))?;
+        Ok(())
+    }
+
+    /// The number of a list of keys.
+    pub(crate) fn keys(&mut self, fields: &[Field]) -> Result<u32, CodeError> {
+        let mut keys = Vec::new(self.alloc);
+        for field in fields {
+            keys.push(self.text(field.key.as_str())?)?;
+        }
+        let number = number_in(&self.program.keys)?;
+        self.program.keys.push(keys)?;
+        Ok(number)
+    }
+
+    #[cycle(compile)]
+    pub(crate) fn object(
+        &mut self,
+        fields: &Vec<Field>,
+        to: Slot,
+        levels: u32,
+    ) -> Result<(), CodeError> {
+        let made = if fields.len() <= ITEMS_AT_ONCE {
+            to
+        } else {
+            self.take_slot()?
+        };
+        let first = self.top;
+        let mut begun = 0usize;
+        for (number, field) in fields.iter().enumerate() {
+            let slot = self.take_slot()?;
+            self.value(&field.value, slot, levels)?;
+            let next = number.saturating_add(1);
+            if next == fields.len() || next.saturating_sub(begun) >= ITEMS_AT_ONCE {
+                self.some_fields(fields, begun, next, made, first)?;
+                self.top = first;
+                begun = next;
+            }
+        }
+        if fields.is_empty() {
+            self.some_fields(fields, 0, 0, made, first)?;
+        }
+        if made != to {
+            self.emit(Op::Move(to, made))?;
+        }
+        Ok(())
+    }
+
+    /// Puts the fields from one to before another into a map, whose values stand from a slot on.
+    fn some_fields(
+        &mut self,
+        fields: &Vec<Field>,
+        begin: usize,
+        end: usize,
+        made: Slot,
+        first: Slot,
+    ) -> Result<(), CodeError> {
+        let keys = self.keys(fields.as_slice().get(begin..end).unwrap_or(&[]))?;
+        let op = if begin == 0 {
+            Op::Object(made, first, keys)
+        } else {
+            Op::ObjectMore(made, first, keys)
+        };
+        self.emit(op)?;
+        Ok(())
+    }
+}

@@ -1,0 +1,250 @@
+//! Loops. Their conditions stand at their ends.
+
+use crate::compiler::{Compiler, Round};
+use crate::error::CodeError;
+use crate::operations::{Op, Slot, Target};
+use crate::program::Place;
+use example_syntax::{Arm, Block, Expr, Operator};
+use rhai_text::{Position, Token};
+use std::mem;
+
+impl<'p> Compiler<'p> {
+    fn begin_round(&mut self, to: Option<Slot>) -> Result<(), CodeError> {
+        let round = Round {
+            breaks: Vec::new(self.alloc),
+            continues: Vec::new(self.alloc),
+            tries: self.tries,
+            to,
+        };
+        self.rounds.push(round)?;
+        Ok(())
+    }
+
+    /// Has the jumps to the next round of the innermost loop go to a place.
+    fn land_continues(&mut self, target: Target) {
+        let jumps = match self.rounds.last_mut() {
+            Some(round) => mem::replace(&mut round.continues, Vec::new(self.alloc)),
+            None => Vec::new(self.alloc),
+        };
+        self.set_targets(jumps.as_slice(), target);
+    }
+
+    /// Ends a loop, whose value is unit where it wasn't left by `break`.
+    fn end_round(&mut self, first_slot: usize) -> Result<(), CodeError> {
+        let Some(round) = self.rounds.pop() else {
+            return Ok(());
+        };
+        let Round { breaks, to, .. } = round;
+        if let Some(to) = to {
+            self.emit(Op::Unit(to))?;
+        }
+        self.land_breaks(breaks, first_slot, to)
+    }
+
+    /// Has the jumps out of a loop go behind it, where its variables from a number on end.
+    fn land_breaks(
+        &mut self,
+        breaks: Vec<usize>,
+        first_slot: usize,
+        to: Option<Slot>,
+    ) -> Result<(), CodeError> {
+        let end = self.special.len();
+        self.land(breaks.as_slice())?;
+        self.clear_variables(first_slot, end, to)
+    }
+
+    #[cycle(compile)]
+    pub(crate) fn while_loop(
+        &mut self,
+        arm: &Arm,
+        to: Option<Slot>,
+        levels: u32,
+    ) -> Result<(), CodeError> {
+        let start = self.emit(Op::Jump(0))?;
+        let body = self.here()?;
+        self.begin_round(to)?;
+        self.statements(&arm.body.statements, None, levels)?;
+        let test = self.here()?;
+        self.land_continues(test);
+        self.set_target(start, test);
+        self.test(arm, true, body, levels)?;
+        self.end_round(arm.body.first_slot)
+    }
+
+    /// Goes back to the body where a condition comes to this. A condition is no part of the loop for what leaves one.
+    #[cycle(compile)]
+    fn test(
+        &mut self,
+        arm: &Arm,
+        wanted: bool,
+        body: Target,
+        levels: u32,
+    ) -> Result<(), CodeError> {
+        let own = self.rounds.pop();
+        self.position = arm.position;
+        let mut back = Vec::new(self.alloc);
+        self.condition(&arm.condition, wanted, arm.position, &mut back, levels)?;
+        self.set_targets(back.as_slice(), body);
+        if let Some(own) = own {
+            self.rounds.push(own)?;
+        }
+        Ok(())
+    }
+
+    #[cycle(compile)]
+    pub(crate) fn do_loop(
+        &mut self,
+        arm: &Arm,
+        goes_on: bool,
+        to: Option<Slot>,
+        levels: u32,
+    ) -> Result<(), CodeError> {
+        let body = self.here()?;
+        self.begin_round(to)?;
+        self.statements(&arm.body.statements, None, levels)?;
+        let test = self.here()?;
+        self.land_continues(test);
+        self.test(arm, goes_on, body, levels)?;
+        self.end_round(arm.body.first_slot)
+    }
+
+    #[cycle(compile)]
+    pub(crate) fn endless_loop(
+        &mut self,
+        block: &Block,
+        to: Option<Slot>,
+        levels: u32,
+    ) -> Result<(), CodeError> {
+        let body = self.here()?;
+        self.begin_round(to)?;
+        self.statements(&block.statements, None, levels)?;
+        self.land_continues(body);
+        self.emit(Op::Jump(body))?;
+        let Some(round) = self.rounds.pop() else {
+            return Ok(());
+        };
+        let Round { breaks, to, .. } = round;
+        self.land_breaks(breaks, block.first_slot, to)
+    }
+}
+
+/// Loops over items.
+impl<'p> Compiler<'p> {
+    #[cycle(compile)]
+    pub(crate) fn for_loop(
+        &mut self,
+        item: usize,
+        index: Option<usize>,
+        source: &Expr,
+        position: Position,
+        body: &Block,
+        to: Option<Slot>,
+        levels: u32,
+    ) -> Result<(), CodeError> {
+        let top = self.top;
+        let at = self.take_slots(2)?;
+        self.source(source, at, position, index.is_none(), levels)?;
+        self.fresh_variables(item, index)?;
+        let start = self.emit(Op::Jump(0))?;
+        let inside = self.here()?;
+        self.begin_round(to)?;
+        let given = self.give_round(item, index, at, position)?;
+        self.statements(&body.statements, None, levels)?;
+        let test = self.here()?;
+        self.land_continues(test);
+        self.set_target(start, test);
+        self.emit_at(Op::ForNext(given, at, inside), position)?;
+        self.end_round(item)?;
+        self.emit(Op::Clear(at, 1))?;
+        self.top = top;
+        Ok(())
+    }
+
+    /// Evaluates what a `for` goes through: of a range that stands there the ends.
+    #[cycle(compile)]
+    fn source(
+        &mut self,
+        source: &Expr,
+        at: Slot,
+        position: Position,
+        may_count: bool,
+        levels: u32,
+    ) -> Result<(), CodeError> {
+        let mut is_range = false;
+        if let (Expr::Run { first, rest }, true) = (source, may_count) {
+            if let [term] = rest.as_slice() {
+                if let Operator::Plain(
+                    op @ (Token::ExclusiveRange | Token::InclusiveRange),
+                ) = term.operator
+                {
+                    self.value(first, at, levels)?;
+                    self.value(&term.operand, at.saturating_add(1), levels)?;
+                    let place = Place {
+                        position: term.position,
+                        token: op,
+                        ..self.place()
+                    };
+                    self.emit_with(Op::ForRange(at), place)?;
+                    is_range = true;
+                }
+            }
+        }
+        if !is_range {
+            self.value(source, at, levels)?;
+        }
+        let place = Place {
+            position,
+            flag: is_range,
+            moves: may_count,
+            ..self.place()
+        };
+        self.emit_with(Op::ForBegin(at), place)?;
+        Ok(())
+    }
+
+    /// Gives the variables of a `for` slots of their own, which no earlier function shares.
+    fn fresh_variables(&mut self, item: usize, index: Option<usize>) -> Result<(), CodeError> {
+        let item = self.own(item)?;
+        self.emit(Op::Unit(item))?;
+        if let Some(index) = index {
+            let index = self.own(index)?;
+            self.emit(Op::Unit(index))?;
+        }
+        Ok(())
+    }
+
+    /// Begins a round: gives the variables what they are in it. The item comes to the slot that is answered.
+    fn give_round(
+        &mut self,
+        item: usize,
+        index: Option<usize>,
+        at: Slot,
+        position: Position,
+    ) -> Result<Slot, CodeError> {
+        let variable = self.own(item)?;
+        let given = if self.is_plain(example_syntax::Slot::Own(item)) {
+            variable
+        } else {
+            let given = self.take_slot()?;
+            self.assign_moved(variable, given, position)?;
+            given
+        };
+        if let Some(index) = index {
+            let slot = self.own(index)?;
+            let count = self.take_slot()?;
+            self.emit_at(Op::SubtractInt(count, at.saturating_add(1), 1), position)?;
+            self.assign_moved(slot, count, position)?;
+        }
+        Ok(given)
+    }
+
+    fn assign_moved(&mut self, to: Slot, from: Slot, position: Position) -> Result<(), CodeError> {
+        let place = Place {
+            position,
+            moves: true,
+            ..self.place()
+        };
+        self.emit_with(Op::Assign(to, from), place)?;
+        Ok(())
+    }
+}

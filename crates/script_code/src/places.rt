@@ -1,0 +1,61 @@
+//! The steps of places.
+
+use crate::compiler::Compiler;
+use crate::error::CodeError;
+use crate::operations::Slot;
+use crate::program::PathStep;
+use crate::quiet::{is_variable, known_variable};
+use example_syntax::{Expr, Step};
+
+impl<'p> Compiler<'p> {
+    /// Evaluates the indices of steps, and gives the steps with the slots of these. A variable that is an index is copied where it may
+    /// be shared, is the root itself, or where another index or what is evaluated behind may change it.
+    #[cycle(compile)]
+    pub(crate) fn steps(
+        &mut self,
+        steps: &[Step],
+        root: &Expr,
+        behind: &[Step],
+        levels: u32,
+    ) -> Result<Vec<PathStep>, CodeError> {
+        let mut path = Vec::new(self.alloc);
+        for (number, step) in steps.iter().enumerate() {
+            match step {
+                Step::Index { index, position } => {
+                    let rest = steps.get(number.saturating_add(1)..).unwrap_or(&[]);
+                    let stays = self.index_stays(index, rest, root)
+                        && self.index_stays(index, behind, root);
+                    let slot = self.operand(index, stays, levels)?;
+                    path.push(PathStep::Index(slot, *position))?;
+                }
+                Step::Property { key, position } => {
+                    let key = self.text(key.as_str())?;
+                    path.push(PathStep::Name(key, *position))?;
+                }
+                Step::Method { .. } => {}
+            }
+        }
+        Ok(path)
+    }
+
+    /// Whether an index that is a variable may be read where it stands, behind other steps and the root.
+    fn index_stays(&self, index: &Expr, rest: &[Step], root: &Expr) -> bool {
+        let Some(slot) = known_variable(index) else {
+            return true;
+        };
+        let watched = self.watched(slot);
+        watched.is_plain
+            && !is_variable(root, slot)
+            && watched.stays(root)
+            && watched.stays_in_steps(rest, false)
+    }
+
+    /// The slots of the two indices that are all of a path, if they are.
+    pub(crate) fn two_indices(&self, path: &[PathStep]) -> Option<(Slot, Slot)> {
+        if let [PathStep::Index(first, _), PathStep::Index(second, _)] = path {
+            Some((*first, *second))
+        } else {
+            None
+        }
+    }
+}

@@ -1,0 +1,168 @@
+//! Whether the evaluation of an expression leaves a variable as it is, so that it may be read after it in place of before.
+
+use crate::meaning::{HostName, Meaning, meaning_of};
+use example_syntax::{Expr, Field, Program, Slot, Step, Term, Variable};
+use example_values::{ArrayFunction, BlobFunction, MapFunction, Native, TextFunction};
+
+/// A variable, as it is asked about.
+#[derive(Clone, Copy)]
+pub(crate) struct Watched<'p> {
+    pub(crate) program: &'p Program,
+    pub(crate) host: &'p [HostName],
+    pub(crate) slot: Slot,
+    /// Whether no anonymous function shares it.
+    pub(crate) is_plain: bool,
+}
+
+/// The variable that an expression is.
+pub(crate) fn known_variable(expr: &Expr) -> Option<Slot> {
+    if let Expr::Variable {
+        variable: Variable::Known(slot),
+        position: _,
+    } = expr
+    {
+        Some(*slot)
+    } else {
+        None
+    }
+}
+
+/// Whether an expression is this variable.
+pub(crate) fn is_variable(expr: &Expr, slot: Slot) -> bool {
+    match known_variable(expr) {
+        Some(known) => known == slot,
+        None => false,
+    }
+}
+
+/// Whether functions of the packages may change what they are called on.
+fn may_change(native: Native) -> bool {
+    matches!(native.array, Some(ArrayFunction::Change(_)))
+        || matches!(native.map, Some(MapFunction::Change(_)))
+        || matches!(native.text, Some(TextFunction::Change(_)))
+        || matches!(native.blob, Some(BlobFunction::Change(_)))
+}
+
+impl<'p> Watched<'p> {
+    /// Whether each of the expressions leaves it as it is.
+    #[cycle(quiet)]
+    pub(crate) fn stays_in_all(&self, parts: &[Expr]) -> bool {
+        for part in parts {
+            if !self.stays(part) {
+                return false;
+            }
+        }
+        true
+    }
+
+    #[cycle(quiet)]
+    fn stays_in_fields(&self, fields: &[Field]) -> bool {
+        for field in fields {
+            if !self.stays(&field.value) {
+                return false;
+            }
+        }
+        true
+    }
+
+    /// Whether the operands of terms leave it as it is.
+    #[cycle(quiet)]
+    pub(crate) fn stays_in_terms(&self, terms: &[Term]) -> bool {
+        for term in terms {
+            if !self.stays(&term.operand) {
+                return false;
+            }
+        }
+        true
+    }
+
+    /// Whether steps leave it as it is, which lead from it where this says so.
+    #[cycle(quiet)]
+    pub(crate) fn stays_in_steps(&self, steps: &[Step], is_root: bool) -> bool {
+        for step in steps {
+            let stays = match step {
+                Step::Index { index, position: _ } => self.stays(index),
+                Step::Property { .. } => true,
+                Step::Method {
+                    callee,
+                    arguments,
+                    position: _,
+                } => self.stays_in_all(arguments) && self.stays_in_call(*callee, is_root),
+            };
+            if !stays {
+                return false;
+            }
+        }
+        true
+    }
+
+    /// Whether a callee leaves it as it is, which is given it first where this says so.
+    fn stays_in_call(&self, callee: usize, is_first: bool) -> bool {
+        let Some(callee) = self.program.callees.get(callee) else {
+            return false;
+        };
+        match meaning_of(callee.name.as_str(), callee.arguments, self.host) {
+            Meaning::Print | Meaning::Debug | Meaning::IsShared | Meaning::Curry => true,
+            Meaning::Native(native) => !is_first || !may_change(native),
+            Meaning::Call | Meaning::Each(_) | Meaning::Host(_) => self.is_plain,
+            Meaning::Sort => self.is_plain && !is_first,
+        }
+    }
+
+    #[cycle(quiet)]
+    fn stays_in_arguments(&self, callee: usize, arguments: &[Expr]) -> bool {
+        if !self.stays_in_all(arguments) {
+            return false;
+        }
+        let is_script = match self.program.callees.get(callee) {
+            Some(callee) => callee.function.is_some(),
+            None => false,
+        };
+        if is_script {
+            return self.is_plain;
+        }
+        match arguments.first() {
+            Some(first) => self.stays_in_call(callee, is_variable(first, self.slot)),
+            None => self.is_plain,
+        }
+    }
+
+    /// Whether the evaluation of an expression leaves it as it is, as far as that is seen.
+    #[cycle(quiet)]
+    pub(crate) fn stays(&self, expr: &Expr) -> bool {
+        match expr {
+            Expr::Unit
+            | Expr::Bool(_)
+            | Expr::Int(_)
+            | Expr::Char(_)
+            | Expr::Text(_)
+            | Expr::Variable { .. }
+            | Expr::Closure { .. } => true,
+            Expr::Array(items) => self.stays_in_all(items),
+            Expr::Object(fields) => self.stays_in_fields(fields),
+            Expr::Unary { operand, .. } => self.stays(operand),
+            Expr::Run { first, rest } => self.stays(first) && self.stays_in_terms(rest),
+            Expr::Chain { root, steps } => {
+                self.stays(root) && self.stays_in_steps(steps, is_variable(root, self.slot))
+            }
+            Expr::Call {
+                callee,
+                arguments,
+                ..
+            } => self.stays_in_arguments(*callee, arguments),
+            Expr::Block(_)
+            | Expr::If { .. }
+            | Expr::While(_)
+            | Expr::Do(_, _)
+            | Expr::Loop(_)
+            | Expr::For { .. }
+            | Expr::Let { .. }
+            | Expr::Assign { .. }
+            | Expr::Break(_)
+            | Expr::Continue
+            | Expr::Return(_)
+            | Expr::Throw(_, _)
+            | Expr::Try { .. } => false,
+        }
+    }
+}

@@ -6,7 +6,7 @@ fn main() {
     let folder = std::env::var("BESIDE_BENCH").expect("BESIDE_BENCH");
     println!("cargo:rerun-if-changed={folder}/libbeside_bench.a");
     println!("cargo:rustc-link-search=native={folder}");
-    println!("cargo:rustc-link-lib=static=beside_bench");
+    println!("cargo:rustc-link-lib=static=bench_times");
     if std::env::var_os("CARGO_FEATURE_COUNTS").is_none() {
         let kit = std::env::var("RATTLE_KIT").expect("RATTLE_KIT");
         println!("cargo:rustc-link-search=native={kit}/c");

@@ -1,8 +1,8 @@
 -- Runs of scripts. What a script does is no promise of its library, which is safe and ends; so what is said here is where its end is told.
 use Rattle.std.specs.Prelude.{◌≡◌, ℕ, zero, suc, ◌+◌, ⊤, false, List, length, Option, None, Some, Result, Ok, Err}
-use Rattle.example_script.specs.declared.script.ScriptError.{ScriptError}
-use Rattle.example_script.specs.declared.script.ScriptError.TheVariants as script
-use Rattle.example_syntax.specs.declared.error.SyntaxError.TheVariants as syntax
+use Rattle.script_walker.specs.declared.script.ScriptError.{ScriptError}
+use Rattle.script_walker.specs.declared.script.ScriptError.TheVariants as script
+use Rattle.script_syntax.specs.declared.error.SyntaxError.TheVariants as syntax
 use Rattle.rhai_text.specs.declared.position.Position.{Position}
 use Rattle.rhai_handle.specs.declared.kept.Kept.{Kept}
 use Rattle.rhai_host.specs.declared.scripts.ScriptEnd.{ScriptEnd}

@@ -6,8 +6,8 @@ ghost use Rattle.rhai_host.specs.Scripts.{IsEndOf, IsScriptRun, IsWhole, RunsScr
 
 use crate::perform::{CLOSED, DONE, NO_COMMAND, OUT_OF_MEMORY};
 use crate::texts::text_in;
-use example_script::{ScriptError, ScriptLimits, run_script};
-use example_syntax::SyntaxError;
+use script_walker::{ScriptError, ScriptLimits, run_script};
+use script_syntax::SyntaxError;
 use rhai_handle::{Handle, Kept};
 use rhai_run::{Answer, Bytes};
 use rhai_text::{Limits, Position};

@@ -1,9 +1,9 @@
 //! A script on both sides.
 
 use crate::Used;
-use example_script::{ScriptError, ScriptLimits, run_script};
-use example_syntax::parse;
-use example_values::{Fault, FaultKind};
+use script_walker::{ScriptError, ScriptLimits, run_script};
+use script_syntax::parse;
+use script_values::{Fault, FaultKind};
 use rhai_text::EvalAltResult;
 use script_code::compile;
 use script_run::{Outcome, Run, RunLimits};

@@ -7,11 +7,11 @@ use crate::operations::{Op, Slot};
 use crate::program::Place;
 use crate::quiet::known_variable;
 use crate::tables::to_number;
-use example_syntax::Expr;
+use script_syntax::Expr;
 use rhai_text::Position;
 
 /// The variable that is the only argument, if it is one.
-fn only_variable(arguments: &[Expr]) -> Option<example_syntax::Slot> {
+fn only_variable(arguments: &[Expr]) -> Option<script_syntax::Slot> {
     if let [argument] = arguments {
         known_variable(argument)
     } else {
@@ -149,7 +149,7 @@ impl<'p> Compiler<'p> {
     fn native_on(
         &mut self,
         number: u32,
-        slot: example_syntax::Slot,
+        slot: script_syntax::Slot,
         others: &[Expr],
         position: Position,
         to: Slot,

@@ -7,7 +7,7 @@ use crate::operations::{Op, Slot};
 use crate::program::{Method, PathStep, Place};
 use crate::quiet::known_variable;
 use crate::tables::{number_in, to_number};
-use example_syntax::{Expr, Step, Variable};
+use script_syntax::{Expr, Step, Variable};
 use rhai_text::Position;
 
 /// A method of a chain whose operands are there, with the steps before it.

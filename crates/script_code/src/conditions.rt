@@ -6,7 +6,7 @@ use crate::expressions::small_int;
 use crate::operations::{Op, Slot};
 use crate::operators::{Comparison, Kind, kind_of};
 use crate::program::Place;
-use example_syntax::{Expr, Operator, Term, UnaryOperator};
+use script_syntax::{Expr, Operator, Term, UnaryOperator};
 use rhai_text::{Position, Token};
 
 /// The jump where a comparison of two slots holds.

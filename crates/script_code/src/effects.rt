@@ -3,7 +3,7 @@
 use crate::compiler::Compiler;
 use crate::error::CodeError;
 use crate::operations::{Op, Slot};
-use example_syntax::{Arm, Block, Expr};
+use script_syntax::{Arm, Block, Expr};
 use rhai_text::Position;
 
 /// Blocks.

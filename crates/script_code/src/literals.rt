@@ -4,7 +4,7 @@ use crate::compiler::{Compiler, to_slot};
 use crate::error::CodeError;
 use crate::operations::{Op, Slot};
 use crate::tables::number_in;
-use example_syntax::{Expr, Field};
+use script_syntax::{Expr, Field};
 
 /// So many items of a literal are evaluated before they are put together.
 const ITEMS_AT_ONCE: usize = 32;

@@ -4,7 +4,7 @@ use crate::compiler::{Compiler, Round};
 use crate::error::CodeError;
 use crate::operations::{Op, Slot, Target};
 use crate::program::Place;
-use example_syntax::{Arm, Block, Expr, Operator};
+use script_syntax::{Arm, Block, Expr, Operator};
 use rhai_text::{Position, Token};
 use std::mem;
 
@@ -222,7 +222,7 @@ impl<'p> Compiler<'p> {
         position: Position,
     ) -> Result<Slot, CodeError> {
         let variable = self.own(item)?;
-        let given = if self.is_plain(example_syntax::Slot::Own(item)) {
+        let given = if self.is_plain(script_syntax::Slot::Own(item)) {
             variable
         } else {
             let given = self.take_slot()?;

@@ -1,8 +1,8 @@
 //! Whether the evaluation of an expression leaves a variable as it is, so that it may be read after it in place of before.
 
 use crate::meaning::{HostName, Meaning, meaning_of};
-use example_syntax::{Expr, Field, Program, Slot, Step, Term, Variable};
-use example_values::{ArrayFunction, BlobFunction, MapFunction, Native, TextFunction};
+use script_syntax::{Expr, Field, Program, Slot, Step, Term, Variable};
+use script_values::{ArrayFunction, BlobFunction, MapFunction, Native, TextFunction};
 
 /// A variable, as it is asked about.
 #[derive(Clone, Copy)]

@@ -6,7 +6,7 @@ use crate::error::CodeError;
 use crate::meaning::{HostName, Meaning, meaning_of};
 use crate::operations::Slot;
 use crate::program::{Callee, NO_STEPS, Path, PathStep, Program, Shape};
-use example_values::{Native, native_of};
+use script_values::{Native, native_of};
 use rhai_value::INT;
 use std::alloc::Global;
 use std::collections::BTreeMap;
@@ -102,7 +102,7 @@ impl<'p> Compiler<'p> {
 /// The functions of the script by their names.
 pub(crate) fn names_of(
     alloc: Global,
-    script: &example_syntax::Program,
+    script: &script_syntax::Program,
 ) -> Result<BTreeMap<String, Vec<u32>>, CodeError> {
     let mut names = BTreeMap::new(alloc);
     for (number, function) in script.functions.iter().enumerate() {
@@ -136,7 +136,7 @@ fn add_name(
 /// What the script calls by name, by the parser's numbers.
 pub(crate) fn callees_of(
     alloc: Global,
-    script: &example_syntax::Program,
+    script: &script_syntax::Program,
 ) -> Result<Vec<Callee>, CodeError>
     ensures { IfOk result (λ callees. vec_len callees ≡ vec_len script.now.callees) }
 {

@@ -1,6 +1,6 @@
 //! Random single calls, answered by the port's program and by the released files.
 //!
-//! Usage: calls PROGRAM PAGE COUNT SEED. PROGRAM is `crates/beside_calls`, built; PAGE is docs/PORTING.md. The exit status is 1 where a
+//! Usage: calls PROGRAM PAGE COUNT SEED. PROGRAM is `crates/bench_calls`, built; PAGE is docs/PORTING.md. The exit status is 1 where a
 //! difference isn't a departure of that page, where a departure or the row of an operator was met too seldom, and where the program ends
 //! with another status than 0.
 

@@ -1,6 +1,6 @@
 //! Measures whole programs: scripts beside Python and Lua, and lines beside the same program over the released files.
 //!
-//! Usage: programs_taken PAGE SCRIPTS RUNNER WORLD LINES: SCRIPTS is the folder of scripts, RUNNER `example_script_run`, WORLD `rhai_world`,
+//! Usage: programs_taken PAGE SCRIPTS RUNNER WORLD LINES: SCRIPTS is the folder of scripts, RUNNER `script_program`, WORLD `rhai_world`,
 //! LINES the program over the released files.
 
 use std::fmt::Write as _;

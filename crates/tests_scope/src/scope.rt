@@ -1,0 +1,36 @@
+//! The scope, where a call alone can show it: what entries become is tested by rows of `tests_lines`.
+// Proved callers.
+mod readme;
+mod walker;
+
+// Tests.
+mod callers;
+mod iterators;
+mod look_ups;
+mod makers;
+mod positions;
+mod typed;
+
+use rhai_scope::Scope;
+use rhai_text::ImmutableString;
+use rhai_value::{Dynamic, Store};
+use std::alloc::{AllocError, Global};
+
+/// Whether the int of a name is this one.
+fn is_int(scope: &Scope, store: &Store, name: &str, wanted: i64) -> bool {
+    match scope.get(name) {
+        Some(value) => value.as_int(store) == Ok(wanted),
+        None => false,
+    }
+}
+
+/// Whether a scope prints this.
+fn prints(alloc: Global, scope: &Scope, store: &Store, wanted: &str) -> bool {
+    let Ok(shown) = scope.shown(store) else {
+        return false;
+    };
+    match format!(in alloc; "{shown}") {
+        Ok(text) => text.as_str() == wanted,
+        Err(_) => false,
+    }
+}

@@ -68,14 +68,14 @@ impl<'p> Compiler<'p> {
             }
         }
         if block.statements.is_empty() {
-            self.emit(Op::ReturnUnit)?;
+            self.give_unit()?;
         }
         Ok(())
     }
 
     /// Evaluates an expression, and gives its value to the caller.
     #[cycle(tail)]
-    fn tail(&mut self, expr: &Expr, levels: u32) -> Result<(), CodeError> {
+    pub(crate) fn tail(&mut self, expr: &Expr, levels: u32) -> Result<(), CodeError> {
         if levels == 0 {
             return Err(CodeError::TooLarge);
         }
@@ -85,8 +85,7 @@ impl<'p> Compiler<'p> {
             Expr::If { arms, otherwise } => self.tail_arms(arms, otherwise, levels),
             Expr::Let { .. } | Expr::Assign { .. } => {
                 self.effect(expr, levels)?;
-                self.emit(Op::ReturnUnit)?;
-                Ok(())
+                self.give_unit()
             }
             Expr::Unit
             | Expr::Bool(_)
@@ -112,7 +111,7 @@ impl<'p> Compiler<'p> {
             | Expr::Try { .. } => {
                 let top = self.top;
                 let slot = self.operand(expr, true, levels)?;
-                self.emit(Op::Return(slot))?;
+                self.give(slot)?;
                 self.top = top;
                 Ok(())
             }
@@ -134,10 +133,7 @@ impl<'p> Compiler<'p> {
         }
         match otherwise {
             Some(block) => self.tail_block(block, levels),
-            None => {
-                self.emit(Op::ReturnUnit)?;
-                Ok(())
-            }
+            None => self.give_unit(),
         }
     }
 }
@@ -344,13 +340,11 @@ impl<'p> Compiler<'p> {
     fn leave_function(&mut self, value: &Option<Box<Expr>>, levels: u32) -> Result<(), CodeError> {
         let Some(value) = value else {
             self.end_tries(0)?;
-            self.emit(Op::ReturnUnit)?;
-            return Ok(());
+            return self.give_unit();
         };
         let slot = self.operand(value, true, levels)?;
         self.end_tries(0)?;
-        self.emit(Op::Return(slot))?;
-        Ok(())
+        self.give(slot)
     }
 
     #[cycle(compile)]

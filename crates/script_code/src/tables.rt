@@ -24,6 +24,8 @@ pub(crate) fn empty_program(alloc: Global) -> Program {
         callees: Vec::new(alloc),
         methods: Vec::new(alloc),
         host: Vec::new(alloc),
+        kept: Vec::new(alloc),
+        outer: 0,
     }
 }
 

@@ -14,7 +14,7 @@ mod tree;
 mod words;
 
 pub use error::{SyntaxError, SyntaxFault};
-pub use parser::parse;
+pub use parser::{parse, parse_with};
 pub use symbol::Symbol;
 pub use tree::{
     Arm, Assignment, Block, Callee, Expr, Field, Function, Operator, Program, Slot, Step, Term,

@@ -1,5 +1,5 @@
 // The names of variables, and where the frames of functions have them.
-ghost use Rattle.std.specs.Prelude.{◌≡◌, ◌≤◌, vec_len};
+ghost use Rattle.std.specs.Prelude.{◌≡◌, ◌≤◌, IfOk, vec_len};
 
 use crate::tree::Slot;
 use std::alloc::{AllocError, Global};
@@ -117,6 +117,27 @@ impl FunctionNames {
             loops: _,
         } = self;
         (slots, captured)
+    }
+
+    /// Moves out the names of the variables that live, by their slots, and how many lived at once at most.
+    /// Errors: memory is refused.
+    pub fn into_names(self) -> Result<(Vec<String>, usize), AllocError>
+        ensures { IfOk result (λ r. (vec_len r.0 ≡ vec_len self.declared) × (vec_len self.declared ≤ r.1)) }
+    {
+        let alloc = *self.declared.allocator();
+        let FunctionNames {
+            declared,
+            newest: _,
+            captured: _,
+            captured_numbers: _,
+            slots,
+            loops: _,
+        } = self;
+        let mut names = Vec::new(alloc);
+        for declared in declared {
+            names.push(declared.name)?;
+        }
+        Ok((names, slots))
     }
 }
 

@@ -1,5 +1,5 @@
 // Lexemes to trees. Each function that reads a part of a tree is told how many levels of it are left.
-ghost use Rattle.std.specs.Prelude.{◌≡◌, ◌+◌, ◌≤◌, IfOk};
+ghost use Rattle.std.specs.Prelude.{◌≡◌, ◌+◌, ◌≤◌, length, vec_len, IfOk};
 
 use crate::MOST_LEVELS;
 use crate::callees::Callees;
@@ -46,7 +46,24 @@ pub fn parse(alloc: Global, text: &str) -> Result<Program, SyntaxError>
     ensures first { IfOk result (λ program. program.body.first_slot ≡ 0) }
     ensures room { IfOk result (λ program. program.body.end_slot ≤ program.slots) }
 {
+    parse_with(alloc, text, &[])
+}
+
+/// Reads a script whose statements outside of functions see variables of these names, in slots from 0 on; a later one hides an
+/// earlier one of its name.
+/// Errors: as `parse`.
+/// Cost: as `parse`, and the number of the variables times its logarithm.
+/// rhai: `Engine::compile_with_scope`.
+pub fn parse_with(alloc: Global, text: &str, outer: &[String]) -> Result<Program, SyntaxError>
+    ensures first { IfOk result (λ program. program.body.first_slot ≡ 0) }
+    ensures room { IfOk result (λ program. program.body.end_slot ≤ program.slots) }
+    ensures outer { IfOk result (λ program. program.outer ≡ length outer.now) }
+    ensures variables { IfOk result (λ program. vec_len program.variables ≡ program.body.end_slot) }
+{
     let mut parser = Parser::new(alloc, text)?;
+    for name in outer {
+        let _slot = parser.names.declare(name.as_str())?;
+    }
     let mut statements = Vec::new(alloc);
     for _ in 0..parser.lexemes_left() {
         if parser.is_next(Symbol::End) {
@@ -59,7 +76,7 @@ pub fn parse(alloc: Global, text: &str) -> Result<Program, SyntaxError>
         }
     }
     parser.expect(Symbol::End)?;
-    Ok(parser.into_program(statements))
+    parser.into_program(statements, outer.len())
 }
 
 impl Parser {
@@ -78,9 +95,11 @@ impl Parser {
         })
     }
 
-    fn into_program(self, statements: Vec<Expr>) -> Program
-        ensures first { result.body.first_slot ≡ 0 }
-        ensures room { result.body.end_slot ≤ result.slots }
+    fn into_program(self, statements: Vec<Expr>, outer: usize) -> Result<Program, SyntaxError>
+        ensures first { IfOk result (λ program. program.body.first_slot ≡ 0) }
+        ensures room { IfOk result (λ program. program.body.end_slot ≤ program.slots) }
+        ensures outer { IfOk result (λ program. program.outer ≡ outer) }
+        ensures variables { IfOk result (λ program. vec_len program.variables ≡ program.body.end_slot) }
     {
         let Parser {
             alloc: _,
@@ -93,8 +112,8 @@ impl Parser {
             lowest: _,
         } = self;
         let end_slot = names.count();
-        let (slots, _captured) = names.leave().into_parts();
-        Program {
+        let (variables, slots) = names.leave().into_names()?;
+        Ok(Program {
             functions,
             callees: callees.into_vec(),
             slots,
@@ -103,7 +122,9 @@ impl Parser {
                 first_slot: 0,
                 end_slot,
             },
-        }
+            variables,
+            outer,
+        })
     }
 
     /// What is wrong at the next lexeme.

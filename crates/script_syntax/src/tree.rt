@@ -16,6 +16,10 @@ pub struct Program {
     pub slots: usize,
     /// The statements outside of functions.
     pub body: Block,
+    /// The variables that live at the end of the body, by their slots: those that were there before it, and then its own.
+    pub variables: Vec<String>,
+    /// How many of them were there before it.
+    pub outer: usize,
 }
 
 /// A function of the script, or an anonymous one.

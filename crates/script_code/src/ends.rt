@@ -1,0 +1,80 @@
+//! How functions end, and the statements outside of them.
+
+use crate::compiler::Compiler;
+use crate::error::CodeError;
+use crate::operations::{Op, Slot};
+use crate::program::Kept;
+use script_syntax::{Block, Expr};
+
+/// Ends.
+impl<'p> Compiler<'p> {
+    /// Evaluates the statements outside of functions. The variables that they declare stay.
+    pub(crate) fn body(&mut self, block: &Block, levels: u32) -> Result<(), CodeError> {
+        self.is_body = true;
+        let last = block.statements.len().saturating_sub(1);
+        for (number, statement) in block.statements.iter().enumerate() {
+            if number == last && !matches!(statement, Expr::Let { .. }) {
+                self.tail(statement, levels)?;
+            } else {
+                self.effect(statement, levels)?;
+                self.keep(statement)?;
+            }
+        }
+        self.give_unit()
+    }
+
+    /// Notes that a variable that a statement declares is there from here on.
+    fn keep(&mut self, statement: &Expr) -> Result<(), CodeError> {
+        if let Expr::Let { slot, .. } = statement {
+            let script = self.script;
+            if let Some(name) = script.variables.get(*slot) {
+                let name = String::from_str(self.alloc, name.as_str())?;
+                let from = self.here()?;
+                self.program.kept.push(Kept { name, from })?;
+            }
+        }
+        Ok(())
+    }
+
+    /// Notes the variables that are there before the statements.
+    pub(crate) fn keep_outer(&mut self) -> Result<(), CodeError> {
+        let script = self.script;
+        for name in script.variables.iter().take(script.outer) {
+            let name = String::from_str(self.alloc, name.as_str())?;
+            self.program.kept.push(Kept { name, from: 0 })?;
+        }
+        Ok(())
+    }
+
+    /// Gives unit to the caller.
+    pub(crate) fn give_unit(&mut self) -> Result<(), CodeError> {
+        if !self.is_body {
+            self.emit(Op::ReturnUnit)?;
+            return Ok(());
+        }
+        let top = self.top;
+        let slot = self.take_slot()?;
+        self.emit(Op::Unit(slot))?;
+        self.emit(Op::Finish(slot))?;
+        self.top = top;
+        Ok(())
+    }
+
+    /// Gives the value of a slot to the caller.
+    pub(crate) fn give(&mut self, slot: Slot) -> Result<(), CodeError> {
+        if !self.is_body {
+            self.emit(Op::Return(slot))?;
+            return Ok(());
+        }
+        let top = self.top;
+        if self.is_free(slot) {
+            self.emit(Op::Finish(slot))?;
+        } else {
+            let to = self.take_slot()?;
+            self.emit(Op::Copy(to, slot))?;
+            self.emit(Op::Finish(to))?;
+        }
+        self.top = top;
+        Ok(())
+    }
+}

@@ -10,7 +10,7 @@ use crate::names::Names;
 use crate::symbol::Symbol;
 use crate::tree::{Block, Expr, Function, Program};
 use crate::words::is_reserved;
-use rhai_text::Position;
+use rhai_text::{ImmutableString, Position};
 use std::alloc::Global;
 use std::mem;
 
@@ -48,6 +48,7 @@ pub fn parse(alloc: Global, text: &str) -> Result<Program, SyntaxError>
 {
     let mut parser = Parser::new(alloc, text)?;
     let mut statements = Vec::new(alloc);
+    let mut positions = Vec::new(alloc);
     for _ in 0..parser.lexemes_left() {
         if parser.is_next(Symbol::End) {
             break;
@@ -55,11 +56,11 @@ pub fn parse(alloc: Global, text: &str) -> Result<Program, SyntaxError>
         if parser.is_next(Symbol::Fn) {
             parser.function()?;
         } else {
-            parser.terminated_statement(MOST_LEVELS, &mut statements)?;
+            parser.terminated_statement(MOST_LEVELS, &mut statements, &mut positions)?;
         }
     }
     parser.expect(Symbol::End)?;
-    Ok(parser.into_program(statements))
+    Ok(parser.into_program(statements, positions))
 }
 
 impl Parser {
@@ -78,7 +79,7 @@ impl Parser {
         })
     }
 
-    fn into_program(self, statements: Vec<Expr>) -> Program
+    fn into_program(self, statements: Vec<Expr>, positions: Vec<Position>) -> Program
         ensures first { result.body.first_slot ≡ 0 }
         ensures room { result.body.end_slot ≤ result.slots }
     {
@@ -100,6 +101,7 @@ impl Parser {
             slots,
             body: Block {
                 statements,
+                positions,
                 first_slot: 0,
                 end_slot,
             },
@@ -181,6 +183,11 @@ impl Parser {
             return Err(SyntaxError::Fault(SyntaxFault::ReservedWord, position));
         }
         Ok(word)
+    }
+
+    /// A name as a tree keeps it.
+    fn kept(&self, name: &str) -> Result<ImmutableString, SyntaxError> {
+        Ok(ImmutableString::from_str(self.alloc, name)?)
     }
 
     /// The levels that are left below one.

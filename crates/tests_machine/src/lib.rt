@@ -7,3 +7,5 @@ mod host;
 mod pauses;
 #[cfg(test)]
 mod runs;
+#[cfg(test)]
+mod seen;

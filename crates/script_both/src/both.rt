@@ -73,7 +73,7 @@ pub(crate) fn run_compiled(alloc: Global, text: &str, used: &Used) -> Result<End
             run.go(&program, left.min(AT_ONCE))
         };
         match outcome {
-            Outcome::Paused | Outcome::Statement => {}
+            Outcome::Paused | Outcome::Statement | Outcome::Memory => {}
             Outcome::Done(_) | Outcome::Calls(_) => {
                 return Ok(ended(run.take_output(), String::new(alloc)));
             }

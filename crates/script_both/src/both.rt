@@ -1,12 +1,12 @@
 //! A script on both sides.
 
 use crate::Used;
-use script_walker::{ScriptError, ScriptLimits, run_script};
-use script_syntax::parse;
-use script_values::{Fault, FaultKind};
 use rhai_text::EvalAltResult;
 use script_code::compile;
 use script_run::{Outcome, Run, RunLimits};
+use script_syntax::parse;
+use script_values::{Fault, FaultKind};
+use script_walker::{ScriptError, ScriptLimits, run_script};
 use std::alloc::{AllocError, Global};
 
 /// How a script ended: what it printed, and the error, if there was one.
@@ -73,7 +73,7 @@ pub(crate) fn run_compiled(alloc: Global, text: &str, used: &Used) -> Result<End
             run.go(&program, left.min(AT_ONCE))
         };
         match outcome {
-            Outcome::Paused => {}
+            Outcome::Paused | Outcome::Statement | Outcome::Memory => {}
             Outcome::Done(_) | Outcome::Calls(_) => {
                 return Ok(ended(run.take_output(), String::new(alloc)));
             }

@@ -3,8 +3,9 @@
 use crate::compiler::Compiler;
 use crate::error::CodeError;
 use crate::operations::{Op, Slot};
+use crate::variables::LoopNames;
+use rhai_text::{ImmutableString, Position};
 use script_syntax::{Arm, Block, Expr};
-use rhai_text::Position;
 
 /// Blocks.
 impl<'p> Compiler<'p> {
@@ -12,22 +13,25 @@ impl<'p> Compiler<'p> {
     #[cycle(compile)]
     pub(crate) fn statements(
         &mut self,
-        statements: &Vec<Expr>,
+        block: &Block,
         to: Option<Slot>,
         levels: u32,
     ) -> Result<(), CodeError> {
-        let last = statements.len().saturating_sub(1);
-        for (number, statement) in statements.iter().enumerate() {
+        let outer = self.in_sight.len();
+        let last = block.statements.len().saturating_sub(1);
+        for (number, statement) in block.statements.iter().enumerate() {
+            self.begin_statement(block, number);
             if number == last {
                 self.evaluate(statement, to, levels)?;
             } else {
                 self.effect(statement, levels)?;
             }
+            self.end_statement();
         }
-        if let (Some(to), true) = (to, statements.is_empty()) {
+        if let (Some(to), true) = (to, block.statements.is_empty()) {
             self.emit(Op::Unit(to))?;
         }
-        Ok(())
+        self.hide_variables(outer)
     }
 
     /// Evaluates a block whose variables end with it.
@@ -38,7 +42,7 @@ impl<'p> Compiler<'p> {
         to: Option<Slot>,
         levels: u32,
     ) -> Result<(), CodeError> {
-        self.statements(&block.statements, to, levels)?;
+        self.statements(block, to, levels)?;
         self.clear_variables(block.first_slot, block.end_slot, to)
     }
 
@@ -59,18 +63,21 @@ impl<'p> Compiler<'p> {
     /// Evaluates the statements of a function, and gives the value of the last to the caller.
     #[cycle(tail)]
     pub(crate) fn tail_block(&mut self, block: &Block, levels: u32) -> Result<(), CodeError> {
+        let outer = self.in_sight.len();
         let last = block.statements.len().saturating_sub(1);
         for (number, statement) in block.statements.iter().enumerate() {
+            self.begin_statement(block, number);
             if number == last {
                 self.tail(statement, levels)?;
             } else {
                 self.effect(statement, levels)?;
             }
+            self.end_statement();
         }
         if block.statements.is_empty() {
             self.give_unit()?;
         }
-        Ok(())
+        self.hide_variables(outer)
     }
 
     /// Evaluates an expression, and gives its value to the caller.
@@ -153,7 +160,11 @@ impl<'p> Compiler<'p> {
                 slot,
                 is_constant,
                 value,
-            } => self.declare(*slot, *is_constant, value, levels)?,
+                name,
+            } => {
+                self.declare(*slot, *is_constant, value, levels)?;
+                self.show_own(name.as_str(), *slot)?;
+            }
             Expr::Assign {
                 variable,
                 variable_position,
@@ -223,12 +234,21 @@ impl<'p> Compiler<'p> {
                 source,
                 position,
                 body,
-            } => self.for_loop(*item, *index, source, *position, body, to, levels),
+                item_name,
+                index_name,
+            } => {
+                let names = LoopNames {
+                    item: item_name,
+                    index: index_name,
+                };
+                self.for_loop(*item, *index, names, source, *position, body, to, levels)
+            }
             Expr::Try {
                 body,
                 error,
                 handler,
-            } => self.attempt(body, *error, handler, to, levels),
+                error_name,
+            } => self.attempt(body, *error, error_name, handler, to, levels),
             Expr::Unit
             | Expr::Bool(_)
             | Expr::Int(_)
@@ -384,6 +404,7 @@ impl<'p> Compiler<'p> {
         &mut self,
         body: &Block,
         error: Option<usize>,
+        error_name: &Option<ImmutableString>,
         handler: &Block,
         to: Option<Slot>,
         levels: u32,
@@ -399,7 +420,12 @@ impl<'p> Compiler<'p> {
         self.emit(Op::TryEnd)?;
         let end = self.emit(Op::Jump(0))?;
         self.land(&[begin])?;
+        let outer = self.in_sight.len();
+        if let Some(name) = error_name {
+            self.show(name.as_str(), slot)?;
+        }
         self.block(handler, to, levels)?;
+        self.hide_variables(outer)?;
         self.land(&[end])
     }
 }

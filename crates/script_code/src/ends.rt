@@ -1,6 +1,6 @@
 //! How functions end, and the statements outside of them.
 
-use crate::compiler::Compiler;
+use crate::compiler::{Compiler, to_slot};
 use crate::error::CodeError;
 use crate::operations::{Op, Slot};
 use crate::program::Kept;
@@ -13,12 +13,14 @@ impl<'p> Compiler<'p> {
         self.is_body = true;
         let last = block.statements.len().saturating_sub(1);
         for (number, statement) in block.statements.iter().enumerate() {
+            self.begin_statement(block, number);
             if number == last && !matches!(statement, Expr::Let { .. }) {
                 self.tail(statement, levels)?;
             } else {
                 self.effect(statement, levels)?;
                 self.keep(statement)?;
             }
+            self.end_statement();
         }
         self.give_unit()
     }
@@ -36,10 +38,11 @@ impl<'p> Compiler<'p> {
         Ok(())
     }
 
-    /// Notes the variables that are there before the statements.
-    pub(crate) fn keep_outer(&mut self) -> Result<(), CodeError> {
+    /// Has the variables that are there before the statements be in sight, and stay.
+    pub(crate) fn show_outer(&mut self) -> Result<(), CodeError> {
         let script = self.script;
-        for name in script.variables.iter().take(script.outer) {
+        for (number, name) in script.variables.iter().take(script.outer).enumerate() {
+            self.show(name.as_str(), to_slot(number)?)?;
             let name = String::from_str(self.alloc, name.as_str())?;
             self.program.kept.push(Kept { name, from: 0 })?;
         }

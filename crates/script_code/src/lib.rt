@@ -20,10 +20,13 @@ mod program;
 mod quiet;
 mod scan;
 mod tables;
+mod variables;
 mod writes;
 
 pub use compiler::compile;
 pub use error::CodeError;
 pub use meaning::{EachKind, HostName, Meaning, meaning_of};
 pub use operations::{Op, Slot, Target};
-pub use program::{Callee, Code, Kept, Method, NO_STEPS, Path, PathStep, Place, Program, Shape};
+pub use program::{
+    Callee, Code, Kept, Method, NO_STEPS, Path, PathStep, Place, Program, Shape, Variable,
+};

@@ -4,8 +4,9 @@ use crate::compiler::{Compiler, Round};
 use crate::error::CodeError;
 use crate::operations::{Op, Slot, Target};
 use crate::program::Place;
-use script_syntax::{Arm, Block, Expr, Operator};
+use crate::variables::LoopNames;
 use rhai_text::{Position, Token};
+use script_syntax::{Arm, Block, Expr, Operator};
 use std::mem;
 
 impl<'p> Compiler<'p> {
@@ -63,7 +64,7 @@ impl<'p> Compiler<'p> {
         let start = self.emit(Op::Jump(0))?;
         let body = self.here()?;
         self.begin_round(to)?;
-        self.statements(&arm.body.statements, None, levels)?;
+        self.statements(&arm.body, None, levels)?;
         let test = self.here()?;
         self.land_continues(test);
         self.set_target(start, test);
@@ -101,7 +102,7 @@ impl<'p> Compiler<'p> {
     ) -> Result<(), CodeError> {
         let body = self.here()?;
         self.begin_round(to)?;
-        self.statements(&arm.body.statements, None, levels)?;
+        self.statements(&arm.body, None, levels)?;
         let test = self.here()?;
         self.land_continues(test);
         self.test(arm, goes_on, body, levels)?;
@@ -117,7 +118,7 @@ impl<'p> Compiler<'p> {
     ) -> Result<(), CodeError> {
         let body = self.here()?;
         self.begin_round(to)?;
-        self.statements(&block.statements, None, levels)?;
+        self.statements(block, None, levels)?;
         self.land_continues(body);
         self.emit(Op::Jump(body))?;
         let Some(round) = self.rounds.pop() else {
@@ -135,6 +136,7 @@ impl<'p> Compiler<'p> {
         &mut self,
         item: usize,
         index: Option<usize>,
+        names: LoopNames<'_>,
         source: &Expr,
         position: Position,
         body: &Block,
@@ -149,7 +151,10 @@ impl<'p> Compiler<'p> {
         let inside = self.here()?;
         self.begin_round(to)?;
         let given = self.give_round(item, index, at, position)?;
-        self.statements(&body.statements, None, levels)?;
+        let outer = self.in_sight.len();
+        self.show_round(names, item, index)?;
+        self.statements(body, None, levels)?;
+        self.hide_variables(outer)?;
         let test = self.here()?;
         self.land_continues(test);
         self.set_target(start, test);

@@ -6,8 +6,8 @@ use crate::error::CodeError;
 use crate::meaning::{HostName, Meaning, meaning_of};
 use crate::operations::Slot;
 use crate::program::{Callee, NO_STEPS, Path, PathStep, Program, Shape};
-use script_values::{Native, native_of};
 use rhai_value::INT;
+use script_values::{Native, native_of};
 use std::alloc::Global;
 use std::collections::BTreeMap;
 

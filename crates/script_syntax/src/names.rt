@@ -2,6 +2,7 @@
 ghost use Rattle.std.specs.Prelude.{◌≡◌, ◌≤◌, IfOk, vec_len};
 
 use crate::tree::Slot;
+use rhai_text::ImmutableString;
 use std::alloc::{AllocError, Global};
 use std::collections::BTreeMap;
 use std::mem;
@@ -23,6 +24,8 @@ pub struct FunctionNames {
     /// Where the function outside has the captured variables, by their numbers.
     captured: Vec<Slot>,
     captured_numbers: BTreeMap<String, usize>,
+    /// Their names, by their numbers.
+    captured_names: Vec<ImmutableString>,
     /// How many variables lived at once at most.
     slots: usize,
     /// How many loops are around what is read.
@@ -37,6 +40,7 @@ impl FunctionNames {
             newest: BTreeMap::new(alloc),
             captured: Vec::new(alloc),
             captured_numbers: BTreeMap::new(alloc),
+            captured_names: Vec::new(alloc),
             slots: 0,
             loops: 0,
         }
@@ -101,7 +105,24 @@ impl FunctionNames {
             .captured_numbers
             .insert(String::from_str(alloc, name)?, number)?;
         self.captured.push(outside)?;
+        self.captured_names
+            .push(ImmutableString::from_str(alloc, name)?)?;
         Ok(Slot::Captured(number))
+    }
+
+    /// The names of so many parameters, and behind them those of the captured variables.
+    /// Errors: memory is refused.
+    /// Cost: their number.
+    pub fn given(&self, parameters: usize) -> Result<Vec<ImmutableString>, AllocError> {
+        let alloc = *self.declared.allocator();
+        let mut given = Vec::new(alloc);
+        for declared in self.declared.iter().take(parameters) {
+            given.push(ImmutableString::from_str(alloc, declared.name.as_str())?)?;
+        }
+        for name in self.captured_names.iter() {
+            given.push(name.copy(alloc)?)?;
+        }
+        Ok(given)
     }
 
     /// Moves out how many variables lived at once at most, and where the function outside has the captured ones.
@@ -113,6 +134,7 @@ impl FunctionNames {
             newest: _,
             captured,
             captured_numbers: _,
+            captured_names: _,
             slots,
             loops: _,
         } = self;
@@ -130,6 +152,7 @@ impl FunctionNames {
             newest: _,
             captured: _,
             captured_numbers: _,
+            captured_names: _,
             slots,
             loops: _,
         } = self;

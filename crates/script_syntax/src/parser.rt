@@ -10,7 +10,7 @@ use crate::names::Names;
 use crate::symbol::Symbol;
 use crate::tree::{Block, Expr, Function, Program};
 use crate::words::is_reserved;
-use rhai_text::Position;
+use rhai_text::{ImmutableString, Position};
 use std::alloc::Global;
 use std::mem;
 
@@ -65,6 +65,7 @@ pub fn parse_with(alloc: Global, text: &str, outer: &[String]) -> Result<Program
         let _slot = parser.names.declare(name.as_str())?;
     }
     let mut statements = Vec::new(alloc);
+    let mut positions = Vec::new(alloc);
     for _ in 0..parser.lexemes_left() {
         if parser.is_next(Symbol::End) {
             break;
@@ -72,11 +73,11 @@ pub fn parse_with(alloc: Global, text: &str, outer: &[String]) -> Result<Program
         if parser.is_next(Symbol::Fn) {
             parser.function()?;
         } else {
-            parser.terminated_statement(MOST_LEVELS, &mut statements)?;
+            parser.terminated_statement(MOST_LEVELS, &mut statements, &mut positions)?;
         }
     }
     parser.expect(Symbol::End)?;
-    parser.into_program(statements, outer.len())
+    parser.into_program(statements, positions, outer.len())
 }
 
 impl Parser {
@@ -95,7 +96,12 @@ impl Parser {
         })
     }
 
-    fn into_program(self, statements: Vec<Expr>, outer: usize) -> Result<Program, SyntaxError>
+    fn into_program(
+        self,
+        statements: Vec<Expr>,
+        positions: Vec<Position>,
+        outer: usize,
+    ) -> Result<Program, SyntaxError>
         ensures first { IfOk result (λ program. program.body.first_slot ≡ 0) }
         ensures room { IfOk result (λ program. program.body.end_slot ≤ program.slots) }
         ensures outer { IfOk result (λ program. program.outer ≡ outer) }
@@ -119,6 +125,7 @@ impl Parser {
             slots,
             body: Block {
                 statements,
+                positions,
                 first_slot: 0,
                 end_slot,
             },
@@ -202,6 +209,11 @@ impl Parser {
             return Err(SyntaxError::Fault(SyntaxFault::ReservedWord, position));
         }
         Ok(word)
+    }
+
+    /// A name as a tree keeps it.
+    fn kept(&self, name: &str) -> Result<ImmutableString, SyntaxError> {
+        Ok(ImmutableString::from_str(self.alloc, name)?)
     }
 
     /// The levels that are left below one.

@@ -37,6 +37,8 @@ pub struct Function {
     /// How many own variables live at once at most, with the parameters.
     pub slots: usize,
     pub body: Block,
+    /// The names of the parameters, and behind them those of the captured variables.
+    pub names: Vec<ImmutableString>,
 }
 
 /// What is called by a name and a number of arguments; the receiver of a method counts as one.
@@ -71,6 +73,8 @@ pub enum Variable {
 #[derive(Drop)]
 pub struct Block {
     pub statements: Vec<Expr>,
+    /// Where each of them begins.
+    pub positions: Vec<Position>,
     /// The variables that the block itself declares have the slots from here ..
     pub first_slot: usize,
     /// .. to before here.
@@ -148,12 +152,17 @@ pub enum Expr {
         source: Box<Expr>,
         position: Position,
         body: Block,
+        /// The name of the item.
+        item_name: ImmutableString,
+        /// The name of the index.
+        index_name: Option<ImmutableString>,
     },
     /// `let x = a`, or `const X = a`; without a value it is `()`.
     Let {
         slot: usize,
         is_constant: bool,
         value: Option<Box<Expr>>,
+        name: ImmutableString,
     },
     /// `a[i].k = b`, or `a[i].k += b`: each step is an index or a property. The position is that of the operator.
     Assign {
@@ -177,6 +186,8 @@ pub enum Expr {
         body: Block,
         error: Option<usize>,
         handler: Block,
+        /// The name of what was caught.
+        error_name: Option<ImmutableString>,
     },
 }
 

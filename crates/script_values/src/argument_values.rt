@@ -57,11 +57,11 @@ pub(crate) fn map(argument: &mut Dynamic, store: &Store) -> Result<Map, FaultKin
     }
 }
 
-/// The bytes of an argument, which is spent.
-pub(crate) fn blob(argument: &mut Dynamic, store: &Store) -> Result<Blob, FaultKind> {
-    match Blob::take_out(argument.take()) {
-        Ok(bytes) => Ok(bytes),
-        Err(other) => Err(mismatch("blob", other.type_name(store))),
+/// The bytes of an argument.
+pub(crate) fn blob<'a>(argument: &'a Dynamic, store: &Store) -> Result<&'a [u8], FaultKind> {
+    match Blob::own(argument) {
+        Some(bytes) => Ok(bytes.as_slice()),
+        None => Err(mismatch("blob", argument.type_name(store))),
     }
 }
 

@@ -205,7 +205,7 @@ fn extracted(means: &Means, items: &Array, start: INT, length: INT) -> Result<Dy
     Ok(Dynamic::from_array(part))
 }
 
-/// Changes an array, and answers what the change gives.
+/// Changes an array, and answers what the change gives. Where memory is refused, the arguments stay.
 pub(crate) fn change_array(
     change: ArrayChange,
     means: &Means,
@@ -219,10 +219,15 @@ pub(crate) fn change_array(
         ArrayChange::Set => {
             arrays::set(items, int(first, store)?, arguments.second.take());
         }
-        ArrayChange::Push => arrays::push(items, limits, first.take())?,
-        ArrayChange::Append => arrays::append(items, limits, &mut array(first, store)?)?,
+        ArrayChange::Push => {
+            items.reserve(1)?;
+            arrays::push(items, limits, first.take())?;
+        }
+        ArrayChange::Append => append(means, store, items, first)?,
         ArrayChange::Insert => {
-            arrays::insert(items, limits, int(first, store)?, arguments.second.take())?;
+            let index = int(first, store)?;
+            items.reserve(1)?;
+            arrays::insert(items, limits, index, arguments.second.take())?;
         }
         ArrayChange::Pad => pad(means, items, int(first, store)?, &arguments.second)?,
         ArrayChange::Pop => return Ok(or_unit(arrays::pop(items))),
@@ -245,6 +250,23 @@ pub(crate) fn change_array(
     Ok(Dynamic::UNIT)
 }
 
+/// Puts the items of an argument behind the others.
+fn append(
+    means: &Means,
+    store: &Store,
+    items: &mut Array,
+    argument: &mut Dynamic,
+) -> Result<(), FaultKind> {
+    let mut more = array(argument, store)?;
+    match arrays::append(items, &means.limits, &mut more) {
+        Ok(()) => Ok(()),
+        Err(error) => {
+            *argument = Dynamic::from_array(more);
+            Err(FaultKind::from(error))
+        }
+    }
+}
+
 /// Puts the items of the last argument in the place of those from an index on, or of those of a range.
 fn splice(
     means: &Means,
@@ -255,12 +277,12 @@ fn splice(
     let (start, length, mut last) = match bounds_of(&arguments.first, store) {
         Some(bounds) => {
             let (start, length) = span_of(bounds, items.len())?;
-            (start, length, arguments.second.take())
+            (start, length, arguments.second.copy(means.alloc)?)
         }
         None => (
             int(&arguments.first, store)?,
             int(&arguments.second, store)?,
-            arguments.third.take(),
+            arguments.third.copy(means.alloc)?,
         ),
     };
     let more = array(&mut last, store)?;

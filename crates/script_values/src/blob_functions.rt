@@ -140,7 +140,7 @@ pub(crate) fn change_blob(
             blobs::set(bytes, int(first, store)?, int(&arguments.second, store)?);
         }
         BlobChange::Push => blobs::push(bytes, limits, int(first, store)?)?,
-        BlobChange::Append => blobs::append(bytes, limits, blob(first, store)?.as_slice())?,
+        BlobChange::Append => blobs::append(bytes, limits, blob(first, store)?)?,
         BlobChange::Pop => return Ok(byte_or_unit(blobs::pop(bytes))),
         BlobChange::Remove => return Ok(byte_or_unit(blobs::remove(bytes, int(first, store)?))),
         BlobChange::Reverse => blobs::reverse(bytes),

@@ -60,6 +60,11 @@ impl FaultKind {
         }
     }
 
+    /// Tells whether memory was refused.
+    pub fn is_want_of_memory(&self) -> bool {
+        matches!(self, FaultKind::Layer(EvalAltResult::ErrorMemory(_)))
+    }
+
     /// Tells whether a script may catch it. Limits and want of memory stop the script.
     pub fn is_catchable(&self) -> bool {
         match self {

@@ -104,25 +104,43 @@ fn map_answer(
     }
 }
 
-/// Changes a map, and answers what the change gives.
+/// Changes a map, and answers what the change gives. Where memory is refused, the arguments stay; of the entries of another map the
+/// first ones may be set then.
 pub(crate) fn change_map(
     change: MapChange,
+    means: &Means,
     store: &Store,
     entries: &mut Map,
     arguments: &mut Arguments,
 ) -> Result<Dynamic, FaultKind> {
     match change {
-        MapChange::Set => maps::set(
-            entries,
-            text(&arguments.first, store)?,
-            arguments.second.take(),
-        )?,
+        MapChange::Set => {
+            let key = text(&arguments.first, store)?;
+            set(entries, key, &mut arguments.second)?;
+        }
         MapChange::Remove => {
             return Ok(or_unit(maps::remove(entries, text(&arguments.first, store)?)));
         }
         MapChange::Clear => maps::clear(entries),
-        MapChange::MixIn => maps::mixin(entries, map(&mut arguments.first, store)?)?,
-        MapChange::FillWith => maps::fill_with(entries, map(&mut arguments.first, store)?)?,
+        MapChange::MixIn => {
+            let mut other = arguments.first.copy(means.alloc)?;
+            maps::mixin(entries, map(&mut other, store)?)?;
+        }
+        MapChange::FillWith => {
+            let mut other = arguments.first.copy(means.alloc)?;
+            maps::fill_with(entries, map(&mut other, store)?)?;
+        }
     }
     Ok(Dynamic::UNIT)
+}
+
+/// Sets the value of a key, which stays where it was if memory is refused.
+fn set(entries: &mut Map, key: &str, value: &mut Dynamic) -> Result<(), FaultKind> {
+    if !maps::contains(entries, key) {
+        maps::set(entries, key, Dynamic::UNIT)?;
+    }
+    if let Some(entry) = entries.get_mut(key) {
+        *entry = value.take();
+    }
+    Ok(())
 }

@@ -102,7 +102,7 @@ impl Native {
     }
 
     /// Calls the function that may change its receiver, which is no holder, if the type of the receiver has one.
-    /// Errors: an argument of another type, and what the function refuses.
+    /// Errors: an argument of another type, and what the function refuses. Where memory is refused, the arguments stay.
     /// Cost: that of the function.
     pub fn change(
         &self,
@@ -122,7 +122,7 @@ impl Native {
                 let Some(MapFunction::Change(change)) = self.map else {
                     return Ok(None);
                 };
-                Ok(Some(change_map(change, store, map, arguments)?))
+                Ok(Some(change_map(change, means, store, map, arguments)?))
             }
             Union::Str(_, _, text) => {
                 let Some(TextFunction::Change(change)) = self.text else {

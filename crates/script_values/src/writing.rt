@@ -24,8 +24,10 @@ pub enum Change {
 }
 
 /// Writes at the place to which the keys lead from a value. The last key may lead to a part of a text, a blob or an int, or
-/// to a key that a map lacks, which is then made; those before it lead from arrays and maps to what stands in them.
-/// Errors: the key that leads nowhere, and why, or what the last part refuses; what was there stays then.
+/// to a key that a map lacks, which is then made; those before it lead from arrays and maps to what stands in them. The value is
+/// moved out of the change.
+/// Errors: the key that leads nowhere, and why, or what the last part refuses; what was there stays then. Where memory is refused, the
+/// change has its value still.
 /// Cost: that of `Dynamic::with_place`, and of the change.
 /// rhai: an assignment to a chain of indices and properties.
 pub fn write(
@@ -33,7 +35,7 @@ pub fn write(
     store: &mut Store,
     root: &mut Dynamic,
     keys: &[Key<'_>],
-    change: Change,
+    change: &mut Change,
 ) -> Result<(), PlaceFault> {
     let Some((last, front)) = keys.split_last() else {
         return write_whole(means, store, root, change);
@@ -101,7 +103,7 @@ fn write_whole(
     means: &Means,
     store: &mut Store,
     root: &mut Dynamic,
-    change: Change,
+    change: &mut Change,
 ) -> Result<(), PlaceFault> {
     done_at(write_item(means, store, root, change), 0)
 }
@@ -111,18 +113,18 @@ fn write_item(
     means: &Means,
     store: &mut Store,
     item: &mut Dynamic,
-    change: Change,
+    change: &mut Change,
 ) -> Result<(), FaultKind> {
     match change {
         Change::Set(value) => set_item(store, item, value),
-        Change::Assign(op, mut value) => assign(op, means, store, item, &mut value),
+        Change::Assign(op, value) => assign(*op, means, store, item, value),
     }
 }
 
-fn set_item(store: &mut Store, item: &mut Dynamic, value: Dynamic) -> Result<(), FaultKind> {
+fn set_item(store: &mut Store, item: &mut Dynamic, value: &mut Dynamic) -> Result<(), FaultKind> {
     match item.held_mut(store) {
         Some(held) => {
-            *held = value;
+            *held = value.take();
             Ok(())
         }
         None => Err(in_use()),
@@ -197,7 +199,7 @@ fn write_part(
     store: &mut Store,
     source: &mut Dynamic,
     key: &Key<'_>,
-    change: Change,
+    change: &mut Change,
 ) -> Result<(), FaultKind> {
     if let Some(items) = Array::own_mut(source) {
         return write_in_array(means, store, items, key, change);
@@ -207,8 +209,8 @@ fn write_part(
     }
     let part = part_at(means, store, source, key)?;
     let value = match change {
-        Change::Set(value) => value,
-        Change::Assign(op, value) => binary(op.plain, means, store, &part.value, &value)?,
+        Change::Set(value) => value.copy(means.alloc)?,
+        Change::Assign(op, value) => binary(op.plain, means, store, &part.value, value)?,
     };
     let part = ReadPart {
         place: part.place,
@@ -222,7 +224,7 @@ fn write_in_array(
     store: &mut Store,
     items: &mut Array,
     key: &Key<'_>,
-    change: Change,
+    change: &mut Change,
 ) -> Result<(), FaultKind> {
     let index = index_in(key, store, "array")?;
     let count = items.len();
@@ -243,7 +245,7 @@ fn write_in_map(
     store: &mut Store,
     map: &mut Map,
     key: &Key<'_>,
-    change: Change,
+    change: &mut Change,
 ) -> Result<(), FaultKind> {
     match *key {
         Key::Name(name) => write_at_name(means, store, map, name, change),
@@ -262,12 +264,18 @@ fn write_at_name(
     store: &mut Store,
     map: &mut Map,
     name: &str,
-    change: Change,
+    change: &mut Change,
 ) -> Result<(), FaultKind> {
     if let Some(value) = map.get_mut(name) {
         return write_item(means, store, value, change);
     }
-    let mut made = Dynamic::UNIT;
-    write_item(means, store, &mut made, change)?;
-    Ok(maps::set(map, name, made)?)
+    if let Change::Assign(op, value) = change {
+        let mut nothing = Dynamic::UNIT;
+        assign(*op, means, store, &mut nothing, value)?;
+    }
+    maps::set(map, name, Dynamic::UNIT)?;
+    match map.get_mut(name) {
+        Some(made) => write_item(means, store, made, change),
+        None => Ok(()),
+    }
 }

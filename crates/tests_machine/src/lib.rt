@@ -9,3 +9,5 @@ mod pauses;
 mod runs;
 #[cfg(test)]
 mod scopes;
+#[cfg(test)]
+mod seen;

@@ -1,11 +1,11 @@
 //! Runs of scripts, as the tests begin and drive them.
 
-use script_syntax::parse;
-use script_values::Fault;
 use rhai_text::Limits;
 use rhai_value::INT;
 use script_code::{HostName, Program, compile};
 use script_run::{Outcome, Run, RunLimits};
+use script_syntax::parse;
+use script_values::Fault;
 use std::alloc::{AllocError, Global};
 
 /// What each run may use.
@@ -46,7 +46,11 @@ pub(crate) fn driven(run: &mut Run, program: &Program, at_once: u64) -> Outcome 
 pub(crate) fn value_of(run: &Run, outcome: &Outcome) -> Option<INT> {
     match outcome {
         Outcome::Done(value) => value.as_int(run.store()).ok(),
-        Outcome::Paused | Outcome::Calls(_) | Outcome::Fault(_) => None,
+        Outcome::Paused
+        | Outcome::Statement
+        | Outcome::Calls(_)
+        | Outcome::Memory
+        | Outcome::Fault(_) => None,
     }
 }
 
@@ -57,7 +61,11 @@ pub(crate) fn is_told(alloc: Global, run: &Run, outcome: &Outcome, wanted: &str)
             Ok(told) => told.as_str() == wanted,
             Err(_) => false,
         },
-        Outcome::Done(_) | Outcome::Paused | Outcome::Calls(_) => false,
+        Outcome::Done(_)
+        | Outcome::Paused
+        | Outcome::Statement
+        | Outcome::Calls(_)
+        | Outcome::Memory => false,
     }
 }
 

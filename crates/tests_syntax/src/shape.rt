@@ -1,9 +1,9 @@
 //! The shape of a tree, as a text.
 
+use rhai_text::Token;
 use script_syntax::{
     Arm, Block, Expr, Field, Operator, Program, Slot, Step, Symbol, Term, UnaryOperator, Variable,
 };
-use rhai_text::Token;
 use std::alloc::AllocError;
 
 /// Adds the shape of a script's body, and then of its functions.
@@ -123,11 +123,7 @@ fn add(out: &mut String, part: &Expr) -> Result<(), AllocError> {
             out.push_str("throw")?;
             add_value(out, value)
         }
-        Expr::Try {
-            body,
-            error: _,
-            handler,
-        } => {
+        Expr::Try { body, handler, .. } => {
             add_block(out, "try", body)?;
             add_block(out, "catch", handler)
         }

@@ -5,6 +5,7 @@ use crate::error::{SyntaxError, SyntaxFault};
 use crate::operators::LOOSEST;
 use crate::symbol::Symbol;
 use crate::tree::{Arm, Block, Expr};
+use rhai_text::{ImmutableString, Position};
 
 impl Parser {
     /// Reads a block; its statements stand on this level.
@@ -13,17 +14,19 @@ impl Parser {
         self.expect(Symbol::OpenBrace)?;
         let first_slot = self.names.count();
         let mut statements = Vec::new(self.alloc);
+        let mut positions = Vec::new(self.alloc);
         for _ in 0..self.lexemes_left() {
             if self.is_next(Symbol::CloseBrace) {
                 break;
             }
-            self.terminated_statement(levels, &mut statements)?;
+            self.terminated_statement(levels, &mut statements, &mut positions)?;
         }
         self.expect(Symbol::CloseBrace)?;
         let end_slot = self.names.count();
         self.names.close(first_slot)?;
         Ok(Block {
             statements,
+            positions,
             first_slot,
             end_slot,
         })
@@ -35,6 +38,7 @@ impl Parser {
         &mut self,
         levels: usize,
         statements: &mut Vec<Expr>,
+        positions: &mut Vec<Position>,
     ) -> Result<(), SyntaxError> {
         if self.takes(Symbol::Semicolon)? {
             return Ok(());
@@ -43,6 +47,7 @@ impl Parser {
             Some(symbol) => symbol.begins_block(),
             None => false,
         };
+        positions.push(self.position)?;
         statements.push(self.statement(levels)?)?;
         if ends_itself || self.takes(Symbol::Semicolon)? || self.is_statement_end() {
             return Ok(());
@@ -143,23 +148,28 @@ impl Parser {
         let body = self.block(below)?;
         self.expect(Symbol::Catch)?;
         let first_slot = self.names.count();
-        let error = self.caught_name()?;
+        let error_name = self.caught_name()?;
+        let error = match &error_name {
+            Some(name) => Some(self.names.declare(name.as_str())?),
+            None => None,
+        };
         let handler = self.block(below)?;
         self.names.close(first_slot)?;
         Ok(Expr::Try {
             body,
             error,
             handler,
+            error_name,
         })
     }
 
-    /// Reads the name of what is caught, if one is given, and declares it.
-    fn caught_name(&mut self) -> Result<Option<usize>, SyntaxError> {
+    /// Reads the name of what is caught, if one is given.
+    fn caught_name(&mut self) -> Result<Option<ImmutableString>, SyntaxError> {
         if !self.takes(Symbol::OpenParenthesis)? {
             return Ok(None);
         }
         let name = self.name()?;
         self.expect(Symbol::CloseParenthesis)?;
-        Ok(Some(self.names.declare(name.as_str())?))
+        Ok(Some(self.kept(name.as_str())?))
     }
 }

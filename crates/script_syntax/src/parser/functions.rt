@@ -21,7 +21,9 @@ impl Parser {
         let parameters = self.parameters(Symbol::CloseParenthesis)?;
         let body = self.block(MOST_LEVELS)?;
         let mut names = mem::replace(&mut self.names, outside);
-        let (slots, _captured) = names.leave().into_parts();
+        let known = names.leave();
+        let given = known.given(parameters)?;
+        let (slots, _captured) = known.into_parts();
         let function = self.functions.len();
         if !self.callees.define(name.as_str(), parameters, function)? {
             return Err(SyntaxError::Fault(SyntaxFault::FunctionTwice, position));
@@ -32,6 +34,7 @@ impl Parser {
             parameters,
             slots,
             body,
+            names: given,
         })?;
         Ok(())
     }
@@ -68,8 +71,9 @@ impl Parser {
             self.advance()?;
             self.parameters(Symbol::Operator(Token::Pipe))?
         };
+        let begins = self.position;
         let body = self.statement(below)?;
-        self.made_closure(parameters, body, position)
+        self.made_closure(parameters, body, begins, position)
     }
 
     /// Ends an anonymous function, whose body was read.
@@ -77,6 +81,7 @@ impl Parser {
         &mut self,
         parameters: usize,
         body: Expr,
+        begins: Position,
         position: Position,
     ) -> Result<Expr, SyntaxError> {
         let end_slot = self.names.count();
@@ -84,11 +89,14 @@ impl Parser {
             Expr::Block(block) => block,
             statement => Block {
                 statements: vec![in self.alloc; statement]?,
+                positions: vec![in self.alloc; begins]?,
                 first_slot: parameters,
                 end_slot,
             },
         };
-        let (slots, captured) = self.names.leave().into_parts();
+        let known = self.names.leave();
+        let given = known.given(parameters)?;
+        let (slots, captured) = known.into_parts();
         let function = self.functions.len();
         let name = format!(in self.alloc; "anon${function}")?;
         self.functions.push(Function {
@@ -97,6 +105,7 @@ impl Parser {
             parameters,
             slots,
             body,
+            names: given,
         })?;
         Ok(Expr::Closure {
             function,

@@ -66,10 +66,14 @@ impl Parser {
         let source = self.part(levels)?;
         let below = self.below(levels)?;
         let first_slot = self.names.count();
+        let item_name = self.kept(item.as_str())?;
         let item = self.names.declare(item.as_str())?;
-        let index = match index {
-            Some(index) => Some(self.names.declare(index.as_str())?),
-            None => None,
+        let (index, index_name) = match index {
+            Some(index) => (
+                Some(self.names.declare(index.as_str())?),
+                Some(self.kept(index.as_str())?),
+            ),
+            None => (None, None),
         };
         let body = self.loop_body(below)?;
         self.names.close(first_slot)?;
@@ -79,6 +83,8 @@ impl Parser {
             source,
             position,
             body,
+            item_name,
+            index_name,
         })
     }
 

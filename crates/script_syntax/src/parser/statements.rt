@@ -78,6 +78,7 @@ impl Parser {
             slot,
             is_constant,
             value,
+            name: self.kept(name.as_str())?,
         })
     }
 

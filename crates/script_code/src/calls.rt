@@ -7,8 +7,8 @@ use crate::operations::{Op, Slot};
 use crate::program::Place;
 use crate::quiet::known_variable;
 use crate::tables::to_number;
-use script_syntax::Expr;
 use rhai_text::Position;
+use script_syntax::Expr;
 
 /// The variable that is the only argument, if it is one.
 fn only_variable(arguments: &[Expr]) -> Option<script_syntax::Slot> {

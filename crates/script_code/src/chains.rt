@@ -7,8 +7,8 @@ use crate::operations::{Op, Slot};
 use crate::program::{Method, PathStep, Place};
 use crate::quiet::known_variable;
 use crate::tables::{number_in, to_number};
-use script_syntax::{Expr, Step, Variable};
 use rhai_text::Position;
+use script_syntax::{Expr, Step, Variable};
 
 /// A method of a chain whose operands are there, with the steps before it.
 #[derive(Drop)]

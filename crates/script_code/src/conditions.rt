@@ -6,8 +6,8 @@ use crate::expressions::small_int;
 use crate::operations::{Op, Slot};
 use crate::operators::{Comparison, Kind, kind_of};
 use crate::program::Place;
-use script_syntax::{Expr, Operator, Term, UnaryOperator};
 use rhai_text::{Position, Token};
+use script_syntax::{Expr, Operator, Term, UnaryOperator};
 
 /// The jump where a comparison of two slots holds.
 fn comparing(comparison: Comparison, x: Slot, y: Slot) -> Op {
@@ -55,7 +55,7 @@ impl<'p> Compiler<'p> {
         levels: u32,
     ) -> Result<(), CodeError> {
         if levels == 0 {
-            return Err(CodeError::TooLarge);
+            return Err(CodeError::TooLarge(self.position));
         }
         let levels = levels - 1;
         if let Expr::Bool(value) = expr {

@@ -3,8 +3,8 @@
 use crate::compiler::Compiler;
 use crate::error::CodeError;
 use crate::operations::{Op, Slot};
-use script_syntax::{Arm, Block, Expr};
 use rhai_text::Position;
+use script_syntax::{Arm, Block, Expr};
 
 /// Blocks.
 impl<'p> Compiler<'p> {
@@ -77,7 +77,7 @@ impl<'p> Compiler<'p> {
     #[cycle(tail)]
     fn tail(&mut self, expr: &Expr, levels: u32) -> Result<(), CodeError> {
         if levels == 0 {
-            return Err(CodeError::TooLarge);
+            return Err(CodeError::TooLarge(self.position));
         }
         let levels = levels - 1;
         match expr {
@@ -148,7 +148,7 @@ impl<'p> Compiler<'p> {
     #[cycle(compile)]
     pub(crate) fn effect(&mut self, expr: &Expr, levels: u32) -> Result<(), CodeError> {
         if levels == 0 {
-            return Err(CodeError::TooLarge);
+            return Err(CodeError::TooLarge(self.position));
         }
         let levels = levels - 1;
         let top = self.top;

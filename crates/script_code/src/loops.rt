@@ -4,8 +4,8 @@ use crate::compiler::{Compiler, Round};
 use crate::error::CodeError;
 use crate::operations::{Op, Slot, Target};
 use crate::program::Place;
-use script_syntax::{Arm, Block, Expr, Operator};
 use rhai_text::{Position, Token};
+use script_syntax::{Arm, Block, Expr, Operator};
 use std::mem;
 
 impl<'p> Compiler<'p> {

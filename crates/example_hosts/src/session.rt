@@ -1,14 +1,10 @@
-//! A host that keeps one world of script values between runs. It does the commands of standard input, a line each; an empty line ends
-//! a run, after which it collects the cells that nothing reaches. The line `replay` does all commands again on a new world.
-#![tactic(auto)]
-
-mod journal;
+//! A host that keeps one world of script values between runs. It does commands, a line each; an empty line ends a run, after which it
+//! collects the cells that nothing reaches. The line `replay` does all commands again on a new world.
 
 use crate::journal::Journal;
 use anyhow::Result;
 use rhai_lines::{command, write_answer};
 use rhai_run::{World, apply};
-use rhai_text::Limits;
 
 /// Does the command of a line, prints its answer, and keeps both.
 fn do_line(
@@ -43,13 +39,12 @@ fn replay(rt: &(impl Print + AllocGlobal), journal: &Journal) -> Result<()> {
     Ok(())
 }
 
-/// Does the lines of standard input on a world.
-fn host(rt: &(impl Input + Print + AllocGlobal), world: &mut World) -> Result<()> {
+/// Does lines on a world.
+pub(crate) fn host(rt: &(impl Print + AllocGlobal), world: &mut World, lines: &str) -> Result<()> {
     let mut journal = Journal::new(rt.alloc());
     let mut runs = 0u64;
-    for line in rt.lines(rt.alloc()) {
-        let line = line?;
-        match line.as_str() {
+    for line in lines.lines() {
+        match line {
             "" => {
                 world.collect()?;
                 runs = runs.saturating_add(1);
@@ -60,11 +55,4 @@ fn host(rt: &(impl Input + Print + AllocGlobal), world: &mut World) -> Result<()
         }
     }
     Ok(())
-}
-
-fn main(rt: HostRuntime) -> Result<()> {
-    let mut world = World::new(rt.alloc(), Limits { text: 0, items: 0 });
-    let outcome = host(&rt, &mut world);
-    world.close();
-    outcome
 }

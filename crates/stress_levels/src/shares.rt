@@ -1,10 +1,8 @@
-//! A program that shares three million values one after another, in a world that gives cells back when it is time to.
-#![tactic(auto)]
+//! Three million values that are shared one after another, in a world that gives cells back when it is time to.
 
 use rhai_run::{Command, Literal, World, apply};
 use rhai_text::Limits;
-use std::alloc::AllocError;
-use std::process::ExitCode;
+use std::alloc::{AllocError, Global};
 
 /// How often a value is shared between two times of asking, by some hundred commands.
 const BETWEEN: usize = 33;
@@ -31,12 +29,10 @@ fn share_all(world: &mut World) -> Result<(), AllocError> {
     share_and_drop(world, SHARED % BETWEEN)
 }
 
-fn main(rt: HostRuntime) -> ExitCode {
-    let mut world = World::new(rt.alloc(), Limits { text: 0, items: 0 });
+/// Shares all values in a new world.
+pub(crate) fn share_values(alloc: Global) -> Result<(), AllocError> {
+    let mut world = World::new(alloc, Limits { text: 0, items: 0 });
     let outcome = share_all(&mut world);
     world.close();
-    match outcome {
-        Ok(()) => ExitCode::SUCCESS,
-        Err(_) => ExitCode::FAILURE,
-    }
+    outcome
 }

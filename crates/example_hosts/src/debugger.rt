@@ -1,11 +1,9 @@
-//! Steps through commands over a world of script values, a line of standard input each, and shows the world behind each: the scope,
-//! the values of the hand, and which of them are closed by a mark.
-#![tactic(auto)]
+//! Steps through commands over a world of script values, a line each, and shows the world behind each: the scope, the values of the
+//! hand, and which of them are closed by a mark.
 
 use anyhow::Result;
 use rhai_lines::{command, write_answer};
 use rhai_run::{Answer, Command, Question, World, apply};
-use rhai_text::Limits;
 
 /// Prints a value of the hand.
 fn show_value(rt: &(impl Print + AllocGlobal), world: &mut World, at: usize) -> Result<()> {
@@ -50,17 +48,10 @@ fn step(rt: &(impl Print + AllocGlobal), world: &mut World, line: &str) -> Resul
     Ok(())
 }
 
-/// Steps through the lines of standard input.
-fn debug(rt: &(impl Input + Print + AllocGlobal), world: &mut World) -> Result<()> {
-    for line in rt.lines(rt.alloc()) {
-        step(rt, world, line?.as_str())?;
+/// Steps through lines.
+pub(crate) fn debug(rt: &(impl Print + AllocGlobal), world: &mut World, lines: &str) -> Result<()> {
+    for line in lines.lines() {
+        step(rt, world, line)?;
     }
     Ok(())
-}
-
-fn main(rt: HostRuntime) -> Result<()> {
-    let mut world = World::new(rt.alloc(), Limits { text: 0, items: 0 });
-    let outcome = debug(&rt, &mut world);
-    world.close();
-    outcome
 }

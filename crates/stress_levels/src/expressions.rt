@@ -81,9 +81,9 @@ fn deeper(alloc: Global, level: Level, number: i64, inner: Expr) -> Result<Expr,
     }
 }
 
-fn nested(alloc: Global, level: Level, depth: i64) -> Result<Expr, AllocError> {
+fn nested(alloc: Global, level: Level, depth: usize) -> Result<Expr, AllocError> {
     let mut whole = leaf(0);
-    for number in 0..depth {
+    for number in 0..i64::try_from(depth).unwrap_or(i64::MAX) {
         whole = deeper(alloc, level, number, whole)?;
     }
     Ok(whole)
@@ -106,7 +106,7 @@ fn evaluated(alloc: Global, world: &mut World, expr: &Expr) -> Result<String, Al
 }
 
 /// What an expression of so many levels about 0 comes to, on a new world.
-pub(crate) fn outcome(alloc: Global, level: Level, depth: i64) -> Result<String, AllocError> {
+pub(crate) fn outcome(alloc: Global, level: Level, depth: usize) -> Result<String, AllocError> {
     let expr = nested(alloc, level, depth)?;
     let mut world = World::new(alloc, Limits { text: 0, items: 0 });
     let text = evaluated(alloc, &mut world, &expr);

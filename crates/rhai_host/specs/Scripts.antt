@@ -4,7 +4,7 @@ use Rattle.script_run.specs.declared.script.ScriptError.{ScriptError}
 use Rattle.script_run.specs.declared.script.ScriptError.TheVariants as script
 use Rattle.script_syntax.specs.declared.error.SyntaxError.TheVariants as syntax
 use Rattle.rhai_text.specs.declared.position.Position.{Position}
-use Rattle.rhai_handle.specs.declared.kept.Kept.{Kept}
+use Rattle.rhai_host.specs.declared.handle.kept.Kept.{Kept}
 use Rattle.rhai_host.specs.declared.scripts.ScriptEnd.{ScriptEnd}
 use Rattle.rhai_host.specs.Calls.{InWorld, IsClosed, Stays}
 use Rattle.rhai_host.specs.Numbers.{text_of}

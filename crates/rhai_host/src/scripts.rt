@@ -1,12 +1,13 @@
 //! Runs of scripts.
 ghost use Rattle.std.specs.Prelude.{◌≡◌, ◌++◌, IfOk, length, string_bytes};
-ghost use Rattle.rhai_handle.specs.Content.{content};
+ghost use Rattle.rhai_host.specs.Content.{content};
 ghost use Rattle.rhai_host.specs.Numbers.{text_of};
 ghost use Rattle.rhai_host.specs.Scripts.{IsEndOf, IsScriptRun, IsWhole, RunsScript};
 
+use crate::handle::Handle;
+use crate::handle::kept::Kept;
 use crate::perform::{CLOSED, DONE, NO_COMMAND, OUT_OF_MEMORY};
 use crate::texts::text_in;
-use rhai_handle::{Handle, Kept};
 use rhai_run::{Answer, Bytes};
 use rhai_text::{Limits, Position};
 use script_run::{ScriptError, ScriptLimits, run_script};

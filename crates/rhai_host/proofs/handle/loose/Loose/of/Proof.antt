@@ -31,11 +31,11 @@ use Rattle.std_alloc.proofs.BoxSteps.Form.{Bx, R, P, B, word, box_typed}
 use Rattle.std_alloc.proofs.BoxSteps.Steps.{box_out, box_in}
 use Rattle.std_alloc.specs.contracts.boxed.Box.into_raw_with_allocator as apart
 use Rattle.std_alloc.proofs.boxed.Box.into_raw_with_allocator.Met.{met}
-use Rattle.rhai_handle.specs.contracts.loose.Loose as loose
-use Rattle.rhai_handle.specs.contracts.loose.Loose.of as f
-use Rattle.rhai_handle.proofs.loose.Loose.of.Statement.{statement}
-use Rattle.rhai_handle.proofs.loose.Loose.of.Code as code
-use Rattle.rhai_handle.proofs.Pair.{box_of_pair}
+use Rattle.rhai_host.specs.contracts.handle.loose.Loose as loose
+use Rattle.rhai_host.specs.contracts.handle.loose.Loose.of as f
+use Rattle.rhai_host.proofs.handle.loose.Loose.of.Statement.{statement}
+use Rattle.rhai_host.proofs.handle.loose.Loose.of.Code as code
+use Rattle.rhai_host.proofs.Pair.{box_of_pair}
 
 pub of_spec : {M : Type 1} → statement M
 of_spec 𝓤 𝓛 𝓜 𝓡 wired T A LT LA g d dt da allocator drops_t drops_a =

@@ -29,11 +29,11 @@ use Rattle.std_alloc.proofs.BoxSteps.Form.{Bx, D, R, P, B, box_ty, word, box_typ
 use Rattle.std_alloc.proofs.BoxSteps.Steps.{box_out, box_in}
 use Rattle.std_alloc.specs.contracts.boxed.Box.from_raw as together
 use Rattle.std_alloc.proofs.boxed.Box.from_raw.Met.{met}
-use Rattle.rhai_handle.specs.contracts.loose.Loose as loose
+use Rattle.rhai_host.specs.contracts.handle.loose.Loose as loose
 use Rattle.std_alloc.proofs.VecSteps.Shapes.{after}
-use Rattle.rhai_handle.specs.contracts.loose.Loose.into_box as f
-use Rattle.rhai_handle.proofs.loose.Loose.into_box.Statement.{statement}
-use Rattle.rhai_handle.proofs.loose.Loose.into_box.Code as code
+use Rattle.rhai_host.specs.contracts.handle.loose.Loose.into_box as f
+use Rattle.rhai_host.proofs.handle.loose.Loose.into_box.Statement.{statement}
+use Rattle.rhai_host.proofs.handle.loose.Loose.into_box.Code as code
 
 pub into_box_spec : {M : Type 1} → statement M
 into_box_spec 𝓤 𝓛 𝓜 𝓡 wired Row A LT LA g d dt da allocator drops_t drops_a =

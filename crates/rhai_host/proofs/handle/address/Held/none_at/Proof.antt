@@ -23,11 +23,11 @@ use Rattle.std.specs.Prelude.{None}
 use Rattle.std.proofs.raw_atomic.Walks.{proved_at}
 use Rattle.std.specs.contracts.alloc.Global as heap
 use Rattle.std_alloc.proofs.BoxSteps.Form.{P, owning, box_ty}
-use Rattle.rhai_handle.specs.contracts.address.Held as held
-use Rattle.rhai_handle.specs.contracts.address.Held.none_at as f
-use Rattle.rhai_handle.proofs.address.Held.none_at.Statement.{statement}
-use Rattle.rhai_handle.proofs.address.Held.none_at.Code as code
-use Rattle.rhai_handle.proofs.Boxed.{E}
+use Rattle.rhai_host.specs.contracts.handle.address.Held as held
+use Rattle.rhai_host.specs.contracts.handle.address.Held.none_at as f
+use Rattle.rhai_host.proofs.handle.address.Held.none_at.Statement.{statement}
+use Rattle.rhai_host.proofs.handle.address.Held.none_at.Code as code
+use Rattle.rhai_host.proofs.Boxed.{E}
 
 abbrev Z : RattleType
 Z = heap.the_row

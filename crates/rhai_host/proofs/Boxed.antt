@@ -7,11 +7,11 @@ use Rattle.std_alloc.proofs.BoxSteps.Form.{Bx}
 use Rattle.std.specs.contracts.alloc.Global as Heap
 use Rattle.std.specs.contracts.impls.GlobalAllocator.TheImpl.{ghosts, dict}
 use Rattle.std.proofs.alloc.Global.TheLaws as heap
-use Rattle.rhai_handle.specs.contracts.kept.Kept as Kept
-use Rattle.rhai_handle.proofs.kept.Kept.TheLaws as kept
-use Rattle.rhai_handle.specs.contracts.loose.Loose as Loose
-use Rattle.rhai_handle.specs.contracts.address.Held as Held
-use Rattle.rhai_handle.specs.Owned.{is_full}
+use Rattle.rhai_host.specs.contracts.handle.kept.Kept as Kept
+use Rattle.rhai_host.proofs.handle.kept.Kept.TheLaws as kept
+use Rattle.rhai_host.specs.contracts.handle.loose.Loose as Loose
+use Rattle.rhai_host.specs.contracts.handle.address.Held as Held
+use Rattle.rhai_host.specs.Owned.{is_full}
 use Rattle.std.specs.Prelude.{Option, None, Some}
 
 abbrev pub E : Bx

@@ -1,15 +1,14 @@
 //! The handle by which a host in C or Rust keeps a world.
-#![tactic(auto)]
 
 pub mod address;
 pub mod kept;
 mod loose;
 
 ghost use Rattle.std.specs.Prelude.{◌≡◌};
-ghost use Rattle.rhai_handle.specs.Owned.{has};
+ghost use Rattle.rhai_host.specs.Owned.{has};
 
-use crate::address::Held;
-pub use crate::kept::Kept;
+use crate::handle::address::Held;
+use crate::handle::kept::Kept;
 use std::alloc::Global;
 use std::mem::{align_of, replace, size_of};
 
@@ -26,7 +25,7 @@ pub struct Handle {
 
 impl Handle {
     ghost use Rattle.std.specs.Prelude.{◌≡◌, Some, None, option_map, true, false};
-    ghost use Rattle.rhai_handle.specs.Content.{content};
+    ghost use Rattle.rhai_host.specs.Content.{content};
 
     /// Makes a closed handle.
     #[inline(always)]

@@ -18,11 +18,11 @@ use Rattle.core.proofs.alloc.Calls.{Goes-blank}
 use Rattle.std.proofs.raw_atomic.Walks.{proved_at}
 use Rattle.std_alloc.proofs.BoxSteps.Form.{D, B, word, box_typed}
 use Rattle.std_alloc.proofs.BoxSteps.Steps.{box_out, box_in}
-use Rattle.rhai_handle.specs.contracts.address.Held as held
-use Rattle.rhai_handle.specs.contracts.address.Held.of as f
-use Rattle.rhai_handle.proofs.address.Held.of.Statement.{statement}
-use Rattle.rhai_handle.proofs.address.Held.of.Code as code
-use Rattle.rhai_handle.proofs.Boxed.{E, FromLoose}
+use Rattle.rhai_host.specs.contracts.handle.address.Held as held
+use Rattle.rhai_host.specs.contracts.handle.address.Held.of as f
+use Rattle.rhai_host.proofs.handle.address.Held.of.Statement.{statement}
+use Rattle.rhai_host.proofs.handle.address.Held.of.Code as code
+use Rattle.rhai_host.proofs.Boxed.{E, FromLoose}
 
 abbrev To : RattleType
 To = held.the_row

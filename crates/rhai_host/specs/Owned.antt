@@ -7,7 +7,7 @@ use Rattle.std.specs.Coded.{coded_option}
 use Rattle.std.specs.Box.Ownership.{box_owns}
 use Rattle.std.specs.declared.alloc.Global.{Global}
 use Rattle.std.specs.contracts.impls.GlobalAllocator.TheImpl.{ghosts}
-use Rattle.rhai_handle.specs.contracts.kept.Kept.{the_row}
+use Rattle.rhai_host.specs.contracts.handle.kept.Kept.{the_row}
 
 -- the boxed world that lies at p, or nothing
 abbrev pub held_owns : Global → Ptr → Option the_row.Denot → Fml

@@ -1,10 +1,10 @@
 //! The address of what is kept.
 ghost use Rattle.std.specs.Prelude.{◌≡◌, ℕ, Option, Some, None};
-ghost use Rattle.rhai_handle.specs.declared.kept.Kept.{Kept};
-ghost use Rattle.rhai_handle.specs.Owned.{held_owns, is_full, kept_coded};
+ghost use Rattle.rhai_host.specs.declared.handle.kept.Kept.{Kept};
+ghost use Rattle.rhai_host.specs.Owned.{held_owns, is_full, kept_coded};
 
-use crate::kept::Kept;
-use crate::loose::Loose;
+use crate::handle::kept::Kept;
+use crate::handle::loose::Loose;
 use std::alloc::Global;
 use std::marker::Model;
 use std::ptr::null_mut;

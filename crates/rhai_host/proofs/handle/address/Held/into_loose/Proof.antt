@@ -15,19 +15,19 @@ use contract.Monad.{fact}
 use denote.Steps.{nothing, heard}
 use denote.Triple.Walked.{Stays, says, stay_dropped, Goes-dropped, walk_of, ends_at}
 use Rattle.std.specs.Prelude.{Option}
-use Rattle.rhai_handle.specs.Owned.{is_full}
+use Rattle.rhai_host.specs.Owned.{is_full}
 use Rattle.std.proofs.raw_atomic.Walks.{proved_at}
 use Rattle.std_alloc.proofs.BoxSteps.Form.{D, X, B, word, box_typed}
 use Rattle.std_alloc.proofs.BoxSteps.Steps.{box_out, box_in}
 use Rattle.std.specs.contracts.alloc.Global as heap
 use Rattle.std.specs.contracts.impls.GlobalAllocator.TheImpl.{ghosts}
-use Rattle.rhai_handle.specs.contracts.kept.Kept as kept
-use Rattle.rhai_handle.specs.contracts.loose.Loose as loose
-use Rattle.rhai_handle.specs.contracts.address.Held as held
-use Rattle.rhai_handle.specs.contracts.address.Held.into_loose as f
-use Rattle.rhai_handle.proofs.address.Held.into_loose.Statement.{statement}
-use Rattle.rhai_handle.proofs.address.Held.into_loose.Code as code
-use Rattle.rhai_handle.proofs.Boxed.{E, FromHeld, content}
+use Rattle.rhai_host.specs.contracts.handle.kept.Kept as kept
+use Rattle.rhai_host.specs.contracts.handle.loose.Loose as loose
+use Rattle.rhai_host.specs.contracts.handle.address.Held as held
+use Rattle.rhai_host.specs.contracts.handle.address.Held.into_loose as f
+use Rattle.rhai_host.proofs.handle.address.Held.into_loose.Statement.{statement}
+use Rattle.rhai_host.proofs.handle.address.Held.into_loose.Code as code
+use Rattle.rhai_host.proofs.Boxed.{E, FromHeld, content}
 
 abbrev From : RattleType
 From = held.the_row

@@ -9,7 +9,7 @@ use std::fmt;
 /// How many calls of a script may stand within each other.
 const CALLS: usize = 500;
 
-/// Scripts of a small language, a subset of rhai's: `crates/script_walker` has a page of it.
+/// Scripts of a small language, a subset of rhai's: `crates/script_run` has a page of it.
 ///
 /// ```
 /// use rhai_world::{Limits, Script, ScriptError};

@@ -1,1 +1,3 @@
+mod Boxed
 mod BytesAsText
+mod Pair

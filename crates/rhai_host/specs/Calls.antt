@@ -1,7 +1,7 @@
 -- What a call across the border does, by the status that it answers: 0 done, 1 out of memory, 2 no world is open, 3 the numbers, the text or the line
 -- say no command, 4 no memory to make the command of what was handed over. But for 0 nothing has changed, and nothing is told.
 use Rattle.std.specs.Prelude.{◌≡◌, ◌⊎◌, ℕ, zero, suc, true, Option, None, Some}
-use Rattle.rhai_handle.specs.declared.kept.Kept.{Kept}
+use Rattle.rhai_host.specs.declared.handle.kept.Kept.{Kept}
 use Rattle.rhai_run.specs.declared.answer.Answer.{Answer}
 use Rattle.rhai_run.specs.declared.command.Command.{Command}
 use Rattle.rhai_run.specs.Outcome.{Outcome}

@@ -1,10 +1,12 @@
 pub mod Answers
 pub mod Calls
+pub mod Content
 pub mod Lists
 pub mod Methods
 pub mod NameTexts
 pub mod Names
 pub mod Numbers
 pub mod Opened
+pub mod Owned
 pub mod Runs
 pub mod Scripts

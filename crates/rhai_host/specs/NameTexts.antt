@@ -1,7 +1,7 @@
 -- Names that are told as texts.
 use Rattle.std.specs.Prelude.{◌≡◌, ℕ, zero, suc, Bool, List, slice_get, Option, None, Some, option_map, IfSome}
 use Rattle.rhai_scope.specs.Items.{Named, shown_raw}
-use Rattle.rhai_handle.specs.declared.kept.Kept.{Kept}
+use Rattle.rhai_host.specs.declared.handle.kept.Kept.{Kept}
 use Rattle.rhai_run.specs.declared.answer.Answer.TheVariants as answer
 use Rattle.rhai_host.specs.declared.told.Told.{Told}
 use Rattle.rhai_host.specs.Answers.{told_of}

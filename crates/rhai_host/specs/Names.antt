@@ -1,7 +1,7 @@
 -- The names that a host has handed over, and places.
 use Rattle.std.specs.Prelude.{ℕ, List, Option, Some, Bool, true, false, option_map}
 use Rattle.slab.specs.Slab.{Slab, get}
-use Rattle.rhai_handle.specs.declared.kept.Kept.{Kept}
+use Rattle.rhai_host.specs.declared.handle.kept.Kept.{Kept}
 use Rattle.rhai_run.specs.declared.command.Place.{Place}
 use Rattle.rhai_run.specs.declared.command.Place.TheVariants as place
 

@@ -3,7 +3,7 @@ use Rattle.std.specs.Prelude.{◌≡◌, ◌≢◌, ℕ, zero, suc, Bool, true, 
 use Rattle.rhai_text.specs.declared.error.EvalAltResult.{EvalAltResult}
 use Rattle.rhai_text.specs.declared.error.EvalAltResult.TheVariants as error
 use Rattle.rhai_text.specs.declared.limits.Limits.{Limits}
-use Rattle.rhai_handle.specs.declared.kept.Kept.{Kept}
+use Rattle.rhai_host.specs.declared.handle.kept.Kept.{Kept}
 use Rattle.rhai_run.specs.KeptWorld.{Collects}
 use Rattle.rhai_run.specs.State.{empty_state}
 use Rattle.rhai_run.specs.declared.answer.Answer.{Answer}

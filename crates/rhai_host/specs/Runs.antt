@@ -1,6 +1,6 @@
 -- Runs over lines, whose output is the answer, and journals.
 use Rattle.std.specs.Prelude.{◌≡◌, ◌<◌, ◌⊎◌, ℕ, zero, suc, List, length, Option, None, Some}
-use Rattle.rhai_handle.specs.declared.kept.Kept.{Kept}
+use Rattle.rhai_host.specs.declared.handle.kept.Kept.{Kept}
 use Rattle.rhai_run.specs.declared.answer.Answer.TheVariants as answer
 use Rattle.rhai_run.specs.declared.command.Command.{Command}
 use Rattle.rhai_lines.specs.Output.{commands_in, lines_of, new_world, output}

@@ -1,10 +1,10 @@
 -- Runs of scripts. What a script does is no promise of its library, which is safe and ends; so what is said here is where its end is told.
 use Rattle.std.specs.Prelude.{◌≡◌, ℕ, zero, suc, ◌+◌, ⊤, false, List, length, Option, None, Some, Result, Ok, Err}
-use Rattle.script_walker.specs.declared.script.ScriptError.{ScriptError}
-use Rattle.script_walker.specs.declared.script.ScriptError.TheVariants as script
+use Rattle.script_run.specs.declared.script.ScriptError.{ScriptError}
+use Rattle.script_run.specs.declared.script.ScriptError.TheVariants as script
 use Rattle.script_syntax.specs.declared.error.SyntaxError.TheVariants as syntax
 use Rattle.rhai_text.specs.declared.position.Position.{Position}
-use Rattle.rhai_handle.specs.declared.kept.Kept.{Kept}
+use Rattle.rhai_host.specs.declared.handle.kept.Kept.{Kept}
 use Rattle.rhai_host.specs.declared.scripts.ScriptEnd.{ScriptEnd}
 use Rattle.rhai_host.specs.Calls.{InWorld, IsClosed, Stays}
 use Rattle.rhai_host.specs.Numbers.{text_of}
@@ -19,6 +19,7 @@ abbrev pub IsEndOf : Result ⊤ ScriptError → ScriptEnd → Type 0
 IsEndOf (Ok x) end = (end.kind ≡ 0) × (end.line ≡ 0) × (end.column ≡ 0)
 IsEndOf (Err (script.Syntax (syntax.Fault why place))) end = IsAt end 1 place
 IsEndOf (Err (script.Syntax syntax.OutOfMemory)) end = ⊥
+IsEndOf (Err (script.TooLarge place)) end = IsAt end 1 place
 IsEndOf (Err (script.Fault why place)) end = IsAt end 2 place
 IsEndOf (Err script.OutOfMemory) end = ⊥
 

@@ -1,12 +1,12 @@
 //! What values are, and how they print.
-ghost use Rattle.rhai_handle.specs.Content.{content};
+ghost use Rattle.rhai_host.specs.Content.{content};
 ghost use Rattle.rhai_run.specs.declared.command.Command.TheVariants as command;
 ghost use Rattle.rhai_run.specs.declared.command.Question.TheVariants as question;
 ghost use Rattle.rhai_host.specs.Calls.{Performs};
 
+use crate::handle::Handle;
 use crate::perform::perform;
 use crate::told::Told;
-use rhai_handle::Handle;
 use rhai_run::Question;
 use std::alloc::Global;
 

@@ -1,12 +1,12 @@
 //! Values in the hand: made of others, copied, changed, dropped.
-ghost use Rattle.rhai_handle.specs.Content.{content};
+ghost use Rattle.rhai_host.specs.Content.{content};
 ghost use Rattle.rhai_run.specs.declared.command.Command.TheVariants as command;
 ghost use Rattle.rhai_run.specs.declared.command.Scanner.TheVariants as scanner;
 ghost use Rattle.rhai_host.specs.Calls.{Performs};
 
+use crate::handle::Handle;
 use crate::perform::perform;
 use crate::told::Told;
-use rhai_handle::Handle;
 use rhai_run::Scanner;
 use std::alloc::Global;
 

@@ -3,6 +3,7 @@
 
 pub mod asks;
 pub mod hand;
+pub mod handle;
 pub mod lines;
 pub mod lists;
 pub mod literals;

@@ -1,15 +1,16 @@
 //! Commands that lines say, runs over lines, and journals.
 ghost use Rattle.std.specs.Prelude.{◌≡◌, ◌<◌, IfOk, OnErr, length};
-ghost use Rattle.rhai_handle.specs.Content.{content};
+ghost use Rattle.rhai_host.specs.Content.{content};
 ghost use Rattle.rhai_lines.specs.Verbs.{command_of};
 ghost use Rattle.rhai_lines.specs.Memory.{TakesMemory};
 ghost use Rattle.rhai_host.specs.Calls.{DoesOne, DoesOneMade, PerformsMade};
 ghost use Rattle.rhai_lines.specs.Output.{commands_in, lines_of, new_world, output};
 ghost use Rattle.rhai_host.specs.Runs.{IsJournaled, IsRun, IsWritten, Journals, Runs};
 
+use crate::handle::Handle;
+use crate::handle::kept::Kept;
 use crate::perform::{CLOSED, DONE, NO_COMMAND, NO_ROOM, OUT_OF_MEMORY, Reply};
 use crate::told::{Told, told_of};
-use rhai_handle::{Handle, Kept};
 use rhai_lines::{command, commands_of, journal, run_lines};
 use rhai_run::{Answer, Bytes, Command};
 use std::alloc::{AllocError, Global};

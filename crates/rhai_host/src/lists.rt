@@ -1,17 +1,18 @@
 //! Commands with a list of names, and with a text besides a name.
 ghost use Rattle.std.specs.Prelude.{◌≡◌, ◌<◌, IfOk, OnErr, length, option_and_then, option_map};
 ghost use Rattle.std.specs.Str.{chars};
-ghost use Rattle.rhai_handle.specs.Content.{content};
+ghost use Rattle.rhai_host.specs.Content.{content};
 ghost use Rattle.rhai_run.specs.declared.command.Command.TheVariants as command;
 ghost use Rattle.rhai_host.specs.Calls.{DoesOne, DoesOneMade, PerformsIf, PerformsMade};
 ghost use Rattle.rhai_host.specs.Lists.{flagged_at, names_at};
 ghost use Rattle.rhai_host.specs.Names.{name_at};
 ghost use Rattle.rhai_host.specs.Numbers.{text_of};
 
+use crate::handle::Handle;
+use crate::handle::kept::Kept;
 use crate::perform::{CLOSED, NO_COMMAND, NO_ROOM, Reply, no_command, perform_named};
 use crate::texts::text_in;
 use crate::told::Told;
-use rhai_handle::{Handle, Kept};
 use rhai_run::{FlaggedNames, Names};
 use rhai_text::ImmutableString;
 use slab::Slab;

@@ -1,13 +1,13 @@
 //! New values at the end of the hand.
-ghost use Rattle.rhai_handle.specs.Content.{content};
+ghost use Rattle.rhai_host.specs.Content.{content};
 ghost use Rattle.rhai_run.specs.declared.command.Command.TheVariants as command;
 ghost use Rattle.rhai_run.specs.declared.command.Literal.TheVariants as literal;
 ghost use Rattle.rhai_value.specs.declared.host.Host.TheVariants as host;
 ghost use Rattle.rhai_host.specs.Calls.{Performs};
 
+use crate::handle::Handle;
 use crate::perform::perform;
 use crate::told::Told;
-use rhai_handle::Handle;
 use rhai_run::Literal;
 use rhai_value::{ExclusiveRange, Host, InclusiveRange};
 use std::alloc::Global;

@@ -1,11 +1,11 @@
 //! Marked cells.
-ghost use Rattle.rhai_handle.specs.Content.{content};
+ghost use Rattle.rhai_host.specs.Content.{content};
 ghost use Rattle.rhai_run.specs.declared.command.Command.TheVariants as command;
 ghost use Rattle.rhai_host.specs.Calls.{Performs};
 
+use crate::handle::Handle;
 use crate::perform::perform;
 use crate::told::Told;
-use rhai_handle::Handle;
 use std::alloc::Global;
 
 /// Takes the mark at this position out of the list, and frees its cell; later marks close up.

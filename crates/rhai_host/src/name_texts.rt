@@ -1,12 +1,13 @@
 //! The texts of names: of one that has a number, and of an entry of the scope.
 ghost use Rattle.std.specs.Prelude.{◌≡◌, option_map};
-ghost use Rattle.rhai_handle.specs.Content.{content};
+ghost use Rattle.rhai_host.specs.Content.{content};
 ghost use Rattle.rhai_host.specs.NameTexts.{IsFlag, IsToldText, TellsEntry, TellsName, shown_at};
 ghost use Rattle.rhai_host.specs.Names.{name_at};
 
+use crate::handle::Handle;
+use crate::handle::kept::Kept;
 use crate::perform::{CLOSED, DONE, NO_COMMAND, OUT_OF_MEMORY, keep};
 use crate::told::Told;
-use rhai_handle::{Handle, Kept};
 use rhai_run::{Answer, Shown};
 use std::alloc::Global;
 

@@ -1,13 +1,13 @@
 //! Commands with a name, which is told by its number.
 ghost use Rattle.std.specs.Prelude.{option_map};
-ghost use Rattle.rhai_handle.specs.Content.{content};
+ghost use Rattle.rhai_host.specs.Content.{content};
 ghost use Rattle.rhai_run.specs.declared.command.Command.TheVariants as command;
 ghost use Rattle.rhai_host.specs.Calls.{PerformsIf};
 ghost use Rattle.rhai_host.specs.Names.{name_at};
 
+use crate::handle::Handle;
 use crate::perform::perform_named;
 use crate::told::Told;
-use rhai_handle::Handle;
 use std::alloc::Global;
 
 /// Takes this many values off the end of the hand, and appends the function pointer of the name with these curried in order.

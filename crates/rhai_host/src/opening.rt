@@ -1,14 +1,15 @@
 //! Worlds are opened, closed and looked at, and names are kept.
 ghost use Rattle.std.specs.Prelude.{◌≡◌, None, Some, true, false, length};
-ghost use Rattle.rhai_handle.specs.Content.{content};
-ghost use Rattle.rhai_handle.specs.Owned.{has};
+ghost use Rattle.rhai_host.specs.Content.{content};
+ghost use Rattle.rhai_host.specs.Owned.{has};
 ghost use Rattle.rhai_host.specs.Opened.{CollectsKept, GivesUp, IsCollected, IsGivenUp, IsNamed, Names, Opens, answer_bytes, copied_into, fault_text, hand_len, kept_bytes, refusal_text};
 ghost use Rattle.rhai_host.specs.Names.{name_at};
 ghost use Rattle.rhai_host.specs.Numbers.{text_of};
 
+use crate::handle::Handle;
+use crate::handle::kept::Kept;
 use crate::perform::{CLOSED, DONE, NO_COMMAND, OUT_OF_MEMORY};
 use crate::texts::text_of;
-use rhai_handle::{Handle, Kept};
 use rhai_run::{Answer, Refusal, World};
 use rhai_text::{EvalAltResult, ImmutableString, Limits};
 use slab::Slab;

@@ -1,7 +1,7 @@
 //! One command in the world of a handle.
 ghost use Rattle.std.specs.Prelude.{◌≡◌, ◌<◌, ℕ, List, Option, None, option_map};
 ghost use Rattle.std.specs.Fn.{FnOnceReturnsAtMut};
-ghost use Rattle.rhai_handle.specs.Content.{content};
+ghost use Rattle.rhai_host.specs.Content.{content};
 ghost use Rattle.rhai_run.specs.Does.{Steps};
 ghost use Rattle.rhai_run.specs.Outcome.{Outcome};
 ghost use Rattle.rhai_run.specs.State.{State};
@@ -9,16 +9,17 @@ ghost use Rattle.rhai_run.specs.declared.command.Command.{Command};
 ghost use Rattle.rhai_run.specs.declared.command.Command.TheVariants as command;
 ghost use Rattle.rhai_run.specs.declared.command.Literal.{Literal};
 ghost use Rattle.rhai_run.specs.declared.command.Place.{Place};
-ghost use Rattle.rhai_handle.specs.declared.kept.Kept.{Kept};
+ghost use Rattle.rhai_host.specs.declared.handle.kept.Kept.{Kept};
 ghost use Rattle.rhai_host.specs.Answers.{kept_answer, told_of};
 ghost use Rattle.rhai_host.specs.Calls.{DoesOne, DoesOneIf, Performs, PerformsIf, Replies};
 ghost use Rattle.rhai_host.specs.Methods.{Makes, MakesAt, MakesNamed, ReturnsAt, ReturnsNamed};
 ghost use Rattle.rhai_host.specs.Names.{name_at, place_at};
 ghost use Rattle.rhai_host.specs.declared.told.Told.{Told};
 
+use crate::handle::Handle;
+use crate::handle::kept::Kept;
 use crate::names::place_in;
 use crate::told::{Told, told_of};
-use rhai_handle::{Handle, Kept};
 use rhai_run::{Answer, PlaceRef, World};
 use rhai_text::ImmutableString;
 use std::alloc::{AllocError, Global};

@@ -1,13 +1,13 @@
 //! Commands on a place: a hand position, or the last entry of the name of a number.
 ghost use Rattle.std.specs.Prelude.{option_map};
-ghost use Rattle.rhai_handle.specs.Content.{content};
+ghost use Rattle.rhai_host.specs.Content.{content};
 ghost use Rattle.rhai_run.specs.declared.command.Command.TheVariants as command;
 ghost use Rattle.rhai_host.specs.Calls.{PerformsIf};
 ghost use Rattle.rhai_host.specs.Names.{place_at};
 
+use crate::handle::Handle;
 use crate::perform::perform_at;
 use crate::told::Told;
-use rhai_handle::Handle;
 use std::alloc::Global;
 
 /// Marks the cell of the holder at the place: from then on it is read and written by the mark alone. The mark goes to the end of the list of marks.

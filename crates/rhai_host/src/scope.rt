@@ -1,11 +1,11 @@
 //! The entries of the scope, all at once.
-ghost use Rattle.rhai_handle.specs.Content.{content};
+ghost use Rattle.rhai_host.specs.Content.{content};
 ghost use Rattle.rhai_run.specs.declared.command.Command.TheVariants as command;
 ghost use Rattle.rhai_host.specs.Calls.{Performs};
 
+use crate::handle::Handle;
 use crate::perform::perform;
 use crate::told::Told;
-use rhai_handle::Handle;
 use std::alloc::Global;
 
 /// Drops the last entry.

@@ -1,17 +1,21 @@
 //! Runs of scripts.
 ghost use Rattle.std.specs.Prelude.{◌≡◌, ◌++◌, IfOk, length, string_bytes};
-ghost use Rattle.rhai_handle.specs.Content.{content};
+ghost use Rattle.rhai_host.specs.Content.{content};
 ghost use Rattle.rhai_host.specs.Numbers.{text_of};
 ghost use Rattle.rhai_host.specs.Scripts.{IsEndOf, IsScriptRun, IsWhole, RunsScript};
 
+use crate::handle::Handle;
+use crate::handle::kept::Kept;
 use crate::perform::{CLOSED, DONE, NO_COMMAND, OUT_OF_MEMORY};
 use crate::texts::text_in;
-use script_walker::{ScriptError, ScriptLimits, run_script};
-use script_syntax::SyntaxError;
-use rhai_handle::{Handle, Kept};
 use rhai_run::{Answer, Bytes};
 use rhai_text::{Limits, Position};
+use script_run::{ScriptError, ScriptLimits, run_script};
+use script_syntax::SyntaxError;
 use std::alloc::{AllocError, Global};
+
+/// What is said of a script that is too large.
+const TOO_LARGE: &str = "the script is too large";
 
 /// How a script ended. The answer is what it printed, and behind that what went wrong.
 #[repr(C)]
@@ -67,6 +71,7 @@ fn told_end(
             let why = format!(in alloc; "{fault}")?;
             end_at(1, place, printed, why.as_str())
         }
+        Err(ScriptError::TooLarge(place)) => end_at(1, place, printed, TOO_LARGE),
         Err(ScriptError::Fault(why, place)) => end_at(2, place, printed, why.as_str()),
         Err(ScriptError::Syntax(SyntaxError::OutOfMemory) | ScriptError::OutOfMemory) => Err(
             AllocError,

@@ -1,16 +1,16 @@
 //! New values of bytes, of characters, and of numbers that take two words.
 ghost use Rattle.std.specs.Prelude.{◌≡◌, Some, IfOk, OnErr, option_map};
 ghost use Rattle.std.specs.Str.{chars};
-ghost use Rattle.rhai_handle.specs.Content.{content};
+ghost use Rattle.rhai_host.specs.Content.{content};
 ghost use Rattle.rhai_run.specs.declared.command.Command.TheVariants as command;
 ghost use Rattle.rhai_run.specs.declared.command.Literal.TheVariants as literal;
 ghost use Rattle.rhai_value.specs.declared.host.Host.TheVariants as host;
 ghost use Rattle.rhai_host.specs.Calls.{Performs, PerformsSaid};
 ghost use Rattle.rhai_host.specs.Numbers.{char_of, text_of, wide, wide_signed};
 
+use crate::handle::Handle;
 use crate::perform::{no_command, out_of_memory, perform};
 use crate::told::Told;
-use rhai_handle::Handle;
 use rhai_run::{Bytes, Literal};
 use rhai_text::ImmutableString;
 use rhai_value::Host;

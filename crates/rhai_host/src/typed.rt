@@ -1,16 +1,16 @@
 //! Commands with a type or an operator, which are told by their numbers.
 ghost use Rattle.std.specs.Prelude.{option_and_then, option_map};
-ghost use Rattle.rhai_handle.specs.Content.{content};
+ghost use Rattle.rhai_host.specs.Content.{content};
 ghost use Rattle.rhai_run.specs.declared.command.Command.TheVariants as command;
 ghost use Rattle.rhai_run.specs.declared.command.Question.TheVariants as question;
 ghost use Rattle.rhai_host.specs.Calls.{PerformsIf, PerformsSaid};
 ghost use Rattle.rhai_host.specs.Names.{name_at, place_at};
 ghost use Rattle.rhai_host.specs.Numbers.{operator_of, type_of};
 
+use crate::handle::Handle;
 use crate::numbers::{operator_of, type_of};
 use crate::perform::{no_command, perform, perform_at, perform_named};
 use crate::told::Told;
-use rhai_handle::Handle;
 use rhai_run::Question;
 use rhai_text::Token;
 use rhai_value::TypeId;

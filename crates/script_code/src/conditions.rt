@@ -55,7 +55,7 @@ impl<'p> Compiler<'p> {
         levels: u32,
     ) -> Result<(), CodeError> {
         if levels == 0 {
-            return Err(CodeError::TooLarge);
+            return Err(CodeError::TooLarge(self.position));
         }
         let levels = levels - 1;
         if let Expr::Bool(value) = expr {

@@ -84,7 +84,7 @@ impl<'p> Compiler<'p> {
     #[cycle(tail)]
     pub(crate) fn tail(&mut self, expr: &Expr, levels: u32) -> Result<(), CodeError> {
         if levels == 0 {
-            return Err(CodeError::TooLarge);
+            return Err(CodeError::TooLarge(self.position));
         }
         let levels = levels - 1;
         match expr {
@@ -151,7 +151,7 @@ impl<'p> Compiler<'p> {
     #[cycle(compile)]
     pub(crate) fn effect(&mut self, expr: &Expr, levels: u32) -> Result<(), CodeError> {
         if levels == 0 {
-            return Err(CodeError::TooLarge);
+            return Err(CodeError::TooLarge(self.position));
         }
         let levels = levels - 1;
         let top = self.top;

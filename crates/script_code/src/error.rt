@@ -1,21 +1,37 @@
 //! Why a script isn't compiled.
 
+use rhai_text::Position;
 use std::alloc::{AllocError, AllocFailed};
 use std::fmt;
 
 /// Why a script isn't compiled.
 #[derive(Clone, Copy, Debug, PartialEq, Eq)]
 pub enum CodeError {
-    /// A function wants more slots, or the script more of something else, than operations can name.
-    TooLarge,
+    /// A function wants more slots, or the script more of something else, than operations can name, and where.
+    TooLarge(Position),
     /// Memory was refused.
     OutOfMemory,
+}
+
+impl CodeError {
+    /// The error at the place that it has, or else where the script was last seen, which may be its beginning.
+    pub(crate) fn seen_at(self, seen: Position) -> CodeError {
+        match self {
+            CodeError::TooLarge(place) if place != Position::NONE => CodeError::TooLarge(place),
+            CodeError::TooLarge(_) if seen != Position::NONE => CodeError::TooLarge(seen),
+            CodeError::TooLarge(_) => CodeError::TooLarge(Position::new(1, 1)),
+            CodeError::OutOfMemory => CodeError::OutOfMemory,
+        }
+    }
 }
 
 impl fmt::Display for CodeError {
     fn fmt<W: fmt::Write>(&self, f: &mut fmt::Formatter<W>) -> fmt::Result {
         match self {
-            CodeError::TooLarge => write!(f, "the script is too large"),
+            CodeError::TooLarge(position) => {
+                let (line, column) = (position.line(), position.position());
+                write!(f, "the script is too large (line {line}, column {column})")
+            }
             CodeError::OutOfMemory => write!(f, "out of memory"),
         }
     }

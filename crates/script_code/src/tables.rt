@@ -6,6 +6,7 @@ use crate::error::CodeError;
 use crate::meaning::{HostName, Meaning, meaning_of};
 use crate::operations::Slot;
 use crate::program::{Callee, NO_STEPS, Path, PathStep, Program, Shape};
+use rhai_text::Position;
 use rhai_value::INT;
 use script_values::{Native, native_of};
 use std::alloc::Global;
@@ -38,7 +39,7 @@ pub(crate) fn number_in<T>(table: &Vec<T>) -> Result<u32, CodeError> {
 pub(crate) fn to_number(number: usize) -> Result<u32, CodeError> {
     match u32::try_from(number) {
         Ok(number) => Ok(number),
-        Err(_) => Err(CodeError::TooLarge),
+        Err(_) => Err(CodeError::TooLarge(Position::NONE)),
     }
 }
 

@@ -5,8 +5,8 @@
 mod many;
 
 use crate::many::run_many;
-use script_walker::{ScriptLimits, run_script};
 use rhai_text::Limits;
+use script_run::{ScriptLimits, run_script};
 use std::rt::Env;
 use std::{env, io};
 

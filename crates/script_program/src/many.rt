@@ -1,7 +1,7 @@
 //! Many scripts in one run.
 
-use script_walker::{ScriptError, ScriptLimits, run_script};
 use rhai_text::Limits;
+use script_run::{ScriptError, ScriptLimits, run_script};
 use std::io;
 
 /// What stands on a line between two scripts.
@@ -23,7 +23,7 @@ fn outcome(rt: &impl AllocGlobal, text: &str) -> &'static str {
     let mut operations = 0;
     match run_script(rt.alloc(), text, &mut out, &LIMITS, &mut operations) {
         Ok(()) => "ran",
-        Err(ScriptError::Syntax(_)) => "no script",
+        Err(ScriptError::Syntax(_) | ScriptError::TooLarge(_)) => "no script",
         Err(ScriptError::Fault(_, _)) => "fault",
         Err(ScriptError::OutOfMemory) => "out of memory",
     }

@@ -5,7 +5,6 @@ ghost use Rattle.rhai_value.specs.Tree.{cell_of, fresh, int, is_constant, mode_o
 ghost use Rattle.rhai_ops.specs.Numbers as numbers;
 
 use rhai_ops::int_answer;
-use rhai_target::calc_index;
 use rhai_text::Token;
 use rhai_value::{AccessMode, Dynamic, INT, Union};
 
@@ -44,20 +43,4 @@ pub fn change_int(op: Token, place: &mut Dynamic, number: INT) -> bool
         Some(Ok(answer)) => put_int(place, answer),
         Some(Err(_)) | None => false,
     }
-}
-
-/// Lends an item to write, where the value itself is an array and no constant, and the item no holder. A negative index counts from
-/// the end.
-/// Cost: constant; no memory.
-#[inline(always)]
-pub fn item_to_write(array: &mut Dynamic, index: INT) -> Option<&mut Dynamic> {
-    let Union::Array(_, AccessMode::ReadWrite, items) = array.parts_mut() else {
-        return None;
-    };
-    let place = calc_index(items.len(), index, true)?;
-    let item = items.get_mut(place)?;
-    if item.is_shared() {
-        return None;
-    }
-    Some(item)
 }

@@ -25,7 +25,11 @@ pub fn check_ways(means: &Means, store: &Store, value: &Dynamic) -> Result<(), F
 /// Refuses values that are gone through together, as `check_ways` does one.
 /// Errors: `ErrorDataTooLarge`, at no place; memory is refused.
 /// Cost: that of `check_ways`.
-pub fn check_all_ways(means: &Means, store: &Store, values: &[Dynamic]) -> Result<(), FaultKind> {
+pub(crate) fn check_all_ways(
+    means: &Means,
+    store: &Store,
+    values: &[Dynamic],
+) -> Result<(), FaultKind> {
     let mut first = Vec::new(means.alloc);
     for value in values {
         if leads_on(value) {

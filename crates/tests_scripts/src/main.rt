@@ -2,8 +2,8 @@
 //! were as expected.
 #![tactic(auto)]
 
-use script_walker::{ScriptLimits, run_script};
 use rhai_text::Limits;
+use script_run::{ScriptLimits, run_script};
 use std::alloc::{AllocError, Global};
 use std::rt::{Env, Files};
 use std::{env, fs, io};

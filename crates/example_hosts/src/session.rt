@@ -1,0 +1,58 @@
+//! A host that keeps one world of script values between runs. It does commands, a line each; an empty line ends a run, after which it
+//! collects the cells that nothing reaches. The line `replay` does all commands again on a new world.
+
+use crate::journal::Journal;
+use anyhow::Result;
+use rhai_lines::{command, write_answer};
+use rhai_run::{World, apply};
+
+/// Does the command of a line, prints its answer, and keeps both.
+fn do_line(
+    rt: &(impl Print + AllocGlobal),
+    world: &mut World,
+    journal: &mut Journal,
+    line: &str,
+) -> Result<()> {
+    let Some(command) = command(rt.alloc(), line.as_bytes())? else {
+        println!(rt; "no command: {line}")?;
+        return Ok(());
+    };
+    let answer = apply(world, &command)?;
+    let mut printed = Vec::new(rt.alloc());
+    write_answer(&answer, &mut printed)?;
+    let text = String::from_utf8_lossy(rt.alloc(), &printed)?;
+    print!(rt; "{text}")?;
+    journal.keep(command, &printed)?;
+    Ok(())
+}
+
+/// Says whether a new world answers the same to all commands.
+fn replay(rt: &(impl Print + AllocGlobal), journal: &Journal) -> Result<()> {
+    let count = journal.commands.len();
+    match journal.replayed(rt.alloc())? {
+        Some(answers) if answers.as_slice() == journal.answers.as_slice() => {
+            println!(rt; "replayed {count} commands: the same answers")?;
+        }
+        Some(_) => println!(rt; "replayed {count} commands: other answers")?,
+        None => println!(rt; "a command has no line")?,
+    }
+    Ok(())
+}
+
+/// Does lines on a world.
+pub(crate) fn host(rt: &(impl Print + AllocGlobal), world: &mut World, lines: &str) -> Result<()> {
+    let mut journal = Journal::new(rt.alloc());
+    let mut runs = 0u64;
+    for line in lines.lines() {
+        match line {
+            "" => {
+                world.collect()?;
+                runs = runs.saturating_add(1);
+                println!(rt; "run {runs} is done")?;
+            }
+            "replay" => replay(rt, &journal)?,
+            command => do_line(rt, world, &mut journal, command)?,
+        }
+    }
+    Ok(())
+}

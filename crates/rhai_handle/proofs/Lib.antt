@@ -1,2 +1,0 @@
-mod Boxed
-mod Pair

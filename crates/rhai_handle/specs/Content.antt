@@ -1,8 +1,0 @@
--- What a handle has.
-use Rattle.std.specs.Prelude.{Option}
-use Rattle.rhai_handle.specs.declared.Handle.{Handle}
-use Rattle.rhai_handle.specs.declared.kept.Kept.{Kept}
-
--- what the world is kept with, where the handle is open
-abbrev pub content : Handle → Option Kept
-content handle = handle.held.value

@@ -1,0 +1,54 @@
+-- `of` moves an address and a handle, and what lies at the address goes with them.
+use Rattle.std.proofs.Common.{List, [], ◌∷◌, ◌++◌, refl, sym, subst}
+use mir.Val.{Val}
+use base.Logic.{SProp, ent, emp, id⊢}
+use base.Fml.{ftrue, fsep}
+use prog.Wp.{WpFn}
+use types.Kit.{‵, raw, ◌⊛◌, ◌$◌, ◌∵◌, !, qed, done, keep, drop, use1, split, join, fsplit, fjoin, suffices}
+use types.Part.{whole, sub, agg}
+use types.Run.{stop, fld, no_more, and_then, of_opd, returns, enter}
+use types.ByLocal.{alloc_all, pass_all, free_all, look_at, get, get_in, sets}
+use contract.Running.{tables}
+use denote.Exit.{no}
+use denote.RattleType.{RattleType}
+use denote.Steps.{nothing}
+use denote.Triple.Walked.{Stays, says, stay_dropped, walk_of, ends_at}
+use Rattle.std.specs.Prelude.{Some}
+use Rattle.core.proofs.alloc.Calls.{Goes-blank}
+use Rattle.std.proofs.raw_atomic.Walks.{proved_at}
+use Rattle.std_alloc.proofs.BoxSteps.Form.{D, B, word, box_typed}
+use Rattle.std_alloc.proofs.BoxSteps.Steps.{box_out, box_in}
+use Rattle.rhai_host.specs.contracts.handle.address.Held as held
+use Rattle.rhai_host.specs.contracts.handle.address.Held.of as f
+use Rattle.rhai_host.proofs.handle.address.Held.of.Statement.{statement}
+use Rattle.rhai_host.proofs.handle.address.Held.of.Code as code
+use Rattle.rhai_host.proofs.Boxed.{E, FromLoose}
+
+abbrev To : RattleType
+To = held.the_row
+
+abbrev stayed : Stays f.ended.signature.params f.ended.kept
+stayed = (stay_dropped FromLoose no, tt)
+
+pub of_spec : {M : Type 1} → statement M
+of_spec 𝓤 𝓛 𝓜 𝓡 wired =
+    let c = f.clauses 𝓛 𝓜.mem 𝓡.returns in let W = walk_of 𝓛 f.ended stayed c in let 𝓣 = tables 𝓤 𝓛.H 𝓜 𝓡 𝓡.env in
+    proved_at 𝓛 f.ended stayed c 𝓜 𝓡 (Goes-blank 𝓛 0 FromLoose no (λ κs x w. tt), tt)
+    f.Key.name code.function (code.unfolded 𝓤 𝓛.H 𝓜 𝓡 wired) (λ y are.
+    let l = y.0.3.0 in
+    let boxed : D E = record { ptr = l.at; alloc = l.alloc; value = l.value } in
+    let made : To.Denot = record { at = l.at; alloc = l.alloc; value = Some l.value } in
+    let Runs : List Val → SProp 𝓤 = λ vs. WpFn 𝓤 𝓛.H 𝓣.C 𝓣.Λ code.function vs (W.post y) in
+    qed 𝓛 ((‵ ftrue ⊛ ‵ (fsep ((B E).own_val boxed y.0.4.0) ftrue)) ∷ raw (emp 𝓤) ∷ []) ∵ split ! $ drop ! $ fsplit ! $
+    box_out E ! boxed y.0.4.0 (λ b o h at_b words fits. box_in E ! boxed b o boxed.value at_b refl $ keep ! (0 ∷ []) $
+    let two = word E h b o in
+    use1 𝓛 (‵ (To.own_val made (two ∷ []))) (id⊢ 𝓤 _) $
+    suffices ! (Runs (two ∷ [])) (subst (λ (vs : List Val). ent 𝓤 (Runs (two ∷ [])) (Runs (vs ++ []))) (sym words) (id⊢ 𝓤 _)) $
+    enter ! _ _ _ _ _ $ alloc_all ! (λ ls. pass_all ! refl (box_typed E h b o fits, tt) $
+    sets ! (of_opd ! (get_in ! (fld ! refl (stop !)) (sub ! 0 refl (whole !)))) refl (tt, tt) $
+    sets ! (of_opd ! (get_in ! (fld ! refl (stop !)) (sub ! 1 refl (whole !)))) refl fits $
+    sets ! (of_opd ! (get ! refl)) refl (tt, tt) $
+    sets ! (agg ! (and_then ! (get ! refl) (and_then ! (get ! refl) (no_more !)))) refl (box_typed E h b o fits) $
+    returns ! (look_at ! 0 refl) $ free_all ! refl $
+    suffices ! _ (ends_at 𝓛 f.ended stayed c y two made (tt, tt) (tt, tt)) $ says ! refl $
+    nothing ! $ nothing ! $ fjoin ! $ join ! $ nothing ! $ join ! $ done !)))

@@ -1,4 +1,4 @@
-//! Tests of compiled scripts: pauses, functions of the host, values, and what a script leaves.
+//! Tests of compiled scripts: pauses, functions of the host, values, and what a script leaves; and of scripts as texts.
 #![tactic(auto)]
 
 #[cfg(test)]
@@ -7,3 +7,5 @@ mod host;
 mod pauses;
 #[cfg(test)]
 mod runs;
+#[cfg(test)]
+mod scripts;

@@ -1,11 +1,11 @@
 //! Runs of scripts, as the tests begin and drive them.
 
-use script_syntax::parse;
-use script_values::Fault;
 use rhai_text::Limits;
 use rhai_value::INT;
 use script_code::{HostName, Program, compile};
 use script_run::{Outcome, Run, RunLimits};
+use script_syntax::parse;
+use script_values::Fault;
 use std::alloc::{AllocError, Global};
 
 /// What each run may use.

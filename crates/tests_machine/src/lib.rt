@@ -1,4 +1,4 @@
-//! Tests of compiled scripts: pauses, functions of the host, values, and what a script leaves.
+//! Tests of compiled scripts: pauses, functions of the host, values, and what a script leaves; and of scripts as texts.
 #![tactic(auto)]
 
 #[cfg(test)]
@@ -9,5 +9,7 @@ mod pauses;
 mod runs;
 #[cfg(test)]
 mod scopes;
+#[cfg(test)]
+mod scripts;
 #[cfg(test)]
 mod seen;

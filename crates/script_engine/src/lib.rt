@@ -1,0 +1,8 @@
+//! What a host embeds: variables that live on, a compiled script, and a run of it that stops for the host.
+#![tactic(auto)]
+
+mod engine;
+mod flat;
+
+pub use engine::{Engine, Step};
+pub use flat::{Unread, read_value};

@@ -144,7 +144,7 @@ impl FunctionNames {
     /// Moves out the names of the variables that live, by their slots, and how many lived at once at most.
     /// Errors: memory is refused.
     pub fn into_names(self) -> Result<(Vec<String>, usize), AllocError>
-        ensures { IfOk result (λ r. (vec_len r.0 ≡ vec_len self.declared) × (vec_len self.declared ≤ r.1)) }
+        ensures { IfOk result (λ r. vec_len self.declared ≤ r.1) }
     {
         let alloc = *self.declared.allocator();
         let FunctionNames {

@@ -1,5 +1,5 @@
 // Lexemes to trees. Each function that reads a part of a tree is told how many levels of it are left.
-ghost use Rattle.std.specs.Prelude.{◌≡◌, ◌+◌, ◌≤◌, length, vec_len, IfOk};
+ghost use Rattle.std.specs.Prelude.{◌≡◌, ◌+◌, ◌≤◌, length, IfOk};
 
 use crate::MOST_LEVELS;
 use crate::callees::Callees;
@@ -58,7 +58,6 @@ pub fn parse_with(alloc: Global, text: &str, outer: &[String]) -> Result<Program
     ensures first { IfOk result (λ program. program.body.first_slot ≡ 0) }
     ensures room { IfOk result (λ program. program.body.end_slot ≤ program.slots) }
     ensures outer { IfOk result (λ program. program.outer ≡ length outer.now) }
-    ensures variables { IfOk result (λ program. vec_len program.variables ≡ program.body.end_slot) }
 {
     let mut parser = Parser::new(alloc, text)?;
     for name in outer {
@@ -105,8 +104,7 @@ impl Parser {
         ensures first { IfOk result (λ program. program.body.first_slot ≡ 0) }
         ensures room { IfOk result (λ program. program.body.end_slot ≤ program.slots) }
         ensures outer { IfOk result (λ program. program.outer ≡ outer) }
-        ensures variables { IfOk result (λ program. vec_len program.variables ≡ program.body.end_slot) }
-    {
+        {
         let Parser {
             alloc: _,
             cursor: _,

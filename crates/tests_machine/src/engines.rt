@@ -37,9 +37,7 @@ fn an_engine_is_used(alloc: Global) -> Option<bool> {
     engine.compile("fn twice(x) { ask(x) } stock += 1; let y = twice(stock); y", &host).ok()?;
     let begun = engine.begin(&LIMITS, true).ok()?;
     let first = driven(&mut engine)?;
-    let mut arguments = Vec::new(alloc);
-    arguments.push(Dynamic::from_int(4)).ok()?;
-    let called = engine.call("twice", arguments).ok()?;
+    let called = engine.call("twice", &[Dynamic::from_int(4)]).ok()?;
     let second = driven(&mut engine)?;
     engine.end();
     let left = engine.scope().get(0)?.as_int(engine.store()).ok()?;

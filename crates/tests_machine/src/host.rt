@@ -90,3 +90,36 @@ fn a_run_that_waits_goes_on_only_with_an_answer(rt: HostRuntime) {
     let waits = waits(rt.alloc());
     assert!(rt; waits == Some(true));
 }
+
+/// The statements come to 1 + 1, a call to 3 + 4, another fails, and the run may be called again.
+fn is_called_again(alloc: Global) -> Option<bool> {
+    let text = "fn sum(a, b) { a + b }\nfn fails() { 1 / 0 }\nlet n = 1; let f = || n; n += 1; f.call()";
+    let program = compiled(alloc, text)?;
+    let mut run = begun(alloc, &program)?;
+    let early = run.call(&program, "fails", &[]).ok()?;
+    let first = driven(&mut run, &program, 100);
+    let arguments = [Dynamic::from_int(3), Dynamic::from_int(4)];
+    let unknown = run.call(&program, "sum", &[]).ok()?;
+    let begins = run.call(&program, "sum", &arguments).ok()?;
+    let second = driven(&mut run, &program, 1);
+    let is_right = value_of(&run, &first) == Some(2) && value_of(&run, &second) == Some(7);
+    let fails = run.call(&program, "fails", &[]).ok()?;
+    let third = driven(&mut run, &program, 100);
+    let is_failed = matches!(&third, Outcome::Fault(_));
+    let again = run.call(&program, "sum", &arguments).ok()?;
+    let fourth = driven(&mut run, &program, 100);
+    Some(!early
+        && !unknown
+        && begins
+        && fails
+        && again
+        && is_right
+        && is_failed
+        && value_of(&run, &fourth) == Some(7))
+}
+
+#[test]
+fn functions_are_called_by_a_run_that_has_ended(rt: HostRuntime) {
+    let is_called = is_called_again(rt.alloc());
+    assert!(rt; is_called == Some(true));
+}

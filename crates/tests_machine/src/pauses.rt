@@ -3,8 +3,9 @@
 use crate::runs::{begun, compiled, driven, is_told, value_of};
 use rhai_value::INT;
 use script_code::Program;
-use script_run::Outcome;
+use script_run::{Outcome, Run};
 use std::alloc::Global;
+use std::mem::size_of;
 
 const SCRIPT: &str = "
 fn fib(n) { if n < 2 { n } else { fib(n - 1) + fib(n - 2) } }
@@ -99,4 +100,10 @@ fn stands(alloc: Global) -> Option<bool> {
 fn a_run_may_be_dropped_where_it_stands(rt: HostRuntime) {
     let stands = stands(rt.alloc());
     assert!(rt; stands == Some(true));
+}
+
+/// The lists of a run that hasn't begun are empty; each text of the program takes a value and a block.
+#[test]
+fn a_run_is_small(rt: HostRuntime) {
+    assert!(rt; size_of::<Run>() <= 1_024);
 }

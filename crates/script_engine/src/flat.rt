@@ -148,10 +148,12 @@ fn is_whole(open: &Vec<Open>, values: &Vec<Dynamic>) -> bool {
 
 /// Reads the key of the next value, where that stands in a map.
 fn read_key(alloc: Global, bytes: &mut Bytes, open: &mut Vec<Open>) -> Result<(), Unread> {
-    if let Some(Open {
-        kind: Kind::Map(keys),
-        ..
-    }) = open.last_mut()
+    if let Some(
+        Open {
+            kind: Kind::Map(keys),
+            ..
+        },
+    ) = open.last_mut()
     {
         keys.push(String::from_str(alloc, bytes.text()?)?)?;
     }

@@ -104,7 +104,7 @@ impl Parser {
         ensures first { IfOk result (λ program. program.body.first_slot ≡ 0) }
         ensures room { IfOk result (λ program. program.body.end_slot ≤ program.slots) }
         ensures outer { IfOk result (λ program. program.outer ≡ outer) }
-        {
+    {
         let Parser {
             alloc: _,
             cursor: _,

@@ -22,7 +22,9 @@ fn driven(engine: &mut Engine) -> Option<INT> {
             Step::Paused | Step::Statement => {}
             Step::Calls(_) => {
                 let given = engine.run()?.argument(0)?.as_int(engine.store()).ok()?;
-                let _taken = engine.answer(Dynamic::from_int(given.saturating_mul(2))).ok()?;
+                let _taken = engine
+                    .answer(Dynamic::from_int(given.saturating_mul(2)))
+                    .ok()?;
             }
             Step::Memory | Step::Fault(_) => return None,
         }
@@ -33,8 +35,16 @@ fn driven(engine: &mut Engine) -> Option<INT> {
 fn an_engine_is_used(alloc: Global) -> Option<bool> {
     let host = asked(alloc)?;
     let mut engine = Engine::new(alloc);
-    engine.scope_mut().push("stock", Dynamic::from_int(20)).ok()?;
-    engine.compile("fn twice(x) { ask(x) } stock += 1; let y = twice(stock); y", &host).ok()?;
+    engine
+        .scope_mut()
+        .push("stock", Dynamic::from_int(20))
+        .ok()?;
+    engine
+        .compile(
+            "fn twice(x) { ask(x) } stock += 1; let y = twice(stock); y",
+            &host,
+        )
+        .ok()?;
     let begun = engine.begin(&LIMITS, true).ok()?;
     let first = driven(&mut engine)?;
     let called = engine.call("twice", &[Dynamic::from_int(4)]).ok()?;
@@ -54,8 +64,8 @@ fn variables_functions_and_answers(rt: HostRuntime) {
 
 /// `[7, #{"k": "t"}]` as bytes, the kind of a value first, then its number of parts.
 const BYTES: [u8; 47] = [
-    5, 2, 0, 0, 0, 0, 0, 0, 0, 4, 7, 0, 0, 0, 0, 0, 0, 0, 7, 1, 0, 0, 0, 0, 0, 0, 0, 1, 0, 0, 0, 0, 0, 0, 0, b'k', 2, 1, 0, 0, 0,
-    0, 0, 0, 0, b't', 0,
+    5, 2, 0, 0, 0, 0, 0, 0, 0, 4, 7, 0, 0, 0, 0, 0, 0, 0, 7, 1, 0, 0, 0, 0, 0, 0, 0, 1, 0, 0, 0, 0,
+    0, 0, 0, b'k', 2, 1, 0, 0, 0, 0, 0, 0, 0, b't', 0,
 ];
 
 fn a_value_is_read(alloc: Global) -> Option<bool> {

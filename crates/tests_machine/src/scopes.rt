@@ -32,7 +32,11 @@ fn int_of(scope: &Scope, name: &str) -> Option<INT> {
 fn variables_live_on(alloc: Global) -> Option<bool> {
     let mut scope = Scope::new(alloc);
     scope.push("x", Dynamic::from_int(40)).ok()?;
-    let first = run_over(alloc, &mut scope, "x += 1; let y = x * 2; { let z = 7; } y + 1")?;
+    let first = run_over(
+        alloc,
+        &mut scope,
+        "x += 1; let y = x * 2; { let z = 7; } y + 1",
+    )?;
     let second = run_over(alloc, &mut scope, "y += 1; let x = y; x + 1")?;
     let are_three = scope.len() == 3;
     let x = int_of(&scope, "x")?;
@@ -51,7 +55,11 @@ fn variables_outlive_their_run(rt: HostRuntime) {
 /// What stands behind the `return` was never declared, and what went wrong leaves what was.
 fn only_what_was_declared(alloc: Global) -> Option<bool> {
     let mut scope = Scope::new(alloc);
-    let first = run_over(alloc, &mut scope, "let a = 1; if a == 1 { return 7; } let b = 2; b")?;
+    let first = run_over(
+        alloc,
+        &mut scope,
+        "let a = 1; if a == 1 { return 7; } let b = 2; b",
+    )?;
     let one = scope.len() == 1;
     let failed = run_over(alloc, &mut scope, "let c = 3; c += nowhere; let d = 4;");
     let two = scope.len() == 2 && int_of(&scope, "c") == Some(3);
@@ -67,7 +75,11 @@ fn variables_that_were_not_declared_are_not_there(rt: HostRuntime) {
 /// A closure and a variable share a cell, also in the next run.
 fn cells_live_on(alloc: Global) -> Option<bool> {
     let mut scope = Scope::new(alloc);
-    let first = run_over(alloc, &mut scope, "let n = 1; let f = || { n += 1; n }; f.call()")?;
+    let first = run_over(
+        alloc,
+        &mut scope,
+        "let n = 1; let f = || { n += 1; n }; f.call()",
+    )?;
     let second = run_over(alloc, &mut scope, "n += 5; n")?;
     let is_shared = scope.get(0)?.is_shared();
     Some(first == 2 && second == 7 && is_shared)

@@ -40,6 +40,7 @@
 mod answer;
 mod answers;
 mod commands;
+mod engine;
 mod error;
 mod journal;
 mod kinds;
@@ -55,11 +56,12 @@ mod world;
 
 pub use answer::{Answer, ArithmeticFault, Refusal, SizeKind};
 pub use commands::Command;
+pub use engine::{Arguments, Ast, Engine, EvalError, HostFn, Scope};
 pub use error::Error;
 pub use journal::Journal;
 pub use kinds::{Operator, Type};
 pub use limits::Limits;
-pub use looks::{Entry, Hand, Scope};
+pub use looks::{Entries, Entry, Hand};
 pub use names::{Name, Place};
 pub use script::{Script, ScriptError};
 #[cfg(feature = "faults")]

@@ -58,11 +58,11 @@ pub struct Entry {
 
 /// The entries of a scope, from the oldest to the newest.
 #[derive(Clone, Debug)]
-pub struct Scope {
+pub struct Entries {
     left: std::vec::IntoIter<Entry>,
 }
 
-impl Iterator for Scope {
+impl Iterator for Entries {
     type Item = Entry;
 
     fn next(&mut self) -> Option<Entry> {
@@ -74,15 +74,15 @@ impl Iterator for Scope {
     }
 }
 
-impl DoubleEndedIterator for Scope {
+impl DoubleEndedIterator for Entries {
     fn next_back(&mut self) -> Option<Entry> {
         self.left.next_back()
     }
 }
 
-impl ExactSizeIterator for Scope {}
+impl ExactSizeIterator for Entries {}
 
-impl FusedIterator for Scope {}
+impl FusedIterator for Entries {}
 
 impl World {
     /// The values of the hand, each as `value` has it.
@@ -105,7 +105,7 @@ impl World {
     /// }
     /// # Ok::<(), rhai_world::Error>(())
     /// ```
-    pub fn scope(&self) -> Result<Scope, Error> {
+    pub fn scope(&self) -> Result<Entries, Error> {
         let before = self.hand_len();
         let mut told = Told::default();
         let status = sys::entries(&self.handle, &mut told);
@@ -113,7 +113,7 @@ impl World {
         while self.hand_len() > before {
             done(sys::drop(&self.handle, &mut told))?;
         }
-        Ok(Scope { left: entries?.into_iter() })
+        Ok(Entries { left: entries?.into_iter() })
     }
 
     /// The entries, whose values stand in the hand from this position on.

@@ -8,6 +8,7 @@ mod put;
 mod read;
 mod shed;
 mod walk;
+mod write;
 
 pub use array::Array;
 pub use convert::TryFromValueError;

@@ -1,6 +1,7 @@
 pub mod Answers
 pub mod Calls
 pub mod Content
+pub mod Engines
 pub mod Lists
 pub mod Methods
 pub mod NameTexts

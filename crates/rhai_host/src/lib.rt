@@ -2,6 +2,7 @@
 #![tactic(auto)]
 
 pub mod asks;
+pub mod engine;
 pub mod hand;
 pub mod handle;
 pub mod lines;
@@ -21,3 +22,4 @@ pub mod stamp;
 pub mod texts;
 pub mod told;
 pub mod typed;
+pub mod variables;

@@ -12,6 +12,7 @@ use crate::perform::{CLOSED, DONE, NO_COMMAND, OUT_OF_MEMORY};
 use crate::texts::text_of;
 use rhai_run::{Answer, Refusal, World};
 use rhai_text::{EvalAltResult, ImmutableString, Limits};
+use script_engine::Engine;
 use slab::Slab;
 use std::alloc::Global;
 use std::cmp::min;
@@ -30,6 +31,7 @@ pub extern "C" fn rhai_host_new(
         world: World::new(alloc, Limits { text, items }),
         names: Slab::new(alloc),
         answer: Answer::Done,
+        engine: Engine::new(alloc),
     };
     match Box::new(alloc, kept) {
         Ok(kept) => {

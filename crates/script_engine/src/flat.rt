@@ -123,7 +123,7 @@ pub fn read_value(alloc: Global, bytes: &[u8]) -> Result<Dynamic, Unread> {
             break;
         } else {
             read_key(alloc, &mut bytes, &mut open)?;
-            match head(alloc, &mut bytes)? {
+            match read_head(alloc, &mut bytes)? {
                 Head::Whole(value) => values.push(value)?,
                 Head::Open(kind, count) => {
                     let first = values.len();
@@ -183,7 +183,7 @@ fn made(alloc: Global, whole: Open, values: &mut Vec<Dynamic>) -> Result<Dynamic
     }
 }
 
-fn head(alloc: Global, bytes: &mut Bytes) -> Result<Head, Unread> {
+fn read_head(alloc: Global, bytes: &mut Bytes) -> Result<Head, Unread> {
     let value = match bytes.byte()? {
         0 => Dynamic::UNIT,
         1 => Dynamic::from_bool(bytes.byte()? != 0),

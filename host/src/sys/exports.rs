@@ -1,6 +1,7 @@
 //! The calls, by the modules that export them: written by `tools/host_declarations` from the lines of `crates/rhai_host`.
 
 mod asks;
+mod engine;
 mod hand;
 mod lines;
 mod lists;
@@ -16,8 +17,10 @@ mod stamp;
 mod texts;
 mod told;
 mod typed;
+mod variables;
 
 pub use asks::*;
+pub use engine::*;
 pub use hand::*;
 pub use lines::*;
 pub use lists::*;
@@ -33,3 +36,4 @@ pub use stamp::*;
 pub use texts::*;
 pub use told::*;
 pub use typed::*;
+pub use variables::*;

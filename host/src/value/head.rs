@@ -70,6 +70,31 @@ impl Value {
         })
     }
 
+    /// The name of the value's kind, as it is told.
+    pub(crate) fn kind_name(&self) -> &'static str {
+        match self {
+            Value::Unit => "()",
+            Value::Bool(_) => "a bool",
+            Value::Int(_) => "an int",
+            Value::Char(_) => "a character",
+            Value::Text(_) => "a text",
+            Value::Blob(_) => "a blob",
+            Value::Array(_) => "an array",
+            Value::Map(_) => "a map",
+            Value::FnPtr(_, _) => "a function pointer",
+            Value::U8(_) => "a u8",
+            Value::U16(_) => "a u16",
+            Value::U32(_) => "a u32",
+            Value::U64(_) => "a u64",
+            Value::U128(_) => "a u128",
+            Value::I8(_) => "an i8",
+            Value::I16(_) => "an i16",
+            Value::I32(_) => "an i32",
+            Value::I128(_) => "an i128",
+            Value::Range(_, _) | Value::RangeWithEnd(_, _) => "a range",
+        }
+    }
+
     pub(crate) fn head(&self) -> Head<'_> {
         match self.parts() {
             Parts::Leaf(leaf) => Head::Leaf(leaf),

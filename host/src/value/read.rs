@@ -10,10 +10,17 @@ impl World {
     /// The value at the hand position, without its holders; `None` where it holds itself.
     pub fn value(&self, i: usize) -> Result<Option<Value>, Error> {
         match self.hash(i) {
-            Ok(bytes) => Reader { bytes: &bytes }.value().map(Some),
+            Ok(bytes) => Value::from_bytes(&bytes).map(Some),
             Err(Error::Refused(Refusal::NotHashable)) => Ok(None),
             Err(error) => Err(error),
         }
+    }
+}
+
+impl Value {
+    /// The value of hash bytes.
+    pub(crate) fn from_bytes(bytes: &[u8]) -> Result<Value, Error> {
+        Reader { bytes }.value()
     }
 }
 

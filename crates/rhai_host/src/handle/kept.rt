@@ -2,6 +2,7 @@
 
 use rhai_run::{Answer, World};
 use rhai_text::ImmutableString;
+use script_engine::Engine;
 use slab::Slab;
 
 /// A world, with what its host's calls share. It may be let go: the world is closed then.
@@ -12,6 +13,8 @@ pub struct Kept {
     pub names: Slab<ImmutableString>,
     /// The last answer that had a text, bytes or a reason.
     pub answer: Answer,
+    /// The scripts, with variables of their own.
+    pub engine: Engine,
 }
 
 impl Drop for Kept {
@@ -20,6 +23,7 @@ impl Drop for Kept {
             world,
             names: _,
             answer: _,
+            engine: _,
         } = self;
         world.close();
     }

@@ -1,0 +1,157 @@
+//! The variables of scripts, which live on between runs. While a run stands, they are its own, and none is here.
+ghost use Rattle.std.specs.Prelude.{◌≡◌};
+ghost use Rattle.rhai_host.specs.Content.{content};
+ghost use Rattle.rhai_host.specs.Engines.{AnswersBytes, OnScripts};
+
+use crate::engine::{tell_bytes, value_bytes};
+use crate::handle::Handle;
+use crate::perform::{CLOSED, DONE, NO_COMMAND, OUT_OF_MEMORY};
+use crate::texts::text_in;
+use crate::told::Told;
+use rhai_run::Bytes;
+use script_engine::{Engine, Unread, read_value};
+use std::alloc::{AllocError, Global};
+
+fn declare(alloc: Global, engine: &mut Engine, name: &[u8], value: &[u8]) -> u32 {
+    let Some(name) = text_in(name) else {
+        return NO_COMMAND;
+    };
+    if engine.run().is_some() {
+        return NO_COMMAND;
+    }
+    match read_value(alloc, value) {
+        Ok(value) => match engine.scope_mut().push(name, value) {
+            Ok(()) => DONE,
+            Err(_) => OUT_OF_MEMORY,
+        },
+        Err(Unread::Form) => NO_COMMAND,
+        Err(Unread::Memory) => OUT_OF_MEMORY,
+    }
+}
+
+/// Declares a variable with the value of these hash bytes, behind the others.
+#[unsafe(no_mangle)]
+pub extern "C" fn rhai_host_variable_push(
+    alloc: Global,
+    handle: &mut Handle,
+    name: &[u8],
+    value: &[u8],
+) -> u32
+    ensures { OnScripts result (content handle.old) (content handle.new) }
+{
+    let Some(mut kept) = handle.take(alloc) else {
+        return CLOSED;
+    };
+    let status = declare(alloc, &mut kept.engine, name, value);
+    handle.put(kept);
+    status
+}
+
+fn write(alloc: Global, engine: &mut Engine, number: usize, value: &[u8]) -> u32 {
+    match read_value(alloc, value) {
+        Ok(value) => {
+            if engine.scope_mut().set(number, value) {
+                DONE
+            } else {
+                NO_COMMAND
+            }
+        }
+        Err(Unread::Form) => NO_COMMAND,
+        Err(Unread::Memory) => OUT_OF_MEMORY,
+    }
+}
+
+/// Writes the value of these hash bytes over that of the variable of this number, the oldest being 0. One that closures share is written for
+/// all of them.
+#[unsafe(no_mangle)]
+pub extern "C" fn rhai_host_variable_set(
+    alloc: Global,
+    handle: &mut Handle,
+    number: usize,
+    value: &[u8],
+) -> u32
+    ensures { OnScripts result (content handle.old) (content handle.new) }
+{
+    let Some(mut kept) = handle.take(alloc) else {
+        return CLOSED;
+    };
+    let status = write(alloc, &mut kept.engine, number, value);
+    handle.put(kept);
+    status
+}
+
+/// Ends the variables from this number on.
+#[unsafe(no_mangle)]
+pub extern "C" fn rhai_host_variable_rewind(alloc: Global, handle: &mut Handle, count: usize) -> u32
+    ensures { OnScripts result (content handle.old) (content handle.new) }
+{
+    let Some(mut kept) = handle.take(alloc) else {
+        return CLOSED;
+    };
+    kept.engine.scope_mut().rewind(count);
+    handle.put(kept);
+    DONE
+}
+
+/// Counts the variables, 0 where no world is open.
+#[unsafe(no_mangle)]
+pub extern "C" fn rhai_host_variable_count(alloc: Global, handle: &mut Handle) -> usize
+    ensures { content handle.new ≡ content handle.old }
+{
+    let Some(kept) = handle.take(alloc) else {
+        return 0;
+    };
+    let count = kept.engine.scope().len();
+    handle.put(kept);
+    count
+}
+
+fn name_bytes(alloc: Global, engine: &Engine, number: usize) -> Result<Option<Bytes>, AllocError> {
+    match engine.scope().names().get(number) {
+        Some(name) => {
+            let mut bytes = Vec::new(alloc);
+            bytes.extend_from_slice(name.as_str().as_bytes())?;
+            Ok(Some(Bytes::new(bytes)))
+        }
+        None => Ok(None),
+    }
+}
+
+/// Answers the name of the variable of this number.
+#[unsafe(no_mangle)]
+pub extern "C" fn rhai_host_variable_name(
+    alloc: Global,
+    handle: &mut Handle,
+    number: usize,
+    told: &mut Told,
+) -> u32
+    ensures { AnswersBytes result (content handle.old) (content handle.new) told.old told.new }
+{
+    let Some(mut kept) = handle.take(alloc) else {
+        return CLOSED;
+    };
+    let bytes = name_bytes(alloc, &kept.engine, number);
+    let status = tell_bytes(&mut kept, bytes, told);
+    handle.put(kept);
+    status
+}
+
+/// Answers the hash bytes of the value of the variable of this number.
+#[unsafe(no_mangle)]
+pub extern "C" fn rhai_host_variable_value(
+    alloc: Global,
+    handle: &mut Handle,
+    number: usize,
+    told: &mut Told,
+) -> u32
+    ensures { AnswersBytes result (content handle.old) (content handle.new) told.old told.new }
+{
+    let Some(mut kept) = handle.take(alloc) else {
+        return CLOSED;
+    };
+    let value = kept.engine.scope().get(number);
+    let bytes = value_bytes(alloc, value, kept.engine.store());
+    let status = tell_bytes(&mut kept, bytes, told);
+    handle.put(kept);
+    status
+}

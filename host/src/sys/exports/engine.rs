@@ -1,0 +1,139 @@
+//! Of the module `engine`: written by `tools/host_declarations` from the lines of `crates/rhai_host`.
+
+use crate::sys::Handle;
+use crate::sys::Told;
+
+/// Why a script stopped. The answer is what it printed, and behind that what went wrong.
+#[repr(C)]
+#[derive(Clone, Copy, Debug, Default)]
+pub struct ScriptStop {
+    /// 0 it is done, 1 it did as many operations as it might, 2 it calls the host, 3 a statement is done next, 4 memory was refused, 5 it
+    /// went wrong, 6 the text is no script.
+    pub kind: u32,
+    /// The number of the host's function that is called; else 0.
+    pub function: u32,
+    /// How many arguments it is called with; else 0.
+    pub arguments: usize,
+    /// The line where it stands, or of what went wrong, counted from 1; else 0.
+    pub line: u32,
+    /// The place on that line, counted from 1; else 0.
+    pub column: u32,
+    /// How many operations the run took so far, with those that the room of values counts as.
+    pub operations: u64,
+    /// How many bytes of the answer it printed.
+    pub printed: usize,
+    /// How many bytes behind these say what went wrong.
+    pub said: usize,
+}
+
+unsafe extern "C" {
+    fn rhai_host_script_compile(
+        handle: *mut Handle,
+        text: *const u8,
+        text_len: usize,
+        names: *const u8,
+        names_len: usize,
+        stop: &mut ScriptStop,
+    ) -> u32;
+    fn rhai_host_script_begin(handle: *mut Handle, text: usize, items: usize, calls: usize, with_body: bool) -> u32;
+    fn rhai_host_script_stop_at_statements(handle: *mut Handle, stops: bool) -> u32;
+    fn rhai_host_script_go(handle: *mut Handle, operations: u64, stop: &mut ScriptStop) -> u32;
+    fn rhai_host_script_argument(handle: *mut Handle, number: usize, told: &mut Told) -> u32;
+    fn rhai_host_script_value(handle: *mut Handle, told: &mut Told) -> u32;
+    fn rhai_host_script_answer(handle: *mut Handle, value: *const u8, value_len: usize) -> u32;
+    fn rhai_host_script_refuse(handle: *mut Handle, why: *const u8, why_len: usize, stop: &mut ScriptStop) -> u32;
+    fn rhai_host_script_call(
+        handle: *mut Handle,
+        name: *const u8,
+        name_len: usize,
+        arguments: *const u8,
+        arguments_len: usize,
+    ) -> u32;
+    fn rhai_host_script_end(handle: *mut Handle) -> u32;
+}
+
+/// Compiles a script for the variables that are there. The functions of the host are a line each: the name, a space and the number of
+/// arguments; the first one has number 0. A run that stands ends. What is wrong with the text is told as a stop of kind 6.
+#[inline]
+pub fn script_compile(handle: &Handle, text: &[u8], names: &[u8], stop: &mut ScriptStop) -> u32 {
+    // SAFETY: `handle` is zeros or what a call left, and this call's alone: it is no `Sync`, and the library comes back by
+    // the doors only. `text` is a slice with its own length, and is read. `names` is a slice with its own length, and is
+    // read. `stop` is a whole `ScriptStop` that nobody else has.
+    unsafe { rhai_host_script_compile(handle.lent(), text.as_ptr(), text.len(), names.as_ptr(), names.len(), stop) }
+}
+
+/// Begins a run of the script over the variables, with the largest sizes of texts and arrays, 0 being none, and of calls within each
+/// other. Without its body, it has ended at once, and functions may be called.
+#[inline]
+pub fn script_begin(handle: &Handle, text: usize, items: usize, calls: usize, with_body: bool) -> u32 {
+    // SAFETY: `handle` is zeros or what a call left, and this call's alone: it is no `Sync`, and the library comes back by
+    // the doors only. Any `text`, `items`, `calls`, `with_body` will do.
+    unsafe { rhai_host_script_begin(handle.lent(), text, items, calls, with_body) }
+}
+
+/// Has the run stop before each statement, or no longer.
+#[inline]
+pub fn script_stop_at_statements(handle: &Handle, stops: bool) -> u32 {
+    // SAFETY: `handle` is zeros or what a call left, and this call's alone: it is no `Sync`, and the library comes back by
+    // the doors only. Any `stops` will do.
+    unsafe { rhai_host_script_stop_at_statements(handle.lent(), stops) }
+}
+
+/// Goes on with the run by up to so many operations.
+#[inline]
+pub fn script_go(handle: &Handle, operations: u64, stop: &mut ScriptStop) -> u32 {
+    // SAFETY: `handle` is zeros or what a call left, and this call's alone: it is no `Sync`, and the library comes back by
+    // the doors only. `stop` is a whole `ScriptStop` that nobody else has. Any `operations` will do.
+    unsafe { rhai_host_script_go(handle.lent(), operations, stop) }
+}
+
+/// Answers the hash bytes of an argument that the host's function is called with.
+#[inline]
+pub fn script_argument(handle: &Handle, number: usize, told: &mut Told) -> u32 {
+    // SAFETY: `handle` is zeros or what a call left, and this call's alone: it is no `Sync`, and the library comes back by
+    // the doors only. `told` is a whole `Told` that nobody else has. Any `number` will do.
+    unsafe { rhai_host_script_argument(handle.lent(), number, told) }
+}
+
+/// Answers the hash bytes of the value that the run came to.
+#[inline]
+pub fn script_value(handle: &Handle, told: &mut Told) -> u32 {
+    // SAFETY: `handle` is zeros or what a call left, and this call's alone: it is no `Sync`, and the library comes back by
+    // the doors only. `told` is a whole `Told` that nobody else has.
+    unsafe { rhai_host_script_value(handle.lent(), told) }
+}
+
+/// Answers the call of the host's function with the value of these hash bytes.
+#[inline]
+pub fn script_answer(handle: &Handle, value: &[u8]) -> u32 {
+    // SAFETY: `handle` is zeros or what a call left, and this call's alone: it is no `Sync`, and the library comes back by
+    // the doors only. `value` is a slice with its own length, and is read.
+    unsafe { rhai_host_script_answer(handle.lent(), value.as_ptr(), value.len()) }
+}
+
+/// Refuses the call of the host's function with a text, which the script may catch: it goes on then, and the stop is of kind 1.
+#[inline]
+pub fn script_refuse(handle: &Handle, why: &[u8], stop: &mut ScriptStop) -> u32 {
+    // SAFETY: `handle` is zeros or what a call left, and this call's alone: it is no `Sync`, and the library comes back by
+    // the doors only. `why` is a slice with its own length, and is read. `stop` is a whole `ScriptStop` that nobody else
+    // has.
+    unsafe { rhai_host_script_refuse(handle.lent(), why.as_ptr(), why.len(), stop) }
+}
+
+/// Begins a call of a function of the script with these arguments: the hash bytes of an array of them. The script's body is done, and no
+/// call stands.
+#[inline]
+pub fn script_call(handle: &Handle, name: &[u8], arguments: &[u8]) -> u32 {
+    // SAFETY: `handle` is zeros or what a call left, and this call's alone: it is no `Sync`, and the library comes back by
+    // the doors only. `name` is a slice with its own length, and is read. `arguments` is a slice with its own length, and is
+    // read.
+    unsafe { rhai_host_script_call(handle.lent(), name.as_ptr(), name.len(), arguments.as_ptr(), arguments.len()) }
+}
+
+/// Ends the run, wherever it stands: its variables can be looked at and written then.
+#[inline]
+pub fn script_end(handle: &Handle) -> u32 {
+    // SAFETY: `handle` is zeros or what a call left, and this call's alone: it is no `Sync`, and the library comes back by
+    // the doors only.
+    unsafe { rhai_host_script_end(handle.lent()) }
+}

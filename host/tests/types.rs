@@ -32,7 +32,10 @@ fn all_but_a_world_go_to_other_threads_and_are_keys() {
     is_a_key::<SizeKind>();
     is_a_key::<Type>();
     is_a_key::<Value>();
-    goes_to_threads::<rhai_world::Scope>();
+    goes_to_threads::<rhai_world::Entries>();
+    goes_to_threads::<rhai_world::Engine>();
+    goes_to_threads::<rhai_world::Ast>();
+    goes_to_threads::<rhai_world::EvalError>();
 }
 
 #[test]

@@ -1,7 +1,21 @@
-//! Worlds of rhai's script values, over a library whose every call is proved.
+//! Scripts of a subset of rhai in a Rust program, and the script values beneath them, over a library whose every call is proved.
 //!
-//! A [`World`] is a store of shared cells, named values, and a hand of values that commands name by position. A [`Journal`] keeps commands as
-//! lines, and [`Script`] runs scripts.
+//! An [`Engine`] compiles and runs scripts, which call functions of the program; the variables of a [`Scope`] live on between runs.
+//!
+//! ```
+//! use rhai_world::{Engine, EvalError, Scope};
+//!
+//! let mut engine = Engine::new();
+//! engine.register_fn("twice", |n: i64| n * 2);
+//! let mut scope = Scope::new()?;
+//! scope.push("x", 20)?;
+//! assert_eq!(engine.eval_with_scope::<i64>(&mut scope, "x += 1; twice(x)")?, 42);
+//! assert_eq!(scope.get::<i64>("x"), Some(21));
+//! # Ok::<(), EvalError>(())
+//! ```
+//!
+//! Below that, a [`World`] is a store of shared cells, named values, and a hand of values that commands name by position. A [`Journal`] keeps
+//! commands as lines, and [`Script`] runs a script alone.
 //!
 //! ```
 //! use rhai_world::{Limits, World};

@@ -1,4 +1,4 @@
-let n = 20000;
+let n = 50000;
 let a = [];
 let seed = 42;
 for i in 0..n {
@@ -20,4 +20,4 @@ while gap > 0 {
 }
 print(a[0]);
 print(a[9999]);
-print(a[19999]);
+print(a[49999]);

@@ -1,4 +1,4 @@
-//! Measures whole programs: scripts beside Python and Lua, and lines beside the same program over the released files.
+//! Measures whole programs: scripts beside Lua, and lines beside the same program over the released files.
 //!
 //! Usage: programs_taken PAGE SCRIPTS RUNNER WORLD LINES: SCRIPTS is the folder of scripts, RUNNER `script_program`, WORLD `rhai_world`,
 //! LINES the program over the released files.
@@ -9,8 +9,21 @@ use times::page::with_part;
 
 const TURNS: usize = 7;
 
-const SCRIPTS: [(&str, &str); 3] =
-    [("fib", "`fib(25)` by recursion"), ("loop", "a loop of three million steps"), ("sort", "Shell's sort of 20,000 numbers")];
+/// The scripts, what each does, and how many times Lua's time it may take.
+const SCRIPTS: [(&str, &str, &str); 12] = [
+    ("fib", "`fib(27)` by recursion", "3"),
+    ("sort", "Shell's sort of 50,000 numbers", "3"),
+    ("sieve", "a sieve of a million", "3"),
+    ("loop", "a loop of five million rounds", "1.5"),
+    ("closures", "a million calls of closures", "5"),
+    ("callbacks", "`map`, `filter` and `reduce` of 300,000 items", "5"),
+    ("records", "`a[i].f[j] += 1` a million times", "4"),
+    ("matrix", "a product of matrices of 200", "4"),
+    ("words", "counting 200,000 words", "4"),
+    ("queens", "eight queens", "4"),
+    ("bodies", "n bodies by ints", "4"),
+    ("append", "a text of 100,000 appends", "4"),
+];
 
 /// Milliseconds, or a dash.
 fn milliseconds(ran: &Option<Ran>) -> String {
@@ -25,17 +38,16 @@ fn ratio(ours: &Option<Ran>, theirs: &Option<Ran>) -> String {
 }
 
 fn scripts(folder: &str, runner: &str) -> String {
-    let mut text = String::from("| script | ms here | Python | Lua | to Python | to Lua |\n|---|---|---|---|---|---|\n");
-    for (name, what) in SCRIPTS {
+    let mut text = String::from("| script | ms here | Lua | to Lua | at most |\n|---|---|---|---|---|\n");
+    for (name, what, most) in SCRIPTS {
         let script = std::fs::read(format!("{folder}/{name}.rhai")).expect("a script");
-        let (python, lua) = (format!("{folder}/{name}.py"), format!("{folder}/{name}.lua"));
-        let programs = [vec![runner], vec!["python3", &python], vec!["lua5.4", &lua]];
-        let ran = least(&programs, &[&script, b"", b""], TURNS);
+        let lua = format!("{folder}/{name}.lua");
+        let ran = least(&[vec![runner], vec!["lua5.4", &lua]], &[&script, b""], TURNS);
         let said: Vec<&[u8]> = ran.iter().flatten().map(|ran| ran.output.as_slice()).collect();
         let note = if said.windows(2).all(|two| two[0] == two[1]) { "" } else { " ANSWERS DIFFER" };
-        let [here, python, lua] = &ran[..] else { unreachable!() };
-        let times = [here, python, lua].map(milliseconds).join(" | ");
-        let _ = writeln!(text, "| {what}{note} | {times} | {} | {} |", ratio(here, python), ratio(here, lua));
+        let [here, lua] = &ran[..] else { unreachable!() };
+        let times = [here, lua].map(milliseconds).join(" | ");
+        let _ = writeln!(text, "| {what}{note} | {times} | {} | {most} |", ratio(here, lua));
     }
     text
 }

@@ -93,7 +93,8 @@ fn a_run_that_waits_goes_on_only_with_an_answer(rt: HostRuntime) {
 
 /// The statements come to 1 + 1, a call to 3 + 4, another fails, and the run may be called again.
 fn is_called_again(alloc: Global) -> Option<bool> {
-    let text = "fn sum(a, b) { a + b }\nfn fails() { 1 / 0 }\nlet n = 1; let f = || n; n += 1; f.call()";
+    let text =
+        "fn sum(a, b) { a + b }\nfn fails() { 1 / 0 }\nlet n = 1; let f = || n; n += 1; f.call()";
     let program = compiled(alloc, text)?;
     let mut run = begun(alloc, &program)?;
     let early = run.call(&program, "fails", &[]).ok()?;
@@ -108,14 +109,16 @@ fn is_called_again(alloc: Global) -> Option<bool> {
     let is_failed = matches!(&third, Outcome::Fault(_));
     let again = run.call(&program, "sum", &arguments).ok()?;
     let fourth = driven(&mut run, &program, 100);
-    Some(!early
-        && !unknown
-        && begins
-        && fails
-        && again
-        && is_right
-        && is_failed
-        && value_of(&run, &fourth) == Some(7))
+    Some(
+        !early
+            && !unknown
+            && begins
+            && fails
+            && again
+            && is_right
+            && is_failed
+            && value_of(&run, &fourth) == Some(7),
+    )
 }
 
 #[test]

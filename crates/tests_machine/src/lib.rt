@@ -2,6 +2,8 @@
 #![tactic(auto)]
 
 #[cfg(test)]
+mod alloc_failures;
+#[cfg(test)]
 mod host;
 #[cfg(test)]
 mod pauses;

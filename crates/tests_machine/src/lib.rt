@@ -1,6 +1,7 @@
 //! Tests of compiled scripts: pauses, functions of the host, values, and what a script leaves; and of scripts as texts.
 #![tactic(auto)]
 
+#[cfg(test)]
 mod alloc_failures;
 #[cfg(test)]
 mod engines;

@@ -163,11 +163,7 @@ fn read_key(alloc: Global, bytes: &mut Bytes, open: &mut Vec<Open>) -> Result<()
 /// Makes a value of the last ones.
 fn made(alloc: Global, whole: Open, values: &mut Vec<Dynamic>) -> Result<Dynamic, Unread> {
     let Open { kind, first, .. } = whole;
-    let mut inside = Array::new(alloc);
-    inside.reserve(values.len().saturating_sub(first))?;
-    for value in values.drain(first..) {
-        inside.push(value)?;
-    }
+    let inside = last_of(alloc, values, first)?;
     match kind {
         Kind::Array => Ok(Dynamic::from_array(inside)),
         Kind::FnPtr(name) => Ok(Dynamic::from(FnPtr::new(name, inside))),
@@ -181,6 +177,19 @@ fn made(alloc: Global, whole: Open, values: &mut Vec<Dynamic>) -> Result<Dynamic
             Ok(Dynamic::from_map(map))
         }
     }
+}
+
+/// Takes off the values from a number on.
+fn last_of(alloc: Global, values: &mut Vec<Dynamic>, first: usize) -> Result<Array, Unread> {
+    let mut last = Array::new(alloc);
+    let count = values.len();
+    if first < count {
+        last.reserve(count - first)?;
+        for value in values.drain(first..) {
+            last.push(value)?;
+        }
+    }
+    Ok(last)
 }
 
 fn read_head(alloc: Global, bytes: &mut Bytes) -> Result<Head, Unread> {

@@ -93,5 +93,3 @@ print(((((((((((1 + 2) * 3) - 4) + 5) * 6) - 7) + 8) * 9) - 10) + 11) > 549);
 let b = [true, false];
 while b[0] { b[0] = b[1]; }
 print(b);
-// a loop without end, all of whose rounds are done at once
-while total > 0 { total ^= 1; total |= 2; }

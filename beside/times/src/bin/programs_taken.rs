@@ -11,18 +11,18 @@ const TURNS: usize = 7;
 
 /// The scripts, what each does, and how many times Lua's time it may take.
 const SCRIPTS: [(&str, &str, &str); 12] = [
-    ("fib", "`fib(27)` by recursion", "3"),
-    ("sort", "Shell's sort of 50,000 numbers", "3"),
-    ("sieve", "a sieve of a million", "3"),
-    ("loop", "a loop of five million rounds", "1.5"),
-    ("closures", "a million calls of closures", "5"),
-    ("callbacks", "`map`, `filter` and `reduce` of 300,000 items", "5"),
-    ("records", "`a[i].f[j] += 1` a million times", "4"),
-    ("matrix", "a product of matrices of 200", "4"),
-    ("words", "counting 200,000 words", "4"),
-    ("queens", "eight queens", "4"),
-    ("bodies", "n bodies by ints", "4"),
-    ("append", "a text of 100,000 appends", "4"),
+    ("fib", "`fib(27)`", "3"),
+    ("sort", "Shell's sort, 50,000", "3"),
+    ("sieve", "sieve, 1,000,000", "3"),
+    ("loop", "loop, 5,000,000", "1.5"),
+    ("closures", "closures, 1,000,000", "5"),
+    ("callbacks", "callbacks, 300,000", "5"),
+    ("records", "`a[i].f[j] += 1`, 1,000,000", "4"),
+    ("matrix", "matrix, 200", "4"),
+    ("words", "words, 200,000", "4"),
+    ("queens", "queens, 8", "4"),
+    ("bodies", "bodies", "4"),
+    ("append", "appends, 100,000", "4"),
 ];
 
 /// Milliseconds, or a dash.

@@ -9,7 +9,8 @@ use std::fmt;
 
 /// Variables that live on between runs, with all that closures share. A later one hides an earlier one of its name.
 ///
-/// It stays on the thread that made it.
+/// It stays on the thread that made it. A closure in it is to be called by the script that made it alone: its name is a number, which means
+/// another function, or none, in another script.
 ///
 /// ```
 /// use rhai_world::{Engine, EvalError, Scope};

@@ -1,5 +1,5 @@
-//! Finds `librhai_host.a`: in the folder that `RHAI_HOST_LIB` names, else where `rt lib` leaves it. It must have the stamp that the
-//! declarations of this crate were written for.
+//! Finds `librhai_host.a`: in the folder that `RHAI_HOST_LIB` names, else where a release has it, else where `rt lib` leaves it. It must have the
+//! stamp that the declarations of this crate were written for.
 use std::path::{Path, PathBuf};
 
 const HOW: &str =
@@ -11,7 +11,7 @@ fn main() {
     println!("cargo:rerun-if-changed={STAMPED}");
     let folder = match std::env::var_os("RHAI_HOST_LIB") {
         Some(folder) => PathBuf::from(folder),
-        None => PathBuf::from(std::env::var_os("CARGO_MANIFEST_DIR").expect("cargo sets it")).join("../crates/rhai_host/out"),
+        None => beside(),
     };
     let library = folder.join("librhai_host.a");
     println!("cargo:rerun-if-changed={}", library.display());
@@ -21,6 +21,17 @@ fn main() {
     }
     println!("cargo:rustc-link-search=native={}", folder.display());
     println!("cargo:rustc-link-lib=static=rhai_host");
+}
+
+/// The folder of the library beside this crate: `lib` in a release, else that of the crate that it is built of.
+fn beside() -> PathBuf {
+    let crate_folder = PathBuf::from(std::env::var_os("CARGO_MANIFEST_DIR").expect("cargo sets it"));
+    let released = crate_folder.join("../lib");
+    if released.join("librhai_host.a").is_file() {
+        released
+    } else {
+        crate_folder.join("../crates/rhai_host/out")
+    }
 }
 
 /// Whether the library is there, and exports what this crate declares.

@@ -2,26 +2,30 @@
 mod ast;
 mod error;
 mod functions;
+mod run;
 mod scope;
+mod variables;
+mod watch;
 
 pub use ast::Ast;
 pub use error::EvalError;
-pub use functions::{Arguments, HostFn};
+pub use functions::{Arguments, HostFn, Wanted};
+pub use run::{Progress, Run};
 pub use scope::Scope;
+pub use variables::Variables;
+pub use watch::Interrupt;
 
 use crate::limits::Limits;
 use crate::value::Value;
 use functions::Registered;
-use scope::Stop;
 use std::fmt;
+use std::io::Write;
 use std::num::NonZeroUsize;
 use std::sync::atomic::{AtomicU64, Ordering};
+use watch::Watch;
 
 /// How many calls of a script may stand within each other, where nothing else is said.
 const CALLS: usize = 500;
-
-/// After so many operations at most an engine looks at what limits a run.
-const AT_ONCE: u64 = 1_024 * 1_024;
 
 /// What is called for each line that a script prints.
 type Print = Box<dyn Fn(&str) + Send + Sync>;
@@ -65,7 +69,8 @@ pub struct Engine {
     /// Which engine this is, with these functions.
     serial: u64,
     limits: Limits,
-    operations: u64,
+    entries: usize,
+    watch: Watch,
     calls: usize,
     print: Option<Print>,
     at_statement: Option<AtStatement>,
@@ -79,17 +84,21 @@ impl Engine {
             names: String::new(),
             serial: serial(),
             limits: Limits::default(),
-            operations: 0,
+            entries: 0,
+            watch: Watch::new(),
             calls: CALLS,
             print: None,
             at_statement: None,
         }
     }
 
-    /// Gives scripts a function of this name. It may have up to six parameters, of types that a [`Value`] is turned into, and answer what
-    /// becomes a [`Value`], or a `Result` of that: an error is thrown where the script calls, and may be caught there. Functions of one name
-    /// differ in the number of their parameters; of the same number the last one counts. Those of a script come first, then these, then the
-    /// packages'.
+    /// Gives scripts a function of this name, of up to six parameters. Functions of one name differ in the number of these; of the same
+    /// number the last one counts. Those of a script come first, then these, then the packages'.
+    ///
+    /// Parameters and answers may be integers of any type, `bool`, `char`, `String`, `()`, `Option` with unit as `None`, vectors and arrays,
+    /// maps by `String`, ranges, and [`Value`]; answers `&'static str` too, and a `Result` of one of these and an error. Where an argument or an
+    /// answer doesn't fit, as a number may not, the script is told so as by an error: it is thrown where the script calls, and may be
+    /// caught there. A panic is such an error too.
     ///
     /// ```
     /// use rhai_world::{Engine, EvalError};
@@ -125,12 +134,6 @@ impl Engine {
         self
     }
 
-    /// Limits how many operations a run may take; 0 is no limit.
-    pub fn set_max_operations(&mut self, operations: u64) -> &mut Engine {
-        self.operations = operations;
-        self
-    }
-
     /// Limits how many calls may stand within each other.
     pub fn set_max_call_levels(&mut self, calls: usize) -> &mut Engine {
         self.calls = calls;
@@ -149,31 +152,81 @@ impl Engine {
         self
     }
 
-    /// Reads a script, and tells what is wrong with it.
+    /// Limits how many entries a map of a script may have; 0 is no limit.
+    pub fn set_max_map_size(&mut self, entries: usize) -> &mut Engine {
+        self.entries = entries;
+        self
+    }
+
+    /// Limits how many bytes of memory a scope may hold while a script is read or runs over it; 0 is no limit. A run that wants more ends with
+    /// [`EvalError::OutOfMemory`], which no script catches. The variables stay, and may be read and written without that limit. Room that a
+    /// run made for its stack stays with the scope.
+    /// [`World::set_max_memory`](crate::World::set_max_memory) tells how bytes are counted; what functions of the program hold isn't.
+    ///
+    /// ```
+    /// use rhai_world::{Engine, EvalError, Scope};
+    ///
+    /// let mut engine = Engine::new();
+    /// engine.set_max_memory(1_000_000);
+    /// let mut scope = Scope::new()?;
+    /// let run = engine.run_with_scope(&mut scope, "let n = 7; let all = []; loop { all.push(n); }");
+    /// assert!(matches!(run, Err(EvalError::OutOfMemory { line: 1, .. })));
+    /// assert_eq!(scope.get::<i64>("n"), Some(7));
+    /// # Ok::<(), EvalError>(())
+    /// ```
+    pub fn set_max_memory(&mut self, bytes: usize) -> &mut Engine {
+        self.limits = self.limits.with_memory(NonZeroUsize::new(bytes));
+        self
+    }
+
+    /// Reads a script, and tells what is wrong with it. Where its anonymous functions name variables of a scope, `compile_with_scope` reads it.
     pub fn compile(&self, text: &str) -> Result<Ast, EvalError> {
         let ast = Ast::of(text);
         Scope::new()?.compile(&ast, self)?;
         Ok(ast)
     }
 
+    /// Reads a script for the variables of a scope, which its anonymous functions may name, and tells what is wrong with it.
+    ///
+    /// ```
+    /// use rhai_world::{Engine, EvalError, Scope};
+    ///
+    /// let engine = Engine::new();
+    /// let mut scope = Scope::of([("total", 1)])?;
+    /// let text = "let add = |n| total += n; add.call(5); total";
+    /// assert!(engine.compile(text).is_err());
+    /// let ast = engine.compile_with_scope(&scope, text)?;
+    /// assert_eq!(engine.eval_ast_with_scope::<i64>(&mut scope, &ast)?, 6);
+    /// # Ok::<(), EvalError>(())
+    /// ```
+    pub fn compile_with_scope(&self, scope: &Scope, text: &str) -> Result<Ast, EvalError> {
+        let ast = Ast::of(text);
+        let mut like = Scope::new()?;
+        for name in scope.names()? {
+            like.push(&name, ())?;
+        }
+        like.compile(&ast, self)?;
+        Ok(ast)
+    }
+
     /// Runs a script of no variables, and gives the value of its last statement.
-    pub fn eval<T: TryFrom<Value>>(&self, text: &str) -> Result<T, EvalError> {
+    pub fn eval<T: Wanted>(&self, text: &str) -> Result<T, EvalError> {
         self.eval_with_scope(&mut Scope::new()?, text)
     }
 
     /// Runs a script over the variables of a scope, in which its own stay.
-    pub fn eval_with_scope<T: TryFrom<Value>>(&self, scope: &mut Scope, text: &str) -> Result<T, EvalError> {
+    pub fn eval_with_scope<T: Wanted>(&self, scope: &mut Scope, text: &str) -> Result<T, EvalError> {
         self.eval_ast_with_scope(scope, &Ast::of(text))
     }
 
     /// Runs a compiled script of no variables.
-    pub fn eval_ast<T: TryFrom<Value>>(&self, ast: &Ast) -> Result<T, EvalError> {
+    pub fn eval_ast<T: Wanted>(&self, ast: &Ast) -> Result<T, EvalError> {
         self.eval_ast_with_scope(&mut Scope::new()?, ast)
     }
 
     /// Runs a compiled script over the variables of a scope, in which its own stay, also after an error.
-    pub fn eval_ast_with_scope<T: TryFrom<Value>>(&self, scope: &mut Scope, ast: &Ast) -> Result<T, EvalError> {
-        wanted(self.value_of(scope, ast)?)
+    pub fn eval_ast_with_scope<T: Wanted>(&self, scope: &mut Scope, ast: &Ast) -> Result<T, EvalError> {
+        Ok(T::wanted(self.value_of(scope, ast)?)?)
     }
 
     /// Runs a script of no variables, whose value isn't wanted.
@@ -184,6 +237,16 @@ impl Engine {
     /// Runs a script over the variables of a scope; its value isn't wanted.
     pub fn run_with_scope(&self, scope: &mut Scope, text: &str) -> Result<(), EvalError> {
         self.value_of(scope, &Ast::of(text)).map(drop)
+    }
+
+    /// Runs a compiled script of no variables, whose value isn't wanted.
+    pub fn run_ast(&self, ast: &Ast) -> Result<(), EvalError> {
+        self.run_ast_with_scope(&mut Scope::new()?, ast)
+    }
+
+    /// Runs a compiled script over the variables of a scope; its value isn't wanted.
+    pub fn run_ast_with_scope(&self, scope: &mut Scope, ast: &Ast) -> Result<(), EvalError> {
+        self.value_of(scope, ast).map(drop)
     }
 
     /// Runs the statements of a script outside of its functions, and then calls one of these. The variables of the script are gone
@@ -197,71 +260,57 @@ impl Engine {
     /// assert_eq!(engine.call_fn::<i64>(&mut Scope::new()?, &ast, "double", (21,))?, 42);
     /// # Ok::<(), EvalError>(())
     /// ```
-    pub fn call_fn<T: TryFrom<Value>>(
+    pub fn call_fn<T: Wanted>(
         &self,
         scope: &mut Scope,
         ast: &Ast,
         name: &str,
         arguments: impl Arguments,
     ) -> Result<T, EvalError> {
-        let arguments = arguments.into_values();
-        let before = scope.len();
-        scope.begin(ast, self)?;
-        let called = self.go(scope).and_then(|_| {
-            scope.call(name, &arguments)?;
-            self.go(scope)
-        });
-        scope.end()?;
-        scope.rewind(before)?;
-        wanted(called?)
+        Ok(T::wanted(Run::begin_call(self, scope, ast, name, arguments.into_values()?)?.finish()?)?)
+    }
+
+    /// Begins a run of a compiled script over the variables of a scope, which goes on by pieces: [`Run`] tells how.
+    pub fn start<'a>(&'a self, scope: &'a mut Scope, ast: &Ast) -> Result<Run<'a>, EvalError> {
+        Run::begin(self, scope, ast)
+    }
+
+    /// Begins a run that calls a function of a script at its end, as `call_fn` does, and goes on by pieces.
+    pub fn start_fn<'a>(
+        &'a self,
+        scope: &'a mut Scope,
+        ast: &Ast,
+        name: &str,
+        arguments: impl Arguments,
+    ) -> Result<Run<'a>, EvalError> {
+        Run::begin_call(self, scope, ast, name, arguments.into_values()?)
     }
 
     fn value_of(&self, scope: &mut Scope, ast: &Ast) -> Result<Value, EvalError> {
-        scope.begin(ast, self)?;
-        let value = self.go(scope);
-        scope.end()?;
-        value
+        self.start(scope, ast)?.finish()
     }
+}
 
-    /// Goes on with a run until it is done, and answers what it calls.
-    fn go(&self, scope: &mut Scope) -> Result<Value, EvalError> {
-        let mut taken = 0;
-        loop {
-            let granted = if self.operations == 0 { AT_ONCE } else { AT_ONCE.min(self.operations.saturating_sub(taken)) };
-            let (stop, printed) = scope.go(granted)?;
-            self.printed(&printed);
-            match stop {
-                Stop::Done(value) => return Ok(value),
-                Stop::Paused { operations, line, column } => {
-                    taken = operations;
-                    if self.operations != 0 && taken >= self.operations {
-                        return Err(EvalError::TooManyOperations { line, column });
-                    }
-                }
-                Stop::Statement { line, column } => {
-                    if let Some(call) = &self.at_statement {
-                        call(line, column);
-                    }
-                }
-                Stop::Calls { function, arguments, operations } => {
-                    taken = operations;
-                    let known = self.functions.get(function).ok_or(EvalError::Unexpected)?;
-                    match known.call(arguments) {
-                        Ok(value) => scope.answer(&value)?,
-                        Err(why) => scope.refuse(&why)?,
-                    }
-                }
-            }
+/// What runs ask of it.
+impl Engine {
+    fn at_statement(&self, line: u32, column: u32) {
+        if let Some(call) = &self.at_statement {
+            call(line, column);
         }
     }
 
-    fn printed(&self, text: &str) {
-        for line in text.lines() {
-            match &self.print {
-                Some(print) => print(line),
-                None => println!("{line}"),
-            }
+    /// Calls a registered function, which answers or refuses.
+    fn call(&self, function: usize, arguments: Vec<Value>) -> Result<Result<Value, String>, EvalError> {
+        Ok(self.functions.get(function).ok_or(EvalError::Unexpected)?.call(arguments))
+    }
+
+    /// Hands on a line that was printed.
+    fn print(&self, line: &str) -> std::io::Result<()> {
+        match &self.print {
+            Some(print) => print(line),
+            None => writeln!(std::io::stdout().lock(), "{line}")?,
         }
+        Ok(())
     }
 
     pub(crate) fn names(&self) -> &str {
@@ -276,15 +325,17 @@ impl Engine {
         self.at_statement.is_some()
     }
 
-    pub(crate) fn sizes(&self) -> (Limits, usize) {
-        (self.limits, self.calls)
+    pub(crate) fn limits(&self) -> Limits {
+        self.limits
     }
-}
 
-/// The value as the type that is wanted.
-fn wanted<T: TryFrom<Value>>(value: Value) -> Result<T, EvalError> {
-    let kind = value.kind_name();
-    T::try_from(value).map_err(|_| EvalError::Mismatch { wanted: std::any::type_name::<T>(), found: kind })
+    pub(crate) fn entries(&self) -> usize {
+        self.entries
+    }
+
+    pub(crate) fn calls(&self) -> usize {
+        self.calls
+    }
 }
 
 impl Default for Engine {
@@ -298,7 +349,8 @@ impl fmt::Debug for Engine {
         f.debug_struct("Engine")
             .field("functions", &self.functions.len())
             .field("limits", &self.limits)
-            .field("operations", &self.operations)
+            .field("entries", &self.entries)
+            .field("watch", &self.watch)
             .field("calls", &self.calls)
             .finish_non_exhaustive()
     }

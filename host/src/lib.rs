@@ -1,20 +1,99 @@
 //! Scripts of a subset of rhai in a Rust program, and the script values beneath them, over a library whose every call is proved.
 //!
-//! An [`Engine`] compiles and runs scripts, which call functions of the program; the variables of a [`Scope`] live on between runs.
+//! # The first ten minutes
+//!
+//! An [`Engine`] runs a script, and gives its value as a type of Rust's:
+//!
+//! ```
+//! use rhai_world::{Engine, EvalError};
+//!
+//! let engine = Engine::new();
+//! assert_eq!(engine.eval::<i64>("let sum = 0; for n in 1..=4 { sum += n; } sum")?, 10);
+//! assert_eq!(engine.eval::<Vec<String>>("[\"a\", \"b\" + 'c']")?, ["a", "bc"]);
+//! # Ok::<(), EvalError>(())
+//! ```
+//!
+//! Scripts call functions of the program. An error is thrown where they call:
+//!
+//! ```
+//! use rhai_world::{Engine, EvalError};
+//!
+//! let mut engine = Engine::new();
+//! engine.register_fn("price", |of: String, amount: i64| match of.as_str() {
+//!     "apple" => Ok(3 * amount),
+//!     other => Err(format!("no price of {other}")),
+//! });
+//! assert_eq!(engine.eval::<i64>("price(\"apple\", 2)")?, 6);
+//! assert_eq!(engine.eval::<String>("try { price(\"pear\", 1) } catch (why) { why }")?, "no price of pear");
+//! # Ok::<(), EvalError>(())
+//! ```
+//!
+//! The variables of a [`Scope`] live on between runs, and an [`Ast`] is a script that was read, for many:
 //!
 //! ```
 //! use rhai_world::{Engine, EvalError, Scope};
 //!
-//! let mut engine = Engine::new();
-//! engine.register_fn("twice", |n: i64| n * 2);
-//! let mut scope = Scope::new()?;
-//! scope.push("x", 20)?;
-//! assert_eq!(engine.eval_with_scope::<i64>(&mut scope, "x += 1; twice(x)")?, 42);
-//! assert_eq!(scope.get::<i64>("x"), Some(21));
+//! let engine = Engine::new();
+//! let ast = engine.compile("stock -= sold; fn is_low(stock) { stock < 10 }")?;
+//! let mut scope = Scope::of([("stock", 30), ("sold", 11)])?;
+//! engine.run_ast_with_scope(&mut scope, &ast)?;
+//! engine.run_ast_with_scope(&mut scope, &ast)?;
+//! assert_eq!(scope.get::<i64>("stock"), Some(8));
+//! assert!(engine.call_fn::<bool>(&mut Scope::of([("stock", 0), ("sold", 0)])?, &ast, "is_low", (8,))?);
 //! # Ok::<(), EvalError>(())
 //! ```
 //!
-//! Below that, a [`World`] is a store of shared cells, named values, and a hand of values that commands name by position. A [`Journal`] keeps
+//! What is wrong with a script has a name and a place, for the program and for who wrote it:
+//!
+//! ```
+//! use rhai_world::{Engine, EvalError};
+//!
+//! let text = "let x = 1;\nx + nowhere";
+//! let error = Engine::new().run(text).unwrap_err();
+//! assert!(matches!(error, EvalError::Runtime { line: 2, column: 5, .. }));
+//! println!("{}", error.render(text));
+//! ```
+//!
+//! A script that someone else wrote gets limits, none of which it catches. Its variables stay after each of them:
+//!
+//! ```
+//! use rhai_world::{Engine, EvalError};
+//! use std::time::Duration;
+//!
+//! let mut engine = Engine::new();
+//! engine
+//!     .set_max_operations(10_000_000)
+//!     .set_max_time(Duration::from_secs(5))
+//!     .set_max_memory(16 << 20)
+//!     .set_max_output(1 << 20);
+//! assert!(matches!(engine.run("let a = [1]; loop { a += a; }"), Err(EvalError::OutOfMemory { .. })));
+//! let interrupt = engine.interrupt();
+//! std::thread::spawn(move || interrupt.pull());
+//! # Ok::<(), EvalError>(())
+//! ```
+//!
+//! A program that has other work goes on with a [`Run`] by pieces:
+//!
+//! ```
+//! use rhai_world::{Engine, EvalError, Progress, Scope, Value};
+//!
+//! let engine = Engine::new();
+//! let ast = engine.compile("let n = 0; while n < 1_000 { n += 1; } n")?;
+//! let mut scope = Scope::new()?;
+//! let mut run = engine.start(&mut scope, &ast)?;
+//! while run.go(100)? == Progress::Paused {
+//!     // other work
+//! }
+//! drop(run);
+//! assert_eq!(scope.get::<i64>("n"), Some(1_000));
+//! # Ok::<(), EvalError>(())
+//! ```
+//!
+//! [`from_rhai_and_mlua`] has the names for who comes from there.
+//!
+//! # Below scripts
+//!
+//! A [`World`] is a store of shared cells, named values, and a hand of values that commands name by position. A [`Journal`] keeps
 //! commands as lines, and [`Script`] runs a script alone.
 //!
 //! ```
@@ -40,9 +119,11 @@
 //! # Ok::<(), Error>(())
 //! ```
 //!
-//! Nothing here panics, and want of memory is an error, but where a [`Value`] is cloned or compared: there it ends the program, as in
-//! [`Vec`]. A thread that calls wants [`STACK`] bytes of stack, one that runs scripts
-//! [`Script::STACK`].
+//! # What to expect
+//!
+//! Nothing here panics but what the program's own functions for lines, statements and progress do. Want of memory is an error, but where a
+//! [`Value`] is cloned or compared, or made of or taken as a type of Rust's: there it ends the program, as in [`Vec`]. A thread that calls
+//! wants [`STACK`] bytes of stack, one that runs scripts [`Script::STACK`].
 #![deny(
     missing_docs,
     unsafe_code,
@@ -56,11 +137,14 @@ mod answers;
 mod commands;
 mod engine;
 mod error;
+pub mod from_rhai_and_mlua;
 mod journal;
 mod kinds;
 mod limits;
 mod looks;
+mod memory;
 mod names;
+mod render;
 mod script;
 mod spelling;
 #[allow(missing_docs)]
@@ -70,17 +154,18 @@ mod world;
 
 pub use answer::{Answer, ArithmeticFault, Refusal, SizeKind};
 pub use commands::Command;
-pub use engine::{Arguments, Ast, Engine, EvalError, HostFn, Scope};
+pub use engine::{Arguments, Ast, Engine, EvalError, HostFn, Interrupt, Progress, Run, Scope, Variables, Wanted};
 pub use error::Error;
 pub use journal::Journal;
 pub use kinds::{Operator, Type};
 pub use limits::Limits;
 pub use looks::{Entries, Entry, Hand};
+pub use memory::Memory;
 pub use names::{Name, Place};
 pub use script::{Script, ScriptError};
 #[cfg(feature = "faults")]
 pub use sys::refuse;
-pub use value::{Array, Fields, Map, TryFromValueError, Value};
+pub use value::{Array, Fields, FromItem, IntoItem, Map, Misfit, NoIntError, TryFromValueError, Value};
 pub use world::World;
 
 /// How many bytes of stack a call of a [`World`] wants, however deep values are nested, while memory is there; a run of a [`Script`] wants

@@ -1,7 +1,7 @@
 //! Limits on sizes.
 use std::num::NonZeroUsize;
 
-/// The largest sizes that an operator may make; `None` is no limit.
+/// The largest sizes that an operator may make, and how much memory a world may hold; `None` is no limit.
 ///
 /// ```
 /// use rhai_world::{Error, Limits, Operator, Refusal, SizeKind, World};
@@ -21,12 +21,14 @@ pub struct Limits {
     pub text: Option<NonZeroUsize>,
     /// The items of an array, or the bytes of a blob.
     pub items: Option<NonZeroUsize>,
+    /// The bytes of memory that a world holds: [`World::set_max_memory`](crate::World::set_max_memory) tells how they are counted.
+    pub memory: Option<NonZeroUsize>,
 }
 
 impl Limits {
     /// Limits nothing.
     pub const fn new() -> Limits {
-        Limits { text: None, items: None }
+        Limits { text: None, items: None, memory: None }
     }
 
     /// Limits the bytes of a text.
@@ -39,7 +41,12 @@ impl Limits {
         Limits { items: most, ..self }
     }
 
-    /// Both as the library has them, where 0 is none.
+    /// Limits the bytes of memory that a world holds.
+    pub const fn with_memory(self, most: Option<NonZeroUsize>) -> Limits {
+        Limits { memory: most, ..self }
+    }
+
+    /// The sizes of texts and of items as the library has them, where 0 is none.
     pub(crate) fn numbers(self) -> (usize, usize) {
         let number = |most: Option<NonZeroUsize>| most.map_or(0, NonZeroUsize::get);
         (number(self.text), number(self.items))

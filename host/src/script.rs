@@ -1,6 +1,7 @@
 //! Runs of scripts.
 use crate::error::Error;
 use crate::limits::Limits;
+use crate::render::rendered;
 use crate::sys::numbers::End;
 use crate::sys::ScriptEnd;
 use crate::world::World;
@@ -28,10 +29,10 @@ impl Script {
     /// How many bytes of stack a run wants, whatever its text is, while memory is there: as many as a thread has that is told no number.
     pub const STACK: usize = 2 * 1024 * 1024;
 
-    /// Runs a script on values of its own, and answers what it prints. It may take so many operations, its values may grow up to the
-    /// limits, and 500 calls may stand within each other.
+    /// Runs a script on values of its own, and answers what it prints. It may take so many operations, its values and all its memory may
+    /// grow up to the limits, and 500 calls may stand within each other.
     pub fn run(text: &str, operations: u64, limits: Limits) -> Result<String, ScriptError> {
-        let world = World::new(Limits::default())?;
+        let world = World::new(Limits::default().with_memory(limits.memory))?;
         let (end, printed, message) = world.run_script(text, operations, limits, CALLS)?;
         let ScriptEnd { kind, line, column, .. } = end;
         match End::of(kind) {
@@ -88,6 +89,24 @@ impl ScriptError {
             | ScriptError::OtherLibrary
             | ScriptError::Unexpected => None,
         }
+    }
+}
+
+/// What is told of an error.
+impl ScriptError {
+    /// The line, where there is a place.
+    pub fn line(&self) -> Option<u32> {
+        self.position().map(|(line, _)| line)
+    }
+
+    /// The place on the line, where there is one.
+    pub fn column(&self) -> Option<u32> {
+        self.position().map(|(_, column)| column)
+    }
+
+    /// Renders the error for who wrote the script, as [`EvalError::render`](crate::EvalError::render) does.
+    pub fn render(&self, text: &str) -> String {
+        rendered(self, self.position(), text)
     }
 }
 

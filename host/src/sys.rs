@@ -1,6 +1,8 @@
 //! What crosses to the library. All `unsafe` of this crate stands in this module; `SAFETY.md` goes through it.
 #![allow(unsafe_code)]
 
+mod account;
+mod blocks;
 mod doors;
 mod exports;
 mod handle;

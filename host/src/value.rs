@@ -3,7 +3,10 @@ mod array;
 mod builder;
 mod convert;
 mod head;
+mod integers;
+mod items;
 mod map;
+mod misfit;
 mod put;
 mod read;
 mod shed;
@@ -11,8 +14,10 @@ mod walk;
 mod write;
 
 pub use array::Array;
-pub use convert::TryFromValueError;
+pub use integers::NoIntError;
+pub use items::{FromItem, IntoItem};
 pub use map::{Fields, Map};
+pub use misfit::{Misfit, TryFromValueError};
 
 use builder::Builder;
 use head::Parts;

@@ -45,6 +45,7 @@ impl World {
             return Err(Error::OtherLibrary);
         }
         let world = World { handle: Handle::closed(), names: Serials::default() };
+        world.handle.account().set_cap(limits.memory);
         let (text, items) = limits.numbers();
         done(sys::new(&world.handle, text, items))?;
         Ok(world)

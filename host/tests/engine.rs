@@ -185,3 +185,13 @@ fn statements_are_told_before_they_are_done() -> Result<(), EvalError> {
     assert_eq!(*places.lock().unwrap(), [(1, 1), (2, 1), (3, 3), (5, 1)]);
     Ok(())
 }
+
+#[test]
+fn maps_have_a_limit() -> Result<(), EvalError> {
+    let mut engine = Engine::new();
+    engine.set_max_map_size(3);
+    assert_eq!(engine.eval::<i64>("let m = #{a: 1, b: 2}; m.c = 3; m.a = 4; m.len()")?, 3);
+    let refused = engine.run("let m = #{a: 1, b: 2, c: 3}; m.d = 4;").unwrap_err();
+    assert!(matches!(refused, EvalError::Runtime { .. }));
+    Ok(())
+}

@@ -1,6 +1,9 @@
 //! Each request for memory refused in turn, and all from one on.
 #![cfg(feature = "faults")]
-use rhai_world::{refuse, Answer, Command, Error, Journal, Limits, Name, Operator, Place, Script, ScriptError, Type, World};
+use rhai_world::{
+    refuse, Answer, Command, Engine, Error, EvalError, Journal, Limits, Name, Operator, Place, Scope, Script, ScriptError, Type,
+    World,
+};
 
 fn script(x: Name) -> Vec<Command> {
     vec![
@@ -170,4 +173,42 @@ fn looks_and_journals() {
             lines <= 4 && journal.replayed().is_ok_and(|printed| printed.iter().filter(|&&byte| byte == b'\n').count() == lines)
         );
     }
+}
+
+/// A run over a scope: its functions, its variables, its errors and what it prints.
+const EMBEDDED: &str = "
+    let words = []; for i in 0..5 { words.push(`word` + i); } let add = |by| total += by; add.call(words.len());
+    let told = 0; try { told = ask(total); } catch (why) { told = why; } print(told); fn twice(n) { n * 2 } twice(total)";
+
+#[test]
+fn runs_over_scopes() {
+    let mut engine = Engine::new();
+    engine.on_print(|_| {}).register_fn("ask", |n: i64| if n == 5 { Err("it is five".to_owned()) } else { Ok(n) });
+    let new = || {
+        let mut scope = Scope::new().unwrap();
+        scope.push("total", 0).unwrap();
+        scope
+    };
+    let mut scope = new();
+    let ast = engine.compile_with_scope(&scope, &EMBEDDED.replace('`', "\"")).unwrap();
+    let (expected, asked) = refuse(u64::MAX, false, || engine.eval_ast_with_scope::<i64>(&mut scope, &ast));
+    assert_eq!(expected, Ok(10));
+    let mut stopped = 0;
+    for nth in 0..asked {
+        for lasts in [false, true] {
+            let mut scope = new();
+            let (found, _) = refuse(nth, lasts, || engine.eval_ast_with_scope::<i64>(&mut scope, &ast));
+            match found {
+                Err(EvalError::OutOfMemory { .. }) => stopped += 1,
+                // A few requests are for what can wait, as giving cells back can.
+                found => assert_eq!(found, expected, "request {nth}"),
+            }
+            let total = scope.get::<i64>("total");
+            assert!(matches!(total, Some(0 | 5)), "request {nth}: {total:?}");
+            scope.rewind(1).unwrap();
+            scope.set("total", 0).unwrap();
+            assert_eq!(engine.eval_ast_with_scope::<i64>(&mut scope, &ast), expected, "after request {nth}");
+        }
+    }
+    assert!(stopped > asked, "{stopped} of {}", 2 * asked);
 }

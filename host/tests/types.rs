@@ -1,7 +1,8 @@
 //! What the types promise beside their calls: which go to other threads, which are keys, and what they say.
 use rhai_world::{
-    Answer, ArithmeticFault, Array, Command, Entry, Error, Journal, Limits, Map, Name, Operator, Place, Refusal, Script,
-    ScriptError, SizeKind, TryFromValueError, Type, Value,
+    Answer, ArithmeticFault, Array, Ast, Command, Engine, Entries, Entry, Error, EvalError, Interrupt, Journal, Limits, Map,
+    Memory, Misfit, Name, NoIntError, Operator, Place, Progress, Refusal, Script, ScriptError, SizeKind, TryFromValueError, Type,
+    Value,
 };
 use std::collections::HashSet;
 use std::hash::Hash;
@@ -32,16 +33,24 @@ fn all_but_a_world_go_to_other_threads_and_are_keys() {
     is_a_key::<SizeKind>();
     is_a_key::<Type>();
     is_a_key::<Value>();
-    goes_to_threads::<rhai_world::Entries>();
-    goes_to_threads::<rhai_world::Engine>();
-    goes_to_threads::<rhai_world::Ast>();
-    goes_to_threads::<rhai_world::EvalError>();
+    is_a_key::<EvalError>();
+    is_a_key::<Memory>();
+    is_a_key::<Misfit>();
+    is_a_key::<NoIntError>();
+    is_a_key::<Progress>();
+    is_a_key::<TryFromValueError>();
+    goes_to_threads::<Ast>();
+    goes_to_threads::<Engine>();
+    goes_to_threads::<Entries>();
+    goes_to_threads::<Interrupt>();
 }
 
 #[test]
 fn errors() {
     is_an_error::<Error>();
     is_an_error::<Refusal>();
+    is_an_error::<EvalError>();
+    is_an_error::<NoIntError>();
     is_an_error::<ScriptError>();
     is_an_error::<TryFromValueError>();
     let error = Error::Refused(Refusal::WrongType("i64".into(), "string".into()));

@@ -145,7 +145,8 @@ fn types_of_rust() {
     assert_eq!(u8::try_from(Value::U8(255)), Ok(255));
     assert_eq!(i32::try_from(Value::I32(-1)), Ok(-1));
     assert_eq!(u128::try_from(Value::U128(u128::MAX)), Ok(u128::MAX));
-    assert_eq!(i128::try_from(Value::Int(1)).unwrap_err().value(), &Value::Int(1));
+    assert_eq!(i128::try_from(Value::Int(1)), Ok(1));
+    assert_eq!(u8::try_from(Value::Int(-1)).unwrap_err().value(), &Value::Int(-1));
     assert_eq!(Value::from("é"), Value::Text("é".into()));
     assert_eq!(Value::from(&b"\x00"[..]), Value::Blob(vec![0]));
 }

@@ -15,7 +15,7 @@ ghost use Rattle.rhai_value.specs.Places.{put_answer, put_store, put_value, way}
 ghost use Rattle.rhai_value.specs.Roots.{AreCollected};
 ghost use Rattle.rhai_value.specs.Store.{shared_store, shared_value};
 ghost use Rattle.rhai_value.specs.Tree.{copy, mode_of};
-ghost use Rattle.rhai_value.specs.declared.step.PlaceError.{PlaceError as Nowhere};
+ghost use Rattle.rhai_value.specs.declared.places.step.PlaceError.{PlaceError as Nowhere};
 
 use rhai_ops::laws::{operators_write_nothing, rows_suit};
 use rhai_ops::{get_builtin_binary_op_fn, get_builtin_op_assignment_fn};

@@ -1,9 +1,9 @@
 -- Values without their holders: their type, and that they have no holders to take off.
 use Rattle.std.proofs.Common.{◌≡◌, ℕ, ℤ, zero, suc, Bool, true, false, List, [], ◌∷◌, length, Option, Some, None, refl, sym, ap, ◌∙◌, unwrap_or}
-use Rattle.rhai_value.specs.declared.access_mode.AccessMode.{AccessMode}
-use Rattle.rhai_value.specs.declared.access_mode.AccessMode.TheVariants.{ReadWrite}
-use Rattle.rhai_value.specs.declared.store.Cell.{Cell}
-use Rattle.rhai_value.specs.declared.type_id.TypeId.TheVariants as id
+use Rattle.rhai_value.specs.declared.value.access_mode.AccessMode.{AccessMode}
+use Rattle.rhai_value.specs.declared.value.access_mode.AccessMode.TheVariants.{ReadWrite}
+use Rattle.rhai_value.specs.declared.cells.store.Cell.{Cell}
+use Rattle.rhai_value.specs.declared.value.type_id.TypeId.TheVariants as id
 use Rattle.rhai_value.specs.End.{End, held, stuck, closed, end_at, end_of, end, value_ahead, flat, flattened, flattened_holder, end_type}
 use Rattle.rhai_value.specs.Store.{at}
 use Rattle.rhai_value.specs.Tree.{Tree, node, leaf, branch, fields, holder, cell_of, copy}

@@ -4,13 +4,13 @@ use Rattle.std.specs.Borrow.{MutBor, Fml, RattleType, follows_if}
 use Rattle.std.specs.Option.{ghost_name_of}
 use mathlib.Core.Option as maybe
 use denote.Follow.{follows_by}
-use Rattle.rhai_value.specs.declared.access_mode.AccessMode.{AccessMode}
-use Rattle.rhai_value.specs.declared.chain.Site.TheVariants.{InCell}
-use Rattle.rhai_value.specs.declared.store.Cell.{Cell}
-use Rattle.rhai_value.specs.declared.type_id.TypeId.{TypeId}
-use Rattle.rhai_value.specs.declared.type_id.TypeId.TheVariants as id
-use Rattle.rhai_value.specs.contracts.dynamic.Dynamic as dynamic
-use Rattle.rhai_value.specs.contracts.store.Store as store
+use Rattle.rhai_value.specs.declared.value.access_mode.AccessMode.{AccessMode}
+use Rattle.rhai_value.specs.declared.cells.chain.Site.TheVariants.{InCell}
+use Rattle.rhai_value.specs.declared.cells.store.Cell.{Cell}
+use Rattle.rhai_value.specs.declared.value.type_id.TypeId.{TypeId}
+use Rattle.rhai_value.specs.declared.value.type_id.TypeId.TheVariants as id
+use Rattle.rhai_value.specs.contracts.value.dynamic.Dynamic as dynamic
+use Rattle.rhai_value.specs.contracts.cells.store.Store as store
 use Rattle.rhai_value.specs.End.{first, first_cell, site_cell, value_with_first, store_with_first}
 use Rattle.rhai_value.specs.Lent.{own_lent, far_lent, either_of, content_in, edited, edit_in}
 use Rattle.rhai_value.specs.Store.{at, put}

@@ -1,8 +1,8 @@
 -- Items of a plain type are read as copies of what they have.
 use Rattle.std.proofs.Common.{◌≡◌, Bool, true, false, List, Some, None, option_map, cond, refl, sym, ap, subst, ◌∙◌}
-use Rattle.rhai_value.specs.declared.store.Cell.{Cell}
-use Rattle.rhai_value.specs.declared.type_id.TypeId.{TypeId}
-use Rattle.rhai_value.specs.declared.type_id.TypeId.TheVariants as id
+use Rattle.rhai_value.specs.declared.cells.store.Cell.{Cell}
+use Rattle.rhai_value.specs.declared.value.type_id.TypeId.{TypeId}
+use Rattle.rhai_value.specs.declared.value.type_id.TypeId.TheVariants as id
 use Rattle.rhai_value.specs.End.{flattened}
 use Rattle.rhai_value.specs.Tree.{Tree, node, leaf, branch, fields, holder, Leaf, Kind, array, function, made, content_of, copy}
 use Rattle.rhai_value.specs.Types.{is_type, typed_content, leaf_type, kind_type}

@@ -1,9 +1,9 @@
 -- What no value is, and what can't be looked into.
 use Rattle.std.proofs.Common.{◌≡◌, Bool, true, false, cond, List, [], Option, Some, None, option_and_then, is_some, refl, ap, ◌∙◌}
-use Rattle.rhai_value.specs.declared.host.Host.TheVariants as host_kind
-use Rattle.rhai_value.specs.declared.store.Cell.{Cell}
-use Rattle.rhai_value.specs.declared.type_id.TypeId.{TypeId}
-use Rattle.rhai_value.specs.declared.type_id.TypeId.TheVariants as id
+use Rattle.rhai_value.specs.declared.value.host.Host.TheVariants as host_kind
+use Rattle.rhai_value.specs.declared.cells.store.Cell.{Cell}
+use Rattle.rhai_value.specs.declared.value.type_id.TypeId.{TypeId}
+use Rattle.rhai_value.specs.declared.value.type_id.TypeId.TheVariants as id
 use Rattle.rhai_value.specs.End.{End, end, held_in, type_of, end_type}
 use Rattle.rhai_value.specs.Tree.{Tree, node, leaf, branch, unit, host, array, cell_of}
 use Rattle.rhai_value.specs.Types.{tree_type, is_type}

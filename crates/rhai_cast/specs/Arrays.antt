@@ -1,11 +1,11 @@
 -- The items of an array, or the bytes of a blob, as values of one type.
 use Rattle.std.specs.Prelude.{◌≡◌, ℕ, Bool, true, ◌||◌, List, [], ◌∷◌, map, Option, Some, None, option_map, is_some}
-use Rattle.rhai_value.specs.declared.host.Host.TheVariants as host_kind
-use Rattle.rhai_value.specs.declared.into.IntoError.{IntoError}
-use Rattle.rhai_value.specs.declared.into.IntoError.TheVariants.{Mismatch, Memory}
-use Rattle.rhai_value.specs.declared.store.Cell.{Cell}
-use Rattle.rhai_value.specs.declared.type_id.TypeId.{TypeId}
-use Rattle.rhai_value.specs.declared.type_id.TypeId.TheVariants as id
+use Rattle.rhai_value.specs.declared.value.host.Host.TheVariants as host_kind
+use Rattle.rhai_value.specs.declared.value.into.IntoError.{IntoError}
+use Rattle.rhai_value.specs.declared.value.into.IntoError.TheVariants.{Mismatch, Memory}
+use Rattle.rhai_value.specs.declared.cells.store.Cell.{Cell}
+use Rattle.rhai_value.specs.declared.value.type_id.TypeId.{TypeId}
+use Rattle.rhai_value.specs.declared.value.type_id.TypeId.TheVariants as id
 use Rattle.rhai_value.specs.End.{End, end, held_part, flattened, end_name, array_moved}
 use Rattle.rhai_value.specs.Parts.{array_of, blob_of}
 use Rattle.rhai_value.specs.Tree.{Tree, Trees, no_trees, tree_then, fresh, host}

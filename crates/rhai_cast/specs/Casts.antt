@@ -2,10 +2,10 @@
 use Rattle.std.specs.Prelude.{◌≡◌, ℕ, Bool, true, List, [], Option, Some, None, option_and_then, is_some, if◌then◌else◌}
 use Rattle.std.specs.Borrow.{MutBor, GName, Fml, RattleType}
 use mathlib.Core.Option as maybe
-use Rattle.rhai_value.specs.declared.in_store.InStore.{InStore}
-use Rattle.rhai_value.specs.declared.store.Cell.{Cell}
-use Rattle.rhai_value.specs.declared.type_id.TypeId.{TypeId}
-use Rattle.rhai_value.specs.declared.type_id.TypeId.TheVariants as id
+use Rattle.rhai_value.specs.declared.parts.in_store.InStore.{InStore}
+use Rattle.rhai_value.specs.declared.cells.store.Cell.{Cell}
+use Rattle.rhai_value.specs.declared.value.type_id.TypeId.{TypeId}
+use Rattle.rhai_value.specs.declared.value.type_id.TypeId.TheVariants as id
 use Rattle.rhai_value.specs.End.{End, end, held_in, held_cell, first, first_cell, flattened, end_type}
 use Rattle.rhai_value.specs.Lent.{LendsFrom}
 use Rattle.rhai_value.specs.Tree.{Tree, node, holder, TakesNoMemory, cell_of}

@@ -1,10 +1,10 @@
 //! Items of arrays and bytes of blobs as values of one type.
 ghost use Rattle.std.specs.Prelude.{◌≡◌, ◌≤◌, true, List, [], ◌∷◌, ◌++◌, length, Some, None, map, option_map, vec_capacity, IfOk, IfErr, IsOk, IsTrue, OnOk};
-ghost use Rattle.rhai_value.specs.declared.store.Cell.{Cell};
+ghost use Rattle.rhai_value.specs.declared.cells.store.Cell.{Cell};
 ghost use Rattle.rhai_value.specs.End.{end};
 ghost use Rattle.rhai_value.specs.Rows.{trees_of};
 ghost use Rattle.rhai_value.specs.Types.{is_type, tree_type};
-ghost use Rattle.rhai_value.specs.declared.type_id.TypeId.TheVariants as type_id;
+ghost use Rattle.rhai_value.specs.declared.value.type_id.TypeId.TheVariants as type_id;
 ghost use Rattle.rhai_cast.specs.Arrays.{byte_tree, bytes_at, is_plain, read_all, IsUnread};
 
 use crate::cast::{DynamicCast, read_castable};

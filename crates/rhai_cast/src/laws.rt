@@ -4,9 +4,9 @@ ghost use Rattle.rhai_value.specs.End.{End, end, held_in, flat, flattened, end_t
 ghost use Rattle.rhai_value.specs.Relation.{Renaming, Related, Alike, IsOneToOne, RelatedCells};
 ghost use Rattle.rhai_value.specs.Tree.{Tree, cell_of};
 ghost use Rattle.rhai_value.specs.Types.{is_type, tree_type};
-ghost use Rattle.rhai_value.specs.declared.store.Cell.{Cell};
-ghost use Rattle.rhai_value.specs.declared.type_id.TypeId.TheVariants as type_id;
-ghost use Rattle.rhai_value.specs.declared.type_id.TypeId.{TypeId};
+ghost use Rattle.rhai_value.specs.declared.cells.store.Cell.{Cell};
+ghost use Rattle.rhai_value.specs.declared.value.type_id.TypeId.TheVariants as type_id;
+ghost use Rattle.rhai_value.specs.declared.value.type_id.TypeId.{TypeId};
 ghost use Rattle.rhai_variant.specs.Reads.{read};
 ghost use Rattle.rhai_cast.specs.Casts.{is_of, is_castable, locked};
 

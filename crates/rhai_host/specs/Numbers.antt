@@ -4,8 +4,8 @@ use Rattle.std.specs.Int.{cast_signed, w128}
 use Rattle.std.specs.Str.{chars, is_utf8}
 use Rattle.rhai_text.specs.declared.token.Token.{Token}
 use Rattle.rhai_text.specs.declared.token.Token.TheVariants as op
-use Rattle.rhai_value.specs.declared.type_id.TypeId.{TypeId}
-use Rattle.rhai_value.specs.declared.type_id.TypeId.TheVariants as id
+use Rattle.rhai_value.specs.declared.value.type_id.TypeId.{TypeId}
+use Rattle.rhai_value.specs.declared.value.type_id.TypeId.TheVariants as id
 
 -- the types, in the order of their numbers
 abbrev pub types : List TypeId

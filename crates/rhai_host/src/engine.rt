@@ -139,7 +139,7 @@ fn tell_error(alloc: Global, kept: &mut Kept, stop: &mut ScriptStop, error: Scri
             tell_stop(kept, stop, 6, place, why.as_str());
             true
         }
-        ScriptError::Syntax(SyntaxError::OutOfMemory) | ScriptError::OutOfMemory => false,
+        ScriptError::Syntax(SyntaxError::OutOfMemory) | ScriptError::OutOfMemory(_) => false,
     }
 }
 
@@ -189,7 +189,7 @@ pub extern "C" fn rhai_host_script_compile(
     status
 }
 
-/// Begins a run of the script over the variables, with the largest sizes of texts and arrays, 0 being none, and of calls within each
+/// Begins a run of the script over the variables, with the largest sizes of texts, arrays and maps, 0 being none, and of calls within each
 /// other. Without its body, it has ended at once, and functions may be called.
 #[unsafe(no_mangle)]
 pub extern "C" fn rhai_host_script_begin(
@@ -197,6 +197,7 @@ pub extern "C" fn rhai_host_script_begin(
     handle: &mut Handle,
     text: usize,
     items: usize,
+    entries: usize,
     calls: usize,
     with_body: bool,
 ) -> u32
@@ -207,6 +208,9 @@ pub extern "C" fn rhai_host_script_begin(
     };
     let limits = RunLimits {
         sizes: Limits { text, items },
+        entries,
+        output: 0,
+        operations: u64::MAX,
         calls,
     };
     let status = match kept.engine.begin(&limits, with_body) {

@@ -2,7 +2,7 @@
 ghost use Rattle.rhai_host.specs.Content.{content};
 ghost use Rattle.rhai_run.specs.declared.command.Command.TheVariants as command;
 ghost use Rattle.rhai_run.specs.declared.command.Literal.TheVariants as literal;
-ghost use Rattle.rhai_value.specs.declared.host.Host.TheVariants as host;
+ghost use Rattle.rhai_value.specs.declared.value.host.Host.TheVariants as host;
 ghost use Rattle.rhai_host.specs.Calls.{Performs};
 
 use crate::handle::Handle;

@@ -73,7 +73,7 @@ fn told_end(
         }
         Err(ScriptError::TooLarge(place)) => end_at(1, place, printed, TOO_LARGE),
         Err(ScriptError::Fault(why, place)) => end_at(2, place, printed, why.as_str()),
-        Err(ScriptError::Syntax(SyntaxError::OutOfMemory) | ScriptError::OutOfMemory) => Err(
+        Err(ScriptError::Syntax(SyntaxError::OutOfMemory) | ScriptError::OutOfMemory(_)) => Err(
             AllocError,
         ),
     }
@@ -124,6 +124,8 @@ pub extern "C" fn rhai_host_run_script(
     };
     let limits = ScriptLimits {
         sizes: Limits { text, items },
+        entries: 0,
+        output: 0,
         operations,
         calls,
     };

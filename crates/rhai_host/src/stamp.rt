@@ -2,4 +2,4 @@
 
 /// Does nothing: its name is a sum of all that is exported, so that a host of other declarations doesn't link.
 #[unsafe(no_mangle)]
-pub extern "C" fn rhai_host_stamp_4ca27d418a440669() {}
+pub extern "C" fn rhai_host_stamp_45eb2456b2bd3373() {}

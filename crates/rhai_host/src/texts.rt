@@ -4,7 +4,7 @@ ghost use Rattle.std.specs.Str.{chars};
 ghost use Rattle.rhai_host.specs.Content.{content};
 ghost use Rattle.rhai_run.specs.declared.command.Command.TheVariants as command;
 ghost use Rattle.rhai_run.specs.declared.command.Literal.TheVariants as literal;
-ghost use Rattle.rhai_value.specs.declared.host.Host.TheVariants as host;
+ghost use Rattle.rhai_value.specs.declared.value.host.Host.TheVariants as host;
 ghost use Rattle.rhai_host.specs.Calls.{Performs, PerformsSaid};
 ghost use Rattle.rhai_host.specs.Numbers.{char_of, text_of, wide, wide_signed};
 

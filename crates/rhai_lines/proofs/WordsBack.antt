@@ -12,7 +12,7 @@ use Rattle.rhai_text.specs.contracts.token.Token as token
 use Rattle.rhai_text.specs.declared.token.Token.{Token}
 use Rattle.rhai_value.specs.Kinds.{one_type}
 use Rattle.rhai_value.specs.Types.{is_type}
-use Rattle.rhai_value.specs.declared.type_id.TypeId.{TypeId}
+use Rattle.rhai_value.specs.declared.value.type_id.TypeId.{TypeId}
 use Rattle.rhai_lines.specs.Words.{Left, next_word, and_then, named, is_name, is_name_byte, name_of, truths}
 use Rattle.rhai_lines.specs.Vocabulary.{Word, reads, a_name, a_truth, a_position, a_bit, an_int, a_tag, kinds, operators, a_kind, a_token, question_by, a_question, scanner_by, a_scanner, host_of, a_host, place_of, a_place}
 use Rattle.rhai_lines.specs.Spelling.{behind, spells, called, unsigned_word, signed_word, is_token, question_words, scanner_words, host_words, place_word, with_word}
@@ -23,8 +23,8 @@ use Rattle.rhai_run.specs.declared.command.Scanner.{Scanner}
 use Rattle.rhai_run.specs.declared.command.Scanner.TheVariants.{Tags, Cut}
 use Rattle.rhai_run.specs.declared.command.Place.{Place}
 use Rattle.rhai_run.specs.declared.command.Place.TheVariants as place
-use Rattle.rhai_value.specs.declared.host.Host.{Host}
-use Rattle.rhai_value.specs.declared.host.Host.TheVariants as host
+use Rattle.rhai_value.specs.declared.value.host.Host.{Host}
+use Rattle.rhai_value.specs.declared.value.host.Host.TheVariants as host
 use Rattle.rhai_lines.proofs.Names.{name_graphic}
 use Rattle.rhai_lines.proofs.Sigils.{no_digits}
 use Rattle.rhai_lines.proofs.SaysBack.{the_same, graphic, is_graphic, both, SaysBack, Back, next_is, one_back, called_back, graphic_no_feed, graphic_utf8, has_feed_append, utf8_behind}

@@ -2,16 +2,16 @@
 use Rattle.std.specs.Prelude.{ℕ, ℤ, Bool, ◌==◌, List, [], ◌∷◌, Option, Some, None, option_map, codes, bytes_eq, if◌then◌else◌}
 use Rattle.rhai_text.specs.declared.token.Token.{Token}
 use Rattle.rhai_text.specs.declared.token.Token.TheVariants.{Plus, Minus, Multiply, Divide, Modulo, PowerOf, RightShift, LeftShift, Ampersand, Pipe, XOr, EqualsTo, NotEqualsTo, GreaterThan, GreaterThanEqualsTo, LessThan, LessThanEqualsTo, ExclusiveRange, InclusiveRange, Equals, PlusAssign, MinusAssign, MultiplyAssign, DivideAssign, ModuloAssign, PowerOfAssign, RightShiftAssign, LeftShiftAssign, AndAssign, OrAssign, XOrAssign}
-use Rattle.rhai_value.specs.declared.type_id.TypeId.{TypeId}
-use Rattle.rhai_value.specs.declared.type_id.TypeId.TheVariants as kind
+use Rattle.rhai_value.specs.declared.value.type_id.TypeId.{TypeId}
+use Rattle.rhai_value.specs.declared.value.type_id.TypeId.TheVariants as kind
 use Rattle.rhai_run.specs.declared.command.Question.{Question}
 use Rattle.rhai_run.specs.declared.command.Question.TheVariants as question
 use Rattle.rhai_run.specs.declared.command.Scanner.{Scanner}
 use Rattle.rhai_run.specs.declared.command.Scanner.TheVariants.{Tags, Zero, NoShare, Cut}
 use Rattle.rhai_run.specs.declared.command.Place.{Place}
 use Rattle.rhai_run.specs.declared.command.Place.TheVariants as place
-use Rattle.rhai_value.specs.declared.host.Host.{Host}
-use Rattle.rhai_value.specs.declared.host.Host.TheVariants as host
+use Rattle.rhai_value.specs.declared.value.host.Host.{Host}
+use Rattle.rhai_value.specs.declared.value.host.Host.TheVariants as host
 use Rattle.rhai_lines.specs.Words.{Left, next_word, and_then, named, name_of, truths}
 use Rattle.rhai_lines.specs.Numbers.{unsigned_of, signed_of}
 

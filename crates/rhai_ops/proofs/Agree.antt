@@ -9,11 +9,11 @@ use Rattle.rhai_text.specs.declared.limits.Limits.{Limits}
 use Rattle.rhai_text.specs.contracts.token.Token as token
 use Rattle.rhai_text.specs.declared.token.Token.{Token}
 use Rattle.rhai_text.specs.declared.token.Token.TheVariants as op
-use Rattle.rhai_value.specs.declared.access_mode.AccessMode.{AccessMode}
-use Rattle.rhai_value.specs.declared.access_mode.AccessMode.TheVariants.{ReadWrite}
-use Rattle.rhai_value.specs.declared.store.Cell.{Cell}
-use Rattle.rhai_value.specs.declared.type_id.TypeId.{TypeId}
-use Rattle.rhai_value.specs.declared.type_id.TypeId.TheVariants as id
+use Rattle.rhai_value.specs.declared.value.access_mode.AccessMode.{AccessMode}
+use Rattle.rhai_value.specs.declared.value.access_mode.AccessMode.TheVariants.{ReadWrite}
+use Rattle.rhai_value.specs.declared.cells.store.Cell.{Cell}
+use Rattle.rhai_value.specs.declared.value.type_id.TypeId.{TypeId}
+use Rattle.rhai_value.specs.declared.value.type_id.TypeId.TheVariants as id
 use Rattle.rhai_value.specs.Tree.{Tree, Trees, node, leaf, branch, fields, holder, array, function, Leaf, unit, bool, int, char, text, blob, host, fresh, copy, content_of}
 use Rattle.rhai_value.specs.Parts.{char_of, text_of, blob_of}
 use Rattle.rhai_value.specs.Types.{is_type}

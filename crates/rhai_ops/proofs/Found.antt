@@ -7,10 +7,10 @@ use Rattle.rhai_text.specs.Text.{minus, minus_char}
 use Rattle.rhai_text.specs.declared.error.SizeKind.TheVariants as size
 use Rattle.rhai_text.specs.declared.limits.Limits.{Limits}
 use Rattle.rhai_text.specs.declared.token.Token.{Token}
-use Rattle.rhai_value.specs.declared.access_mode.AccessMode.TheVariants.{ReadWrite}
-use Rattle.rhai_value.specs.declared.host.Host.{Host}
-use Rattle.rhai_value.specs.declared.host.Host.TheVariants.{ExclusiveRange, InclusiveRange}
-use Rattle.rhai_value.specs.declared.store.Cell.{Cell}
+use Rattle.rhai_value.specs.declared.value.access_mode.AccessMode.TheVariants.{ReadWrite}
+use Rattle.rhai_value.specs.declared.value.host.Host.{Host}
+use Rattle.rhai_value.specs.declared.value.host.Host.TheVariants.{ExclusiveRange, InclusiveRange}
+use Rattle.rhai_value.specs.declared.cells.store.Cell.{Cell}
 use Rattle.rhai_value.specs.Bytes.{low_byte}
 use Rattle.rhai_value.specs.Tree.{Tree, Trees, node, leaf, branch, fields, holder, array, made, fresh, text, blob, copy, copy_trees, mode_of}
 use Rattle.rhai_value.specs.Parts.{array_of, char_of, int_of, host_of, typed_host_of}

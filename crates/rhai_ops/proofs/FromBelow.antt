@@ -1,9 +1,9 @@
 -- Writes of a held part: what an assignment leaves.
 use Rattle.std.proofs.Common.{◌≡◌, List, [], Option, Some, Result, Ok, Err, OnOk, OnErr, option_map, refl, ap, ◌∙◌}
 use Rattle.rhai_text.specs.declared.error.EvalAltResult.{EvalAltResult}
-use Rattle.rhai_value.specs.declared.store.Cell.{Cell}
-use Rattle.rhai_value.specs.declared.type_id.TypeId.{TypeId}
-use Rattle.rhai_value.specs.declared.type_id.TypeId.TheVariants as id
+use Rattle.rhai_value.specs.declared.cells.store.Cell.{Cell}
+use Rattle.rhai_value.specs.declared.value.type_id.TypeId.{TypeId}
+use Rattle.rhai_value.specs.declared.value.type_id.TypeId.TheVariants as id
 use Rattle.rhai_value.specs.Kinds.{int_reads, blob_reads, array_reads, text_reads}
 use Rattle.rhai_value.specs.Tree.{Tree, Trees, Content, node, leaf, branch, array, int, blob, text, made}
 use Rattle.rhai_value.specs.Types.{typed_content}

@@ -1,7 +1,7 @@
 -- A call keeps the tag and the mode of whatever it writes to.
 use Rattle.std.proofs.Common.{◌≡◌, ℕ, zero, suc, Bool, true, false, if◌then◌else◌, List, [], ◌∷◌, Some, None, option_map, refl, sym, ap, ◌∙◌}
-use Rattle.rhai_value.specs.declared.chain.Site.TheVariants.{Here, InCell}
-use Rattle.rhai_value.specs.declared.store.Cell.{Cell}
+use Rattle.rhai_value.specs.declared.cells.chain.Site.TheVariants.{Here, InCell}
+use Rattle.rhai_value.specs.declared.cells.store.Cell.{Cell}
 use Rattle.rhai_value.specs.End.{End, held, stuck, closed, end, value_after, store_after}
 use Rattle.rhai_value.specs.Parts.{with_content}
 use Rattle.rhai_value.specs.Store.{at, content_at, put}

@@ -1,9 +1,9 @@
 -- The rows of operators only answer, those of assignments write.
 use Rattle.std.proofs.Common.{◌≡◌, ◌||◌, ◌&&◌, List, [], Some, IsTrue, refl}
 use Rattle.rhai_text.specs.declared.token.Token.{Token}
-use Rattle.rhai_value.specs.declared.store.Cell.{Cell}
-use Rattle.rhai_value.specs.declared.type_id.TypeId.{TypeId}
-use Rattle.rhai_value.specs.declared.type_id.TypeId.TheVariants as id
+use Rattle.rhai_value.specs.declared.cells.store.Cell.{Cell}
+use Rattle.rhai_value.specs.declared.value.type_id.TypeId.{TypeId}
+use Rattle.rhai_value.specs.declared.value.type_id.TypeId.TheVariants as id
 use Rattle.rhai_value.specs.Tree.{Tree}
 use Rattle.rhai_value.specs.End.{end, end_type}
 use Rattle.rhai_value.specs.Types.{is_type}

@@ -1,6 +1,6 @@
 -- What calls leave, of values that are the same up to the numbers of their cells.
 use Rattle.std.proofs.Common.{◌≡◌, ℕ, List, [], length, refl}
-use Rattle.rhai_value.specs.declared.store.Cell.{Cell}
+use Rattle.rhai_value.specs.declared.cells.store.Cell.{Cell}
 use Rattle.rhai_value.specs.Tree.{Tree, node}
 use Rattle.rhai_value.specs.Store.{is_marked_at}
 use Rattle.rhai_value.specs.End.{end}

@@ -3,7 +3,7 @@ use Rattle.std.proofs.Common.{◌≡◌, suc, Bool, true, false, List, [], Optio
 use Rattle.std.specs.Option.{option_or}
 use Rattle.rhai_text.specs.declared.error.SizeKind.TheVariants as size
 use Rattle.rhai_text.specs.declared.limits.Limits.{Limits}
-use Rattle.rhai_value.specs.declared.store.Cell.{Cell}
+use Rattle.rhai_value.specs.declared.cells.store.Cell.{Cell}
 use Rattle.rhai_value.specs.Tree.{Tree, Trees, no_trees, tree_then, node, leaf, branch, fields, holder, array, function, made, copy_trees}
 use Rattle.rhai_value.specs.Parts.{array_of}
 use Rattle.rhai_value.specs.End.{End, end, held, stuck, closed, held_part, array_moved}

@@ -2,11 +2,11 @@
 use Rattle.std.proofs.Common.{◌≡◌, ℕ, ℤ, Bool, true, false, ◌||◌, ◌&&◌, List, [], ◌∷◌, slice_get, Option, Some, None, IsSome, option_map, refl, sym, ap, ◌∙◌, subst}
 use Rattle.std.proofs.lemmas.Option.{same_Some}
 use Rattle.rhai_text.specs.declared.token.Token.{Token}
-use Rattle.rhai_value.specs.declared.access_mode.AccessMode.{AccessMode}
-use Rattle.rhai_value.specs.declared.chain.Site.{Site}
-use Rattle.rhai_value.specs.declared.store.Cell.{Cell}
-use Rattle.rhai_value.specs.declared.type_id.TypeId.{TypeId}
-use Rattle.rhai_value.specs.declared.type_id.TypeId.TheVariants as id
+use Rattle.rhai_value.specs.declared.value.access_mode.AccessMode.{AccessMode}
+use Rattle.rhai_value.specs.declared.cells.chain.Site.{Site}
+use Rattle.rhai_value.specs.declared.cells.store.Cell.{Cell}
+use Rattle.rhai_value.specs.declared.value.type_id.TypeId.{TypeId}
+use Rattle.rhai_value.specs.declared.value.type_id.TypeId.TheVariants as id
 use Rattle.rhai_value.specs.Tree.{Tree, Trees, Kind, node, leaf, branch, fields, holder, array, function, Leaf, unit, bool, int, char, text, blob, host, content_of}
 use Rattle.rhai_value.specs.Parts.{unit_of, bool_of, int_of, char_of, text_of, blob_of, array_of, typed_host_of}
 use Rattle.rhai_value.specs.Store.{at}

@@ -2,7 +2,7 @@
 -- ends, and answers unit.
 use Rattle.std.specs.Prelude.{◌≡◌, Bool, true, false, List, [], Result, IfOk, IfErr}
 use Rattle.rhai_text.specs.declared.error.EvalAltResult.{EvalAltResult}
-use Rattle.rhai_value.specs.declared.store.Cell.{Cell}
+use Rattle.rhai_value.specs.declared.cells.store.Cell.{Cell}
 use Rattle.rhai_value.specs.Tree.{Tree, node, leaf, char, text, content_of, fresh, unit}
 use Rattle.rhai_value.specs.Parts.{with_content}
 use Rattle.rhai_value.specs.End.{end, value_after, store_after}

@@ -3,7 +3,7 @@ use Rattle.std.specs.Prelude.{List, [], Option, option_and_then}
 use Rattle.std.specs.Option.{option_flatten}
 use Rattle.std.specs.declared.cmp.Ordering.{Ordering}
 use Rattle.rhai_text.specs.declared.token.Token.TheVariants as op
-use Rattle.rhai_value.specs.declared.store.Cell.{Cell}
+use Rattle.rhai_value.specs.declared.cells.store.Cell.{Cell}
 use Rattle.rhai_value.specs.Tree.{Tree}
 use Rattle.rhai_value.specs.End.{end, held_in}
 use Rattle.rhai_ops.specs.declared.builtin.FnBuiltin.{FnBuiltin}

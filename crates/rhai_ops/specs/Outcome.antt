@@ -10,7 +10,7 @@ use Rattle.rhai_text.specs.declared.error.SizeKind.TheVariants as size
 use Rattle.rhai_text.specs.declared.limits.Limits.{Limits}
 use Rattle.rhai_text.specs.declared.position.Position.{Position}
 use Rattle.rhai_value.specs.Tree.{Tree, fresh, bool, int, text, blob, mode_of}
-use Rattle.rhai_value.specs.declared.access_mode.AccessMode.TheVariants.{ReadWrite}
+use Rattle.rhai_value.specs.declared.value.access_mode.AccessMode.TheVariants.{ReadWrite}
 use Rattle.rhai_value.specs.Relation.{Renaming, Related}
 use Rattle.rhai_ops.specs.Numbers.{Number}
 

@@ -9,11 +9,11 @@ use Rattle.std.specs.declared.cmp.Ordering.{Ordering}
 use Rattle.rhai_text.specs.Text.{minus, minus_char}
 use Rattle.rhai_text.specs.declared.error.SizeKind.TheVariants as size
 use Rattle.rhai_text.specs.declared.limits.Limits.{Limits}
-use Rattle.rhai_value.specs.declared.host.Host.{Host}
-use Rattle.rhai_value.specs.declared.host.Host.TheVariants.{ExclusiveRange, InclusiveRange}
-use Rattle.rhai_value.specs.declared.store.Cell.{Cell}
-use Rattle.rhai_value.specs.declared.type_id.TypeId.{TypeId}
-use Rattle.rhai_value.specs.declared.type_id.TypeId.TheVariants as id
+use Rattle.rhai_value.specs.declared.value.host.Host.{Host}
+use Rattle.rhai_value.specs.declared.value.host.Host.TheVariants.{ExclusiveRange, InclusiveRange}
+use Rattle.rhai_value.specs.declared.cells.store.Cell.{Cell}
+use Rattle.rhai_value.specs.declared.value.type_id.TypeId.{TypeId}
+use Rattle.rhai_value.specs.declared.value.type_id.TypeId.TheVariants as id
 use Rattle.rhai_value.specs.Tree.{Tree, Trees, no_trees, tree_then, branch, array, made, fresh, bool, char, text, blob, host, copy, TakesNoMemory}
 use Rattle.rhai_value.specs.Parts.{unit_of, bool_of, int_of, char_of, text_of, blob_of, array_of, typed_host_of}
 use Rattle.rhai_value.specs.End.{end, held_part, flat, array_moved}

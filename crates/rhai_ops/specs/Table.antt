@@ -3,9 +3,9 @@ use Rattle.std.specs.Prelude.{Bool, true, false, ◌||◌, ◌&&◌, List, [], �
 use Rattle.std.specs.List.{list_any}
 use Rattle.rhai_text.specs.declared.token.Token.{Token}
 use Rattle.rhai_text.specs.declared.token.Token.TheVariants as op
-use Rattle.rhai_value.specs.declared.store.Cell.{Cell}
-use Rattle.rhai_value.specs.declared.type_id.TypeId.{TypeId}
-use Rattle.rhai_value.specs.declared.type_id.TypeId.TheVariants as id
+use Rattle.rhai_value.specs.declared.cells.store.Cell.{Cell}
+use Rattle.rhai_value.specs.declared.value.type_id.TypeId.{TypeId}
+use Rattle.rhai_value.specs.declared.value.type_id.TypeId.TheVariants as id
 use Rattle.rhai_value.specs.Tree.{Tree, node, leaf, branch, fields, holder, array, function, Leaf, unit, bool, int, char, text, blob, host}
 use Rattle.rhai_value.specs.End.{end, end_type}
 use Rattle.rhai_value.specs.Types.{is_type}

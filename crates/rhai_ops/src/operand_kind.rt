@@ -1,6 +1,6 @@
 // The constructor of a value, as far as the table tells constructors apart.
 ghost use Rattle.std.specs.Prelude.{◌≡◌, IfSome, IsTrue, List, Some};
-ghost use Rattle.rhai_value.specs.declared.store.Cell.{Cell};
+ghost use Rattle.rhai_value.specs.declared.cells.store.Cell.{Cell};
 ghost use Rattle.rhai_value.specs.Parts.{int_of, text_of};
 ghost use Rattle.rhai_ops.specs.Results.{part};
 ghost use Rattle.rhai_ops.specs.Table.{operand_kind};

@@ -1,7 +1,7 @@
 -- Values that are the same.
 use Rattle.std.proofs.Common.{◌≡◌, ◌↔◌, ◌&&◌, ℕ, Bool, true, false, List, [], Option, Some, None, is_some, IfSome, IsTrue, nat_eq, option_map, refl, sym, ◌∙◌}
 use Rattle.std.specs.Cmp.Lexicographic.{bytes_decides, pointwise}
-use Rattle.rhai_value.specs.declared.store.Cell.{Cell}
+use Rattle.rhai_value.specs.declared.cells.store.Cell.{Cell}
 use Rattle.rhai_value.specs.Tree.{Tree}
 use Rattle.rhai_show.specs.Plain.{plain}
 use Rattle.rhai_show.specs.HashBytes.{plain_bytes}

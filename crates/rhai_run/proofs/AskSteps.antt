@@ -8,7 +8,7 @@ use Rattle.rhai_value.specs.End.{End, end, constant_in, end_type}
 use Rattle.rhai_value.specs.Types.{type_name, is_type}
 use Rattle.rhai_value.specs.Relation.{Renaming, Related, RelatedEnds, Alike}
 use Rattle.rhai_value.proofs.ForCallers.{same_tag, same_mode, same_host, same_shared, same_held_leaf, same_end_type, same_first, same_locked, same_end}
-use Rattle.rhai_value.specs.declared.type_id.TypeId.TheVariants as id
+use Rattle.rhai_value.specs.declared.value.type_id.TypeId.TheVariants as id
 use Rattle.rhai_cast.proofs.ForCallers.{same_is}
 use Rattle.rhai_show.specs.declared.form.Form.{Form}
 use Rattle.rhai_show.specs.declared.form.Form.TheVariants.{Display, Debug}

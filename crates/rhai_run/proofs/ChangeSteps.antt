@@ -1,6 +1,6 @@
 -- Steps that change values, on two states that are the same up to a renaming.
 use Rattle.std.proofs.Common.{ℕ, ℤ, pos, [], ◌++◌, length, slice_set, refl, length-append}
-use Rattle.rhai_value.specs.declared.access_mode.AccessMode.TheVariants.{ReadOnly}
+use Rattle.rhai_value.specs.declared.value.access_mode.AccessMode.TheVariants.{ReadOnly}
 use Rattle.rhai_value.specs.Tree.{Tree, node, holder, mode_of}
 use Rattle.rhai_value.specs.Parts.{leaf_int, int_of, with_int}
 use Rattle.rhai_value.specs.Store.{added}

@@ -1,8 +1,8 @@
 -- Steps on the last entry of a name, on two states that are the same up to a renaming.
 use Rattle.std.proofs.Common.{◌≡◌, ℕ, ℤ, List, [], ◌∷◌, Option, Some, None, option_map, is_some, cond, refl, ap, ap₂, subst}
 use Rattle.std.specs.List.{AllZip}
-use Rattle.rhai_value.specs.declared.type_id.TypeId.{TypeId}
-use Rattle.rhai_value.specs.declared.type_id.TypeId.TheVariants as id
+use Rattle.rhai_value.specs.declared.value.type_id.TypeId.{TypeId}
+use Rattle.rhai_value.specs.declared.value.type_id.TypeId.TheVariants as id
 use Rattle.rhai_value.specs.Tree.{Tree, copy, fresh, int}
 use Rattle.rhai_value.specs.Types.{is_type}
 use Rattle.rhai_value.specs.Relation.{Renaming, Related, Alike}

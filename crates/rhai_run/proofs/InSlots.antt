@@ -3,7 +3,7 @@ use Rattle.std.proofs.Common.{◌≡◌, ℕ, Bool, true, false, cond, nat_eq, [
 use Rattle.std.specs.Option.{ok_or}
 use Rattle.std.proofs.lemmas.Option.{same_Some}
 use Rattle.rhai_value.specs.End.{end, store_after, value_after}
-use Rattle.rhai_value.specs.declared.store.Cell.{Cell}
+use Rattle.rhai_value.specs.declared.cells.store.Cell.{Cell}
 use Rattle.rhai_value.specs.Tree.{Tree}
 use Rattle.rhai_scope.specs.Entry.{Entry, is_constant_entry, with_value as holding}
 use Rattle.rhai_scope.specs.Lookup.{changed_if, last_entry, last_position}

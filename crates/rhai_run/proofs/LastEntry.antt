@@ -4,8 +4,8 @@ use Rattle.std.proofs.lemmas.Option.{same_Some}
 use Rattle.std.specs.Prelude.{remove}
 use Rattle.rhai_value.specs.End.{flattened}
 use Rattle.rhai_value.specs.Tree.{Tree, cell_of, copy, fresh, int}
-use Rattle.rhai_value.specs.declared.type_id.TypeId.{TypeId}
-use Rattle.rhai_value.specs.declared.type_id.TypeId.TheVariants as id
+use Rattle.rhai_value.specs.declared.value.type_id.TypeId.{TypeId}
+use Rattle.rhai_value.specs.declared.value.type_id.TypeId.TheVariants as id
 use Rattle.rhai_scope.specs.Entry.{Entry, is_constant_entry, with_value as holding}
 use Rattle.rhai_scope.specs.Lookup.{last_position, value_named, changed_at}
 use Rattle.rhai_scope.proofs.ForCallers.{written_there}

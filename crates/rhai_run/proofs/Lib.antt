@@ -27,14 +27,8 @@ pub mod Collecting
 pub mod Refusals
 pub mod Runs
 pub mod GoingOn
-pub mod Progress
-pub mod Meant
-pub mod Layered
-pub mod Framed
-pub mod Sheds
-pub mod ProgramsAlike
+pub mod Expressions
 pub mod LastRows
-pub mod Left
 pub mod Moves
 pub mod MapRows
 pub mod LastEntry

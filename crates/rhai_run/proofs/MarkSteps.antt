@@ -1,7 +1,7 @@
 -- Steps on the list of marks, on two states that are the same up to a renaming.
 use Rattle.std.proofs.Common.{◌≡◌, ℕ, zero, suc, Bool, true, false, List, [], ◌∷◌, length, slice_get, not, refl, ap}
 use Rattle.std.specs.List.{AllZip}
-use Rattle.rhai_value.specs.declared.store.Cell.{Cell}
+use Rattle.rhai_value.specs.declared.cells.store.Cell.{Cell}
 use Rattle.rhai_value.specs.Tree.{Tree, copy}
 use Rattle.rhai_value.specs.End.{first_cell}
 use Rattle.rhai_value.specs.Store.{content_at, is_marked_at, put}

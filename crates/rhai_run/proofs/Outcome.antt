@@ -2,7 +2,7 @@
 use Rattle.std.proofs.Common.{◌≡◌, ℕ, ◌+◌, ◌-◌, Bool, true, false, cond, nat_eq, nat_le, List, [], ◌∷◌, length, take, drop, slice_get, slice_set, Option, Some, None, refl, sym, ap, ◌∙◌, subst, arith, append-nil}
 use Rattle.std.proofs.lemmas.Option.{same_Some}
 use Rattle.std.specs.List.{AllZip}
-use Rattle.rhai_value.specs.declared.store.Cell.{Cell}
+use Rattle.rhai_value.specs.declared.cells.store.Cell.{Cell}
 use Rattle.rhai_value.specs.End.{End, end_type, held_part}
 use Rattle.rhai_value.specs.Tree.{Tree, unit, fresh}
 use Rattle.rhai_value.specs.Types.{type_name}

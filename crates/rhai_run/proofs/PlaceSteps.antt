@@ -1,7 +1,7 @@
 -- What is done at a place, on two states that are the same up to a renaming.
 use Rattle.std.proofs.Common.{◌≡◌, ℕ, Bool, List, [], length, refl}
 use Rattle.std.specs.List.{AllZip}
-use Rattle.rhai_value.specs.declared.store.Cell.{Cell}
+use Rattle.rhai_value.specs.declared.cells.store.Cell.{Cell}
 use Rattle.rhai_value.specs.Tree.{Tree}
 use Rattle.rhai_value.specs.Store.{is_marked_at}
 use Rattle.rhai_value.specs.Relation.{Renaming, Related, RelatedCells, Respect}

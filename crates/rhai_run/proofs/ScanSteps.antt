@@ -1,6 +1,6 @@
 -- Scans, on two states that are the same up to a renaming.
 use Rattle.std.proofs.Common.{◌≡◌, ℕ, ℤ, zero, suc, pos, Bool, true, false, cond, refl, ap}
-use Rattle.rhai_value.specs.declared.access_mode.AccessMode.{AccessMode}
+use Rattle.rhai_value.specs.declared.value.access_mode.AccessMode.{AccessMode}
 use Rattle.rhai_value.specs.Relation.{Renaming, Related, AllRelated}
 use Rattle.rhai_value.specs.Scan.{SameVisits}
 use Rattle.rhai_value.specs.Tree.{Tree, node, branch, Kind, array, function, Trees, no_trees, tree_then, fresh, unit}

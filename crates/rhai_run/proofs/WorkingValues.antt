@@ -1,6 +1,6 @@
 -- Values of their own that make the same of a source as the values that they were read from.
 use Rattle.std.proofs.Common.{◌≡◌, ℕ, ℤ, Bool, List, [], Option, Some, None, option_map, Ok, refl, sym, ap, ◌∙◌}
-use Rattle.rhai_value.specs.declared.store.Cell.{Cell}
+use Rattle.rhai_value.specs.declared.cells.store.Cell.{Cell}
 use Rattle.rhai_value.specs.Tree.{Tree, cell_of, fresh, bool, int, char}
 use Rattle.rhai_value.specs.Parts.{bool_of, int_of, char_of}
 use Rattle.rhai_value.specs.End.{end, held_part}

@@ -5,8 +5,8 @@ use Rattle.rhai_value.specs.Parts.{unit_of, int_of, bool_of, char_of}
 use Rattle.rhai_value.specs.End.{End, end, first, constant_in, end_type, end_name}
 use Rattle.rhai_value.specs.Locked.{is_locked}
 use Rattle.rhai_value.specs.Types.{is_type}
-use Rattle.rhai_value.specs.declared.type_id.TypeId.{TypeId}
-use Rattle.rhai_value.specs.declared.type_id.TypeId.TheVariants as id
+use Rattle.rhai_value.specs.declared.value.type_id.TypeId.{TypeId}
+use Rattle.rhai_value.specs.declared.value.type_id.TypeId.TheVariants as id
 use Rattle.rhai_cast.specs.Casts.{is_of}
 use Rattle.rhai_show.specs.Plain.{plain}
 use Rattle.rhai_run.specs.declared.command.Question.{Question}

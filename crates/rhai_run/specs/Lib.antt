@@ -24,9 +24,5 @@ pub mod KeptWorld
 pub mod Stop
 pub mod Both
 pub mod Does
-pub mod Programs
-pub mod Bindings
-pub mod Layers
-pub mod Taken
-pub mod Evaluates
+pub mod Expressions
 pub mod Captures

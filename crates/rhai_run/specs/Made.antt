@@ -2,7 +2,7 @@
 use Rattle.std.specs.Prelude.{ℕ, List, [], ◌∷◌, map}
 use Rattle.std.specs.BTreeMap.{insert_entry}
 use Rattle.std.specs.Str.{encode_utf8_all}
-use Rattle.rhai_value.specs.declared.host.Host.TheVariants as host_kind
+use Rattle.rhai_value.specs.declared.value.host.Host.TheVariants as host_kind
 use Rattle.rhai_value.specs.Tree.{Tree, fresh, unit, bool, int, char, text, blob, host}
 use Rattle.rhai_value.specs.Rows.{Rows, bytes_cmp}
 use Rattle.rhai_run.specs.declared.command.Literal.{Literal}

@@ -1,6 +1,6 @@
 -- What is done at places: at a hand position, or at the last entry of a name.
 use Rattle.std.specs.Prelude.{ℕ, Bool, false, nat_eq, List, [], slice_set}
-use Rattle.rhai_value.specs.declared.store.Cell.{Cell}
+use Rattle.rhai_value.specs.declared.cells.store.Cell.{Cell}
 use Rattle.rhai_value.specs.End.{end, store_after, value_after}
 use Rattle.rhai_value.specs.Tree.{Tree}
 use Rattle.rhai_scope.specs.Entry.{is_constant_entry, with_value as holding}

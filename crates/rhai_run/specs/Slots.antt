@@ -6,7 +6,7 @@ use Rattle.rhai_ops.specs.Outcome as call
 use Rattle.rhai_ops.specs.Results.{outcome, Suits}
 use Rattle.rhai_ops.specs.Effects.{Effect, effect, first_left, second_left, store_left}
 use Rattle.rhai_ops.specs.declared.builtin.FnBuiltin.{FnBuiltin}
-use Rattle.rhai_value.specs.declared.store.Cell.{Cell}
+use Rattle.rhai_value.specs.declared.cells.store.Cell.{Cell}
 use Rattle.rhai_value.specs.End.{end}
 use Rattle.rhai_value.specs.Tree.{Tree}
 use Rattle.rhai_target.specs.Change.{Change, value_changed, store_changed}

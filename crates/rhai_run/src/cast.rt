@@ -1,6 +1,6 @@
 //! Casts to a type that is known when a command is done.
 ghost use Rattle.std.specs.Prelude.{◌≡◌, [], true, Some, is_some, IfOk, OnErr};
-ghost use Rattle.rhai_value.specs.declared.type_id.TypeId.TheVariants as type_id;
+ghost use Rattle.rhai_value.specs.declared.value.type_id.TypeId.TheVariants as type_id;
 ghost use Rattle.rhai_value.specs.End.{end, flat, flattened};
 ghost use Rattle.rhai_value.specs.Tree.{content_of, made};
 ghost use Rattle.rhai_value.specs.Types.{is_type};

@@ -3,7 +3,7 @@ ghost use Rattle.std.specs.Prelude.{◌≡◌, ◌<◌, true, false, is_some, le
 ghost use Rattle.std.specs.Str.{chars};
 ghost use Rattle.rhai_value.specs.End.{flattened};
 ghost use Rattle.rhai_value.specs.Tree.{fresh, int};
-ghost use Rattle.rhai_value.specs.declared.type_id.TypeId.TheVariants as type_id;
+ghost use Rattle.rhai_value.specs.declared.value.type_id.TypeId.TheVariants as type_id;
 ghost use Rattle.rhai_variant.specs.Reads.{viewed, written_as};
 ghost use Rattle.rhai_scope.specs.Entry.{with_value as holding};
 ghost use Rattle.rhai_scope.specs.Lookup.{changed_at};

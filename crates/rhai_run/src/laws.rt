@@ -18,14 +18,14 @@ ghost use Rattle.rhai_run.specs.declared.command.Command.TheVariants as command;
 ghost use Rattle.rhai_run.specs.declared.command.Literal.{Literal};
 ghost use Rattle.rhai_run.specs.declared.command.Literal.TheVariants as literal;
 ghost use Rattle.rhai_run.specs.declared.command.Place.TheVariants as place;
-ghost use Rattle.rhai_run.specs.declared.expr.Expr.{Expr};
-ghost use Rattle.rhai_run.specs.declared.expr.Expr.TheVariants as expr;
+ghost use Rattle.rhai_run.specs.declared.eval.expr.Expr.{Expr};
+ghost use Rattle.rhai_run.specs.declared.eval.expr.Expr.TheVariants as expr;
 ghost use Rattle.rhai_text.specs.declared.token.Token.{Token};
 ghost use Rattle.rhai_scope.specs.Entry.{Entry, is_constant_entry};
 ghost use Rattle.rhai_scope.specs.Lookup.{last_entry};
-ghost use Rattle.rhai_run.specs.Bindings.{bindings};
+ghost use Rattle.rhai_run.specs.Expressions.Bindings.{bindings};
 ghost use Rattle.rhai_run.specs.Captures.{SharesEntry, entry_content};
-ghost use Rattle.rhai_run.specs.Programs.{all, capture, sequence, last_of, operate, program_of, refusal, set, commands_of};
+ghost use Rattle.rhai_run.specs.Expressions.Programs.{all, capture, sequence, last_of, operate, program_of, refusal, set, commands_of};
 ghost use Rattle.rhai_run.specs.State.{State, empty_state, with_store};
 ghost use Rattle.std.specs.declared.alloc.AllocError.{AllocError};
 ghost use Rattle.rhai_text.specs.declared.error.EvalAltResult.TheVariants.{ErrorMemory};
@@ -121,7 +121,7 @@ pub fn scanners_are_renamed()
 {}
 
 /// Where states correspond, an expression stands for the same commands on both.
-#[tactic(auto, using(crate::proofs::ProgramsAlike::commands_alike))]
+#[tactic(auto, using(crate::proofs::Expressions::ProgramsAlike::commands_alike))]
 pub fn expressions_stand_alike()
     ensures { (r : Renaming) (w v : State) (e : Expr) → Corresponds r w v → commands_of w e ≡ commands_of v e }
 {}

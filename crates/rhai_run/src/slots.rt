@@ -1,7 +1,7 @@
 //! Values that are written where they stand.
 ghost use Rattle.std.specs.Prelude.{◌≡◌, is_some, Some, true};
 ghost use Rattle.std.specs.Borrow.{sem, Lends};
-ghost use Rattle.rhai_value.specs.contracts.dynamic.Dynamic as dynamic_type;
+ghost use Rattle.rhai_value.specs.contracts.value.dynamic.Dynamic as dynamic_type;
 ghost use Rattle.rhai_value.specs.End.{first, value_with_first, store_with_first};
 ghost use Rattle.rhai_run.specs.Lent.{placed_in, places_row};
 ghost use Rattle.rhai_run.specs.Slots.{value_in};

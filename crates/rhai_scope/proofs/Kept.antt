@@ -1,6 +1,6 @@
 -- What the copy of an entry keeps.
 use Rattle.std.proofs.Common.{◌≡◌, ℕ, List, map, Option, Some, None, option_map, refl, ap, ◌∙◌}
-use Rattle.rhai_value.specs.declared.access_mode.AccessMode.{AccessMode}
+use Rattle.rhai_value.specs.declared.value.access_mode.AccessMode.{AccessMode}
 use Rattle.rhai_value.specs.Copied.{SameButModes, SameContentButModes, AllSameButModes, SameFieldsButModes}
 use Rattle.rhai_value.specs.Tree.{Tree, node, Content, leaf, branch, fields, holder, array, function, Trees, no_trees, tree_then, Fields, no_fields, field_then, copy, copy_content, copy_trees, copy_fields, paint, paint_content, paint_trees, paint_fields, mode_of, is_constant}
 use Rattle.rhai_scope.specs.Entry.{Entry, copied_value, copied_entry, is_constant_entry}

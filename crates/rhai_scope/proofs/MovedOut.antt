@@ -3,7 +3,7 @@ use Rattle.std.proofs.Common.{◌≡◌, ℕ, zero, suc, ◌-◌, ◌<◌, List,
 use Rattle.std.proofs.lemmas.List.{append-nil, drop_all}
 use Rattle.std.specs.Prelude.{remove}
 use Rattle.rhai_value.specs.Tree.{Tree}
-use Rattle.rhai_value.specs.declared.type_id.TypeId.{TypeId}
+use Rattle.rhai_value.specs.declared.value.type_id.TypeId.{TypeId}
 use Rattle.rhai_variant.specs.Reads.{written_as}
 use Rattle.rhai_scope.specs.Entry.{Entry, popped, with_value}
 use Rattle.rhai_scope.specs.Lookup.{changed_at, changed_if, value_at, with_value_at}

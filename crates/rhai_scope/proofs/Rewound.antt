@@ -1,7 +1,7 @@
 -- What pushes leave of the entries before.
 use Rattle.std.proofs.Common.{◌≡◌, ℕ, List, [], ◌∷◌, ◌++◌, length, take, append_assoc, sym, ap, ◌∙◌}
 use Rattle.std.proofs.Math.Seq.{take-append_seam}
-use Rattle.rhai_value.specs.declared.access_mode.AccessMode.{AccessMode}
+use Rattle.rhai_value.specs.declared.value.access_mode.AccessMode.{AccessMode}
 use Rattle.rhai_value.specs.Tree.{Tree, paint}
 use Rattle.rhai_scope.specs.Entry.{Entry, new_entry, pushed}
 use Rattle.rhai_scope.specs.Pushes.{all_pushed}

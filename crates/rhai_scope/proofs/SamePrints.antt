@@ -2,7 +2,7 @@
 use mathlib.Core.List.{reverse_aux}
 use Rattle.std.proofs.Common.{◌≡◌, ℕ, suc, List, [], ◌∷◌, ◌++◌, map, reverse, Option, Some, None, option_map, refl, ap, ap₂, ◌∙◌}
 use Rattle.std.specs.List.{AllZip, flat_map}
-use Rattle.rhai_value.specs.declared.store.Cell.{Cell}
+use Rattle.rhai_value.specs.declared.cells.store.Cell.{Cell}
 use Rattle.rhai_value.specs.End.{first, flat, constant_in}
 use Rattle.rhai_value.specs.Relation.{Renaming, Related, Alike, IsOneToOne, RelatedCells}
 use Rattle.rhai_value.specs.Tree.{Tree, is_constant}

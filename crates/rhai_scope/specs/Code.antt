@@ -1,7 +1,7 @@
 -- How the logic stores an entry: as the tuple of its fields.
 use Rattle.std.specs.Prelude.{ℕ, List, refl}
 use Rattle.std.specs.Coded.{Coded, code_by, coded×, coded_list, coded_ℕ}
-use Rattle.rhai_value.specs.contracts.dynamic.Dynamic as dynamic_type
+use Rattle.rhai_value.specs.contracts.value.dynamic.Dynamic as dynamic_type
 use Rattle.rhai_value.specs.Tree.{Tree}
 use Rattle.rhai_scope.specs.Entry.{Entry}
 

@@ -1,6 +1,6 @@
 -- What a scope is: a list of entries, the newest last.
 use Rattle.std.specs.Prelude.{ℕ, ◌-◌, Bool, List, [], ◌∷◌, ◌++◌, length, take}
-use Rattle.rhai_value.specs.declared.access_mode.AccessMode.{AccessMode}
+use Rattle.rhai_value.specs.declared.value.access_mode.AccessMode.{AccessMode}
 use Rattle.rhai_value.specs.Cells.{renumbered}
 use Rattle.rhai_value.specs.Tree.{Tree, mode_of, copy, paint, is_constant}
 

@@ -1,8 +1,8 @@
 -- Entries that come from elsewhere, in their order.
 use Rattle.std.specs.Prelude.{ℕ, Bool, true, false, List, ◌++◌, map}
 use Rattle.std.specs.List.{zip}
-use Rattle.rhai_value.specs.declared.access_mode.AccessMode.{AccessMode}
-use Rattle.rhai_value.specs.declared.access_mode.AccessMode.TheVariants.{ReadWrite, ReadOnly}
+use Rattle.rhai_value.specs.declared.value.access_mode.AccessMode.{AccessMode}
+use Rattle.rhai_value.specs.declared.value.access_mode.AccessMode.TheVariants.{ReadWrite, ReadOnly}
 use Rattle.rhai_value.specs.Tree.{Tree, paint}
 use Rattle.rhai_scope.specs.Entry.{Entry, new_entry}
 

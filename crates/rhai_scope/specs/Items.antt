@@ -5,7 +5,7 @@ use Rattle.std.specs.Str.{chars}
 use Rattle.std.specs.declared.alloc.AllocError.{AllocError}
 use Rattle.std.specs.declared.result.Result.{Result}
 use Rattle.smallvec.specs.SmallVec.{SmallVec}
-use Rattle.rhai_value.specs.declared.store.Cell.{Cell}
+use Rattle.rhai_value.specs.declared.cells.store.Cell.{Cell}
 use Rattle.rhai_value.specs.Tree.{Tree, TakesNoMemory}
 use Rattle.rhai_value.specs.End.{first, flat, constant_in}
 use Rattle.rhai_scope.specs.Entry.{Entry}

@@ -1,7 +1,7 @@
 -- Texts of names: a line for each of them.
 use Rattle.std.specs.Prelude.{ℕ, Bool, false, List, ◌++◌, codes, map, reverse}
 use Rattle.std.specs.List.{flat_map}
-use Rattle.rhai_value.specs.declared.store.Cell.{Cell}
+use Rattle.rhai_value.specs.declared.cells.store.Cell.{Cell}
 use Rattle.rhai_scope.specs.Entry.{Entry}
 use Rattle.rhai_scope.specs.Items.{Named, shown_raw}
 use Rattle.rhai_scope.specs.ScopeText.{constant_mark}

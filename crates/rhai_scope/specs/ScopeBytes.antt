@@ -1,7 +1,7 @@
 -- The bytes by which a scope is hashed.
 use Rattle.std.specs.Prelude.{ℕ, List, [], ◌∷◌, ◌++◌, length, Option, Some, None, option_map}
 use Rattle.std.specs.List.{flat_map}
-use Rattle.rhai_value.specs.declared.store.Cell.{Cell}
+use Rattle.rhai_value.specs.declared.cells.store.Cell.{Cell}
 use Rattle.rhai_show.specs.HashBytes.{count_bytes, name_bytes, plain_bytes}
 use Rattle.rhai_show.specs.Plain.{Plain, plain}
 use Rattle.rhai_scope.specs.Entry.{Entry}

@@ -1,7 +1,7 @@
 -- The printed text of a scope.
 use Rattle.std.specs.Prelude.{ℕ, suc, Bool, true, false, List, [], ◌∷◌, ◌++◌, codes}
 use Rattle.std.specs.Fmt.{decimal}
-use Rattle.rhai_value.specs.declared.store.Cell.{Cell}
+use Rattle.rhai_value.specs.declared.cells.store.Cell.{Cell}
 use Rattle.rhai_value.specs.End.{first, constant_in}
 use Rattle.rhai_show.specs.Text.{printed}
 use Rattle.rhai_show.specs.declared.form.Form.TheVariants.{Debug}

@@ -1,8 +1,8 @@
 -- Values that are set, and entries that are taken out.
 use Rattle.std.specs.Prelude.{ℕ, List, remove, Option, Some, None}
 use Rattle.std.specs.Option.{option_map_or}
-use Rattle.rhai_value.specs.declared.access_mode.AccessMode.TheVariants.{ReadWrite}
-use Rattle.rhai_value.specs.declared.type_id.TypeId.{TypeId}
+use Rattle.rhai_value.specs.declared.value.access_mode.AccessMode.TheVariants.{ReadWrite}
+use Rattle.rhai_value.specs.declared.value.type_id.TypeId.{TypeId}
 use Rattle.rhai_value.specs.Tree.{Tree}
 use Rattle.rhai_variant.specs.Reads.{written_as}
 use Rattle.rhai_scope.specs.Entry.{Entry, pushed, with_value}

@@ -1,8 +1,8 @@
 //! What new entries are made of besides their values.
 ghost use Rattle.std.specs.Prelude.{◌≡◌, ℕ, List};
 ghost use Rattle.std.specs.Str.{chars};
-ghost use Rattle.rhai_value.specs.declared.access_mode.AccessMode.{AccessMode};
-ghost use Rattle.rhai_value.specs.declared.access_mode.AccessMode.TheVariants.{ReadWrite};
+ghost use Rattle.rhai_value.specs.declared.value.access_mode.AccessMode.{AccessMode};
+ghost use Rattle.rhai_value.specs.declared.value.access_mode.AccessMode.TheVariants.{ReadWrite};
 ghost use Rattle.rhai_scope.specs.Extended.{flagged_mode};
 
 use rhai_text::ImmutableString;

@@ -4,7 +4,7 @@ ghost use Rattle.std.specs.Cmp.Lexicographic.{pointwise};
 ghost use Rattle.std.specs.List.{AllByRecursion, IsDistinct};
 ghost use Rattle.rhai_value.specs.Copied.{SameButModes};
 ghost use Rattle.rhai_value.specs.Tree.{Tree};
-ghost use Rattle.rhai_value.specs.declared.access_mode.AccessMode.{AccessMode};
+ghost use Rattle.rhai_value.specs.declared.value.access_mode.AccessMode.{AccessMode};
 ghost use Rattle.rhai_scope.specs.Entry.{Entry, copied_entry, is_constant_entry, with_value};
 ghost use Rattle.rhai_scope.specs.Lookup.{changed_at, last_position, last_entry, value_at, visible};
 ghost use Rattle.rhai_scope.specs.Pushes.{all_pushed};

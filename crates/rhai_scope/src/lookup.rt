@@ -3,7 +3,7 @@ ghost use Rattle.std.specs.Prelude.{◌≡◌, ◌<◌, length, IfSome, Some, op
 ghost use Rattle.std.specs.Borrow.{Lends, LendsIf, sem};
 ghost use Rattle.std.specs.Option.{option_copied_mut};
 ghost use Rattle.std.specs.Str.{chars};
-ghost use Rattle.rhai_value.specs.contracts.dynamic.Dynamic as dynamic_type;
+ghost use Rattle.rhai_value.specs.contracts.value.dynamic.Dynamic as dynamic_type;
 ghost use Rattle.rhai_scope.specs.contracts.scope.Scope as scope_type;
 ghost use Rattle.rhai_value.specs.Tree.{is_constant};
 ghost use Rattle.rhai_scope.specs.Entry.{is_constant_entry, with_value};

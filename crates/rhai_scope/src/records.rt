@@ -44,7 +44,7 @@ impl Record {
     ghost use Rattle.std.specs.Borrow.{Lends, sem};
     ghost use Rattle.std.specs.Cmp.Lexicographic.{pointwise};
     ghost use Rattle.std.specs.Str.{chars};
-    ghost use Rattle.rhai_value.specs.contracts.dynamic.Dynamic as dynamic_type;
+    ghost use Rattle.rhai_value.specs.contracts.value.dynamic.Dynamic as dynamic_type;
     ghost use Rattle.rhai_scope.specs.Alias.{aliased};
     ghost use Rattle.rhai_scope.specs.Entry.{new_entry, copied_entry, with_value};
     ghost use Rattle.rhai_scope.specs.Items.{moved_entry};

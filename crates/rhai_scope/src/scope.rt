@@ -3,7 +3,7 @@
 ghost use Rattle.std.specs.Prelude.{◌≡◌, ◌<◌, ◌≤◌, ◌+◌, ◌↔◌, ℕ, List, [], ◌∷◌, ◌++◌, length, take, remove, vec_len, vec_capacity, IsTrue, IfOk, IfErr, OnOk, OnErr};
 ghost use Rattle.std.specs.Str.{chars};
 ghost use Rattle.rhai_value.specs.Tree.{mode_of, paint};
-ghost use Rattle.rhai_value.specs.declared.access_mode.AccessMode.TheVariants.{ReadOnly};
+ghost use Rattle.rhai_value.specs.declared.value.access_mode.AccessMode.TheVariants.{ReadOnly};
 ghost use Rattle.rhai_scope.specs.Entry.{pushed, popped};
 ghost use Rattle.rhai_scope.specs.Index.{IsIndexOf, names_of};
 

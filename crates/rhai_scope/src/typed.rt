@@ -2,11 +2,11 @@
 ghost use Rattle.std.specs.Prelude.{◌≡◌, ◌<◌, true, false, is_some, None, Some, length, option_map, option_and_then, remove, slice_get, IfSome, IfOk, OnOk, OnErr, IsOk};
 ghost use Rattle.std.specs.Borrow.{LendsIf, sem};
 ghost use Rattle.std.specs.Str.{chars};
-ghost use Rattle.rhai_value.specs.declared.access_mode.AccessMode.TheVariants.{ReadWrite, ReadOnly};
+ghost use Rattle.rhai_value.specs.declared.value.access_mode.AccessMode.TheVariants.{ReadWrite, ReadOnly};
 ghost use Rattle.rhai_value.specs.End.{flat, flattened};
 ghost use Rattle.rhai_value.specs.Tree.{TakesNoMemory, cell_of, fresh, unit};
 ghost use Rattle.rhai_value.specs.Types.{is_type};
-ghost use Rattle.rhai_value.specs.declared.type_id.TypeId.TheVariants as type_id;
+ghost use Rattle.rhai_value.specs.declared.value.type_id.TypeId.TheVariants as type_id;
 ghost use Rattle.rhai_variant.specs.Reads.{read, viewed};
 ghost use Rattle.rhai_scope.specs.Entry.{is_constant_entry, pushed, with_value};
 ghost use Rattle.rhai_scope.specs.Lookup.{changed_at, changed_named, last_position, last_entry, value_at, value_named, writable_position};

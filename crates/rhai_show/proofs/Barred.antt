@@ -1,6 +1,6 @@
 -- What is read of holders.
 use Rattle.std.proofs.Common.{◌≡◌, ℕ, false, List, [], ◌∷◌, Some, None, refl, sym, ap, ◌∙◌}
-use Rattle.rhai_value.specs.declared.store.Cell.{Cell}
+use Rattle.rhai_value.specs.declared.cells.store.Cell.{Cell}
 use Rattle.rhai_value.specs.End.{first}
 use Rattle.rhai_value.specs.Tree.{Tree, node, leaf, branch, fields, holder}
 use Rattle.rhai_value.specs.Walk.{is_open, opened, visit_map, visit_of, entry}

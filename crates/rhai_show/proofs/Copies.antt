@@ -1,6 +1,6 @@
 -- A copy of a value prints as the value.
 use Rattle.std.proofs.Common.{◌≡◌, ℕ, List, ◌∷◌, refl, sym, ap, ap₂, ◌∙◌}
-use Rattle.rhai_value.specs.declared.store.Cell.{Cell}
+use Rattle.rhai_value.specs.declared.cells.store.Cell.{Cell}
 use Rattle.rhai_value.specs.Tree.{Tree, copy, copy_trees, copy_fields}
 use Rattle.rhai_value.specs.Walk.{Visit}
 use Rattle.rhai_value.proofs.ForCallers.{by_value}

@@ -1,7 +1,7 @@
 -- The text of what is left of each value that is being printed, the innermost first.
 use Rattle.std.proofs.Common.{◌≡◌, ℕ, ◌++◌, List, [], ◌∷◌, map, reverse, sym, subst, ap, ap₂, ◌∙◌, append_assoc}
 use Rattle.std.specs.Str.{chars}
-use Rattle.rhai_value.specs.declared.store.Cell.{Cell}
+use Rattle.rhai_value.specs.declared.cells.store.Cell.{Cell}
 use Rattle.rhai_show.specs.declared.text_far.Frame.{Frame}
 use Rattle.rhai_show.specs.Frames.{keyed_printed, frame_text}
 use Rattle.rhai_show.specs.Rests.{rest_of, is_held, closed_by, HasOpen, Level, level_of, path_left, HaveOpen}

@@ -3,7 +3,7 @@ use Rattle.std.proofs.Common.{◌≡◌, ℕ, ◌++◌, Bool, true, List, [], �
 use Rattle.std.specs.List.{All, flat_map}
 use Rattle.std.specs.Str.{chars}
 use Rattle.std.proofs.lemmas.List.Elements.{All-nil, All-cons}
-use Rattle.rhai_value.specs.declared.store.Cell.{Cell}
+use Rattle.rhai_value.specs.declared.cells.store.Cell.{Cell}
 use Rattle.rhai_value.specs.Rows.{Rows, trees_of, fields_of}
 use Rattle.rhai_value.specs.Tree.{Tree}
 use Rattle.rhai_show.specs.Clean.{are_plain, values_in}

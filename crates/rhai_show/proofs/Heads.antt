@@ -9,8 +9,8 @@ use Rattle.std.proofs.lemmas.Int.{to_z-of_z}
 use Rattle.std.proofs.lemmas.List.{take_at, drop_at}
 use Rattle.std.proofs.lemmas.Nat.{from_le_bytes-to_le_bytes_2, from_le_bytes-to_le_bytes_4, from_le_bytes-to_le_bytes_8}
 use Rattle.std.proofs.lemmas.Str.{chars-encodes}
-use Rattle.rhai_value.specs.declared.host.Host.{Host}
-use Rattle.rhai_value.specs.declared.host.Host.TheVariants as host_kind
+use Rattle.rhai_value.specs.declared.value.host.Host.{Host}
+use Rattle.rhai_value.specs.declared.value.host.Host.TheVariants as host_kind
 use Rattle.rhai_value.specs.Tree.{Leaf, unit, bool, int, char, text, blob, host, Kind, array, function}
 use Rattle.rhai_show.specs.HashBytes.{count_bytes, int_bytes, sized, name_bytes, host_bytes, leaf_bytes, kind_bytes}
 use Rattle.rhai_show.specs.InRange.{IsCount, IsName, IsHost, IsLeaf, IsKind}

@@ -1,7 +1,7 @@
 -- Values that are ints.
 use Rattle.std.proofs.Common.{◌≡◌, ℤ, Some, ap}
 use Rattle.std.proofs.lemmas.Option.{same_Some}
-use Rattle.rhai_value.specs.declared.access_mode.AccessMode.{AccessMode}
+use Rattle.rhai_value.specs.declared.value.access_mode.AccessMode.{AccessMode}
 use Rattle.rhai_value.specs.Tree.{Tree, node, leaf, branch, fields, holder, unit, bool, int, char, text, blob, host}
 use Rattle.rhai_value.specs.Parts.{int_of}
 

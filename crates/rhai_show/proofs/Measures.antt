@@ -1,7 +1,7 @@
 -- What bounds how long a value is printed: the cells that aren't open, and the nodes of what is left.
 use Rattle.std.proofs.Common.{◌≡◌, Option, None, ℕ, zero, suc, ◌+◌, ◌*◌, ◌<◌, ◌≤◌, Bool, true, false, List, [], ◌∷◌, length, get_or, Some, IfSome, sym, ap, arith}
 use Rattle.std.proofs.Math.Nat.{mul-le-mul_right}
-use Rattle.rhai_value.specs.declared.store.Cell.{Cell}
+use Rattle.rhai_value.specs.declared.cells.store.Cell.{Cell}
 use Rattle.rhai_value.specs.Tree.{Tree, nodes, nodes_trees, leaf, branch, fields, holder, node, cell_of}
 use Rattle.rhai_value.specs.Rows.{trees_of}
 use Rattle.rhai_value.specs.Store.{at, unmarked}

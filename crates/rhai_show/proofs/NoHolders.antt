@@ -1,6 +1,6 @@
 -- Where no holder stands in a value.
 use Rattle.std.proofs.Common.{◌≡◌, ℕ, ℤ, zero, suc, ◌<◌, List, [], ◌∷◌, length, get_or, sym, subst, arith}
-use Rattle.rhai_value.specs.declared.access_mode.AccessMode.{AccessMode}
+use Rattle.rhai_value.specs.declared.value.access_mode.AccessMode.{AccessMode}
 use Rattle.rhai_value.specs.Rows.{trees_of}
 use Rattle.rhai_value.specs.Tree.{Tree, node, fields, Fields, field_then}
 use Rattle.rhai_show.specs.Clean.{HasNoHolder, HaveNoHolders, FieldsHaveNoHolders}

@@ -1,8 +1,8 @@
 -- The text of a value by its parts.
 use Rattle.std.proofs.Common.{◌≡◌, ℕ, ℤ, Bool, true, false, Option, ◌++◌, [], ◌∷◌, List, map, Result, OnOk, Some, None, IfSome, codes, refl, sym, ap, ap₂, ◌∙◌, subst}
 use Rattle.std.specs.Str.{chars}
-use Rattle.rhai_value.specs.declared.access_mode.AccessMode.{AccessMode}
-use Rattle.rhai_value.specs.declared.store.Cell.{Cell}
+use Rattle.rhai_value.specs.declared.value.access_mode.AccessMode.{AccessMode}
+use Rattle.rhai_value.specs.declared.cells.store.Cell.{Cell}
 use Rattle.rhai_value.specs.Rows.{Rows, trees_of, fields_of}
 use Rattle.rhai_value.specs.Store.{at}
 use Rattle.rhai_value.specs.Tree.{Tree, node, Leaf, leaf, branch, fields, holder, array, function, cell_of}

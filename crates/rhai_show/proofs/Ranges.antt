@@ -4,8 +4,8 @@ use Rattle.std.specs.List.{All}
 use Rattle.std.specs.Str.{chars, IsUtf8}
 use Rattle.std.proofs.lemmas.List.Elements.{All-head, All-tail, All-cons}
 use Rattle.std.proofs.lemmas.Str.{encodes-chars, scalars-chars}
-use Rattle.rhai_value.specs.declared.access_mode.AccessMode.{AccessMode}
-use Rattle.rhai_value.specs.declared.store.Cell.{Cell}
+use Rattle.rhai_value.specs.declared.value.access_mode.AccessMode.{AccessMode}
+use Rattle.rhai_value.specs.declared.cells.store.Cell.{Cell}
 use Rattle.rhai_value.specs.Rows.{Rows, trees_of, fields_of}
 use Rattle.rhai_value.specs.Tree.{Tree, node, Leaf, leaf, Kind, branch, fields}
 use Rattle.rhai_show.specs.Plain.{Plain, Plains, PlainFields, plain_branch, plain_map, plain_more, plain_field_more, all_plain, fields_plain, plain}

@@ -1,6 +1,6 @@
 -- Plain values in stores that are the same up to the numbers of their cells.
 use Rattle.std.proofs.Common.{◌≡◌, ℕ, List, [], Option, option_map, refl, ap, ap₂}
-use Rattle.rhai_value.specs.declared.store.Cell.{Cell}
+use Rattle.rhai_value.specs.declared.cells.store.Cell.{Cell}
 use Rattle.rhai_value.specs.Tree.{Tree}
 use Rattle.rhai_value.specs.Walk.{Visit}
 use Rattle.rhai_value.specs.Relation.{Renaming, Related, IsOneToOne, RelatedCells, RelatedPaths}

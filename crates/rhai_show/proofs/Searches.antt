@@ -1,8 +1,8 @@
 -- The steps of a search for plain values.
 use Rattle.std.proofs.Common.{◌≡◌, ℕ, ℤ, ◌&&◌, ◌||◌, ◌⊎◌, not, nat_eq, Bool, true, false, List, ◌∷◌, Option, Some, None, IfSome, IfOk, Result, Ok, Err, is_some, refl, sym, ap, ap₂, ◌∙◌, subst, subst₂, inl, inr, eq-eqb}
 use Rattle.std.proofs.lemmas.Bool.{cases_eq}
-use Rattle.rhai_value.specs.declared.access_mode.AccessMode.{AccessMode}
-use Rattle.rhai_value.specs.declared.store.Cell.{Cell}
+use Rattle.rhai_value.specs.declared.value.access_mode.AccessMode.{AccessMode}
+use Rattle.rhai_value.specs.declared.cells.store.Cell.{Cell}
 use Rattle.rhai_value.specs.Tree.{Tree, node, Leaf, Kind, leaf, branch, fields, holder, Trees, no_trees, tree_then, Fields, no_fields, field_then, cell_of}
 use Rattle.rhai_value.specs.Store.{at}
 use Rattle.rhai_value.specs.Walk.{is_open, opened, visit_of, entry}

@@ -1,5 +1,5 @@
 -- Values with tag 0 and mode ReadWrite at every depth, all else staying.
-use Rattle.rhai_value.specs.declared.store.Cell.{Cell}
+use Rattle.rhai_value.specs.declared.cells.store.Cell.{Cell}
 use Rattle.rhai_value.specs.Tree.{Tree, node, Content, leaf, branch, fields, holder, Trees, no_trees, tree_then, Fields, no_fields, field_then, made}
 
 abbrev mutual

@@ -1,6 +1,6 @@
 -- What a search for plain values knows of the cells that it has left.
 use Rattle.std.specs.Prelude.{◌≡◌, ℕ, Bool, true, false, not, ◌&&◌, List, is_some}
-use Rattle.rhai_value.specs.declared.store.Cell.{Cell}
+use Rattle.rhai_value.specs.declared.cells.store.Cell.{Cell}
 use Rattle.rhai_value.specs.Cells.{EachCell, EachInAll, EachInFields}
 use Rattle.rhai_value.specs.Tree.{Tree, holder, Trees, no_trees, tree_then, Fields, no_fields, field_then, made}
 use Rattle.rhai_value.specs.Walk.{is_open}

@@ -3,8 +3,8 @@ use Rattle.std.specs.Prelude.{ℕ, suc, ◌/◌, ◌%◌, ◌^◌, ◌-◌, ℤ,
 use Rattle.std.specs.Fmt.{decimal, signed_decimal, digit_glyph}
 use Rattle.std.specs.Ordering.{int_eq}
 use Rattle.rhai_text.specs.Quote.{quoted_text, quoted_char}
-use Rattle.rhai_value.specs.declared.host.Host.{Host}
-use Rattle.rhai_value.specs.declared.host.Host.TheVariants as host_kind
+use Rattle.rhai_value.specs.declared.value.host.Host.{Host}
+use Rattle.rhai_value.specs.declared.value.host.Host.TheVariants as host_kind
 use Rattle.rhai_value.specs.Tree.{Leaf, unit, bool, int, char, text, blob, host}
 use Rattle.rhai_show.specs.declared.form.Form.{Form}
 use Rattle.rhai_show.specs.declared.form.Form.TheVariants.{Display, Inner, Debug}

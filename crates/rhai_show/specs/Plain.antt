@@ -1,6 +1,6 @@
 -- Values without tags, modes and holders.
 use Rattle.std.specs.Prelude.{ℕ, List, Option, Some, None, option_map, option_and_then}
-use Rattle.rhai_value.specs.declared.store.Cell.{Cell}
+use Rattle.rhai_value.specs.declared.cells.store.Cell.{Cell}
 use Rattle.rhai_value.specs.Tree.{Leaf, Kind, Tree, node, Content, leaf, branch, fields, holder, Trees, no_trees, tree_then, Fields, no_fields, field_then}
 use Rattle.rhai_value.specs.Walk.{Visit, entered, barred, revisited, walk}
 

@@ -1,6 +1,6 @@
 -- A value by its cases, as the walks of this crate see it.
 use Rattle.std.specs.Prelude.{ℕ, ℤ, ◌≡◌}
-use Rattle.rhai_value.specs.declared.access_mode.AccessMode.{AccessMode}
+use Rattle.rhai_value.specs.declared.value.access_mode.AccessMode.{AccessMode}
 use Rattle.rhai_value.specs.Rows.{trees_of, fields_of}
 use Rattle.rhai_value.specs.Tree as tree
 use Rattle.rhai_value.specs.Tree.{Tree, Content, node, branch, fields, holder}

@@ -1,6 +1,6 @@
 -- How much there is to do for a value, what stands in a cell being counted each time that it is reached.
 use Rattle.std.specs.Prelude.{ℕ, suc, ◌+◌, List}
-use Rattle.rhai_value.specs.declared.store.Cell.{Cell}
+use Rattle.rhai_value.specs.declared.cells.store.Cell.{Cell}
 use Rattle.rhai_value.specs.Tree.{Tree, node, Content, leaf, branch, fields, holder, Trees, no_trees, tree_then, Fields, no_fields, field_then}
 use Rattle.rhai_value.specs.Walk.{Visit, entered, barred, revisited, walk}
 

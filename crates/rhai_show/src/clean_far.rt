@@ -1,6 +1,6 @@
 //! What a search for plain values finds at one value that may be nested deep.
 ghost use Rattle.std.specs.Prelude.{◌≡◌, ◌<◌, ◌≤◌, ℕ, ℤ, suc, true, ◌∷◌, None, List, drop, length, map, reverse, IfOk, IsOk, MatchResult, is_some};
-ghost use Rattle.rhai_value.specs.declared.access_mode.AccessMode.{AccessMode};
+ghost use Rattle.rhai_value.specs.declared.value.access_mode.AccessMode.{AccessMode};
 ghost use Rattle.rhai_value.specs.End.{first};
 ghost use Rattle.rhai_value.specs.Tree.{holder, node, tree_then, no_trees};
 ghost use Rattle.rhai_show.specs.Clean.{are_plain, has_left, Clean, HasNoHolder, HaveNoHolders, Searched};

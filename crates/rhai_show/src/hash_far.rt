@@ -1,6 +1,6 @@
 //! The hash bytes of a value that is nested deep.
 ghost use Rattle.std.specs.Prelude.{◌≡◌, ◌≤◌, ◌++◌, ◌∷◌, ℕ, ℤ, List, Some, true, IfOk, IfSome, MatchOption, OnOk, is_some};
-ghost use Rattle.rhai_value.specs.declared.access_mode.AccessMode.{AccessMode};
+ghost use Rattle.rhai_value.specs.declared.value.access_mode.AccessMode.{AccessMode};
 ghost use Rattle.rhai_value.specs.Tree.{Tree, cell_of, holder, node};
 ghost use Rattle.rhai_value.specs.Walk.{entry};
 ghost use Rattle.rhai_show.specs.HashBytes.{hash_bytes};

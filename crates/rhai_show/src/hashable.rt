@@ -1,6 +1,6 @@
 //! Whether a value can be hashed.
 ghost use Rattle.std.specs.Prelude.{ℕ, ℤ, ◌≡◌, [], true, IfOk, IsOk, None, OnOk, is_some};
-ghost use Rattle.rhai_value.specs.declared.access_mode.AccessMode.{AccessMode};
+ghost use Rattle.rhai_value.specs.declared.value.access_mode.AccessMode.{AccessMode};
 ghost use Rattle.rhai_value.specs.End.{first};
 ghost use Rattle.rhai_value.specs.Rows.{trees_of, fields_of};
 ghost use Rattle.rhai_value.specs.Tree.{holder, node, tree_then, no_trees};

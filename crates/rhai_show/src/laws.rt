@@ -1,7 +1,7 @@
 //! Laws of printed text, each the contract of a function that does nothing.
 ghost use Rattle.std.specs.Prelude.{◌≡◌, ◌∷◌, [], ◌++◌, ℕ, ℤ, true, false, List, Some, None, codes};
-ghost use Rattle.rhai_value.specs.declared.access_mode.AccessMode.{AccessMode};
-ghost use Rattle.rhai_value.specs.declared.store.Cell.{Cell};
+ghost use Rattle.rhai_value.specs.declared.value.access_mode.AccessMode.{AccessMode};
+ghost use Rattle.rhai_value.specs.declared.cells.store.Cell.{Cell};
 ghost use Rattle.rhai_value.specs.Rows.{Rows, trees_of, fields_of};
 ghost use Rattle.rhai_value.specs.Store.{at};
 ghost use Rattle.rhai_value.specs.Tree.{Tree, copy, node, Leaf, leaf, branch, fields, holder, array, function};

@@ -1,7 +1,7 @@
 //! The text of a value.
 ghost use Rattle.std.specs.Prelude.{ℕ, ℤ, ◌≡◌, ◌++◌, [], true, IfOk, OnOk, codes, string_bytes};
 ghost use Rattle.std.specs.Str.{chars};
-ghost use Rattle.rhai_value.specs.declared.access_mode.AccessMode.{AccessMode};
+ghost use Rattle.rhai_value.specs.declared.value.access_mode.AccessMode.{AccessMode};
 ghost use Rattle.rhai_value.specs.Tree.{holder, node};
 ghost use Rattle.rhai_show.specs.declared.form.Form.TheVariants.{Display, Debug};
 ghost use Rattle.rhai_show.specs.Leaves.{in_debug};

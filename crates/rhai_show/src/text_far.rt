@@ -1,7 +1,7 @@
 //! The text of a value that is nested deep.
 ghost use Rattle.std.specs.Prelude.{◌≡◌, ◌≤◌, ◌++◌, ◌+◌, ℕ, ℤ, suc, [], List, IfOk, IfSome, MatchOption, OnOk, string_bytes};
 ghost use Rattle.std.specs.Str.{chars};
-ghost use Rattle.rhai_value.specs.declared.access_mode.AccessMode.{AccessMode};
+ghost use Rattle.rhai_value.specs.declared.value.access_mode.AccessMode.{AccessMode};
 ghost use Rattle.rhai_value.specs.Tree.{Tree, holder, node};
 ghost use Rattle.rhai_show.specs.declared.form.Form.{Form};
 ghost use Rattle.rhai_show.specs.Frames.{frame_text};

@@ -1,7 +1,7 @@
 -- A field that is written back.
 use Rattle.std.proofs.Common.{◌≡◌, ℕ, ℤ, List, [], Some, option_map, sym, ap, ◌∙◌, subst}
 use Rattle.std.specs.Borrow.{MutBor}
-use Rattle.rhai_value.specs.declared.store.Cell.{Cell}
+use Rattle.rhai_value.specs.declared.cells.store.Cell.{Cell}
 use Rattle.rhai_value.specs.Tree.{Tree}
 use Rattle.rhai_value.specs.Parts.{int_of}
 use Rattle.rhai_value.specs.End.{end, held_part, value_after, store_after}

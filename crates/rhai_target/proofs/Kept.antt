@@ -1,7 +1,7 @@
 -- A text that is written over itself.
 use Rattle.std.proofs.Common.{◌≡◌, ℕ, List, [], Some}
-use Rattle.rhai_value.specs.declared.in_store.InStore.{InStore}
-use Rattle.rhai_value.specs.declared.type_id.TypeId.TheVariants as id
+use Rattle.rhai_value.specs.declared.parts.in_store.InStore.{InStore}
+use Rattle.rhai_value.specs.declared.value.type_id.TypeId.TheVariants as id
 use Rattle.rhai_value.specs.Kinds.{text_reads}
 use Rattle.rhai_value.specs.Tree.{leaf, text}
 use Rattle.rhai_value.specs.Parts.{text_of, with_content}

@@ -25,8 +25,8 @@ use denote.Struct.Tuple.{Tuple, tuple_laws}
 use Rattle.std.specs.contracts.option.Option as option
 use Rattle.std.proofs.option.Option.TheLaws as option_laws
 use Rattle.rhai_value.specs.Tree.{Tree}
-use Rattle.rhai_value.specs.contracts.dynamic.Dynamic as dynamic
-use Rattle.rhai_value.proofs.dynamic.Dynamic.TheLaws as dynamic_laws
+use Rattle.rhai_value.specs.contracts.value.dynamic.Dynamic as dynamic
+use Rattle.rhai_value.proofs.value.dynamic.Dynamic.TheLaws as dynamic_laws
 use Rattle.rhai_target.specs.declared.target.Target.{Target}
 use Rattle.rhai_target.specs.declared.target.Target.TheVariants.{RefMut, SharedValue, TempValue, Bit, BitField, BlobByte, StringChar, StringSlice}
 use Rattle.rhai_target.specs.contracts.target.Target as target

@@ -3,7 +3,7 @@ use Rattle.std.proofs.Common.{◌≡◌, List, Some, None, Ok, Err, IfOk, IfErr,
 use Rattle.std.specs.Borrow.{MutBor, name_if_ok}
 use Rattle.rhai_text.specs.declared.error.EvalAltResult.TheVariants.{ErrorDataRace}
 use Rattle.rhai_text.specs.declared.position.TheConstants.Position as position
-use Rattle.rhai_value.specs.declared.store.Cell.{Cell}
+use Rattle.rhai_value.specs.declared.cells.store.Cell.{Cell}
 use Rattle.rhai_value.specs.Tree.{Tree}
 use Rattle.rhai_value.specs.End.{first_cell}
 use Rattle.rhai_target.specs.declared.target.Target.TheVariants.{RefMut, SharedValue}

@@ -1,8 +1,8 @@
 -- A text that is changed where it is held: in the value itself, or in a cell that is marked meanwhile.
 use Rattle.std.proofs.Common.{◌≡◌, ℕ, zero, suc, Bool, true, false, List, [], ◌∷◌, Option, Some, None, IfSome, MatchOption, Result, Ok, Err, IfOk, MatchResult, is_some, option_map, refl, sym, ap, ◌∙◌, subst}
-use Rattle.rhai_value.specs.declared.in_store.InStore.{InStore}
-use Rattle.rhai_value.specs.declared.chain.Site.TheVariants.{Here, InCell}
-use Rattle.rhai_value.specs.declared.store.Cell.{Cell}
+use Rattle.rhai_value.specs.declared.parts.in_store.InStore.{InStore}
+use Rattle.rhai_value.specs.declared.cells.chain.Site.TheVariants.{Here, InCell}
+use Rattle.rhai_value.specs.declared.cells.store.Cell.{Cell}
 use Rattle.rhai_value.specs.Tree.{Tree, node, leaf, branch, fields, holder, text}
 use Rattle.rhai_value.specs.Parts.{text_of, with_content}
 use Rattle.rhai_value.specs.Store.{put, set_mark, marked_with, is_marked_at, content_at}

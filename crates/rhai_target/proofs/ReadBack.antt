@@ -1,8 +1,8 @@
 -- What was written back is held afterwards, and what is written over itself leaves all as it was.
 use Rattle.std.proofs.Common.{◌≡◌, ℕ, ℤ, pos, ◌<◌, ◌^◌, ◌*ℤ◌, ◌+◌, Bool, true, false, ◌&&◌, List, [], length, slice_get, slice_set, Option, Some, None, option_map, option_and_then, refl, sym, ap, ◌∙◌, w64, FitsSigned}
 use Rattle.std.specs.Int.{int_wrap}
-use Rattle.rhai_value.specs.declared.chain.Site.TheVariants.{Here, InCell}
-use Rattle.rhai_value.specs.declared.store.Cell.{Cell}
+use Rattle.rhai_value.specs.declared.cells.chain.Site.TheVariants.{Here, InCell}
+use Rattle.rhai_value.specs.declared.cells.store.Cell.{Cell}
 use Rattle.rhai_value.specs.Tree.{Tree, node, Leaf, leaf, branch, fields, holder, unit, bool, int, char, text, blob, host, cell_of}
 use Rattle.rhai_value.specs.Parts.{leaf_part, leaf_int, leaf_text, leaf_blob, bool_of, int_of, char_of, text_of, blob_of}
 use Rattle.rhai_value.specs.Store.{put}

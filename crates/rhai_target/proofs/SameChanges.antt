@@ -1,8 +1,8 @@
 -- Write-backs of values that are the same up to the numbers of their cells.
 use Rattle.std.proofs.Common.{◌≡◌, ℕ, ℤ, true, List, [], length, Option, Some, None, option_map, refl, subst}
 use Rattle.rhai_text.specs.Text.{with_slice}
-use Rattle.rhai_value.specs.declared.access_mode.AccessMode.{AccessMode}
-use Rattle.rhai_value.specs.declared.store.Cell.{Cell}
+use Rattle.rhai_value.specs.declared.value.access_mode.AccessMode.{AccessMode}
+use Rattle.rhai_value.specs.declared.cells.store.Cell.{Cell}
 use Rattle.rhai_value.specs.Tree.{Tree, node, Leaf, leaf}
 use Rattle.rhai_value.specs.Parts.{leaf_part, leaf_bool, leaf_int, leaf_char, leaf_text, leaf_blob}
 use Rattle.rhai_value.specs.Store.{marked_with, is_marked_at}

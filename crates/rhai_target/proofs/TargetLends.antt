@@ -3,9 +3,9 @@ use Rattle.std.proofs.Common.{◌≡◌, ℕ, true, false, List, Option, Some, N
 use Rattle.std.specs.Borrow.{MutBor, GName, Fml, follows_if}
 use Rattle.std.specs.Option.{ghost_name_of, option_map_or}
 use denote.Follow.{follows_by}
-use Rattle.rhai_value.specs.declared.store.Cell.{Cell}
-use Rattle.rhai_value.specs.contracts.dynamic.Dynamic as dynamic
-use Rattle.rhai_value.specs.contracts.store.Store as store
+use Rattle.rhai_value.specs.declared.cells.store.Cell.{Cell}
+use Rattle.rhai_value.specs.contracts.value.dynamic.Dynamic as dynamic
+use Rattle.rhai_value.specs.contracts.cells.store.Store as store
 use Rattle.rhai_value.specs.Tree.{Tree}
 use Rattle.rhai_value.specs.Store.{content_at, is_marked_at}
 use Rattle.rhai_target.specs.declared.target.Target.{Target}

@@ -5,7 +5,7 @@ use Rattle.rhai_text.specs.Text.{with_slice}
 use Rattle.rhai_text.specs.declared.error.EvalAltResult.{EvalAltResult}
 use Rattle.rhai_text.specs.declared.error.EvalAltResult.TheVariants.{ErrorArithmetic, ErrorDataTooLarge, ErrorMemory, ErrorDataRace, ErrorMismatchDataType}
 use Rattle.rhai_text.specs.declared.position.Position.{Position}
-use Rattle.rhai_value.specs.declared.store.Cell.{Cell}
+use Rattle.rhai_value.specs.declared.cells.store.Cell.{Cell}
 use Rattle.rhai_value.specs.Tree.{Tree, Leaf, leaf, int, text, blob}
 use Rattle.rhai_value.specs.Parts.{bool_of, int_of, char_of, text_of, blob_of, with_content}
 use Rattle.rhai_value.specs.Store.{marked_with}

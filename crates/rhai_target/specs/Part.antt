@@ -1,7 +1,7 @@
 -- Parts of a source that are found by a whole number.
 use Rattle.std.specs.Prelude.{◌≡◌, ◌<◌, ℕ, ℤ, pos, Bool, true, false, List, [], codes, length, slice_get, nat_lt, Option, Some, None, MatchOption, option_map, option_and_then, is_some, Result, Ok, Err, if◌then◌else◌}
 use Rattle.std.specs.Borrow.{MutBor}
-use Rattle.rhai_value.specs.declared.store.Cell.{Cell}
+use Rattle.rhai_value.specs.declared.cells.store.Cell.{Cell}
 use Rattle.rhai_value.specs.Tree.{Tree, fresh, bool, int, char, text}
 use Rattle.rhai_value.specs.Parts.{int_of, text_of, blob_of}
 use Rattle.rhai_value.specs.End.{end, held_part}

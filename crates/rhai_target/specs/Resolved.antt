@@ -6,8 +6,8 @@ use mathlib.Core.Option as maybe
 use Rattle.rhai_text.specs.declared.error.EvalAltResult.{EvalAltResult}
 use Rattle.rhai_text.specs.declared.error.EvalAltResult.TheVariants.{ErrorDataRace}
 use Rattle.rhai_text.specs.declared.position.TheConstants.Position as position
-use Rattle.rhai_value.specs.contracts.dynamic.Dynamic as dynamic
-use Rattle.rhai_value.specs.declared.store.Cell.{Cell}
+use Rattle.rhai_value.specs.contracts.value.dynamic.Dynamic as dynamic
+use Rattle.rhai_value.specs.declared.cells.store.Cell.{Cell}
 use Rattle.rhai_value.specs.Tree.{Tree, cell_of, copy}
 use Rattle.rhai_value.specs.Store.{is_marked_at}
 use Rattle.rhai_value.specs.End.{first_cell}

@@ -2,7 +2,7 @@
 use Rattle.std.specs.Prelude.{Option, Some, None, Result, Ok, Err}
 use Rattle.std.specs.Borrow.{MutBor, Fml, ftrue, follows_if}
 use Rattle.std.specs.Option.{ghost_name_of}
-use Rattle.rhai_value.specs.contracts.dynamic.Dynamic as dynamic
+use Rattle.rhai_value.specs.contracts.value.dynamic.Dynamic as dynamic
 use Rattle.rhai_value.specs.Tree.{Tree}
 use Rattle.rhai_target.specs.declared.target.Target.{Target}
 use Rattle.rhai_target.specs.declared.target.Target.TheVariants.{RefMut, SharedValue, TempValue, Bit, BitField, BlobByte, StringChar, StringSlice}

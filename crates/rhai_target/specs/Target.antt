@@ -3,7 +3,7 @@ use Rattle.std.specs.Prelude.{◌≡◌, ◌<◌, ℕ, ℤ, Bool, true, false, L
 use Rattle.std.specs.Borrow.{MutBor}
 use Rattle.rhai_text.specs.declared.error.EvalAltResult.{EvalAltResult}
 use Rattle.rhai_text.specs.declared.position.Position.{Position}
-use Rattle.rhai_value.specs.declared.store.Cell.{Cell}
+use Rattle.rhai_value.specs.declared.cells.store.Cell.{Cell}
 use Rattle.rhai_value.specs.Tree.{Tree, cell_of, copy}
 use Rattle.rhai_value.specs.Parts.{int_of, text_of, blob_of}
 use Rattle.rhai_value.specs.Store.{content_at, is_marked_at, put, set_mark}

@@ -1,7 +1,7 @@
 //! Laws of the definitions: each is the contract of a function that does nothing.
 ghost use Rattle.std.specs.Prelude.{◌≡◌, ◌≤◌, ◌<◌, ◌+◌, ◌-◌, ◌*ℤ◌, ◌^◌, ℕ, ℤ, pos, Bool, true, false, ◌&&◌, IfSome, List, [], Option, Some, option_map, option_and_then, length, slice_get, FitsSigned};
 ghost use Rattle.std.specs.Int.{w64, int_wrap};
-ghost use Rattle.rhai_value.specs.declared.store.Cell.{Cell};
+ghost use Rattle.rhai_value.specs.declared.cells.store.Cell.{Cell};
 ghost use Rattle.rhai_value.specs.Tree.{Tree, Leaf, tag_of, mode_of};
 ghost use Rattle.rhai_value.specs.Parts.{bool_of, int_of, char_of, text_of, blob_of};
 ghost use Rattle.rhai_value.specs.Store.{is_marked_at};

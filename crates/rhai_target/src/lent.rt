@@ -3,8 +3,8 @@ ghost use Rattle.std.specs.Prelude.{◌≡◌, true, is_some, option_map, Some};
 ghost use Rattle.std.specs.Borrow.{sem, LendsIf};
 ghost use Rattle.std.specs.Fn.{FnOnceReturnsAtMut};
 ghost use Rattle.rhai_value.specs.Tree.{Tree};
-ghost use Rattle.rhai_value.specs.contracts.dynamic.Dynamic as dynamic_type;
-ghost use Rattle.rhai_value.specs.contracts.store.Store as store_type;
+ghost use Rattle.rhai_value.specs.contracts.value.dynamic.Dynamic as dynamic_type;
+ghost use Rattle.rhai_value.specs.contracts.cells.store.Store as store_type;
 ghost use Rattle.rhai_target.specs.Lent.{LendsTarget, target_row, own_value, marked_value, either_of};
 ghost use Rattle.rhai_target.specs.Target.{mark_in, IsMarkedIn, value_in, with_value, put_marked};
 

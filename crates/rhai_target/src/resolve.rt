@@ -2,7 +2,7 @@
 ghost use Rattle.std.specs.Prelude.{◌≡◌, true, IfOk, IfErr, Some, None};
 ghost use Rattle.std.specs.Borrow.{sem, follows_if, name_if_ok};
 ghost use Rattle.rhai_text.specs.declared.error.EvalAltResult.TheVariants.{ErrorDataRace};
-ghost use Rattle.rhai_value.specs.contracts.dynamic.Dynamic as dynamic_type;
+ghost use Rattle.rhai_value.specs.contracts.value.dynamic.Dynamic as dynamic_type;
 ghost use Rattle.rhai_value.specs.End.{first_cell};
 ghost use Rattle.rhai_value.specs.Store.{marked_with, is_marked_at};
 ghost use Rattle.rhai_value.specs.Tree.{copy};

@@ -8,9 +8,9 @@ use Rattle.rhai_value.specs.Rows.{fields_of}
 use Rattle.rhai_value.specs.RowWalks.{painted_row, painted_rows}
 use Rattle.rhai_value.specs.Seats.{list_at, row_at, rows_before, rows_from, rows_past, IsOpen, IsSeated}
 use Rattle.rhai_value.specs.Tree.{Tree, fresh, unit, nodes, nodes_fields, paint, paint_fields}
-use Rattle.rhai_value.specs.declared.access_mode.AccessMode.{AccessMode}
+use Rattle.rhai_value.specs.declared.value.access_mode.AccessMode.{AccessMode}
 use Rattle.rhai_value.specs.declared.map.MapParts.{MapParts}
-use Rattle.rhai_value.specs.declared.map_seat.Seat.{Seat}
+use Rattle.rhai_value.specs.declared.map.seat.Seat.{Seat}
 use Rattle.rhai_value.proofs.Paints.{fields_painted}
 use Rattle.rhai_value.proofs.Seats.{rows_next, rows_split}
 

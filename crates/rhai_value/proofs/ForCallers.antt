@@ -1,7 +1,7 @@
 -- What the proofs of crates above may cite, besides the laws: everything else in this folder is private.
 -- the one induction over values, and what the numbers of cells in a value satisfy
 pub use Rattle.rhai_value.proofs.Trees.{by_value}
-pub use Rattle.rhai_value.proofs.Cells.{each_paired, each_renumbered, each_weaker, related_renumbered, related_self}
+pub use Rattle.rhai_value.proofs.EachCell.{each_paired, each_renumbered, each_weaker, related_renumbered, related_self}
 -- related values
 pub use Rattle.rhai_value.proofs.SameTrees.{by_related, by_trees, same_copy, same_function, same_host, same_items, same_mode, same_paint, same_shared, same_tag, same_with_int, same_with_tag}
 -- related ends and stores, and what is written there

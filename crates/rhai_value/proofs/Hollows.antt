@@ -9,7 +9,7 @@ use Rattle.rhai_value.specs.Hollow.{with_fields, with_children_in, with_children
 use Rattle.rhai_value.specs.Rows.{Rows, trees_of, fields_of}
 use Rattle.rhai_value.specs.Scan.{Visiting, tree_before, field_before, each_scanned, fields_scanned, content_scanned, children_scanned}
 use Rattle.rhai_value.specs.Tree.{Tree, node, Content, leaf, branch, fields, holder, Trees, no_trees, tree_then, Fields, no_fields, field_then, nodes, nodes_trees}
-use Rattle.rhai_value.specs.declared.hollow.Hollow.{Hollow}
+use Rattle.rhai_value.specs.declared.walk.hollow.Hollow.{Hollow}
 use Rattle.rhai_value.proofs.Childrens.{nodes_children}
 use Rattle.rhai_value.proofs.Scans.{behind}
 

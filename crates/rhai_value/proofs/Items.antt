@@ -14,8 +14,8 @@ use Rattle.std.proofs.lemmas.Map.Text.{is_eq-slice_cmp}
 use Rattle.std.proofs.lemmas.Map.Views.{All-keys-insert_entry, All-map-remove_entry}
 use Rattle.std.proofs.lemmas.Slice.Eq.{bytes_eq-Decides}
 use Rattle.std.proofs.lemmas.Str.{encodes-chars}
-use Rattle.rhai_value.specs.declared.chain.Site.{Site}
-use Rattle.rhai_value.specs.declared.store.Cell.{Cell}
+use Rattle.rhai_value.specs.declared.cells.chain.Site.{Site}
+use Rattle.rhai_value.specs.declared.cells.store.Cell.{Cell}
 use Rattle.rhai_value.specs.Tree.{Tree, node, Content, leaf, branch, array, fields, holder, Trees, no_trees, tree_then, cell_of, made}
 use Rattle.rhai_value.specs.Parts.{array_of, map_of, with_content}
 use Rattle.rhai_value.specs.Rows.{Rows, bytes_cmp, AreRising, AreTexts, trees_of, fields_of}

@@ -13,7 +13,7 @@ use Rattle.rhai_value.specs.RowWalks.{chunk_scanned, chunk_view, copied_chunk, p
 use Rattle.rhai_value.specs.Rows.{Rows, bytes_cmp, fields_of, copied_rows, AreRising, AreTexts}
 use Rattle.rhai_value.specs.Scan.{Visiting, fields_scanned}
 use Rattle.rhai_value.specs.Tree.{copy}
-use Rattle.rhai_value.specs.declared.access_mode.AccessMode.{AccessMode}
+use Rattle.rhai_value.specs.declared.value.access_mode.AccessMode.{AccessMode}
 use Rattle.rhai_value.specs.declared.map.Chunk.{Chunk}
 use Rattle.rhai_value.specs.declared.map.Entry.{Entry}
 use Rattle.rhai_value.specs.declared.map.MapParts.{MapParts}

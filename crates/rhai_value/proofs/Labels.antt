@@ -1,6 +1,6 @@
 -- A value's content under another tag and mode.
 use Rattle.std.proofs.Common.{◌≡◌, ℤ, refl}
-use Rattle.rhai_value.specs.declared.access_mode.AccessMode.{AccessMode}
+use Rattle.rhai_value.specs.declared.value.access_mode.AccessMode.{AccessMode}
 use Rattle.rhai_value.specs.Tree.{Tree, node, content_of, with_tag, with_mode}
 
 pub under_label : (g : ℤ) (m : AccessMode) (t : Tree) → with_mode m (with_tag g t) ≡ node (content_of t) g m

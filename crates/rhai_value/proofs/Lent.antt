@@ -3,11 +3,11 @@ use Rattle.std.proofs.Common.{◌≡◌, ◌<◌, ℕ, List, length, Option, Som
 use Rattle.std.specs.Borrow.{MutBor, Fml, follows_if, name_if_some}
 use Rattle.std.specs.Option.{ghost_name_of}
 use denote.Follow.{follows_by}
-use Rattle.rhai_value.specs.declared.store.Cell.{Cell}
-use Rattle.rhai_value.specs.declared.whole.Own.{Own}
-use Rattle.rhai_value.specs.declared.chain.Site.TheVariants.{InCell}
-use Rattle.rhai_value.specs.contracts.dynamic.Dynamic as dynamic
-use Rattle.rhai_value.specs.contracts.store.Store as store
+use Rattle.rhai_value.specs.declared.cells.store.Cell.{Cell}
+use Rattle.rhai_value.specs.declared.cells.whole.Own.{Own}
+use Rattle.rhai_value.specs.declared.cells.chain.Site.TheVariants.{InCell}
+use Rattle.rhai_value.specs.contracts.value.dynamic.Dynamic as dynamic
+use Rattle.rhai_value.specs.contracts.cells.store.Store as store
 use Rattle.rhai_value.specs.Tree.{Tree, node, leaf, branch, fields, holder, cell_of}
 use Rattle.rhai_value.specs.Store.{at, unmarked}
 use Rattle.rhai_value.specs.End.{first, first_cell, site_cell, value_with_first, store_with_first}

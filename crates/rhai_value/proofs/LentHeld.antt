@@ -4,11 +4,11 @@ use Rattle.std.specs.Borrow.{MutBor, Fml, follows_if}
 use Rattle.std.specs.Option.{ghost_name_of}
 use mathlib.Core.Option as maybe
 use denote.Follow.{follows_by}
-use Rattle.rhai_value.specs.declared.store.Cell.{Cell}
-use Rattle.rhai_value.specs.declared.access_mode.AccessMode.{AccessMode}
-use Rattle.rhai_value.specs.declared.chain.Site.TheVariants.{Here, InCell}
-use Rattle.rhai_value.specs.contracts.dynamic.Dynamic as dynamic
-use Rattle.rhai_value.specs.contracts.store.Store as store
+use Rattle.rhai_value.specs.declared.cells.store.Cell.{Cell}
+use Rattle.rhai_value.specs.declared.value.access_mode.AccessMode.{AccessMode}
+use Rattle.rhai_value.specs.declared.cells.chain.Site.TheVariants.{Here, InCell}
+use Rattle.rhai_value.specs.contracts.value.dynamic.Dynamic as dynamic
+use Rattle.rhai_value.specs.contracts.cells.store.Store as store
 use Rattle.rhai_value.specs.Tree.{Tree, node, leaf, branch, fields, holder, cell_of}
 use Rattle.rhai_value.specs.End.{End, end, held, stuck, closed, end_of, end_at, held_in, held_cell, site_of, value_after, store_after}
 use Rattle.rhai_value.specs.Walk.{Visit, entered, barred, revisited, visit, visit_map, unentered, walk_in}

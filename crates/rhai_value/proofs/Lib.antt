@@ -1,6 +1,6 @@
 pub mod CellNumbers
 pub mod CellScans
-pub mod Cells
+pub mod EachCell
 pub mod Chains
 pub mod Childrens
 pub mod ChunkFronts

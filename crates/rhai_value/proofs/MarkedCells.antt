@@ -1,9 +1,9 @@
 -- Marks that are set and cleared.
 use Rattle.std.proofs.Common.{◌≡◌, ℕ, zero, suc, ◌<◌, Bool, true, false, List, [], ◌∷◌, length, get_or, slice_set, Option, Some, None, is_some, option_map, IfSome, refl, sym, ap, ◌∙◌, arith}
 use Rattle.std.specs.Option.{option_map_or}
-use Rattle.rhai_value.specs.declared.chain.Site.{Site}
-use Rattle.rhai_value.specs.declared.chain.Site.TheVariants.{Here, InCell}
-use Rattle.rhai_value.specs.declared.store.Cell.{Cell}
+use Rattle.rhai_value.specs.declared.cells.chain.Site.{Site}
+use Rattle.rhai_value.specs.declared.cells.chain.Site.TheVariants.{Here, InCell}
+use Rattle.rhai_value.specs.declared.cells.store.Cell.{Cell}
 use Rattle.rhai_value.specs.Tree.{Tree, node, leaf, branch, fields, holder, cell_of}
 use Rattle.rhai_value.specs.Store.{at, unmarked, put, is_marked_at, set_mark, shared_store}
 use Rattle.rhai_value.specs.Lent.{IsOpen}

@@ -7,16 +7,16 @@ use Rattle.std.specs.Ordering.{is_eq}
 use Rattle.std.specs.Str.{bytes_eq, chars, IsUtf8}
 use Rattle.std.proofs.lemmas.List.{set-get_or}
 use Rattle.std.proofs.lemmas.List.Elements.{All-head, All-tail}
-use Rattle.rhai_value.specs.declared.access_mode.AccessMode.{AccessMode}
-use Rattle.rhai_value.specs.declared.chain.Site.TheVariants.{Here, InCell}
-use Rattle.rhai_value.specs.declared.step.Step.{Step}
-use Rattle.rhai_value.specs.declared.step.Step.TheVariants.{Index, Key}
-use Rattle.rhai_value.specs.declared.step.PlaceError.{PlaceError}
-use Rattle.rhai_value.specs.declared.step.PlaceErrorKind.{PlaceErrorKind}
-use Rattle.rhai_value.specs.declared.step.PlaceErrorKind.TheVariants as kind
-use Rattle.rhai_value.specs.declared.step.PlaceErrorKind.TheVariants.{OtherType, NoItem, NoKey}
-use Rattle.rhai_value.specs.declared.store.Cell.{Cell}
-use Rattle.rhai_value.specs.declared.type_id.TypeId.TheVariants as id
+use Rattle.rhai_value.specs.declared.value.access_mode.AccessMode.{AccessMode}
+use Rattle.rhai_value.specs.declared.cells.chain.Site.TheVariants.{Here, InCell}
+use Rattle.rhai_value.specs.declared.places.step.Step.{Step}
+use Rattle.rhai_value.specs.declared.places.step.Step.TheVariants.{Index, Key}
+use Rattle.rhai_value.specs.declared.places.step.PlaceError.{PlaceError}
+use Rattle.rhai_value.specs.declared.places.step.PlaceErrorKind.{PlaceErrorKind}
+use Rattle.rhai_value.specs.declared.places.step.PlaceErrorKind.TheVariants as kind
+use Rattle.rhai_value.specs.declared.places.step.PlaceErrorKind.TheVariants.{OtherType, NoItem, NoKey}
+use Rattle.rhai_value.specs.declared.cells.store.Cell.{Cell}
+use Rattle.rhai_value.specs.declared.value.type_id.TypeId.TheVariants as id
 use Rattle.rhai_value.specs.Tree.{Tree, node, leaf, branch, fields, holder, array, function, Trees, Fields, no_fields, field_then, cell_of, tag_of, mode_of, fresh, unit}
 use Rattle.rhai_value.specs.Items.{items_in, with_items, field_at}
 use Rattle.rhai_value.specs.Parts.{array_of, map_of}

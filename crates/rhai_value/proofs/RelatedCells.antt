@@ -2,8 +2,8 @@
 use Rattle.std.proofs.Common.{◌≡◌, ℕ, zero, suc, Bool, true, List, [], ◌∷◌, length, slice_get, Option, Some, refl, sym, ap, ◌∙◌, eqb-true, eq-eqb, inl, inr}
 use Rattle.std.proofs.lemmas.Bool.{cases_eq}
 use Rattle.std.proofs.lemmas.Option.{none-some, same_Some}
-use Rattle.rhai_value.specs.declared.chain.Site.TheVariants.{Here, InCell}
-use Rattle.rhai_value.specs.declared.store.Cell.{Cell}
+use Rattle.rhai_value.specs.declared.cells.chain.Site.TheVariants.{Here, InCell}
+use Rattle.rhai_value.specs.declared.cells.store.Cell.{Cell}
 use Rattle.rhai_value.specs.Tree.{Tree, Leaf}
 use Rattle.rhai_value.specs.Parts.{leaf_part}
 use Rattle.rhai_value.specs.Store.{put, changed_at, is_marked_at, added, set_mark}

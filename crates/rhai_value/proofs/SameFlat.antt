@@ -1,11 +1,11 @@
 -- First contents, marks and flat values of related values, and a write that all holders of a cell see.
 use Rattle.std.proofs.Common.{◌≡◌, ℕ, zero, suc, Bool, true, false, List, [], ◌∷◌, slice_get, Option, Some, None, is_some, is_none, unwrap_or, ◌||◌, option_and_then, option_map, refl, sym, ap, ap₂, ◌∙◌, length}
-use Rattle.rhai_value.specs.declared.store.Cell.{Cell}
+use Rattle.rhai_value.specs.declared.cells.store.Cell.{Cell}
 use Rattle.rhai_value.specs.Tree.{Tree, node, leaf, branch, fields, holder, cell_of, copy}
 use Rattle.rhai_value.specs.Store.{at, put, unmarked}
 use Rattle.rhai_value.specs.End.{End, held, stuck, closed, end, first, first_site, value_with_first, store_with_first, flat, flattened, flattened_holder, value_ahead, first_cell, held_cell, site_cell}
 use Rattle.rhai_value.specs.Seen.{flat_source}
-use Rattle.rhai_value.specs.declared.chain.Site.TheVariants.{Here, InCell}
+use Rattle.rhai_value.specs.declared.cells.chain.Site.TheVariants.{Here, InCell}
 use Rattle.rhai_value.specs.Locked.{is_locked, is_one_locked, is_field_locked}
 use Rattle.rhai_value.specs.Relation.{Renaming, paired, Related, Alike, IsOneToOne, RelatedCells, RelatedEnds}
 use Rattle.rhai_value.proofs.Chains.{end_alone, end_barred, end_near}

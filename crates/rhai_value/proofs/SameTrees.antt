@@ -1,6 +1,6 @@
 -- Values that are the same up to the numbers of their cells.
 use Rattle.std.proofs.Common.{◌≡◌, ℕ, ℤ, Bool, true, false, cond, List, Option, refl, is_some}
-use Rattle.rhai_value.specs.declared.access_mode.AccessMode.{AccessMode}
+use Rattle.rhai_value.specs.declared.value.access_mode.AccessMode.{AccessMode}
 use Rattle.rhai_value.specs.Tree.{Tree, node, Content, Leaf, leaf, int, branch, fields, holder, Kind, array, function, Trees, no_trees, tree_then, Fields, no_fields, field_then, tag_of, mode_of, cell_of, is_host, with_tag, copy, copy_trees, copy_fields, paint, paint_trees, paint_fields}
 use Rattle.rhai_value.specs.Parts.{leaf_part, leaf_int, array_of, map_of, function_of, with_content, with_int}
 use Rattle.rhai_value.specs.Types.{tree_type}

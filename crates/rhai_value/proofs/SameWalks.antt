@@ -1,7 +1,7 @@
 -- Walks over stores that are the same up to the numbers of their cells.
 use Rattle.std.proofs.Common.{◌≡◌, ℕ, zero, suc, ◌+◌, Bool, true, false, ◌||◌, List, [], ◌∷◌, length, Option, Some, option_and_then, refl, sym, ap, ap₂, ◌∙◌, subst, subst₂, arith}
 use Rattle.std.specs.List.{AllZip}
-use Rattle.rhai_value.specs.declared.store.Cell.{Cell}
+use Rattle.rhai_value.specs.declared.cells.store.Cell.{Cell}
 use Rattle.rhai_value.specs.Tree.{Tree, node, holder}
 use Rattle.rhai_value.specs.Store.{at, unmarked}
 use Rattle.rhai_value.specs.Walk.{Visit, entered, barred, revisited, is_open, visit, visit_of, visit_map, unentered, walk_in, walk}

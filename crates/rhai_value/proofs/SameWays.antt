@@ -3,13 +3,13 @@ use Rattle.std.proofs.Common.{◌≡◌, ◌+◌, ℕ, zero, suc, ℤ, nat_lt, B
 use Rattle.std.specs.List.{AllZip}
 use Rattle.std.specs.Option.{option_map_or}
 use Rattle.std.specs.Str.{bytes_eq, chars}
-use Rattle.rhai_value.specs.declared.access_mode.AccessMode.{AccessMode}
-use Rattle.rhai_value.specs.declared.chain.Site.TheVariants.{Here, InCell}
-use Rattle.rhai_value.specs.declared.step.Step.{Step}
-use Rattle.rhai_value.specs.declared.step.Step.TheVariants.{Index, Key}
-use Rattle.rhai_value.specs.declared.step.PlaceErrorKind.{PlaceErrorKind}
-use Rattle.rhai_value.specs.declared.step.PlaceErrorKind.TheVariants.{NoItem, TooFar}
-use Rattle.rhai_value.specs.declared.store.Cell.{Cell}
+use Rattle.rhai_value.specs.declared.value.access_mode.AccessMode.{AccessMode}
+use Rattle.rhai_value.specs.declared.cells.chain.Site.TheVariants.{Here, InCell}
+use Rattle.rhai_value.specs.declared.places.step.Step.{Step}
+use Rattle.rhai_value.specs.declared.places.step.Step.TheVariants.{Index, Key}
+use Rattle.rhai_value.specs.declared.places.step.PlaceErrorKind.{PlaceErrorKind}
+use Rattle.rhai_value.specs.declared.places.step.PlaceErrorKind.TheVariants.{NoItem, TooFar}
+use Rattle.rhai_value.specs.declared.cells.store.Cell.{Cell}
 use Rattle.rhai_value.specs.Tree.{Tree, node, Leaf, leaf, branch, fields, holder, Kind, array, function, Trees, no_trees, tree_then, Fields, no_fields, field_then, fresh, unit}
 use Rattle.rhai_value.specs.Items.{items_in, field_at}
 use Rattle.rhai_value.specs.Rows.{trees_of}

@@ -14,7 +14,7 @@ use Rattle.rhai_value.specs.Tree.{Tree, fresh, unit}
 use Rattle.rhai_value.specs.declared.map.Chunk.{Chunk}
 use Rattle.rhai_value.specs.declared.map.Entry.{Entry}
 use Rattle.rhai_value.specs.declared.map.MapParts.{MapParts}
-use Rattle.rhai_value.specs.declared.map_seat.Seat.{Seat}
+use Rattle.rhai_value.specs.declared.map.seat.Seat.{Seat}
 use Rattle.rhai_value.proofs.KeptKeys.{rising_in, texts_in}
 use Rattle.rhai_value.proofs.Lists.{keys_valued, rising_taken, texts_put, texts_taken}
 use Rattle.rhai_value.proofs.Seats.{fronted_at, rows_seated, rows_split}

@@ -9,7 +9,7 @@ use Rattle.rhai_value.specs.Seats.{with_value, row_at, rows_before, rows_from, r
 use Rattle.rhai_value.specs.Tree.{Tree, nodes, nodes_fields}
 use Rattle.rhai_value.specs.declared.map.Entry.{Entry}
 use Rattle.rhai_value.specs.declared.map.MapParts.{MapParts}
-use Rattle.rhai_value.specs.declared.map_seat.Seat.{Seat}
+use Rattle.rhai_value.specs.declared.map.seat.Seat.{Seat}
 use Rattle.rhai_value.proofs.Lists.{rising_put}
 use Rattle.rhai_value.proofs.Parted.{insert_gap, insert_hit, remove_above, remove_hit, remove_right, set_hit}
 use Rattle.rhai_value.proofs.SeatEdits.{value_rows}

@@ -9,7 +9,7 @@ use Rattle.rhai_value.specs.Seats.{list_at, rows_before, rows_from, IsOpen}
 use Rattle.rhai_value.specs.declared.map.Chunk.{Chunk}
 use Rattle.rhai_value.specs.declared.map.Entry.{Entry}
 use Rattle.rhai_value.specs.declared.map.MapParts.{MapParts}
-use Rattle.rhai_value.specs.declared.map_seat.Seat.{Seat}
+use Rattle.rhai_value.specs.declared.map.seat.Seat.{Seat}
 use Rattle.rhai_value.proofs.SeatEdits.{chunk_set, first_edit, list_chunk, list_first, same_whole}
 use Rattle.rhai_value.proofs.Seats.{rows_split}
 

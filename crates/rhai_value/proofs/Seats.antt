@@ -13,7 +13,7 @@ use Rattle.rhai_value.specs.Tree.{fresh, unit}
 use Rattle.rhai_value.specs.declared.map.Chunk.{Chunk}
 use Rattle.rhai_value.specs.declared.map.Entry.{Entry}
 use Rattle.rhai_value.specs.declared.map.MapParts.{MapParts}
-use Rattle.rhai_value.specs.declared.map_seat.Seat.{Seat}
+use Rattle.rhai_value.specs.declared.map.seat.Seat.{Seat}
 use Rattle.rhai_value.proofs.ChunkFronts.{rising_left, rising_right}
 use Rattle.rhai_value.proofs.Lists.{joined_at}
 use Rattle.rhai_value.proofs.Parted.{lookup_hit, lookup_gap}

@@ -1,6 +1,6 @@
 -- The one induction over values.
 use Rattle.std.proofs.Common.{ℕ, ℤ, List}
-use Rattle.rhai_value.specs.declared.access_mode.AccessMode.{AccessMode}
+use Rattle.rhai_value.specs.declared.value.access_mode.AccessMode.{AccessMode}
 use Rattle.rhai_value.specs.Tree.{Tree, node, Content, Leaf, leaf, Kind, branch, fields, holder, Trees, no_trees, tree_then, Fields, no_fields, field_then}
 
 -- What holds of each leaf and each holder, of branches where it holds of their children, and of maps where it holds of their fields,

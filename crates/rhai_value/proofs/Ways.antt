@@ -1,11 +1,11 @@
 -- Ways of steps: what they lend of values that are no holders, and which cells they leave alone.
 use Rattle.std.proofs.Common.{◌≡◌, ◌+◌, ℕ, zero, suc, nat_eq, nat_lt, Bool, true, false, cond, List, [], ◌∷◌, length, slice_get, Some, None, Result, Ok, Err, refl, sym, ap, ◌∙◌}
 use Rattle.std.proofs.lemmas.Bool.{eq-eqb, eqb-true}
-use Rattle.rhai_value.specs.declared.chain.Site.TheVariants.{Here, InCell}
-use Rattle.rhai_value.specs.declared.step.Step.{Step}
-use Rattle.rhai_value.specs.declared.step.PlaceErrorKind.{PlaceErrorKind}
-use Rattle.rhai_value.specs.declared.step.PlaceErrorKind.TheVariants.{TooFar}
-use Rattle.rhai_value.specs.declared.store.Cell.{Cell}
+use Rattle.rhai_value.specs.declared.cells.chain.Site.TheVariants.{Here, InCell}
+use Rattle.rhai_value.specs.declared.places.step.Step.{Step}
+use Rattle.rhai_value.specs.declared.places.step.PlaceErrorKind.{PlaceErrorKind}
+use Rattle.rhai_value.specs.declared.places.step.PlaceErrorKind.TheVariants.{TooFar}
+use Rattle.rhai_value.specs.declared.cells.store.Cell.{Cell}
 use Rattle.rhai_value.specs.Tree.{Tree, cell_of, fresh, unit}
 use Rattle.rhai_value.specs.Store.{at, put, is_marked_at, set_mark}
 use Rattle.rhai_value.specs.End.{End, end, held, stuck, closed}

@@ -1,8 +1,8 @@
 -- What is left of the values that stand in a value.
 use Rattle.std.specs.Prelude.{List, []}
 use Rattle.rhai_value.specs.Tree.{Tree}
-use Rattle.rhai_value.specs.declared.children.ChildrenLeft.{ChildrenLeft}
-use Rattle.rhai_value.specs.declared.children.ChildrenLeft.TheVariants.{Nothing, Items, Values}
+use Rattle.rhai_value.specs.declared.walk.children.ChildrenLeft.{ChildrenLeft}
+use Rattle.rhai_value.specs.declared.walk.children.ChildrenLeft.TheVariants.{Nothing, Items, Values}
 
 abbrev pub children_left : ChildrenLeft → List Tree
 children_left Nothing = []

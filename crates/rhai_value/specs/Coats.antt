@@ -1,10 +1,10 @@
 -- Values that are being painted.
 use Rattle.std.specs.Prelude.{◌≡◌, ℕ, ◌-◌, ◌<◌, ◌≤◌, List, [], ◌∷◌, ◌++◌, length, map, take, drop, slice_set}
-use Rattle.rhai_value.specs.declared.access_mode.AccessMode.{AccessMode}
-use Rattle.rhai_value.specs.declared.coat.Coat.{Coat}
-use Rattle.rhai_value.specs.declared.coat.Coat.TheVariants.{Array, Fields}
+use Rattle.rhai_value.specs.declared.value.access_mode.AccessMode.{AccessMode}
+use Rattle.rhai_value.specs.declared.walk.coat.Coat.{Coat}
+use Rattle.rhai_value.specs.declared.walk.coat.Coat.TheVariants.{Array, Fields}
 use Rattle.rhai_value.specs.declared.map.MapParts.{MapParts}
-use Rattle.rhai_value.specs.declared.map_seat.Seat.{Seat}
+use Rattle.rhai_value.specs.declared.map.seat.Seat.{Seat}
 use Rattle.rhai_value.specs.Lists.{IsWhole}
 use Rattle.rhai_value.specs.Rows.{Rows, trees_of, fields_of}
 use Rattle.rhai_value.specs.RowWalks.{painted_rows}

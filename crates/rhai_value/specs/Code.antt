@@ -2,7 +2,7 @@
 use Rattle.std.specs.Prelude.{◌≡◌, ℕ, ℤ, List, [], ◌∷◌, refl}
 use Rattle.std.specs.Coded.{Coded, code_by, coded_list}
 use Rattle.std.proofs.Common.{ap, ◌∙◌}
-use Rattle.rhai_value.specs.declared.access_mode.AccessMode.{AccessMode}
+use Rattle.rhai_value.specs.declared.value.access_mode.AccessMode.{AccessMode}
 use Rattle.rhai_value.specs.Tree.{Tree, node, Content, Leaf, leaf, branch, fields, holder, Kind, Trees, no_trees, tree_then, Fields, no_fields, field_then, fresh, unit}
 
 -- A leaf or a holder is made of nothing, a branch of the children that were listed last, a map of the fields that were listed last.

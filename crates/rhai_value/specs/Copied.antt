@@ -1,6 +1,6 @@
 -- Two values that differ in modes alone.
 use Rattle.std.specs.Prelude.{◌≡◌}
-use Rattle.rhai_value.specs.declared.access_mode.AccessMode.TheVariants.{ReadWrite}
+use Rattle.rhai_value.specs.declared.value.access_mode.AccessMode.TheVariants.{ReadWrite}
 use Rattle.rhai_value.specs.Tree.{Tree, node, Content, leaf, branch, fields, holder, Trees, no_trees, tree_then, Fields, no_fields, field_then}
 
 -- the same contents and tags, and holders of the same cells

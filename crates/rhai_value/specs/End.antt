@@ -1,19 +1,19 @@
 -- Where a chain of holders ends, and the first content of a value; what is held there, what a write there leaves, what a value is
 -- without its holders, and what is moved out of it.
 use Rattle.std.specs.Prelude.{ℕ, List, Option, Some, None, option_and_then, slice_get, Bool, false, option_map, ◌<◌, true, length, [], unwrap_or, ◌≡◌, is_some}
-use Rattle.rhai_value.specs.declared.chain.Site.{Site}
-use Rattle.rhai_value.specs.declared.chain.Site.TheVariants.{Here, InCell}
-use Rattle.rhai_value.specs.declared.store.Cell.{Cell}
+use Rattle.rhai_value.specs.declared.cells.chain.Site.{Site}
+use Rattle.rhai_value.specs.declared.cells.chain.Site.TheVariants.{Here, InCell}
+use Rattle.rhai_value.specs.declared.cells.store.Cell.{Cell}
 use Rattle.rhai_value.specs.Tree.{Tree, node, holder, mode_of, is_constant, copy, Trees, copy_trees}
 use Rattle.rhai_value.specs.Store.{put, at}
 use Rattle.rhai_value.specs.Types.{tree_type, type_name}
 use Rattle.rhai_value.specs.Walk.{Visit, entered, barred, revisited, walk}
 use Rattle.std.specs.Option.{option_or, option_map_or}
-use Rattle.rhai_value.specs.declared.into.IntoError.{IntoError}
-use Rattle.rhai_value.specs.declared.into.IntoError.TheVariants.{Mismatch, Memory}
+use Rattle.rhai_value.specs.declared.value.into.IntoError.{IntoError}
+use Rattle.rhai_value.specs.declared.value.into.IntoError.TheVariants.{Mismatch, Memory}
 use Rattle.rhai_value.specs.Parts.{array_of}
-use Rattle.rhai_value.specs.declared.type_id.TypeId.{TypeId}
-use Rattle.rhai_value.specs.declared.type_id.TypeId.TheVariants as id
+use Rattle.rhai_value.specs.declared.value.type_id.TypeId.{TypeId}
+use Rattle.rhai_value.specs.declared.value.type_id.TypeId.TheVariants as id
 
 -- A value that is no holder is held: it is the first of the chain itself, or stands in the cell that was passed last. A holder is
 -- stuck where its cell is marked or no cell of the store. The chain closes where a cell comes a second time.

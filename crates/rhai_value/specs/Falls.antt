@@ -11,10 +11,10 @@ use Rattle.rhai_value.specs.View.{tree_of}
 use Rattle.rhai_value.specs.declared.map.Chunk.{Chunk}
 use Rattle.rhai_value.specs.declared.map.Entry.{Entry}
 use Rattle.rhai_value.specs.declared.map.MapParts.{MapParts}
-use Rattle.rhai_value.specs.declared.union.Union.{Union}
-use Rattle.rhai_value.specs.declared.union.Union.TheVariants as union
-use Rattle.rhai_value.specs.declared.dynamic.Dynamic.TheDeep.{deep-Chunk, deep-Entry, deep-MapParts, deep-Union}
-use Rattle.rhai_value.specs.declared.dynamic.Dynamic.TheShapes.{weighed-Map-parts}
+use Rattle.rhai_value.specs.declared.value.union.Union.{Union}
+use Rattle.rhai_value.specs.declared.value.union.Union.TheVariants as union
+use Rattle.rhai_value.specs.declared.map.Map.TheDeep.{deep-Chunk, deep-Entry, deep-MapParts, deep-Union}
+use Rattle.rhai_value.specs.declared.map.Map.TheShapes.{weighed-Map-parts}
 
 -- no child has more nodes than all children have
 pub most_trees : (ts : List Tree) → most (λ t. 2 * nodes t + 1) ts ≤ 2 * nodes_trees (trees_of ts) + 1

@@ -4,7 +4,7 @@ use Rattle.rhai_value.specs.Children.{children_of}
 use Rattle.rhai_value.specs.Rows.{trees_of}
 use Rattle.rhai_value.specs.Scan.{Visiting}
 use Rattle.rhai_value.specs.Tree.{Tree, node, Content, leaf, branch, fields, holder, Fields, no_fields, field_then, nodes_trees}
-use Rattle.rhai_value.specs.declared.hollow.Hollow.{Hollow}
+use Rattle.rhai_value.specs.declared.walk.hollow.Hollow.{Hollow}
 
 -- the values of a map, in the order of the keys, give way to these, as far as they go
 abbrev pub with_fields : Fields → List Tree → Fields

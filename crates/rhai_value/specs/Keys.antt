@@ -1,8 +1,8 @@
 -- How a key holds its bytes.
 use Rattle.std.specs.Prelude.{◌≡◌, ℕ, ◌≤◌, List, take, length, slice_index_or, string_bytes, ⊤}
 use Rattle.std.specs.Str.{IsUtf8}
-use Rattle.rhai_value.specs.declared.key.KeyForm.{KeyForm}
-use Rattle.rhai_value.specs.declared.key.KeyForm.TheVariants.{Short, Long}
+use Rattle.rhai_value.specs.declared.map.key.KeyForm.{KeyForm}
+use Rattle.rhai_value.specs.declared.map.key.KeyForm.TheVariants.{Short, Long}
 
 abbrev pub key_bytes : KeyForm → List ℕ
 key_bytes (Short n bs) = take n bs

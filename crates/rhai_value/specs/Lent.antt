@@ -2,9 +2,9 @@
 use Rattle.std.specs.Prelude.{◌≡◌, ℕ, List, [], Option, Some, None, slice_get, option_map, option_and_then, is_some, true, IfSome}
 use Rattle.std.specs.Borrow.{MutBor, GName, Fml, RattleType, fsep, follows_if}
 use mathlib.Core.Option as maybe
-use Rattle.rhai_value.specs.declared.store.Cell.{Cell}
-use Rattle.rhai_value.specs.contracts.dynamic.Dynamic as dynamic
-use Rattle.rhai_value.specs.contracts.store.Store as store
+use Rattle.rhai_value.specs.declared.cells.store.Cell.{Cell}
+use Rattle.rhai_value.specs.contracts.value.dynamic.Dynamic as dynamic
+use Rattle.rhai_value.specs.contracts.cells.store.Store as store
 use Rattle.rhai_value.specs.Tree.{Tree, cell_of}
 use Rattle.rhai_value.specs.Store.{at, put}
 use Rattle.rhai_value.specs.End.{end, value_after, store_after, value_with_first, store_with_first}

@@ -1,11 +1,11 @@
 -- Values that are being copied.
 use Rattle.std.specs.Prelude.{◌≡◌, ℕ, List, [], ◌∷◌, ◌++◌, map}
 use Rattle.std.specs.BTreeMap.{insert_entry}
-use Rattle.rhai_value.specs.declared.access_mode.AccessMode.TheVariants.{ReadWrite}
-use Rattle.rhai_value.specs.declared.level.Level.{Level}
-use Rattle.rhai_value.specs.declared.level.Level.TheVariants.{Array, Function, Fields}
-use Rattle.rhai_value.specs.declared.level.CopiedItems.{CopiedItems}
-use Rattle.rhai_value.specs.declared.level.CopiedFields.{CopiedFields}
+use Rattle.rhai_value.specs.declared.value.access_mode.AccessMode.TheVariants.{ReadWrite}
+use Rattle.rhai_value.specs.declared.walk.level.Level.{Level}
+use Rattle.rhai_value.specs.declared.walk.level.Level.TheVariants.{Array, Function, Fields}
+use Rattle.rhai_value.specs.declared.walk.level.CopiedItems.{CopiedItems}
+use Rattle.rhai_value.specs.declared.walk.level.CopiedFields.{CopiedFields}
 use Rattle.rhai_value.specs.Rows.{Rows, bytes_cmp, trees_of, fields_of}
 use Rattle.rhai_value.specs.Tree.{Tree, node, branch, fields, array, function, copy, nodes_trees, nodes_fields}
 

@@ -1,4 +1,5 @@
 pub mod Tree
+pub mod Frames
 pub mod Code
 pub mod Copied
 pub mod Rows

@@ -1,7 +1,7 @@
 -- What a value has: the content of its kind.
 use Rattle.std.specs.Prelude.{ℕ, ℤ, Bool, Option, Some, None, List, is_some, option_and_then, if◌then◌else◌}
-use Rattle.rhai_value.specs.declared.host.Host.{Host}
-use Rattle.rhai_value.specs.declared.type_id.TypeId.{TypeId}
+use Rattle.rhai_value.specs.declared.value.host.Host.{Host}
+use Rattle.rhai_value.specs.declared.value.type_id.TypeId.{TypeId}
 use Rattle.rhai_value.specs.Types.{host_at}
 use Rattle.rhai_value.specs.Tree.{Tree, node, Content, Leaf, leaf, branch, unit, bool, int, char, text, blob, host, array, fields, function, Trees, Fields}
 

@@ -2,14 +2,14 @@
 use Rattle.std.specs.Prelude.{◌≡◌, ℕ, ◌+◌, nat_lt, Bool, true, false, List, [], ◌∷◌, length, Option, Some, None, Result, Ok, Err, if◌then◌else◌}
 use Rattle.std.specs.Fn.{Once}
 use denote.Ref.{MutBor}
-use Rattle.rhai_value.specs.declared.store.Cell.{Cell}
-use Rattle.rhai_value.specs.declared.chain.Site.TheVariants.{Here, InCell}
-use Rattle.rhai_value.specs.declared.step.Step.{Step}
-use Rattle.rhai_value.specs.declared.step.PlaceError.{PlaceError}
-use Rattle.rhai_value.specs.declared.step.PlaceErrorKind.{PlaceErrorKind}
-use Rattle.rhai_value.specs.declared.step.PlaceErrorKind.TheVariants as kind
-use Rattle.rhai_value.specs.declared.with_held.HeldError.{HeldError}
-use Rattle.rhai_value.specs.declared.with_held.HeldError.TheVariants.{Lost}
+use Rattle.rhai_value.specs.declared.cells.store.Cell.{Cell}
+use Rattle.rhai_value.specs.declared.cells.chain.Site.TheVariants.{Here, InCell}
+use Rattle.rhai_value.specs.declared.places.step.Step.{Step}
+use Rattle.rhai_value.specs.declared.places.step.PlaceError.{PlaceError}
+use Rattle.rhai_value.specs.declared.places.step.PlaceErrorKind.{PlaceErrorKind}
+use Rattle.rhai_value.specs.declared.places.step.PlaceErrorKind.TheVariants as kind
+use Rattle.rhai_value.specs.declared.places.with_held.HeldError.{HeldError}
+use Rattle.rhai_value.specs.declared.places.with_held.HeldError.TheVariants.{Lost}
 use Rattle.rhai_value.specs.Tree.{Tree, fresh, unit}
 use Rattle.rhai_value.specs.Steps.{item_at, with_item}
 use Rattle.rhai_value.specs.Store.{put, is_marked_at, set_mark}

@@ -4,7 +4,7 @@ use Rattle.rhai_value.specs.Lists.{Row, chunk_rows}
 use Rattle.rhai_value.specs.Rows.{Rows, copied_rows}
 use Rattle.rhai_value.specs.Scan.{Visiting}
 use Rattle.rhai_value.specs.Tree.{paint}
-use Rattle.rhai_value.specs.declared.access_mode.AccessMode.{AccessMode}
+use Rattle.rhai_value.specs.declared.value.access_mode.AccessMode.{AccessMode}
 use Rattle.rhai_value.specs.declared.map.Chunk.{Chunk}
 
 -- a chunk as its front and its rows

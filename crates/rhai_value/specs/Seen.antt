@@ -1,15 +1,15 @@
 -- What the private functions answer.
 use Rattle.std.specs.Prelude.{List, [], Option, Some, None, option_and_then}
-use Rattle.rhai_value.specs.declared.store.Cell.{Cell}
+use Rattle.rhai_value.specs.declared.cells.store.Cell.{Cell}
 use Rattle.rhai_value.specs.End.{End, held, stuck, closed, end, value_ahead}
 use Rattle.rhai_value.specs.Store.{at}
 use Rattle.rhai_value.specs.Tree.{Tree, cell_of}
-use Rattle.rhai_value.specs.declared.chain.ChainEnd.{ChainEnd}
-use Rattle.rhai_value.specs.declared.chain.ChainEnd.TheVariants.{Held, Stuck, Closed}
-use Rattle.rhai_value.specs.declared.chain.Near.{Near}
-use Rattle.rhai_value.specs.declared.chain.Near.TheVariants as near
-use Rattle.rhai_value.specs.declared.chain.Site.{Site}
-use Rattle.rhai_value.specs.declared.chain.Site.TheVariants as site
+use Rattle.rhai_value.specs.declared.cells.chain.ChainEnd.{ChainEnd}
+use Rattle.rhai_value.specs.declared.cells.chain.ChainEnd.TheVariants.{Held, Stuck, Closed}
+use Rattle.rhai_value.specs.declared.cells.chain.Near.{Near}
+use Rattle.rhai_value.specs.declared.cells.chain.Near.TheVariants as near
+use Rattle.rhai_value.specs.declared.cells.chain.Site.{Site}
+use Rattle.rhai_value.specs.declared.cells.chain.Site.TheVariants as site
 
 abbrev pub end_seen : ChainEnd → End
 end_seen (Held site d) = held site d.now

@@ -1,11 +1,11 @@
 -- Steps down into a value: an item of an array, the value of a map's key; what stands there, and the value once that was written.
 use Rattle.std.specs.Prelude.{ℕ, suc, ℤ, pos, negsuc, ◌-◌, nat_lt, List, length, slice_index_or, slice_set, Option, Some, None, Result, Ok, Err, if◌then◌else◌}
 use Rattle.std.specs.Str.{bytes_eq, chars}
-use Rattle.rhai_value.specs.declared.step.Step.{Step}
-use Rattle.rhai_value.specs.declared.step.Step.TheVariants.{Index, Key}
-use Rattle.rhai_value.specs.declared.step.PlaceErrorKind.{PlaceErrorKind}
-use Rattle.rhai_value.specs.declared.step.PlaceErrorKind.TheVariants.{OtherType, NoItem, NoKey}
-use Rattle.rhai_value.specs.declared.type_id.TypeId.{TypeId}
+use Rattle.rhai_value.specs.declared.places.step.Step.{Step}
+use Rattle.rhai_value.specs.declared.places.step.Step.TheVariants.{Index, Key}
+use Rattle.rhai_value.specs.declared.places.step.PlaceErrorKind.{PlaceErrorKind}
+use Rattle.rhai_value.specs.declared.places.step.PlaceErrorKind.TheVariants.{OtherType, NoItem, NoKey}
+use Rattle.rhai_value.specs.declared.value.type_id.TypeId.{TypeId}
 use Rattle.rhai_value.specs.Tree.{Tree, fields, fresh, unit, Fields, no_fields, field_then}
 use Rattle.rhai_value.specs.Items.{field_at, items_of, with_items}
 use Rattle.rhai_value.specs.Parts.{map_of, with_content}

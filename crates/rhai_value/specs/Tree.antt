@@ -1,8 +1,8 @@
 -- What a value is: a tree, in which the number of a cell stands for what is shared.
 use Rattle.std.specs.Prelude.{ℕ, ℤ, pos, suc, ◌+◌, Bool, true, false, Option, Some, None, List}
-use Rattle.rhai_value.specs.declared.access_mode.AccessMode.{AccessMode}
-use Rattle.rhai_value.specs.declared.access_mode.AccessMode.TheVariants.{ReadWrite, ReadOnly}
-use Rattle.rhai_value.specs.declared.host.Host.{Host}
+use Rattle.rhai_value.specs.declared.value.access_mode.AccessMode.{AccessMode}
+use Rattle.rhai_value.specs.declared.value.access_mode.AccessMode.TheVariants.{ReadWrite, ReadOnly}
+use Rattle.rhai_value.specs.declared.value.host.Host.{Host}
 
 -- a content that holds no other value
 pub data Leaf : Type 0 where

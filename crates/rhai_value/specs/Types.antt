@@ -1,11 +1,11 @@
 -- The types of values, and their names.
 use Rattle.std.specs.Prelude.{ℕ, Bool, true, false, List, Option, Some, None, codes, if◌then◌else◌}
 use denote.Enum.Bare.{sameb}
-use Rattle.rhai_value.specs.contracts.type_id.TypeId as type_id
-use Rattle.rhai_value.specs.declared.host.Host.{Host}
-use Rattle.rhai_value.specs.declared.host.Host.TheVariants as host_kind
-use Rattle.rhai_value.specs.declared.type_id.TypeId.{TypeId}
-use Rattle.rhai_value.specs.declared.type_id.TypeId.TheVariants as id
+use Rattle.rhai_value.specs.contracts.value.type_id.TypeId as type_id
+use Rattle.rhai_value.specs.declared.value.host.Host.{Host}
+use Rattle.rhai_value.specs.declared.value.host.Host.TheVariants as host_kind
+use Rattle.rhai_value.specs.declared.value.type_id.TypeId.{TypeId}
+use Rattle.rhai_value.specs.declared.value.type_id.TypeId.TheVariants as id
 use Rattle.rhai_value.specs.Tree.{Tree, node, Content, content_of, leaf, branch, holder, Leaf, unit, bool, int, char, text, blob, host, Kind, array, fields, function}
 
 abbrev pub host_type : Host → TypeId

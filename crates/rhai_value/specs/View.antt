@@ -1,8 +1,8 @@
 -- The tree that a `Dynamic` stands for.
 use Rattle.rhai_value.specs.Tree.{Tree, node, leaf, branch, fields, holder, unit, bool, int, char, text, blob, host, array, function}
 use Rattle.rhai_value.specs.Rows.{trees_of, fields_of}
-use Rattle.rhai_value.specs.declared.union.Union.{Union}
-use Rattle.rhai_value.specs.declared.union.Union.TheVariants as union
+use Rattle.rhai_value.specs.declared.value.union.Union.{Union}
+use Rattle.rhai_value.specs.declared.value.union.Union.TheVariants as union
 
 abbrev pub tree_of : Union → Tree
 tree_of (union.Unit g m u) = node (leaf unit) g m

@@ -1,6 +1,6 @@
 -- Walks over cells that may form loops: a cell that is open on the path isn't opened again.
 use Rattle.std.specs.Prelude.{ℕ, zero, suc, Bool, true, false, nat_eq, ◌||◌, List, [], ◌∷◌, length, Option, Some, None, option_and_then}
-use Rattle.rhai_value.specs.declared.store.Cell.{Cell}
+use Rattle.rhai_value.specs.declared.cells.store.Cell.{Cell}
 use Rattle.rhai_value.specs.Tree.{Tree, cell_of}
 use Rattle.rhai_value.specs.Store.{at}
 

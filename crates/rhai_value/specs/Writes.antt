@@ -5,12 +5,12 @@ use denote.RattleType.{RattleType}
 use Rattle.std.specs.Borrow.{u8}
 use Rattle.rhai_value.specs.Tree.{Tree}
 use Rattle.rhai_value.specs.End.{End, end, value_after, store_after, value_with_first, store_with_first}
-use Rattle.rhai_value.specs.contracts.dynamic.Dynamic as dynamic
-use Rattle.rhai_value.specs.contracts.in_store.InStore as in_store
+use Rattle.rhai_value.specs.contracts.value.dynamic.Dynamic as dynamic
+use Rattle.rhai_value.specs.contracts.parts.in_store.InStore as in_store
 use Rattle.std.specs.contracts.alloc.Global as global
 use Rattle.std.specs.contracts.vec.Vec as vec
 use Rattle.std.specs.contracts.impls.GlobalAllocator.TheImpl.{ghosts}
-use Rattle.rhai_value.specs.declared.in_store.InStore.{InStore}
+use Rattle.rhai_value.specs.declared.parts.in_store.InStore.{InStore}
 
 -- a value in its store, f being applied to what is held
 abbrev pub written_at : End → InStore → (Tree → Tree) → InStore

@@ -1,8 +1,8 @@
 //! Laws of the definitions: each is the contract of a function that does nothing.
 ghost use Rattle.std.specs.Prelude.{◌≡◌, ◌↔◌, ◌∷◌, [], ◌++◌, ℕ, ℤ, Bool, true, false, List, length, Some, None, is_some, slice_get};
-ghost use Rattle.rhai_value.specs.declared.access_mode.AccessMode.{AccessMode};
-ghost use Rattle.rhai_value.specs.declared.store.Cell.{Cell};
-ghost use Rattle.rhai_value.specs.declared.type_id.TypeId.{TypeId};
+ghost use Rattle.rhai_value.specs.declared.value.access_mode.AccessMode.{AccessMode};
+ghost use Rattle.rhai_value.specs.declared.cells.store.Cell.{Cell};
+ghost use Rattle.rhai_value.specs.declared.value.type_id.TypeId.{TypeId};
 ghost use Rattle.rhai_value.specs.Parts.{unit_of, bool_of, int_of, char_of, text_of, blob_of, host_of, array_of, map_of, function_of, with_content, with_int};
 ghost use Rattle.rhai_value.specs.Tree.{Tree, Content, cell_of, tag_of, mode_of, copy, paint, with_tag};
 ghost use Rattle.rhai_value.specs.Copied.{SameButModes, IsWritable};

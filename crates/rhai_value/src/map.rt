@@ -1,9 +1,21 @@
 //! Maps from texts to values, in the order of the keys.
 
-use crate::dynamic::Dynamic;
-use crate::key::Key;
-use crate::map_entries::{Entries, Keys, Values};
-use crate::sought::Sought;
+pub(crate) mod edit;
+pub(crate) mod entries;
+pub(crate) mod exchange;
+pub(crate) mod into;
+pub(crate) mod key;
+pub(crate) mod parts;
+pub(crate) mod pop;
+pub(crate) mod seat;
+pub(crate) mod set;
+pub(crate) mod sought;
+pub(crate) mod write;
+
+use crate::map::entries::{Entries, Keys, Values};
+use crate::map::key::Key;
+use crate::map::sought::Sought;
+use crate::value::dynamic::Dynamic;
 use std::alloc::Global;
 use std::marker::Model;
 
@@ -48,8 +60,8 @@ impl Model for Map {
     ghost Value = { Rows };
 
     ghost use Rattle.std.specs.Coded.{codes, coded_list, coded×, coded_ℕ};
-    ghost use Rattle.rhai_value.specs.contracts.access_mode.AccessMode as access_mode;
-    ghost use Rattle.rhai_value.specs.contracts.host.Host as host_kind;
+    ghost use Rattle.rhai_value.specs.contracts.value.access_mode.AccessMode as access_mode;
+    ghost use Rattle.rhai_value.specs.contracts.value.host.Host as host_kind;
     ghost use Rattle.rhai_value.specs.Code.{tree_code};
 
     ghost coded = { coded_list (coded× (coded_list coded_ℕ) (tree_code (Prim.hlevel (codes, access_mode.the_row.coded, host_kind.the_row.coded)))) };
@@ -77,7 +89,7 @@ impl Map {
     ghost use Rattle.std.specs.Option.{option_copied_mut};
     ghost use Rattle.rhai_value.specs.Rows.{bytes_cmp, fields_of, AreRising, AreTexts};
     ghost use Rattle.rhai_value.specs.Tree.{nodes, nodes_fields};
-    ghost use Rattle.rhai_value.specs.contracts.dynamic.Dynamic as dynamic_type;
+    ghost use Rattle.rhai_value.specs.contracts.value.dynamic.Dynamic as dynamic_type;
     ghost use Rattle.rhai_value.specs.contracts.map.Map as map_type;
 
     /// Makes a map of no entries; its first entry takes memory from `alloc`.

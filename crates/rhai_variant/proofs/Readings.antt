@@ -1,7 +1,7 @@
 -- What is read of a value, by its type.
 use Rattle.std.proofs.Common.{◌≡◌, Bool, true, false, Option, Some, None, option_map, is_some, cond, refl, ◌∙◌}
-use Rattle.rhai_value.specs.declared.type_id.TypeId.{TypeId}
-use Rattle.rhai_value.specs.declared.type_id.TypeId.TheVariants as id
+use Rattle.rhai_value.specs.declared.value.type_id.TypeId.{TypeId}
+use Rattle.rhai_value.specs.declared.value.type_id.TypeId.TheVariants as id
 use Rattle.rhai_value.specs.Tree.{Tree, node, leaf, branch, fields, holder, Content, content_of, cell_of, made}
 use Rattle.rhai_value.specs.Types.{is_type, tree_type}
 use Rattle.rhai_variant.specs.Reads.{held_type, read, viewed}

@@ -1,8 +1,8 @@
 -- What is read and written as a type doesn't depend on the numbers of cells.
 use Rattle.std.proofs.Common.{Bool, true, false, Some, None, option_map, cond, refl, subst}
-use Rattle.rhai_value.specs.declared.chain.Site.TheVariants.{Here}
-use Rattle.rhai_value.specs.declared.type_id.TypeId.{TypeId}
-use Rattle.rhai_value.specs.declared.type_id.TypeId.TheVariants as id
+use Rattle.rhai_value.specs.declared.cells.chain.Site.TheVariants.{Here}
+use Rattle.rhai_value.specs.declared.value.type_id.TypeId.{TypeId}
+use Rattle.rhai_value.specs.declared.value.type_id.TypeId.TheVariants as id
 use Rattle.rhai_value.specs.End.{held}
 use Rattle.rhai_value.specs.Relation.{Renaming, Related, RelatedContent, Respect, Alike}
 use Rattle.rhai_value.specs.Tree.{Tree, node, Content, content_of, made}

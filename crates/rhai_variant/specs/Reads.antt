@@ -1,8 +1,8 @@
 -- What is read of a value as a type of Rust, and what a write as that type leaves: the name of the type says it all.
 use Rattle.std.specs.Prelude.{◌≡◌, true, false, Option, Some, None, option_map, refl}
 use Rattle.std.proofs.Common.{sym, ap, ◌∙◌}
-use Rattle.rhai_value.specs.declared.type_id.TypeId.{TypeId}
-use Rattle.rhai_value.specs.declared.type_id.TypeId.TheVariants as id
+use Rattle.rhai_value.specs.declared.value.type_id.TypeId.{TypeId}
+use Rattle.rhai_value.specs.declared.value.type_id.TypeId.TheVariants as id
 use Rattle.rhai_value.specs.Parts.{with_content}
 use Rattle.rhai_value.specs.Tree.{Tree, Content, content_of, made}
 use Rattle.rhai_value.specs.Types.{is_type, is_content_type, typed_content}

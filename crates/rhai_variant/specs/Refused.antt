@@ -1,7 +1,7 @@
 -- Why a value isn't read as a type.
 use Rattle.std.specs.Prelude.{◌≡◌, true, None, is_some}
-use Rattle.rhai_value.specs.declared.type_id.TypeId.{TypeId}
-use Rattle.rhai_value.specs.declared.type_id.TypeId.TheVariants as id
+use Rattle.rhai_value.specs.declared.value.type_id.TypeId.{TypeId}
+use Rattle.rhai_value.specs.declared.value.type_id.TypeId.TheVariants as id
 use Rattle.rhai_value.specs.Tree.{Tree}
 use Rattle.rhai_value.specs.Types.{is_type}
 use Rattle.rhai_variant.specs.declared.cast_error.CastError.{CastError}

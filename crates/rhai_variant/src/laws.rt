@@ -1,7 +1,7 @@
 //! Laws of what is read and written as a type, as contracts of functions that do nothing.
 ghost use Rattle.std.specs.Prelude.{◌≡◌, true, false, Some, None, is_some};
-ghost use Rattle.rhai_value.specs.declared.type_id.TypeId.{TypeId};
-ghost use Rattle.rhai_value.specs.declared.type_id.TypeId.TheVariants as type_id;
+ghost use Rattle.rhai_value.specs.declared.value.type_id.TypeId.{TypeId};
+ghost use Rattle.rhai_value.specs.declared.value.type_id.TypeId.TheVariants as type_id;
 ghost use Rattle.rhai_value.specs.Relation.{Renaming, Related, Respect, Alike};
 ghost use Rattle.rhai_value.specs.Tree.{Tree, cell_of};
 ghost use Rattle.rhai_value.specs.Types.{is_type, tree_type};

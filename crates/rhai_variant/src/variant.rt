@@ -2,9 +2,9 @@
 ghost use Rattle.std.specs.Prelude.{◌≡◌, refl, true, false, Some, None, option_map, IfOk, IfErr, IsOk, string_bytes};
 ghost use Rattle.std.specs.Str.{chars};
 ghost use Rattle.std.specs.Borrow.{sem, LendsIf};
-ghost use Rattle.rhai_value.specs.contracts.dynamic.Dynamic as dynamic_type;
-ghost use Rattle.rhai_value.specs.declared.type_id.TypeId.{TypeId};
-ghost use Rattle.rhai_value.specs.declared.type_id.TypeId.TheVariants as type_id;
+ghost use Rattle.rhai_value.specs.contracts.value.dynamic.Dynamic as dynamic_type;
+ghost use Rattle.rhai_value.specs.declared.value.type_id.TypeId.{TypeId};
+ghost use Rattle.rhai_value.specs.declared.value.type_id.TypeId.TheVariants as type_id;
 ghost use Rattle.rhai_value.specs.Tree.{Tree, TakesNoMemory, made, fresh, text, copy};
 ghost use Rattle.rhai_value.specs.Types.{is_type, type_name};
 ghost use Rattle.rhai_variant.specs.Reads.{read, viewed, written_as, made_read, not_shared};

@@ -37,6 +37,19 @@ impl<'p> Compiler<'p> {
         if let Some(function) = function {
             return self.call_script(function, arguments, position, to, levels);
         }
+        self.call_outside(callee, arguments, position, to, levels)
+    }
+
+    /// Calls a function that isn't the script's.
+    #[cycle(compile)]
+    pub(crate) fn call_outside(
+        &mut self,
+        callee: usize,
+        arguments: &Vec<Expr>,
+        position: Position,
+        to: Slot,
+        levels: u32,
+    ) -> Result<(), CodeError> {
         let meaning = self.meaning(callee);
         match meaning {
             Meaning::IsShared => self.ask_shared(arguments, position, to, levels),

@@ -125,7 +125,7 @@ impl<'p> Compiler<'p> {
         };
         match term.operator {
             Operator::Plain(op) => self.comparison(first, term, op, wanted, jumps, levels),
-            Operator::And | Operator::Or => Ok(false),
+            Operator::And | Operator::Or | Operator::Coalesce => Ok(false),
         }
     }
 

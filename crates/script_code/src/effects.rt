@@ -104,9 +104,11 @@ impl<'p> Compiler<'p> {
             | Expr::Variable { .. }
             | Expr::Unary { .. }
             | Expr::Run { .. }
+            | Expr::Contains { .. }
             | Expr::Chain { .. }
             | Expr::Call { .. }
             | Expr::Closure { .. }
+            | Expr::Switch(_)
             | Expr::While(_)
             | Expr::Do(_, _)
             | Expr::Loop(_)
@@ -185,6 +187,7 @@ impl<'p> Compiler<'p> {
             }
             Expr::Block(_)
             | Expr::If { .. }
+            | Expr::Switch(_)
             | Expr::While(_)
             | Expr::Do(_, _)
             | Expr::Loop(_)
@@ -204,6 +207,7 @@ impl<'p> Compiler<'p> {
             | Expr::Variable { .. }
             | Expr::Unary { .. }
             | Expr::Run { .. }
+            | Expr::Contains { .. }
             | Expr::Chain { .. }
             | Expr::Call { .. }
             | Expr::Closure { .. } => {
@@ -225,6 +229,7 @@ impl<'p> Compiler<'p> {
         match expr {
             Expr::Block(block) => self.block(block, to, levels),
             Expr::If { arms, otherwise } => self.arms(arms, otherwise, to, levels),
+            Expr::Switch(switch) => self.switch(switch, to, levels),
             Expr::While(arm) => self.while_loop(arm, to, levels),
             Expr::Do(arm, goes_on) => self.do_loop(arm, *goes_on, to, levels),
             Expr::Loop(body) => self.endless_loop(body, to, levels),
@@ -259,6 +264,7 @@ impl<'p> Compiler<'p> {
             | Expr::Variable { .. }
             | Expr::Unary { .. }
             | Expr::Run { .. }
+            | Expr::Contains { .. }
             | Expr::Chain { .. }
             | Expr::Call { .. }
             | Expr::Closure { .. }

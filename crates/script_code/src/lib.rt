@@ -19,6 +19,7 @@ mod places;
 mod program;
 mod quiet;
 mod scan;
+mod switches;
 mod tables;
 mod variables;
 mod writes;

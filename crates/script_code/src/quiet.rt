@@ -142,6 +142,11 @@ impl<'p> Watched<'p> {
             Expr::Object(fields) => self.stays_in_fields(fields),
             Expr::Unary { operand, .. } => self.stays(operand),
             Expr::Run { first, rest } => self.stays(first) && self.stays_in_terms(rest),
+            Expr::Contains {
+                callee,
+                operands,
+                ..
+            } => self.stays_in_all(operands) && self.stays_in_call(*callee, false),
             Expr::Chain { root, steps } => {
                 self.stays(root) && self.stays_in_steps(steps, is_variable(root, self.slot))
             }
@@ -152,6 +157,7 @@ impl<'p> Watched<'p> {
             } => self.stays_in_arguments(*callee, arguments),
             Expr::Block(_)
             | Expr::If { .. }
+            | Expr::Switch(_)
             | Expr::While(_)
             | Expr::Do(_, _)
             | Expr::Loop(_)

@@ -1,50 +1,134 @@
-//! Runs a script from standard input: writes what it prints, and then the error by which it ended, if it did. With the argument `many` it
-//! runs the scripts between lines of `----`, and writes a line for each that says how it ended.
+//! Runs a script from standard input: writes what it prints, and the error by which it ended, if it did, on standard error. With the argument
+//! `many` it runs the scripts between lines of `----`, and writes a line for each that says how it ended. `--operations N` says how many
+//! operations a script may take. The exit status is 0; 1 where the script failed; 2 where it can't be read, or the arguments are others.
 #![tactic(auto)]
 
 mod many;
 
 use crate::many::run_many;
 use rhai_text::Limits;
-use script_run::{ScriptLimits, run_script};
+use script_run::{ScriptError, ScriptLimits, run_script};
+use std::io::Eprint;
+use std::process::ExitCode;
 use std::rt::Env;
 use std::{env, io};
 
-/// What a script may use here.
+/// The script failed.
+const FAILED: u8 = 1;
+
+/// The script can't be read, or the arguments are others.
+const UNREAD: u8 = 2;
+
+/// What a script may use here, if no argument says how many operations.
 const LIMITS: ScriptLimits = ScriptLimits {
     sizes: Limits {
         text: 1_000_000,
         items: 1_000_000,
     },
+    entries: 1_000_000,
+    output: 100_000_000,
     operations: 100_000_000,
     calls: 500,
 };
 
-/// Runs a script.
-fn run_one(rt: &(impl Print + AllocGlobal), text: &str) -> io::Result<()> {
+/// What the arguments ask for.
+#[derive(Clone, Copy)]
+struct Task {
+    is_many: bool,
+    /// How many operations a script may take, if that is said.
+    operations: Option<u64>,
+}
+
+/// What the arguments ask for, if they can be read.
+fn task_of(rt: &(impl Env + AllocGlobal)) -> io::Result<Option<Task>> {
+    let mut is_many = false;
+    let mut operations = None;
+    let mut is_count = false;
+    for word in env::args(rt)?.skip(1) {
+        if is_count {
+            let Ok(count) = word.as_str().parse::<u64>() else {
+                return Ok(None);
+            };
+            operations = Some(count);
+            is_count = false;
+        } else if word.as_str() == "--operations" {
+            is_count = true;
+        } else if word.as_str() == "many" {
+            is_many = true;
+        } else {
+            return Ok(None);
+        }
+    }
+    if is_count {
+        return Ok(None);
+    }
+    Ok(Some(Task {
+        is_many,
+        operations,
+    }))
+}
+
+/// The exit status behind an error.
+fn status_of(error: &ScriptError) -> u8 {
+    match error {
+        ScriptError::Syntax(_) | ScriptError::TooLarge(_) => UNREAD,
+        ScriptError::Fault(_, _) | ScriptError::OutOfMemory(_) => FAILED,
+    }
+}
+
+/// Runs a script, and gives the exit status.
+fn run_one(
+    rt: &(impl Print + Eprint + AllocGlobal),
+    text: &str,
+    operations: Option<u64>,
+) -> io::Result<u8> {
+    let limits = ScriptLimits {
+        sizes: LIMITS.sizes,
+        entries: LIMITS.entries,
+        output: LIMITS.output,
+        operations: operations.unwrap_or(LIMITS.operations),
+        calls: LIMITS.calls,
+    };
     let mut out = String::new(rt.alloc());
-    let mut operations = 0;
-    let done = run_script(rt.alloc(), text, &mut out, &LIMITS, &mut operations);
+    let mut taken = 0;
+    let done = run_script(rt.alloc(), text, &mut out, &limits, &mut taken);
     print!(rt; "{out}")?;
     match done {
-        Ok(()) => Ok(()),
-        Err(error) => println!(rt; "error: {error}"),
+        Ok(()) => Ok(0),
+        Err(error) => {
+            eprintln!(rt; "error: {error}")?;
+            Ok(status_of(&error))
+        }
     }
 }
 
-/// Whether the program is given this word first.
-fn is_given(rt: &(impl Env + AllocGlobal), word: &str) -> io::Result<bool> {
-    match env::args(rt)?.nth(1) {
-        Some(first) => Ok(first.as_str() == word),
-        None => Ok(false),
+/// Does what the arguments ask for, and gives the exit status.
+fn run(rt: &(impl Input + Print + Eprint + Env + AllocGlobal)) -> io::Result<u8> {
+    let Some(task) = task_of(rt)? else {
+        eprintln!(rt; "usage: script_program [--operations N] [many]")?;
+        return Ok(UNREAD);
+    };
+    let text = match io::read_to_string(rt.alloc(), rt.reader()) {
+        Ok(text) => text,
+        Err(error) => {
+            eprintln!(rt; "error: {error}")?;
+            return Ok(UNREAD);
+        }
+    };
+    if task.is_many {
+        run_many(rt, text.as_str(), task.operations)?;
+        return Ok(0);
     }
+    run_one(rt, text.as_str(), task.operations)
 }
 
-fn main(rt: HostRuntime) -> io::Result<()> {
-    let text = io::read_to_string(rt.alloc(), rt.reader())?;
-    if is_given(&rt, "many")? {
-        run_many(&rt, text.as_str())
-    } else {
-        run_one(&rt, text.as_str())
+fn main(rt: HostRuntime) -> ExitCode {
+    match run(&rt) {
+        Ok(status) => ExitCode::from(status),
+        Err(error) => {
+            // where standard error fails too, the exit status is all that is left to say
+            let _ = eprintln!(rt; "error: {error}");
+            ExitCode::from(FAILED)
+        }
     }
 }

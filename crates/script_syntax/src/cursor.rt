@@ -30,7 +30,12 @@ impl Cursor {
 
     /// Answers the character behind the next one.
     pub fn peek_second(&self) -> Option<char> {
-        self.chars.get(self.at.saturating_add(1)).copied()
+        self.peek_behind(1)
+    }
+
+    /// Answers the character that comes so many behind the next one.
+    pub fn peek_behind(&self, count: usize) -> Option<char> {
+        self.chars.get(self.at.saturating_add(count)).copied()
     }
 
     /// Counts the characters that are left.
@@ -56,6 +61,11 @@ impl Cursor {
             line: self.line,
             position: self.column,
         }
+    }
+
+    /// Tells the column of the character that comes next.
+    pub fn column(&self) -> u32 {
+        self.column
     }
 
     /// Goes on behind the next character.

@@ -30,26 +30,32 @@ pub enum SyntaxFault {
     /// A key of an object map is wanted here.
     #[error("expected a name or a text as the key")]
     ExpectedKey,
-    /// The word means something else, here or in rhai.
-    #[error("a reserved word is no name")]
-    ReservedWord,
+    /// The word is kept for what the language has, or for what rhai has beside it.
+    #[error("`{0}` is a reserved word, and no name")]
+    ReservedWord(&'static str),
+    /// The word begins what rhai has and this language doesn't.
+    #[error("`{0}` is not part of this language")]
+    NotRead(&'static str),
     /// The sign means nothing here, though it does in rhai.
-    #[error("this sign is not part of the language")]
-    ReservedSign,
+    #[error("`{0}{1}` is not part of this language")]
+    ReservedSign(char, &'static str),
     /// No sign begins with this character.
     #[error("this character begins nothing")]
     StrangeCharacter,
     /// A name has a letter.
     #[error("a name has a letter behind its underscores")]
     NoLetter,
+    /// An anonymous function shares variables that are there when it is made.
+    #[error("no variable of this name is there")]
+    UnknownVariable,
     /// The number is past the bounds of ints.
     #[error("the number is too large")]
     NumberTooLarge,
     /// The digits are followed by what is no int.
     #[error("this is no int")]
     BadNumber,
-    /// The text or character has no end on its line.
-    #[error("the quotation mark is not closed on its line")]
+    /// The text or character has no end, or none on its line.
+    #[error("the quotation mark is not closed, or not on its line")]
     OpenText,
     /// The comment has no end.
     #[error("the comment is not closed")]
@@ -78,6 +84,12 @@ pub enum SyntaxFault {
     /// A key stands twice in an object map.
     #[error("the key stands in the map twice")]
     KeyTwice,
+    /// The cases of `switch` are literals and ranges of ints.
+    #[error("expected a literal or a range of ints")]
+    ExpectedCase,
+    /// The case `_` is the last.
+    #[error("no case stands behind `_`")]
+    CaseBehindDefault,
     /// `break` and `continue` stand inside of loops.
     #[error("no loop is around this")]
     OutsideLoop,

@@ -2,7 +2,7 @@
 
 use crate::cursor::Cursor;
 use crate::error::{SyntaxError, SyntaxFault};
-use crate::literals::{quoted, read_char, read_int};
+use crate::literals::{quoted, raw_text, read_char, read_int, template};
 use crate::symbol::{SIGNS, Symbol, keyword};
 use rhai_text::Position;
 use rhai_value::INT;
@@ -15,8 +15,10 @@ pub enum Lexeme {
     Int(INT),
     /// A character in single quotation marks.
     Char(char),
-    /// A text in double quotation marks.
+    /// A text in double quotation marks or back-ticks, or a raw one.
     Text(String),
+    /// The part of a text in back-ticks before a `${`.
+    TextBefore(String),
     /// A word that is no keyword.
     Name(String),
     /// A keyword, a sign, or the end.
@@ -75,7 +77,7 @@ fn read_word(alloc: Global, cursor: &mut Cursor) -> Result<Lexeme, SyntaxError> 
     let mut word = String::new(alloc);
     for _ in 0..cursor.left() {
         match cursor.peek() {
-            Some(c) if c.is_ascii_alphanumeric() || c == '_' => word.push(c)?,
+            Some(c) if is_of_word(c) => word.push(c)?,
             _ => break,
         }
         cursor.advance();
@@ -89,12 +91,43 @@ fn read_word(alloc: Global, cursor: &mut Cursor) -> Result<Lexeme, SyntaxError> 
     }
 }
 
+/// Whether a character may stand in a word.
+fn is_of_word(c: char) -> bool {
+    c.is_ascii_alphanumeric() || c == '_'
+}
+
+/// Whether the operator `!in` comes next, and no word that begins so.
+fn is_not_in(cursor: &Cursor) -> bool {
+    let ends = match cursor.peek_behind(3) {
+        Some(c) => !is_of_word(c),
+        None => true,
+    };
+    cursor.comes_behind("in") && ends
+}
+
+/// Whether a raw text comes next: numbers of `#` before a quotation mark.
+fn is_raw_text(cursor: &Cursor) -> bool {
+    for count in 1..cursor.left() {
+        match cursor.peek_behind(count) {
+            Some('#') => {}
+            Some('"') => return true,
+            _ => return false,
+        }
+    }
+    false
+}
+
 /// Reads a sign that begins with this character, the longest that comes.
 fn read_sign(cursor: &mut Cursor, next: char) -> Result<Lexeme, SyntaxError> {
+    if next == '!' && is_not_in(cursor) {
+        cursor.advance_by(3);
+        return Ok(Lexeme::Symbol(Symbol::NotIn));
+    }
     for (first, rest, symbol) in SIGNS.iter() {
         if *first == next && cursor.comes_behind(rest) {
             let Some(symbol) = symbol else {
-                return Err(SyntaxError::Fault(SyntaxFault::ReservedSign, cursor.position()));
+                let fault = SyntaxFault::ReservedSign(*first, rest);
+                return Err(SyntaxError::Fault(fault, cursor.position()));
             };
             cursor.advance();
             cursor.advance_by(rest.len());
@@ -113,6 +146,8 @@ pub fn read_lexeme(alloc: Global, cursor: &mut Cursor) -> Result<(Lexeme, Positi
     let lexeme = match cursor.peek() {
         None => Lexeme::Symbol(Symbol::End),
         Some('"') => Lexeme::Text(quoted(alloc, cursor, '"')?),
+        Some('`') => template(alloc, cursor)?,
+        Some('#') if is_raw_text(cursor) => Lexeme::Text(raw_text(alloc, cursor)?),
         Some('\'') => Lexeme::Char(read_char(alloc, cursor)?),
         Some(c) if c.is_ascii_digit() => Lexeme::Int(read_int(cursor)?),
         Some(c) if c.is_ascii_alphabetic() || c == '_' => read_word(alloc, cursor)?,

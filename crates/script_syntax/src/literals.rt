@@ -3,11 +3,12 @@ ghost use Rattle.std.specs.Prelude.{◌≤◌};
 
 use crate::cursor::Cursor;
 use crate::error::{SyntaxError, SyntaxFault};
+use crate::lexeme::Lexeme;
 use rhai_text::Position;
 use rhai_value::INT;
 use std::alloc::Global;
 
-/// Reads an int, in digits of ten, or behind `0x` and `0b` the bits of one.
+/// Reads an int, in digits of ten, or behind `0x`, `0o` and `0b` the bits of one.
 /// Errors: `NumberTooLarge` and `BadNumber`, at its begin.
 /// Cost: its length.
 pub fn read_int(cursor: &mut Cursor) -> Result<INT, SyntaxError> {
@@ -16,6 +17,10 @@ pub fn read_int(cursor: &mut Cursor) -> Result<INT, SyntaxError> {
         (Some('0'), Some('x' | 'X')) => {
             cursor.advance_by(2);
             Ok(read_digits(cursor, start, 16)?.cast_signed())
+        }
+        (Some('0'), Some('o' | 'O')) => {
+            cursor.advance_by(2);
+            Ok(read_digits(cursor, start, 8)?.cast_signed())
         }
         (Some('0'), Some('b' | 'B')) => {
             cursor.advance_by(2);
@@ -87,7 +92,8 @@ pub fn read_char(alloc: Global, cursor: &mut Cursor) -> Result<char, SyntaxError
     }
 }
 
-/// Reads a text between these quotation marks; two of them in a row are one that is meant.
+/// Reads a text between these quotation marks; two of them in a row are one that is meant. Where a line ends behind a backslash, the text goes
+/// on in the next one, without the blanks up to the column of the mark.
 /// Errors: what is wrong with it, and where; `OutOfMemory`.
 /// Cost: its length.
 pub fn quoted(alloc: Global, cursor: &mut Cursor, mark: char) -> Result<String, SyntaxError> {
@@ -96,6 +102,7 @@ pub fn quoted(alloc: Global, cursor: &mut Cursor, mark: char) -> Result<String, 
     let mut text = String::new(alloc);
     for _ in 0..cursor.left() {
         match cursor.peek() {
+            Some('\\') if cursor.peek_second() == Some('\n') => continue_line(cursor, start),
             Some('\\') => text.push(read_escape(cursor)?)?,
             Some('\n') | None => break,
             Some(c) => {
@@ -108,6 +115,104 @@ pub fn quoted(alloc: Global, cursor: &mut Cursor, mark: char) -> Result<String, 
                 }
                 text.push(c)?;
             }
+        }
+    }
+    Err(SyntaxError::Fault(SyntaxFault::OpenText, start))
+}
+
+/// Goes on behind the end of a line, and behind the blanks of the next one up to this column.
+fn continue_line(cursor: &mut Cursor, start: Position) {
+    cursor.advance_by(2);
+    for _ in 0..cursor.left() {
+        match cursor.peek() {
+            Some(c) if c.is_whitespace() && cursor.column() <= start.position => cursor.advance(),
+            _ => return,
+        }
+    }
+}
+
+/// Reads a raw text: between as many `#` on both sides, all is meant as it stands.
+/// Errors: `OpenText`, at its begin; `OutOfMemory`.
+/// Cost: its length.
+pub fn raw_text(alloc: Global, cursor: &mut Cursor) -> Result<String, SyntaxError> {
+    let start = cursor.position();
+    let mut signs = 0usize;
+    for _ in 0..cursor.left() {
+        if cursor.peek() != Some('#') {
+            break;
+        }
+        cursor.advance();
+        signs = signs.saturating_add(1);
+    }
+    cursor.advance();
+    let mut text = String::new(alloc);
+    for _ in 0..cursor.left() {
+        let Some(c) = cursor.peek() else {
+            break;
+        };
+        if c == '"' && ends_raw(cursor, signs) {
+            cursor.advance_by(signs.saturating_add(1));
+            return Ok(text);
+        }
+        text.push(c)?;
+        cursor.advance();
+    }
+    Err(SyntaxError::Fault(SyntaxFault::OpenText, start))
+}
+
+/// Whether so many `#` stand behind the quotation mark that comes next.
+fn ends_raw(cursor: &Cursor, signs: usize) -> bool {
+    for count in 0..signs {
+        if cursor.peek_behind(count.saturating_add(1)) != Some('#') {
+            return false;
+        }
+    }
+    true
+}
+
+/// Reads a text in back-ticks, from its begin up to its end or to a `${`. The end of the line right behind the back-tick is none of it.
+/// Errors: `OpenText`, at its begin; `OutOfMemory`.
+/// Cost: its length.
+pub fn template(alloc: Global, cursor: &mut Cursor) -> Result<Lexeme, SyntaxError> {
+    let start = cursor.position();
+    cursor.advance();
+    if (cursor.peek(), cursor.peek_second()) == (Some('\r'), Some('\n')) {
+        cursor.advance();
+    }
+    if cursor.peek() == Some('\n') {
+        cursor.advance();
+    }
+    template_part(alloc, cursor, start)
+}
+
+/// Reads on in a text in back-ticks that began here, up to its end or to a `${`. Two back-ticks in a row are one that is meant.
+/// Errors: `OpenText`, at its begin; `OutOfMemory`.
+/// Cost: its length.
+pub fn template_part(
+    alloc: Global,
+    cursor: &mut Cursor,
+    start: Position,
+) -> Result<Lexeme, SyntaxError> {
+    let mut text = String::new(alloc);
+    for _ in 0..cursor.left() {
+        match (cursor.peek(), cursor.peek_second()) {
+            (Some('`'), Some('`')) => {
+                cursor.advance_by(2);
+                text.push('`')?;
+            }
+            (Some('`'), _) => {
+                cursor.advance();
+                return Ok(Lexeme::Text(text));
+            }
+            (Some('$'), Some('{')) => {
+                cursor.advance_by(2);
+                return Ok(Lexeme::TextBefore(text));
+            }
+            (Some(c), _) => {
+                cursor.advance();
+                text.push(c)?;
+            }
+            (None, _) => break,
         }
     }
     Err(SyntaxError::Fault(SyntaxFault::OpenText, start))

@@ -252,6 +252,11 @@ impl Names {
         self.function.slot_or_captured(name, slot)
     }
 
+    /// Tells whether an anonymous function is read, which sees the variables around it.
+    pub fn is_inside(&self) -> bool {
+        !self.outer.is_empty()
+    }
+
     /// Begins a loop.
     pub fn enter_loop(&mut self) {
         self.function.loops = self.function.loops.saturating_add(1);

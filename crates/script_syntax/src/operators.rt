@@ -8,16 +8,20 @@ use rhai_text::Token;
 pub const LOOSEST: u8 = 1;
 
 /// The tightest level of operators.
-pub const TIGHTEST: u8 = 9;
+pub const TIGHTEST: u8 = 11;
+
+/// The level of `in` and `!in`.
+pub const MEMBERSHIP: u8 = 4;
 
 /// The level of `**`, whose operators go to the right.
-pub const POWER: u8 = 8;
+pub const POWER: u8 = 10;
 
 /// Finds the operator between two operands that a symbol is, with its level: higher ones are tighter.
 pub fn operator_of(symbol: Symbol) -> Option<(u8, Operator)> {
     match symbol {
         Symbol::And => Some((2, Operator::And)),
         Symbol::Or => Some((1, Operator::Or)),
+        Symbol::Coalesce => Some((6, Operator::Coalesce)),
         Symbol::Operator(token) => match level_of(token) {
             Some(level) => Some((level, Operator::Plain(token))),
             None => None,
@@ -34,10 +38,10 @@ fn level_of(token: Token) -> Option<u8> {
         Token::LessThan
         | Token::LessThanEqualsTo
         | Token::GreaterThan
-        | Token::GreaterThanEqualsTo => Some(4),
-        Token::ExclusiveRange | Token::InclusiveRange => Some(5),
-        Token::Plus | Token::Minus => Some(6),
-        Token::Multiply | Token::Divide | Token::Modulo => Some(7),
+        | Token::GreaterThanEqualsTo => Some(5),
+        Token::ExclusiveRange | Token::InclusiveRange => Some(7),
+        Token::Plus | Token::Minus => Some(8),
+        Token::Multiply | Token::Divide | Token::Modulo => Some(9),
         Token::PowerOf => Some(POWER),
         Token::LeftShift | Token::RightShift => Some(TIGHTEST),
         Token::Equals

@@ -9,9 +9,10 @@ use crate::lexeme::{Lexeme, read_lexeme};
 use crate::names::Names;
 use crate::symbol::Symbol;
 use crate::tree::{Block, Expr, Function, Program};
-use crate::words::is_reserved;
+use crate::words::no_name;
 use rhai_text::{ImmutableString, Position};
 use std::alloc::Global;
+use std::hash::{FoldHasher, Hash, Hasher};
 use std::mem;
 
 mod blocks;
@@ -21,6 +22,8 @@ mod functions;
 mod loops;
 mod primaries;
 mod statements;
+mod switches;
+mod templates;
 
 /// Reads a script, a lexeme after the other.
 #[derive(Drop)]
@@ -33,6 +36,8 @@ struct Parser {
     names: Names,
     callees: Callees,
     functions: Vec<Function>,
+    /// Tells the script from others, in the names of its anonymous functions.
+    stamp: u64,
     /// The lowest level that the expression that is read has come to.
     lowest: usize,
 }
@@ -79,6 +84,13 @@ pub fn parse_with(alloc: Global, text: &str, outer: &[String]) -> Result<Program
     parser.into_program(statements, positions, outer.len())
 }
 
+/// A number that hardly any other text has.
+fn stamp_of(text: &str) -> u64 {
+    let mut hasher = FoldHasher::default();
+    text.hash(&mut hasher);
+    hasher.finish()
+}
+
 impl Parser {
     fn new(alloc: Global, text: &str) -> Result<Parser, SyntaxError> {
         let mut cursor = Cursor::new(text.chars().collect(alloc)?);
@@ -91,6 +103,7 @@ impl Parser {
             names: Names::new(alloc),
             callees: Callees::new(alloc),
             functions: Vec::new(alloc),
+            stamp: stamp_of(text),
             lowest: MOST_LEVELS,
         })
     }
@@ -113,6 +126,7 @@ impl Parser {
             mut names,
             callees,
             functions,
+            stamp: _,
             lowest: _,
         } = self;
         let end_slot = names.count();
@@ -146,7 +160,11 @@ impl Parser {
     fn symbol(&self) -> Option<Symbol> {
         match &self.lexeme {
             Lexeme::Symbol(symbol) => Some(*symbol),
-            Lexeme::Int(_) | Lexeme::Char(_) | Lexeme::Text(_) | Lexeme::Name(_) => None,
+            Lexeme::Int(_)
+            | Lexeme::Char(_)
+            | Lexeme::Text(_)
+            | Lexeme::TextBefore(_)
+            | Lexeme::Name(_) => None,
         }
     }
 
@@ -193,9 +211,11 @@ impl Parser {
                 self.advance()?;
                 Ok(word)
             }
-            Lexeme::Int(_) | Lexeme::Char(_) | Lexeme::Text(_) | Lexeme::Symbol(_) => {
-                Err(self.fault(SyntaxFault::ExpectedName))
-            }
+            Lexeme::Int(_)
+            | Lexeme::Char(_)
+            | Lexeme::Text(_)
+            | Lexeme::TextBefore(_)
+            | Lexeme::Symbol(_) => Err(self.fault(SyntaxFault::ExpectedName)),
         }
     }
 
@@ -203,8 +223,8 @@ impl Parser {
     fn name(&mut self) -> Result<String, SyntaxError> {
         let position = self.position;
         let word = self.word()?;
-        if is_reserved(word.as_str()) {
-            return Err(SyntaxError::Fault(SyntaxFault::ReservedWord, position));
+        if let Some(fault) = no_name(word.as_str()) {
+            return Err(SyntaxError::Fault(fault, position));
         }
         Ok(word)
     }

@@ -34,6 +34,8 @@ pub enum Symbol {
     Loop,
     /// `return`
     Return,
+    /// `switch`
+    Switch,
     /// `throw`
     Throw,
     /// `true`
@@ -44,6 +46,8 @@ pub enum Symbol {
     Until,
     /// `while`
     While,
+    /// `_`
+    Underscore,
     /// `(`
     OpenParenthesis,
     /// `)`
@@ -66,12 +70,18 @@ pub enum Symbol {
     Colon,
     /// `.`
     Dot,
+    /// `=>`
+    Arrow,
     /// `!`
     Not,
     /// `&&`
     And,
     /// `||`
     Or,
+    /// `??`
+    Coalesce,
+    /// `!in`
+    NotIn,
     /// An operator of values.
     Operator(Token),
     /// The end of the text.
@@ -79,7 +89,7 @@ pub enum Symbol {
 }
 
 /// The words that the language has. Other words are names, or are reserved.
-static KEYWORDS: [(&str, Symbol); 19] = [
+static KEYWORDS: [(&str, Symbol); 21] = [
     ("break", Symbol::Break),
     ("catch", Symbol::Catch),
     ("const", Symbol::Const),
@@ -94,11 +104,13 @@ static KEYWORDS: [(&str, Symbol); 19] = [
     ("let", Symbol::Let),
     ("loop", Symbol::Loop),
     ("return", Symbol::Return),
+    ("switch", Symbol::Switch),
     ("throw", Symbol::Throw),
     ("true", Symbol::True),
     ("try", Symbol::Try),
     ("until", Symbol::Until),
     ("while", Symbol::While),
+    ("_", Symbol::Underscore),
 ];
 
 /// The signs of rhai by their first character and the others, longer ones first; those that this language lacks have no symbol.
@@ -131,7 +143,7 @@ pub static SIGNS: [(char, &str, Option<Symbol>); 73] = [
     ('|', "|", Some(Symbol::Or)),
     ('#', "{", Some(Symbol::OpenMap)),
     ('#', "!", None),
-    ('=', ">", None),
+    ('=', ">", Some(Symbol::Arrow)),
     ('-', ">", None),
     ('<', "-", None),
     ('<', "|", None),
@@ -141,7 +153,7 @@ pub static SIGNS: [(char, &str, Option<Symbol>); 73] = [
     (':', ":", None),
     (':', "=", None),
     (':', ";", None),
-    ('?', "?", None),
+    ('?', "?", Some(Symbol::Coalesce)),
     ('?', ".", None),
     ('?', "[", None),
     ('(', "*", None),
@@ -197,6 +209,7 @@ impl Symbol {
                 | Symbol::For
                 | Symbol::If
                 | Symbol::Loop
+                | Symbol::Switch
                 | Symbol::Try
                 | Symbol::While
         )
@@ -215,6 +228,9 @@ impl fmt::Display for Symbol {
             if *symbol == Some(*self) {
                 return write!(f, "`{first}{rest}`");
             }
+        }
+        if *self == Symbol::NotIn {
+            return write!(f, "`!in`");
         }
         write!(f, "the end")
     }

@@ -28,7 +28,8 @@ pub struct Program {
 /// block that has ended give their slots to later ones.
 #[derive(Drop)]
 pub struct Function {
-    /// The name. That of an anonymous function is one that no script can spell.
+    /// The name. That of an anonymous function is `anon$`, sixteen digits that tell its script from others, `$` and its number: no script can
+    /// spell it.
     pub name: ImmutableString,
     /// How many values of outside an anonymous function is given before its arguments.
     pub captured: usize,
@@ -115,6 +116,12 @@ pub enum Expr {
         first: Box<Expr>,
         rest: Vec<Term>,
     },
+    /// `a in b`: the operands are `b` and `a`, which are evaluated in this order; `callee` is `contains`, and no function of the script.
+    Contains {
+        callee: usize,
+        operands: Vec<Expr>,
+        position: Position,
+    },
     /// `a[i].k.f(x)`: the indices and arguments are evaluated from left to right, and the root after them.
     Chain {
         root: Box<Expr>,
@@ -139,6 +146,8 @@ pub enum Expr {
         arms: Vec<Arm>,
         otherwise: Option<Block>,
     },
+    /// `switch a { 1 | 2 if b => c, 3..5 => d, _ => e }`
+    Switch(Box<Switch>),
     /// `while a { }`
     While(Box<Arm>),
     /// `do { } while a`, or `do { } until a`: the body runs first, and again as long as the condition is this.
@@ -241,6 +250,46 @@ pub struct Arm {
     pub body: Block,
 }
 
+/// A value and the cases of which one is done: the first with a literal that is the value; where no case has such a literal, the first with
+/// a range that holds it; and whose guard is true.
+#[cycle(tree)]
+#[derive(Drop)]
+pub struct Switch {
+    pub value: Expr,
+    /// The place of the value.
+    pub position: Position,
+    pub cases: Vec<Case>,
+    /// What is done in no case.
+    pub otherwise: Option<Block>,
+    /// The callee `type_of`.
+    pub type_of: usize,
+}
+
+/// A case of a `switch`.
+#[cycle(tree)]
+#[derive(Drop)]
+pub struct Case {
+    pub patterns: Vec<Pattern>,
+    pub guard: Option<Expr>,
+    /// The place of the guard.
+    pub guard_position: Position,
+    pub body: Block,
+}
+
+/// What a case is for.
+#[cycle(tree)]
+#[derive(Drop)]
+pub enum Pattern {
+    /// This value, of this type.
+    Literal(Expr),
+    /// The ints from the first on, to before the last, or with it.
+    Range {
+        first: INT,
+        last: INT,
+        is_inclusive: bool,
+    },
+}
+
 /// An operator between two operands.
 #[derive(Clone, Copy, Debug, PartialEq, Eq)]
 pub enum Operator {
@@ -248,6 +297,8 @@ pub enum Operator {
     And,
     /// `||`: the right operand is evaluated only where the left one is false.
     Or,
+    /// `??`: the right operand is evaluated only where the left one is `()`.
+    Coalesce,
     /// One of values.
     Plain(Token),
 }

@@ -1,8 +1,22 @@
 // The words that rhai keeps for itself.
 
-/// The words that are no names, beside the keywords.
-static RESERVED: [&str; 43] = [
+use crate::error::SyntaxFault;
+
+/// What rhai has and this language doesn't.
+static NOT_READ: [&str; 9] = [
     "as",
+    "eval",
+    "exit",
+    "export",
+    "import",
+    "is_def_fn",
+    "is_def_var",
+    "private",
+    "this",
+];
+
+/// The other words that are no names, beside the keywords.
+static RESERVED: [&str; 33] = [
     "async",
     "await",
     "call",
@@ -10,15 +24,9 @@ static RESERVED: [&str; 43] = [
     "curry",
     "debug",
     "default",
-    "eval",
-    "exit",
-    "export",
     "go",
     "goto",
-    "import",
     "is",
-    "is_def_fn",
-    "is_def_var",
     "is_shared",
     "match",
     "module",
@@ -27,16 +35,13 @@ static RESERVED: [&str; 43] = [
     "null",
     "package",
     "print",
-    "private",
     "protected",
     "public",
     "shared",
     "spawn",
     "static",
     "super",
-    "switch",
     "sync",
-    "this",
     "thread",
     "type_of",
     "use",
@@ -53,17 +58,31 @@ static FUNCTIONS: [&str; 6] = ["Fn", "curry", "debug", "is_shared", "print", "ty
 /// The reserved words that are called as methods.
 static METHODS: [&str; 4] = ["call", "curry", "is_shared", "type_of"];
 
-/// Tells whether the word is no name of a variable, a function, a parameter or a property.
-pub fn is_reserved(word: &str) -> bool {
-    RESERVED.iter().any(|reserved| *reserved == word)
+/// What is wrong with a word as the name of a variable, a function, a parameter or a property.
+pub fn no_name(word: &str) -> Option<SyntaxFault> {
+    if let Some(known) = NOT_READ.iter().find(|known| **known == word) {
+        return Some(SyntaxFault::NotRead(*known));
+    }
+    match RESERVED.iter().find(|known| **known == word) {
+        Some(known) => Some(SyntaxFault::ReservedWord(*known)),
+        None => None,
+    }
 }
 
-/// Tells whether the word may be called as a function.
-pub fn is_callable(word: &str) -> bool {
-    !is_reserved(word) || FUNCTIONS.iter().any(|name| *name == word)
+/// What is wrong with a word that is called as a function.
+pub fn no_function(word: &str) -> Option<SyntaxFault> {
+    if FUNCTIONS.iter().any(|name| *name == word) {
+        None
+    } else {
+        no_name(word)
+    }
 }
 
-/// Tells whether the word may be called as a method.
-pub fn is_method(word: &str) -> bool {
-    !is_reserved(word) || METHODS.iter().any(|name| *name == word)
+/// What is wrong with a word that is called as a method.
+pub fn no_method(word: &str) -> Option<SyntaxFault> {
+    if METHODS.iter().any(|name| *name == word) {
+        None
+    } else {
+        no_name(word)
+    }
 }

@@ -1,9 +1,10 @@
 //! Functions on values of any type. None changes its value.
 
-use crate::faults::FaultKind;
+use crate::faults::{FaultKind, check_size};
 use crate::resources::Means;
 use crate::ways::check_ways;
 use rhai_show::{debug_text, display_text};
+use rhai_text::SizeKind;
 use rhai_value::{Dynamic, Store, TypeId};
 
 /// A function on any value.
@@ -40,11 +41,13 @@ pub(crate) fn ask_any(
         AnyFunction::ToString => {
             check_ways(means, store, value)?;
             let text = display_text(alloc, value, store)?;
+            check_size(means.limits.text, text.len(), SizeKind::Text)?;
             Ok(Dynamic::from_text(alloc, text.as_str())?)
         }
         AnyFunction::ToDebug => {
             check_ways(means, store, value)?;
             let text = debug_text(alloc, value, store)?;
+            check_size(means.limits.text, text.len(), SizeKind::Text)?;
             Ok(Dynamic::from_text(alloc, text.as_str())?)
         }
     }

@@ -3,11 +3,11 @@
 use crate::argument_values::{Arguments, array, count, int, or_unit, place_or_none};
 use crate::bounds::{bounds_of, span_of};
 use crate::cost::cost_of;
-use crate::faults::FaultKind;
+use crate::faults::{FaultKind, check_size};
 use crate::resources::Means;
 use crate::ways::{check_all_ways, check_ways};
 use rhai_packs::arrays;
-use rhai_text::{EvalAltResult, Position, SizeKind};
+use rhai_text::SizeKind;
 use rhai_value::{Array, Dynamic, INT, Store};
 
 /// A function on an array.
@@ -296,16 +296,10 @@ fn pad(means: &Means, items: &mut Array, count: INT, item: &Dynamic) -> Result<(
 
 /// Whether so many copies of a value behind others are let through: what stands in them counts, too.
 fn may_repeat(means: &Means, length: usize, count: INT, item: &Dynamic) -> Result<(), FaultKind> {
-    let limit = means.limits.items as u64;
     let more = u64::try_from(count)
         .unwrap_or(0)
         .saturating_sub(length as u64);
     let cost = cost_of(means.alloc, item)?.saturating_mul(more);
-    if limit != 0 && cost > limit {
-        return Err(FaultKind::Layer(EvalAltResult::ErrorDataTooLarge(
-            SizeKind::Items,
-            Position::NONE,
-        )));
-    }
-    Ok(())
+    let cost = usize::try_from(cost).unwrap_or(usize::MAX);
+    check_size(means.limits.items, cost, SizeKind::Items)
 }

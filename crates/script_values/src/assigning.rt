@@ -6,11 +6,13 @@ ghost use Rattle.rhai_ops.specs.Results.{outcome};
 
 use crate::binary_operators::binary;
 use crate::faults::{FaultKind, in_use};
+use crate::map_functions::check_entries;
 use crate::resources::Means;
 use rhai_ops::get_builtin_op_assignment_fn;
 use rhai_ops::laws::rows_suit;
+use rhai_packs::maps;
 use rhai_text::Token;
-use rhai_value::{Dynamic, Store};
+use rhai_value::{Dynamic, Map, Part, Store};
 
 /// An operator that assigns, and the one that it stands for: `+=` and `+`.
 #[derive(Clone, Copy)]
@@ -78,7 +80,33 @@ fn assign_held(
         row.call(means.alloc, store, &means.limits, held, value)?;
         return Ok(());
     }
+    if op.plain == Token::Plus {
+        let is_done = mixed_in(means, store, held, value)?;
+        if is_done {
+            return Ok(());
+        }
+    }
     let answer = binary(op.plain, means, store, held, value)?;
     *held = answer;
     Ok(())
+}
+
+/// Sets the entries of a map in the one that is held, and answers whether both are maps.
+fn mixed_in(
+    means: &Means,
+    store: &Store,
+    held: &mut Dynamic,
+    value: &Dynamic,
+) -> Result<bool, FaultKind> {
+    let Ok(more) = value.as_map_ref(store) else {
+        return Ok(false);
+    };
+    let Some(entries) = Map::own_mut(held) else {
+        return Ok(false);
+    };
+    check_entries(means, entries, more)?;
+    for (key, item) in more {
+        maps::set(entries, key, item.copy(means.alloc)?)?;
+    }
+    Ok(true)
 }

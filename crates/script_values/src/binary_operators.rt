@@ -4,14 +4,15 @@ ghost use Rattle.rhai_ops.specs.Outcome.{answers};
 ghost use Rattle.rhai_ops.specs.Results.{outcome};
 ghost use Rattle.rhai_ops.specs.Table.{row_of};
 
-use crate::faults::{FaultKind, in_use};
+use crate::faults::{FaultKind, check_size, in_use};
+use crate::map_functions::check_entries;
 use crate::resources::Means;
 use crate::ways::check_ways;
 use rhai_ops::get_builtin_binary_op_fn;
 use rhai_ops::laws::{operators_write_nothing, rows_suit};
 use rhai_packs::maps;
 use rhai_show::{display_text, same_value};
-use rhai_text::{EvalAltResult, ImmutableString, Position, SizeKind, Token};
+use rhai_text::{ImmutableString, SizeKind, Token};
 use rhai_value::{Array, Dynamic, Map, Store};
 
 /// Answers what an operator makes of two values, which are only read. The built-in operators come first. Where they have no
@@ -108,20 +109,15 @@ fn joined(
 }
 
 fn join_texts(means: &Means, first: &str, second: &str) -> Result<Dynamic, FaultKind> {
-    let limit = means.limits.text;
-    if limit != 0 && first.len().saturating_add(second.len()) > limit {
-        return Err(too_large(SizeKind::Text));
-    }
+    let length = first.len().saturating_add(second.len());
+    check_size(means.limits.text, length, SizeKind::Text)?;
     let first = ImmutableString::from_str(means.alloc, first)?;
     Ok(Dynamic::from(first.concat(means.alloc, second)?))
 }
 
 fn join_arrays(means: &Means, first: &Array, second: &Array) -> Result<Dynamic, FaultKind> {
-    let limit = means.limits.items;
     let count = first.len().saturating_add(second.len());
-    if limit != 0 && count > limit {
-        return Err(too_large(SizeKind::Items));
-    }
+    check_size(means.limits.items, count, SizeKind::Items)?;
     let mut items = Vec::new(means.alloc);
     items.reserve(count)?;
     for item in first {
@@ -134,6 +130,7 @@ fn join_arrays(means: &Means, first: &Array, second: &Array) -> Result<Dynamic, 
 }
 
 fn join_maps(means: &Means, first: &Map, second: &Map) -> Result<Dynamic, FaultKind> {
+    check_entries(means, first, second)?;
     let mut map = Map::new(means.alloc);
     for (key, value) in first {
         maps::set(&mut map, key, value.copy(means.alloc)?)?;
@@ -142,9 +139,4 @@ fn join_maps(means: &Means, first: &Map, second: &Map) -> Result<Dynamic, FaultK
         maps::set(&mut map, key, value.copy(means.alloc)?)?;
     }
     Ok(Dynamic::from_map(map))
-}
-
-/// The fault of a size that would grow past its limit.
-fn too_large(size: SizeKind) -> FaultKind {
-    FaultKind::Layer(EvalAltResult::ErrorDataTooLarge(size, Position::NONE))
 }

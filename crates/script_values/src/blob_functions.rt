@@ -2,9 +2,10 @@
 
 use crate::argument_values::{Arguments, blob, count, int};
 use crate::bounds::{bounds_of, span_of};
-use crate::faults::FaultKind;
+use crate::faults::{FaultKind, check_size};
 use crate::resources::Means;
 use rhai_packs::blobs;
+use rhai_text::SizeKind;
 use rhai_value::{Blob, Dynamic, INT, Store};
 
 /// A function on a blob.
@@ -108,7 +109,10 @@ fn blob_answer(
                 int(&arguments.second, store)?,
             )
         }
-        BlobQuestion::ToArray => Ok(Dynamic::from_array(blobs::to_array(means.alloc, bytes)?)),
+        BlobQuestion::ToArray => {
+            check_size(means.limits.items, bytes.len(), SizeKind::Items)?;
+            Ok(Dynamic::from_array(blobs::to_array(means.alloc, bytes)?))
+        }
     }
 }
 

@@ -1,7 +1,38 @@
-//! How much room a value takes.
+//! How much room a value takes, and how many operations it counts to go through it. An operation stands for four values, or for 64 bytes.
 
 use rhai_value::{Dynamic, Union};
 use std::alloc::{AllocError, Global};
+
+/// So many values are gone through in an operation.
+const VALUES: u64 = 4;
+
+/// So many bytes are gone through in an operation.
+const BYTES: u64 = 64;
+
+/// Counts the operations that it takes to go through so many values.
+pub fn values_cost(count: usize) -> u64 {
+    operations_of(count as u64)
+}
+
+/// Counts the operations that it takes to go through so many bytes.
+pub fn bytes_cost(count: usize) -> u64 {
+    operations_of_bytes(count as u64)
+}
+
+/// The operations of so many values.
+pub(crate) fn operations_of(values: u64) -> u64 {
+    values / VALUES
+}
+
+/// The operations of so many bytes.
+pub(crate) fn operations_of_bytes(bytes: u64) -> u64 {
+    bytes / BYTES
+}
+
+/// So many values are no more than so many operations.
+pub(crate) fn values_within(operations: u64) -> u64 {
+    operations.saturating_add(1).saturating_mul(VALUES)
+}
 
 /// Counts the values that stand in one, at any depth; a text and a blob count one for each 64 bytes. Cells aren't entered.
 /// Errors: memory for the list of those under way is refused.
@@ -21,6 +52,53 @@ pub fn cost_of(alloc: Global, value: &Dynamic) -> Result<u64, AllocError> {
         push_parts(next, &mut left)?;
     }
     Ok(cost)
+}
+
+/// Counts the operations of a copy of a value, with all that it holds outside of cells. A text counts its bytes: a change of the copy or of
+/// the text itself copies them. Where it is more than `most`, no more is counted than shows that.
+/// Errors: memory for the list of those under way is refused.
+/// Cost: the number of values, as far as they are counted.
+pub fn copy_cost(alloc: Global, value: &Dynamic, most: u64) -> Result<u64, AllocError> {
+    let own = own_weight(value);
+    if !has_parts(value) || operations_of(own) > most {
+        return Ok(operations_of(own));
+    }
+    let mut left = Vec::new(alloc);
+    push_parts(value, &mut left)?;
+    Ok(operations_of(weight_of(left, own, most)?))
+}
+
+/// Counts the operations of copies of values, as `copy_cost` does of one.
+/// Errors: memory for the list of those under way is refused.
+/// Cost: the number of values, as far as they are counted.
+pub(crate) fn copies_cost(alloc: Global, values: &[Dynamic], most: u64) -> Result<u64, AllocError> {
+    let own = values.len() as u64;
+    if operations_of(own) > most {
+        return Ok(operations_of(own));
+    }
+    let mut left = Vec::new(alloc);
+    for value in values {
+        push_costly(value, &mut left)?;
+    }
+    Ok(operations_of(weight_of(left, own, most)?))
+}
+
+/// What values weigh beside so much, with all that stands in them.
+fn weight_of(values: Vec<&Dynamic>, own: u64, most: u64) -> Result<u64, AllocError> {
+    let mut left = values;
+    let mut weight = own;
+    let end = values_within(most);
+    for _ in 0..u64::MAX {
+        if weight > end {
+            break;
+        }
+        let Some(next) = left.pop() else {
+            break;
+        };
+        weight = weight.saturating_add(own_weight(next));
+        push_parts(next, &mut left)?;
+    }
+    Ok(weight)
 }
 
 /// Whether other values stand in a value.
@@ -47,6 +125,34 @@ pub(crate) fn own_cost(value: &Dynamic) -> u64 {
         | Union::Shared(_, _, _) => 0,
     };
     count as u64
+}
+
+/// As how many values it counts to go through what stands right in a value: its parts, and its bytes.
+pub(crate) fn own_weight(value: &Dynamic) -> u64 {
+    match value.parts() {
+        Union::Array(_, _, items) => items.len() as u64,
+        Union::Map(_, _, map) => {
+            let mut weight = map.len() as u64;
+            for (key, _) in map {
+                weight = weight.saturating_add(weight_of_bytes(key.len()));
+            }
+            weight
+        }
+        Union::FnPtr(_, _, function) => function.curry().len() as u64,
+        Union::Str(_, _, text) => weight_of_bytes(text.len()),
+        Union::Blob(_, _, bytes) => weight_of_bytes(bytes.len()),
+        Union::Unit(_, _, _)
+        | Union::Bool(_, _, _)
+        | Union::Char(_, _, _)
+        | Union::Int(_, _, _)
+        | Union::Variant(_, _, _)
+        | Union::Shared(_, _, _) => 0,
+    }
+}
+
+/// As how many values so many bytes count.
+fn weight_of_bytes(count: usize) -> u64 {
+    bytes_cost(count).saturating_mul(VALUES)
 }
 
 /// Adds those of the values in a value that take room of their own, and those that are shared.

@@ -2,7 +2,7 @@
 ghost use Rattle.std.specs.Prelude.{◌≡◌};
 
 use rhai_show::display_text;
-use rhai_text::{EvalAltResult, ImmutableString, Position, Token};
+use rhai_text::{EvalAltResult, ImmutableString, Position, SizeKind, Token};
 use rhai_value::{Dynamic, INT, Store};
 use std::alloc::{AllocError, AllocFailed, Global};
 
@@ -44,6 +44,10 @@ pub enum FaultKind {
     Thrown(Dynamic),
     /// The script took more operations than it may.
     TooManyOperations,
+    /// A map would have more entries than it may.
+    TooManyEntries,
+    /// The script printed more than it may.
+    TooMuchOutput,
     /// More calls stand within each other than may.
     TooManyCalls,
 }
@@ -80,7 +84,10 @@ impl FaultKind {
             | FaultKind::NoNumber
             | FaultKind::NoRadix
             | FaultKind::Thrown(_) => true,
-            FaultKind::TooManyOperations | FaultKind::TooManyCalls => false,
+            FaultKind::TooManyOperations
+            | FaultKind::TooManyEntries
+            | FaultKind::TooMuchOutput
+            | FaultKind::TooManyCalls => false,
         }
     }
 
@@ -115,6 +122,8 @@ impl FaultKind {
             FaultKind::NoNumber => String::from_str(alloc, "the text is no number"),
             FaultKind::NoRadix => String::from_str(alloc, "a radix is from 2 to 36"),
             FaultKind::TooManyOperations => String::from_str(alloc, "too many operations"),
+            FaultKind::TooManyEntries => String::from_str(alloc, "too large: Entries"),
+            FaultKind::TooMuchOutput => String::from_str(alloc, "too much output"),
             FaultKind::TooManyCalls => String::from_str(alloc, "too many calls within each other"),
         }
     }
@@ -169,6 +178,14 @@ fn symbol_of(op: Token) -> &'static str {
 /// Makes the fault of a value whose type isn't the wanted one.
 pub fn mismatch(wanted: &'static str, found: &'static str) -> FaultKind {
     FaultKind::Layer(EvalAltResult::mismatch(wanted, found, Position::NONE))
+}
+
+/// Refuses a size past a limit, of which 0 is none.
+pub(crate) fn check_size(limit: usize, count: usize, size: SizeKind) -> Result<(), FaultKind> {
+    if limit != 0 && count > limit {
+        return Err(FaultKind::Layer(EvalAltResult::ErrorDataTooLarge(size, Position::NONE)));
+    }
+    Ok(())
 }
 
 /// The fault of a value that is in use.

@@ -1,9 +1,10 @@
 //! Functions on maps.
 
 use crate::argument_values::{Arguments, count, map, or_unit, text};
-use crate::faults::FaultKind;
+use crate::faults::{FaultKind, check_size};
 use crate::resources::Means;
 use rhai_packs::maps;
+use rhai_text::SizeKind;
 use rhai_value::{Dynamic, Map, Store};
 
 /// A function on a map.
@@ -99,8 +100,14 @@ fn map_answer(
             Some(value) => Ok(value.flatten_clone(means.alloc, store)?),
             None => Ok(Dynamic::UNIT),
         },
-        MapQuestion::Keys => Ok(Dynamic::from_array(maps::keys(means.alloc, entries)?)),
-        MapQuestion::Values => Ok(Dynamic::from_array(maps::values(means.alloc, entries)?)),
+        MapQuestion::Keys => {
+            check_size(means.limits.items, entries.len(), SizeKind::Items)?;
+            Ok(Dynamic::from_array(maps::keys(means.alloc, entries)?))
+        }
+        MapQuestion::Values => {
+            check_size(means.limits.items, entries.len(), SizeKind::Items)?;
+            Ok(Dynamic::from_array(maps::values(means.alloc, entries)?))
+        }
     }
 }
 
@@ -116,6 +123,7 @@ pub(crate) fn change_map(
     match change {
         MapChange::Set => {
             let key = text(&arguments.first, store)?;
+            check_entry(means, entries, key)?;
             set(entries, key, &mut arguments.second)?;
         }
         MapChange::Remove => {
@@ -124,14 +132,44 @@ pub(crate) fn change_map(
         MapChange::Clear => maps::clear(entries),
         MapChange::MixIn => {
             let mut other = arguments.first.copy(means.alloc)?;
-            maps::mixin(entries, map(&mut other, store)?)?;
+            let other = map(&mut other, store)?;
+            check_entries(means, entries, &other)?;
+            maps::mixin(entries, other)?;
         }
         MapChange::FillWith => {
             let mut other = arguments.first.copy(means.alloc)?;
-            maps::fill_with(entries, map(&mut other, store)?)?;
+            let other = map(&mut other, store)?;
+            check_entries(means, entries, &other)?;
+            maps::fill_with(entries, other)?;
         }
     }
     Ok(Dynamic::UNIT)
+}
+
+/// Refuses a new key of a map that has as many entries as it may.
+pub(crate) fn check_entry(means: &Means, entries: &Map, key: &str) -> Result<(), FaultKind> {
+    if means.entries == 0 || entries.len() < means.entries || maps::contains(entries, key) {
+        return Ok(());
+    }
+    Err(FaultKind::TooManyEntries)
+}
+
+/// Refuses the keys of another map, if a map would have more entries with them than it may.
+pub(crate) fn check_entries(means: &Means, entries: &Map, other: &Map) -> Result<(), FaultKind> {
+    let most = entries.len().saturating_add(other.len());
+    if means.entries == 0 || most <= means.entries {
+        return Ok(());
+    }
+    let mut count = entries.len();
+    for (key, _) in other {
+        if !maps::contains(entries, key) {
+            count = count.saturating_add(1);
+        }
+    }
+    if count > means.entries {
+        return Err(FaultKind::TooManyEntries);
+    }
+    Ok(())
 }
 
 /// Sets the value of a key, which stays where it was if memory is refused.

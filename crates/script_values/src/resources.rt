@@ -10,4 +10,6 @@ pub struct Means {
     pub alloc: Global,
     /// The largest sizes.
     pub limits: Limits,
+    /// How many entries a map may have; 0 where there is no limit.
+    pub entries: usize,
 }

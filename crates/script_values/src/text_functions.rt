@@ -1,11 +1,12 @@
 //! Functions on texts.
 
 use crate::argument_values::{Arguments, count, int, place_or_none, text};
-use crate::faults::FaultKind;
+use crate::faults::{FaultKind, check_size};
 use crate::resources::Means;
+use crate::text_walks::occurrences;
 use rhai_packs::ints::ParseRadixError;
 use rhai_packs::{ints, texts};
-use rhai_text::ImmutableString;
+use rhai_text::{ImmutableString, SizeKind};
 use rhai_value::{Dynamic, FnPtr, INT, Store};
 
 /// A function on a text.
@@ -164,7 +165,10 @@ fn text_answer(
         TextQuestion::ToLower => {
             Ok(Dynamic::from(texts::to_lower(means.alloc, &means.limits, held)?))
         }
-        TextQuestion::Chars => Ok(Dynamic::from_array(texts::chars(means.alloc, held)?)),
+        TextQuestion::Chars => {
+            check_size(means.limits.items, held.char_count(), SizeKind::Items)?;
+            Ok(Dynamic::from_array(texts::chars(means.alloc, held)?))
+        }
         TextQuestion::ParseInt => parse_int(held, 10),
         TextQuestion::ParseIntRadix => parse_int(held, int(first, store)?),
         TextQuestion::Split => split(means, store, held, first),
@@ -193,11 +197,24 @@ fn split(
     let parts = if let Ok(index) = at.as_int(store) {
         texts::split_at(means.alloc, held, index)?
     } else if let Ok(separator) = at.as_char(store) {
+        let mut buffer = [0; 4];
+        check_parts(means, held, separator.encode_utf8(&mut buffer))?;
         texts::split_char(means.alloc, held, separator)?
     } else {
-        texts::split(means.alloc, held, text(at, store)?)?
+        let separator = text(at, store)?;
+        check_parts(means, held, separator)?;
+        texts::split(means.alloc, held, separator)?
     };
     Ok(Dynamic::from_array(parts))
+}
+
+/// Refuses a separator that splits a text into more parts than an array may have items.
+fn check_parts(means: &Means, held: &ImmutableString, separator: &str) -> Result<(), FaultKind> {
+    if means.limits.items == 0 || held.len().saturating_add(2) <= means.limits.items {
+        return Ok(());
+    }
+    let count = occurrences(held.as_str(), separator).saturating_add(1);
+    check_size(means.limits.items, count as usize, SizeKind::Items)
 }
 
 fn sub_string(
@@ -230,16 +247,34 @@ pub(crate) fn change_text(
         }
         TextChange::Truncate => texts::truncate(means.alloc, held, int(first, store)?)?,
         TextChange::Trim => texts::trim(means.alloc, held)?,
-        TextChange::Replace => texts::replace(
-            means.alloc,
-            &means.limits,
-            held,
-            text(first, store)?,
-            text(&arguments.second, store)?,
-        )?,
+        TextChange::Replace => {
+            let (part, with) = (text(first, store)?, text(&arguments.second, store)?);
+            check_replaced(means, held, part, with)?;
+            texts::replace(means.alloc, &means.limits, held, part, with)?;
+        }
         TextChange::Pad => pad(means, store, held, int(first, store)?, &arguments.second)?,
     }
     Ok(Dynamic::UNIT)
+}
+
+/// Refuses a text in the place of each occurrence of a part, if what comes out would be too long and longer than before.
+fn check_replaced(
+    means: &Means,
+    held: &ImmutableString,
+    part: &str,
+    with: &str,
+) -> Result<(), FaultKind> {
+    if means.limits.text == 0 || with.len() <= part.len() {
+        return Ok(());
+    }
+    let count = occurrences(held.as_str(), part);
+    let more = count.saturating_mul(with.len().saturating_sub(part.len()) as u64);
+    let length = more.saturating_add(held.len() as u64);
+    let length = usize::try_from(length).unwrap_or(usize::MAX);
+    if length > held.len() {
+        check_size(means.limits.text, length, SizeKind::Text)?;
+    }
+    Ok(())
 }
 
 /// Puts a character or a text behind a text, over and over, until it has so many characters.
@@ -250,10 +285,10 @@ fn pad(
     length: INT,
     padding: &Dynamic,
 ) -> Result<(), FaultKind> {
-    let Means { alloc, limits } = means;
+    let (alloc, limits) = (means.alloc, &means.limits);
     match padding.as_char(store) {
-        Ok(character) => texts::pad(*alloc, limits, held, length, character)?,
-        Err(_) => texts::pad_with_string(*alloc, limits, held, length, text(padding, store)?)?,
+        Ok(character) => texts::pad(alloc, limits, held, length, character)?,
+        Err(_) => texts::pad_with_string(alloc, limits, held, length, text(padding, store)?)?,
     }
     Ok(())
 }

@@ -2,7 +2,7 @@
 ghost use Rattle.std.specs.Prelude.{◌≡◌, ◌+◌, ◌<◌, true, length, is_some, IfOk, IfSome, IfNone};
 ghost use Rattle.rhai_value.specs.Tree.{cell_of};
 
-use crate::cost::{has_parts, own_cost, push_parts};
+use crate::cost::{has_parts, operations_of, own_cost, own_weight, push_parts, values_within};
 use crate::faults::FaultKind;
 use crate::resources::Means;
 use rhai_text::{EvalAltResult, Position, SizeKind};
@@ -15,11 +15,26 @@ use std::mem;
 /// Errors: `ErrorDataTooLarge`, at no place; memory is refused.
 /// Cost: what is gone through, as far as it is let through; memory for lists of what is left, one for each open cell.
 pub fn check_ways(means: &Means, store: &Store, value: &Dynamic) -> Result<(), FaultKind> {
+    walk_cost(means, store, value, u64::MAX)?;
+    Ok(())
+}
+
+/// Counts the operations that it takes to go through a value with all that it holds, in cells on each way that leads to them. Where it is
+/// more than `most`, no more is counted than shows that.
+/// Errors: as `check_ways`, as far as it is counted.
+/// Cost: that of `check_ways`.
+pub fn walk_cost(
+    means: &Means,
+    store: &Store,
+    value: &Dynamic,
+    most: u64,
+) -> Result<u64, FaultKind> {
     let mut first = Vec::new(means.alloc);
     if leads_on(value) {
         first.push(value)?;
+        return Ok(operations_of(go_through(means, store, first, 0, most)?));
     }
-    go_through(means, store, first)
+    Ok(operations_of(own_weight(value)))
 }
 
 /// Refuses values that are gone through together, as `check_ways` does one.
@@ -30,29 +45,53 @@ pub(crate) fn check_all_ways(
     store: &Store,
     values: &[Dynamic],
 ) -> Result<(), FaultKind> {
+    walks_cost(means, store, values, u64::MAX)?;
+    Ok(())
+}
+
+/// Counts the operations that it takes to go through values together, as `walk_cost` does of one.
+/// Errors: as `check_ways`, as far as it is counted.
+/// Cost: that of `check_ways`.
+pub(crate) fn walks_cost(
+    means: &Means,
+    store: &Store,
+    values: &[Dynamic],
+    most: u64,
+) -> Result<u64, FaultKind> {
     let mut first = Vec::new(means.alloc);
+    let mut small = values.len() as u64;
     for value in values {
         if leads_on(value) {
             first.push(value)?;
+        } else {
+            small = small.saturating_add(own_weight(value));
         }
     }
-    go_through(means, store, first)
+    Ok(operations_of(go_through(means, store, first, small, most)?))
 }
 
 fn leads_on(value: &Dynamic) -> bool {
     has_parts(value) || value.is_shared()
 }
 
+/// As how many values it counts to go through some, beside so much; as far as it is no more than so many operations.
 fn go_through<'v>(
     means: &Means,
     store: &'v Store,
     first: Vec<&'v Dynamic>,
-) -> Result<(), FaultKind> {
+    beside: u64,
+    most: u64,
+) -> Result<u64, FaultKind> {
     let mut level = first;
     let mut outer = Vec::new(means.alloc);
     let mut path = Path::new(means.alloc);
     let mut gone = 0u64;
+    let mut weight = beside;
+    let end = values_within(most);
     for _ in 0..u64::MAX {
+        if weight > end {
+            break;
+        }
         let Some(value) = level.pop() else {
             let Some(up) = outer.pop() else {
                 break;
@@ -61,19 +100,21 @@ fn go_through<'v>(
             level = up;
             continue;
         };
+        weight = weight.saturating_add(own_weight(value));
         if !value.is_shared() {
             push_parts(value, &mut level)?;
         } else if let Some(content) = open(&mut path, store, value)? {
             let mut inner = Vec::new(means.alloc);
             inner.push(content)?;
             outer.push(mem::replace(&mut level, inner))?;
+            weight = weight.saturating_add(1);
         }
         if !outer.is_empty() {
             gone = gone.saturating_add(own_cost(value)).saturating_add(1);
             check_count(means, gone)?;
         }
     }
-    Ok(())
+    Ok(weight)
 }
 
 /// Opens the cell of a holder, unless it is open or can't be read.

@@ -3,16 +3,17 @@
 use crate::argument_values::Arguments;
 use crate::assigning::{Assignment, assign};
 use crate::binary_operators::binary;
-use crate::faults::{FaultKind, in_use, mismatch};
+use crate::faults::{FaultKind, check_size, in_use, mismatch};
 use crate::find::part_at;
 use crate::keys::{Key, index_in, name_in};
+use crate::map_functions::check_entry;
 use crate::natives::Native;
 use crate::reading::PlaceFault;
 use crate::resources::Means;
 use rhai_packs::maps;
 use rhai_target::{ReadPart, calc_index};
-use rhai_text::{ImmutableString, Position};
-use rhai_value::{Array, Dynamic, INT, Map, Part, PlaceError, PlaceErrorKind, Step, Store};
+use rhai_text::{ImmutableString, Position, SizeKind};
+use rhai_value::{Array, Dynamic, INT, Map, Part, PlaceError, PlaceErrorKind, Step, Store, Union};
 
 /// What is written at a place.
 #[derive(Drop)]
@@ -212,11 +213,47 @@ fn write_part(
         Change::Set(value) => value.copy(means.alloc)?,
         Change::Assign(op, value) => binary(op.plain, means, store, &part.value, value)?,
     };
+    check_written(means, source, &part.value, &value)?;
     let part = ReadPart {
         place: part.place,
         value,
     };
     Ok(part.write_back(source, means.alloc, store, Position::NONE)?)
+}
+
+/// Refuses a value in the place of a part of a text, if the text would be too long and longer than before.
+fn check_written(
+    means: &Means,
+    source: &Dynamic,
+    part: &Dynamic,
+    value: &Dynamic,
+) -> Result<(), FaultKind> {
+    let Union::Str(_, _, text) = source.parts() else {
+        return Ok(());
+    };
+    let rest = text.len().saturating_sub(length_in_text(part));
+    let length = rest.saturating_add(length_in_text(value));
+    if length > text.len() {
+        check_size(means.limits.text, length, SizeKind::Text)?;
+    }
+    Ok(())
+}
+
+/// How many bytes a text or a character has in a text.
+fn length_in_text(value: &Dynamic) -> usize {
+    match value.parts() {
+        Union::Str(_, _, text) => text.len(),
+        Union::Char(_, _, character) => character.len_utf8(),
+        Union::Array(_, _, _)
+        | Union::Map(_, _, _)
+        | Union::Blob(_, _, _)
+        | Union::FnPtr(_, _, _)
+        | Union::Unit(_, _, _)
+        | Union::Bool(_, _, _)
+        | Union::Int(_, _, _)
+        | Union::Variant(_, _, _)
+        | Union::Shared(_, _, _) => 0,
+    }
 }
 
 fn write_in_array(
@@ -273,6 +310,7 @@ fn write_at_name(
         let mut nothing = Dynamic::UNIT;
         assign(*op, means, store, &mut nothing, value)?;
     }
+    check_entry(means, map, name)?;
     maps::set(map, name, Dynamic::UNIT)?;
     match map.get_mut(name) {
         Some(made) => write_item(means, store, made, change),

@@ -1,4 +1,4 @@
-//! Runs to which memory is refused, once or from then on: each goes on as if nothing had been refused, or wants memory still. `alloc_failures/run`
+//! Runs to which memory is refused, once or from then on: each goes on as if nothing had been refused, or wants memory still. `checks/alloc_failures/run`
 //! tries each request.
 
 use crate::runs::LIMITS;

@@ -14,6 +14,9 @@ pub(crate) const LIMITS: RunLimits = RunLimits {
         text: 1_000,
         items: 1_000,
     },
+    entries: 100,
+    output: 0,
+    operations: u64::MAX,
     calls: 20,
 };
 

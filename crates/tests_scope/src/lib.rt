@@ -1,4 +1,4 @@
-//! Tests of the operators, the targets and the scope, by their public calls and contracts alone.
+//! Proved callers of operators, targets and the scope, and growths that are refused. `checks/tests` has their other tests.
 #![tactic(auto)]
 
 #[cfg(test)]

@@ -1,15 +1,7 @@
-//! The scope, where a call alone can show it: what entries become is tested by rows of `tests_lines`.
-// Proved callers.
+//! Proved callers of the scope.
+mod callers;
 mod readme;
 mod walker;
-
-// Tests.
-mod callers;
-mod iterators;
-mod look_ups;
-mod makers;
-mod positions;
-mod typed;
 
 use rhai_scope::Scope;
 use rhai_text::ImmutableString;

@@ -1,15 +1,9 @@
-//! Targets, where a call alone can show it: what a write-back makes of a value is tested by rows of `tests_lines`.
-// Proved callers.
+//! Proved callers of targets.
 mod callers;
-mod readme;
-
-// Tests.
-mod lent;
 pub(crate) mod parts;
+mod readme;
 mod reads;
-mod shared_values;
 mod ways_out;
-mod worked;
 
 use rhai_target::Target;
 use rhai_text::{EvalAltResult, Position};

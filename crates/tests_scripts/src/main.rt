@@ -14,6 +14,8 @@ const LIMITS: ScriptLimits = ScriptLimits {
         text: 1_000_000,
         items: 1_000_000,
     },
+    entries: 1_000_000,
+    output: 100_000_000,
     operations: 4_000_000,
     calls: 100,
 };

@@ -2,7 +2,8 @@
 
 use rhai_text::Token;
 use script_syntax::{
-    Arm, Block, Expr, Field, Operator, Program, Slot, Step, Symbol, Term, UnaryOperator, Variable,
+    Arm, Block, Case, Expr, Field, Operator, Pattern, Program, Slot, Step, Switch, Symbol, Term,
+    UnaryOperator, Variable,
 };
 use std::alloc::AllocError;
 
@@ -54,6 +55,7 @@ fn add(out: &mut String, part: &Expr) -> Result<(), AllocError> {
             add(out, first)?;
             add_terms(out, rest)
         }
+        Expr::Contains { operands, .. } => add_named(out, "contains", operands),
         Expr::Chain { root, steps } => {
             add(out, root)?;
             add_steps(out, steps)
@@ -76,6 +78,7 @@ fn add(out: &mut String, part: &Expr) -> Result<(), AllocError> {
             add_arms(out, arms)?;
             add_otherwise(out, otherwise)
         }
+        Expr::Switch(switch) => add_switch(out, switch),
         Expr::While(arm) => add_arm(out, "while", arm),
         Expr::Do(arm, goes_on) => {
             write!(out, "{goes_on} ")?;
@@ -178,6 +181,47 @@ fn add_otherwise(out: &mut String, otherwise: &Option<Block>) -> Result<(), Allo
 }
 
 #[cycle(shape)]
+fn add_switch(out: &mut String, switch: &Switch) -> Result<(), AllocError> {
+    out.push_str("(switch ")?;
+    add(out, &switch.value)?;
+    for case in switch.cases.iter() {
+        add_case(out, case)?;
+    }
+    add_otherwise(out, &switch.otherwise)?;
+    out.push_str(")")
+}
+
+#[cycle(shape)]
+fn add_case(out: &mut String, case: &Case) -> Result<(), AllocError> {
+    out.push_str(" (case")?;
+    for pattern in case.patterns.iter() {
+        out.push_str(" ")?;
+        add_pattern(out, pattern)?;
+    }
+    if let Some(guard) = &case.guard {
+        out.push_str(" if ")?;
+        add(out, guard)?;
+    }
+    add_block(out, "do", &case.body)?;
+    out.push_str(")")
+}
+
+#[cycle(shape)]
+fn add_pattern(out: &mut String, pattern: &Pattern) -> Result<(), AllocError> {
+    match pattern {
+        Pattern::Literal(literal) => add(out, literal),
+        Pattern::Range {
+            first,
+            last,
+            is_inclusive,
+        } => {
+            let sign = if *is_inclusive { "..=" } else { ".." };
+            write!(out, "{first}{sign}{last}")
+        }
+    }
+}
+
+#[cycle(shape)]
 fn add_value(out: &mut String, value: &Option<Box<Expr>>) -> Result<(), AllocError> {
     match value {
         Some(value) => {
@@ -213,6 +257,7 @@ fn symbol_of(operator: Operator) -> Symbol {
     match operator {
         Operator::And => Symbol::And,
         Operator::Or => Symbol::Or,
+        Operator::Coalesce => Symbol::Coalesce,
         Operator::Plain(token) => Symbol::Operator(token),
     }
 }

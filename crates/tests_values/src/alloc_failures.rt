@@ -1,5 +1,5 @@
 //! Growths that are refused, once or from then on: each test is to pass, or to end by want of memory while its values are made ready, whichever
-//! request is refused; `alloc_failures/run` tries them all. What is refused is said on standard error.
+//! request is refused; `checks/alloc_failures/run` tries them all. What is refused is said on standard error.
 mod casts;
 mod deep;
 mod free;

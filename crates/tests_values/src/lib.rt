@@ -1,4 +1,4 @@
-//! The tests of the crates of values, from outside.
+//! Proved callers of the crates of values, and growths that are refused. `checks/tests` has their other tests.
 #![tactic(auto)]
 
 #[cfg(test)]

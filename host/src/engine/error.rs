@@ -1,5 +1,8 @@
 //! Why a script gives no value.
 use crate::error::Error;
+use crate::render::rendered;
+use crate::value::{NoIntError, TryFromValueError, Value};
+use std::convert::Infallible;
 use std::fmt;
 
 /// Why a script gives no value. Lines and columns count from 1; both are 0 where there is no place.
@@ -31,13 +34,49 @@ pub enum EvalError {
         /// The place on that line.
         column: u32,
     },
-    /// The value is of another type than was wanted.
-    Mismatch {
-        /// The wanted type of Rust's.
-        wanted: &'static str,
-        /// What the value is.
-        found: &'static str,
+    /// It took as long as it may.
+    TooMuchTime {
+        /// The line where it stood.
+        line: u32,
+        /// The place on that line.
+        column: u32,
     },
+    /// It printed more than it may.
+    TooMuchOutput {
+        /// The line where it stood.
+        line: u32,
+        /// The place on that line.
+        column: u32,
+    },
+    /// What it printed couldn't be written to standard output.
+    NotPrinted {
+        /// Why.
+        why: String,
+        /// The line where it stood.
+        line: u32,
+        /// The place on that line.
+        column: u32,
+    },
+    /// An [`Interrupt`](crate::Interrupt) was pulled.
+    Interrupted {
+        /// The line where it stood.
+        line: u32,
+        /// The place on that line.
+        column: u32,
+    },
+    /// The program ended it, when it was asked by [`Engine::on_progress`](crate::Engine::on_progress).
+    Terminated {
+        /// What the program gave for a reason.
+        reason: Value,
+        /// The line where it stood.
+        line: u32,
+        /// The place on that line.
+        column: u32,
+    },
+    /// The value isn't taken as the type that was wanted.
+    Mismatch(TryFromValueError),
+    /// A number that was handed over is no int.
+    NoInt(NoIntError),
     /// The script has no function of this name for so many arguments.
     NoFunction {
         /// The name.
@@ -46,7 +85,14 @@ pub enum EvalError {
         arguments: usize,
     },
     /// Memory was refused.
-    OutOfMemory,
+    OutOfMemory {
+        /// The line where it stood.
+        line: u32,
+        /// The place on that line.
+        column: u32,
+    },
+    /// The run has ended before.
+    Ended,
     /// The library has another handle than this crate was built for.
     OtherLibrary,
     /// The library answered what it doesn't promise.
@@ -60,19 +106,50 @@ impl EvalError {
             EvalError::Syntax { line, column, .. }
             | EvalError::Runtime { line, column, .. }
             | EvalError::TooManyOperations { line, column }
-                if *line > 0 =>
-            {
-                Some((*line, *column))
-            }
-            EvalError::Syntax { .. }
-            | EvalError::Runtime { .. }
-            | EvalError::TooManyOperations { .. }
-            | EvalError::Mismatch { .. }
+            | EvalError::TooMuchTime { line, column }
+            | EvalError::TooMuchOutput { line, column }
+            | EvalError::NotPrinted { line, column, .. }
+            | EvalError::Interrupted { line, column }
+            | EvalError::Terminated { line, column, .. }
+            | EvalError::OutOfMemory { line, column } => (*line > 0).then_some((*line, *column)),
+            EvalError::Mismatch(_)
+            | EvalError::NoInt(_)
             | EvalError::NoFunction { .. }
-            | EvalError::OutOfMemory
+            | EvalError::Ended
             | EvalError::OtherLibrary
             | EvalError::Unexpected => None,
         }
+    }
+}
+
+/// What is told of an error.
+impl EvalError {
+    /// The line, where there is a place.
+    pub fn line(&self) -> Option<u32> {
+        self.position().map(|(line, _)| line)
+    }
+
+    /// The place on the line, where there is one.
+    pub fn column(&self) -> Option<u32> {
+        self.position().map(|(_, column)| column)
+    }
+
+    /// Renders the error for who wrote the script, of which this is the text: the message, the line behind its number, and a caret beneath
+    /// the column. Columns count characters, however wide these are. Without a place, or such a line, it is the message alone.
+    ///
+    /// ```
+    /// use rhai_world::Engine;
+    ///
+    /// let text = "let x = 1;\nx + nowhere";
+    /// let error = Engine::new().run(text).unwrap_err();
+    /// let rendered = "\
+    /// variable not found: nowhere (line 2, column 5)
+    /// 2 | x + nowhere
+    ///   |     ^";
+    /// assert_eq!(error.render(text), rendered);
+    /// ```
+    pub fn render(&self, text: &str) -> String {
+        rendered(self, self.position(), text)
     }
 }
 
@@ -81,9 +158,17 @@ impl fmt::Display for EvalError {
         match self {
             EvalError::Syntax { message, .. } | EvalError::Runtime { message, .. } => f.write_str(message)?,
             EvalError::TooManyOperations { .. } => f.write_str("too many operations")?,
-            EvalError::Mismatch { wanted, found } => write!(f, "the value is {found}, and {wanted} was wanted")?,
+            EvalError::TooMuchTime { .. } => f.write_str("too much time")?,
+            EvalError::TooMuchOutput { .. } => f.write_str("too much output")?,
+            EvalError::NotPrinted { why, .. } => write!(f, "what was printed can't be written: {why}")?,
+            EvalError::Interrupted { .. } => f.write_str("interrupted")?,
+            EvalError::Terminated { reason: Value::Text(reason), .. } => write!(f, "terminated: {reason}")?,
+            EvalError::Terminated { reason, .. } => write!(f, "terminated: {reason:?}")?,
+            EvalError::Mismatch(error) => error.fmt(f)?,
+            EvalError::NoInt(error) => error.fmt(f)?,
             EvalError::NoFunction { name, arguments } => write!(f, "no function {name} of {arguments} arguments")?,
-            EvalError::OutOfMemory => f.write_str("out of memory")?,
+            EvalError::OutOfMemory { .. } => f.write_str("out of memory")?,
+            EvalError::Ended => f.write_str("the run has ended")?,
             EvalError::OtherLibrary => f.write_str("another library than this crate was built for")?,
             EvalError::Unexpected => f.write_str("an answer that isn't promised")?,
         }
@@ -96,10 +181,29 @@ impl fmt::Display for EvalError {
 
 impl std::error::Error for EvalError {}
 
+impl From<TryFromValueError> for EvalError {
+    fn from(error: TryFromValueError) -> EvalError {
+        EvalError::Mismatch(error)
+    }
+}
+
+impl From<NoIntError> for EvalError {
+    fn from(error: NoIntError) -> EvalError {
+        EvalError::NoInt(error)
+    }
+}
+
+/// What always becomes a value.
+impl From<Infallible> for EvalError {
+    fn from(never: Infallible) -> EvalError {
+        match never {}
+    }
+}
+
 impl From<Error> for EvalError {
     fn from(error: Error) -> EvalError {
         match error {
-            Error::OutOfMemory => EvalError::OutOfMemory,
+            Error::OutOfMemory => EvalError::OutOfMemory { line: 0, column: 0 },
             Error::OtherLibrary => EvalError::OtherLibrary,
             Error::Refused(_) | Error::Closed | Error::NoCommand | Error::NoName | Error::Unexpected => EvalError::Unexpected,
         }

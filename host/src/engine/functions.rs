@@ -1,14 +1,29 @@
 //! Functions of the program that scripts call.
-use crate::value::Value;
+use super::EvalError;
+use crate::value::{TryFromValueError, Value};
 use std::fmt::Display;
 use std::panic::{catch_unwind, AssertUnwindSafe};
 
 /// What a function that panics is refused with.
 const PANICKED: &str = "a function of the host panicked";
 
-/// A function of Rust's that scripts may call: up to six parameters, each of a type that a [`Value`] is turned into, and an answer that
-/// becomes a [`Value`], or a `Result` of one and an error that is shown. `A` is the list of its parameters' types, and `K` tells both kinds
-/// of answers apart.
+/// A type of Rust's that a [`Value`] is taken as: each with a `TryFrom<Value>` whose error is a [`TryFromValueError`], and `Value` itself.
+pub trait Wanted: Sized {
+    /// Takes a value.
+    ///
+    /// Errors: the value is of another type, or is a number that the type doesn't have.
+    fn wanted(value: Value) -> Result<Self, TryFromValueError>;
+}
+
+impl<T: TryFrom<Value, Error: Into<TryFromValueError>>> Wanted for T {
+    fn wanted(value: Value) -> Result<T, TryFromValueError> {
+        T::try_from(value).map_err(Into::into)
+    }
+}
+
+/// A function of Rust's that scripts may call: up to six parameters, each of a type that a [`Value`] is taken as, and an answer that becomes
+/// a [`Value`], or a `Result` of one and an error that is shown. A number that is no int is thrown as such an error. `A` is the list of its
+/// parameters' types, and `K` tells both kinds of answers apart.
 pub trait HostFn<A, K>: Send + Sync + 'static {
     /// How many parameters it has.
     const PARAMETERS: usize;
@@ -24,33 +39,37 @@ pub struct Plain;
 pub struct Fallible;
 
 /// An argument as the type of a parameter.
-fn taken<T: TryFrom<Value>>(arguments: &mut std::vec::IntoIter<Value>, number: usize) -> Result<T, String> {
+fn taken<T: Wanted>(arguments: &mut std::vec::IntoIter<Value>, number: usize) -> Result<T, String> {
     let value = arguments.next().unwrap_or(Value::Unit);
-    let kind = value.kind_name();
-    T::try_from(value).map_err(|_| format!("argument {number} is {kind}, and {} is wanted", std::any::type_name::<T>()))
+    T::wanted(value).map_err(|error| error.said(&format!("argument {number}"), "is"))
+}
+
+/// An answer as a value.
+fn answered<R: TryInto<Value, Error: Display>>(answer: R) -> Result<Value, String> {
+    answer.try_into().map_err(|error| error.to_string())
 }
 
 macro_rules! functions {
     ($($count:literal: $($type:ident $number:literal),*;)*) => {
         $(
-            impl<F, R, $($type: TryFrom<Value>,)*> HostFn<($($type,)*), Plain> for F
+            impl<F, R, $($type: Wanted,)*> HostFn<($($type,)*), Plain> for F
             where
                 F: Fn($($type),*) -> R + Send + Sync + 'static,
-                R: Into<Value>,
+                R: TryInto<Value, Error: Display>,
             {
                 const PARAMETERS: usize = $count;
 
                 #[allow(unused_mut, unused_variables)]
                 fn call(&self, arguments: Vec<Value>) -> Result<Value, String> {
                     let mut arguments = arguments.into_iter();
-                    Ok(self($(taken::<$type>(&mut arguments, $number)?),*).into())
+                    answered(self($(taken::<$type>(&mut arguments, $number)?),*))
                 }
             }
 
-            impl<F, R, E, $($type: TryFrom<Value>,)*> HostFn<($($type,)*), Fallible> for F
+            impl<F, R, E, $($type: Wanted,)*> HostFn<($($type,)*), Fallible> for F
             where
                 F: Fn($($type),*) -> Result<R, E> + Send + Sync + 'static,
-                R: Into<Value>,
+                R: TryInto<Value, Error: Display>,
                 E: Display,
             {
                 const PARAMETERS: usize = $count;
@@ -59,17 +78,17 @@ macro_rules! functions {
                 fn call(&self, arguments: Vec<Value>) -> Result<Value, String> {
                     let mut arguments = arguments.into_iter();
                     match self($(taken::<$type>(&mut arguments, $number)?),*) {
-                        Ok(answer) => Ok(answer.into()),
+                        Ok(answer) => answered(answer),
                         Err(error) => Err(error.to_string()),
                     }
                 }
             }
 
-            impl<$($type: Into<Value>,)*> Arguments for ($($type,)*) {
+            impl<$($type: TryInto<Value, Error: Into<EvalError>>,)*> Arguments for ($($type,)*) {
                 #[allow(non_snake_case)]
-                fn into_values(self) -> Vec<Value> {
+                fn into_values(self) -> Result<Vec<Value>, EvalError> {
                     let ($($type,)*) = self;
-                    vec![$($type.into()),*]
+                    Ok(vec![$($type.try_into().map_err(Into::into)?),*])
                 }
             }
         )*
@@ -78,13 +97,15 @@ macro_rules! functions {
 
 /// Arguments for a function of a script: a tuple of up to six, or a list of values.
 pub trait Arguments {
-    /// The arguments as values.
-    fn into_values(self) -> Vec<Value>;
+    /// Makes values of the arguments.
+    ///
+    /// Errors: a number is no int.
+    fn into_values(self) -> Result<Vec<Value>, EvalError>;
 }
 
 impl Arguments for Vec<Value> {
-    fn into_values(self) -> Vec<Value> {
-        self
+    fn into_values(self) -> Result<Vec<Value>, EvalError> {
+        Ok(self)
     }
 }
 

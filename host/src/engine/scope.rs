@@ -1,7 +1,8 @@
 //! The variables of scripts, and runs over them.
-use super::{Ast, Engine, EvalError};
+use super::{Ast, Engine, EvalError, Wanted};
 use crate::error::{done, Error};
 use crate::limits::Limits;
+use crate::memory::Memory;
 use crate::sys::{self, ScriptStop, Told};
 use crate::value::Value;
 use crate::world::World;
@@ -9,8 +10,8 @@ use std::fmt;
 
 /// Variables that live on between runs, with all that closures share. A later one hides an earlier one of its name.
 ///
-/// It stays on the thread that made it. A closure in it is to be called by the script that made it alone: its name is a number, which means
-/// another function, or none, in another script.
+/// It stays on the thread that made it. A closure in it is called by the script that made it alone, in another run of the same text; another
+/// script is told that there is no such function.
 ///
 /// ```
 /// use rhai_world::{Engine, EvalError, Scope};
@@ -29,12 +30,26 @@ pub struct Scope {
     compiled: Option<(u64, u64)>,
 }
 
+/// How a run went on.
+pub(crate) struct Went {
+    /// What it printed.
+    pub(crate) printed: String,
+    /// How many operations it took so far.
+    pub(crate) operations: u64,
+    /// Where it stands; 0 where it is done.
+    pub(crate) line: u32,
+    pub(crate) column: u32,
+    pub(crate) stop: Stop,
+}
+
 /// Why a run stopped.
 pub(crate) enum Stop {
-    Done(Value),
-    Paused { operations: u64, line: u32, column: u32 },
-    Statement { line: u32, column: u32 },
-    Calls { function: usize, arguments: Vec<Value>, operations: u64 },
+    Done,
+    Paused,
+    Statement,
+    Calls { function: usize, arguments: usize },
+    Memory,
+    Fault { message: String },
 }
 
 impl Scope {
@@ -44,34 +59,54 @@ impl Scope {
     }
 
     /// Declares a variable.
-    pub fn push(&mut self, name: &str, value: impl Into<Value>) -> Result<&mut Scope, EvalError> {
-        let bytes = value.into().to_bytes()?;
+    ///
+    /// Errors: want of memory; a number is no int. There is no such variable then.
+    pub fn push(&mut self, name: &str, value: impl TryInto<Value, Error: Into<EvalError>>) -> Result<&mut Scope, EvalError> {
+        let bytes = value.try_into().map_err(Into::into)?.to_bytes()?;
         done(sys::variable_push(&self.world.handle, name.as_bytes(), &bytes))?;
         Ok(self)
     }
 
     /// Writes over the newest variable of a name, or declares one where there is none.
-    pub fn set(&mut self, name: &str, value: impl Into<Value>) -> Result<&mut Scope, EvalError> {
+    ///
+    /// Errors: want of memory; a number is no int. Nothing changes then.
+    pub fn set(&mut self, name: &str, value: impl TryInto<Value, Error: Into<EvalError>>) -> Result<&mut Scope, EvalError> {
         let Some(number) = self.find(name)? else {
             return self.push(name, value);
         };
-        let bytes = value.into().to_bytes()?;
+        let bytes = value.try_into().map_err(Into::into)?.to_bytes()?;
         done(sys::variable_set(&self.world.handle, number, &bytes))?;
         Ok(self)
     }
 
-    /// The value of the newest variable of a name as a type of Rust's, if there is one, and if it is of that type.
-    pub fn get<T: TryFrom<Value>>(&self, name: &str) -> Option<T> {
-        let value = self.value(name).ok().flatten()?;
-        T::try_from(value).ok()
+    /// The value of the newest variable of a name as a type of Rust's, if there is one, and if it is of that type. `try_get` tells why not.
+    pub fn get<T: Wanted>(&self, name: &str) -> Option<T> {
+        self.try_get(name).ok().flatten()
+    }
+
+    /// The value of the newest variable of a name as a type of Rust's, if there is one.
+    ///
+    /// Errors: want of memory; the value isn't of that type.
+    pub fn try_get<T: Wanted>(&self, name: &str) -> Result<Option<T>, EvalError> {
+        match self.value(name)? {
+            Some(value) => Ok(Some(T::wanted(value)?)),
+            None => Ok(None),
+        }
     }
 
     /// The value of the newest variable of a name, if there is one.
     pub fn value(&self, name: &str) -> Result<Option<Value>, EvalError> {
-        let Some(number) = self.find(name)? else { return Ok(None) };
+        match self.find(name)? {
+            Some(number) => self.value_at(number).map(Some),
+            None => Ok(None),
+        }
+    }
+
+    /// The value of the variable of this number, the oldest being 0.
+    pub(crate) fn value_at(&self, number: usize) -> Result<Value, EvalError> {
         let mut told = Told::default();
         let status = sys::variable_value(&self.world.handle, number, &mut told);
-        Ok(Some(Value::from_bytes(&self.world.bytes(status, &told)?)?))
+        Ok(Value::from_bytes(&self.world.bytes(status, &told)?)?)
     }
 
     /// How many variables there are.
@@ -94,13 +129,18 @@ impl Scope {
         Ok(done(sys::variable_rewind(&self.world.handle, count))?)
     }
 
-    fn name(&self, number: usize) -> Result<String, EvalError> {
+    /// Tells how much memory the scope holds: its variables, the script that was run last, and what that answered.
+    pub fn memory(&self) -> Memory {
+        self.world.memory()
+    }
+
+    pub(crate) fn name(&self, number: usize) -> Result<String, EvalError> {
         let mut told = Told::default();
         let status = sys::variable_name(&self.world.handle, number, &mut told);
         String::from_utf8(self.world.bytes(status, &told)?).map_err(|_| EvalError::Unexpected)
     }
 
-    fn find(&self, name: &str) -> Result<Option<usize>, EvalError> {
+    pub(crate) fn find(&self, name: &str) -> Result<Option<usize>, EvalError> {
         for number in (0..self.len()).rev() {
             if self.name(number)? == name {
                 return Ok(Some(number));
@@ -112,8 +152,15 @@ impl Scope {
 
 /// Runs.
 impl Scope {
-    /// Has the library read a script for these variables.
+    /// Has the library read a script for these variables, in as much memory as the engine allows.
     pub(crate) fn compile(&mut self, ast: &Ast, engine: &Engine) -> Result<(), EvalError> {
+        self.world.set_max_memory(engine.limits().memory);
+        let compiled = self.compile_within(ast, engine);
+        self.world.set_max_memory(None);
+        compiled
+    }
+
+    fn compile_within(&mut self, ast: &Ast, engine: &Engine) -> Result<(), EvalError> {
         self.compiled = None;
         let mut stop = ScriptStop::default();
         let names = engine.names();
@@ -126,12 +173,13 @@ impl Scope {
         Ok(())
     }
 
-    /// Begins a run of a script.
+    /// Begins a run of a script, which `end` ends, also where it fails. Until then the scope may hold as much memory as the engine allows.
     pub(crate) fn begin(&mut self, ast: &Ast, engine: &Engine) -> Result<(), EvalError> {
+        self.world.set_max_memory(engine.limits().memory);
         if self.compiled == Some((ast.serial(), engine.serial())) && self.begins(engine)? {
             return Ok(());
         }
-        self.compile(ast, engine)?;
+        self.compile_within(ast, engine)?;
         if self.begins(engine)? {
             Ok(())
         } else {
@@ -141,12 +189,11 @@ impl Scope {
 
     /// Begins a run of the script that was read last, if it was read for these variables.
     fn begins(&mut self, engine: &Engine) -> Result<bool, EvalError> {
-        let (limits, calls) = engine.sizes();
-        let (text, items) = limits.numbers();
-        match done(sys::script_begin(&self.world.handle, text, items, calls, true)) {
+        let (text, items) = engine.limits().numbers();
+        match done(sys::script_begin(&self.world.handle, text, items, engine.entries(), engine.calls(), true)) {
             Ok(()) => {
                 if engine.stops_at_statements() {
-                    done(sys::script_stop_at_statements(&self.world.handle, true))?;
+                    self.stop_at_statements(true)?;
                 }
                 Ok(true)
             }
@@ -156,9 +203,9 @@ impl Scope {
     }
 
     /// Begins a call of a function of the script.
-    pub(crate) fn call(&mut self, name: &str, arguments: &[Value]) -> Result<(), EvalError> {
+    pub(crate) fn call(&mut self, name: &str, arguments: Vec<Value>) -> Result<(), EvalError> {
         let count = arguments.len();
-        let arguments = Value::from(arguments.to_vec()).to_bytes()?;
+        let arguments = Value::from(arguments).to_bytes()?;
         match done(sys::script_call(&self.world.handle, name.as_bytes(), &arguments)) {
             Ok(()) => Ok(()),
             Err(Error::NoCommand) => Err(EvalError::NoFunction { name: name.to_owned(), arguments: count }),
@@ -166,37 +213,42 @@ impl Scope {
         }
     }
 
-    /// Goes on with the run, and tells why it stopped and what it printed.
-    pub(crate) fn go(&mut self, operations: u64) -> Result<(Stop, String), EvalError> {
+    /// Has the run stop before each statement, or no longer.
+    pub(crate) fn stop_at_statements(&mut self, stops: bool) -> Result<(), EvalError> {
+        Ok(done(sys::script_stop_at_statements(&self.world.handle, stops))?)
+    }
+
+    /// Goes on with the run by up to so many operations.
+    pub(crate) fn go(&mut self, operations: u64) -> Result<Went, EvalError> {
         let mut stop = ScriptStop::default();
         done(sys::script_go(&self.world.handle, operations, &mut stop))?;
-        let (printed, message) = self.texts(&stop)?;
-        Ok((self.stopped(&stop, message)?, printed))
+        self.went(&stop)
     }
 
-    fn stopped(&mut self, stop: &ScriptStop, message: String) -> Result<Stop, EvalError> {
+    fn went(&self, stop: &ScriptStop) -> Result<Went, EvalError> {
+        let (printed, message) = self.texts(stop)?;
         let ScriptStop { kind, function, arguments, line, column, operations, .. } = *stop;
-        match kind {
-            0 => Ok(Stop::Done(self.last_value()?)),
-            1 => Ok(Stop::Paused { operations, line, column }),
-            3 => Ok(Stop::Statement { line, column }),
-            2 => {
-                let arguments = (0..arguments).map(|number| self.argument(number)).collect::<Result<_, _>>()?;
-                Ok(Stop::Calls { function: function as usize, arguments, operations })
-            }
-            4 => Err(EvalError::OutOfMemory),
-            5 => Err(EvalError::Runtime { message, line, column }),
-            _ => Err(EvalError::Unexpected),
-        }
+        let stop = match kind {
+            0 => Stop::Done,
+            1 => Stop::Paused,
+            2 => Stop::Calls { function: function as usize, arguments },
+            3 => Stop::Statement,
+            4 => Stop::Memory,
+            5 => Stop::Fault { message },
+            _ => return Err(EvalError::Unexpected),
+        };
+        Ok(Went { printed, operations, line, column, stop })
     }
 
-    fn last_value(&self) -> Result<Value, EvalError> {
+    /// The value that the run came to.
+    pub(crate) fn last_value(&self) -> Result<Value, EvalError> {
         let mut told = Told::default();
         let status = sys::script_value(&self.world.handle, &mut told);
         Ok(Value::from_bytes(&self.world.bytes(status, &told)?)?)
     }
 
-    fn argument(&self, number: usize) -> Result<Value, EvalError> {
+    /// An argument that a registered function is called with.
+    pub(crate) fn argument(&self, number: usize) -> Result<Value, EvalError> {
         let mut told = Told::default();
         let status = sys::script_argument(&self.world.handle, number, &mut told);
         Ok(Value::from_bytes(&self.world.bytes(status, &told)?)?)
@@ -207,16 +259,16 @@ impl Scope {
         Ok(done(sys::script_answer(&self.world.handle, &value.to_bytes()?))?)
     }
 
-    /// Refuses the call of a registered function: the script catches that, or the run ends.
-    pub(crate) fn refuse(&mut self, why: &str) -> Result<(), EvalError> {
+    /// Refuses the call of a registered function: the script catches that and goes on, which is told as a pause, or the run ends.
+    pub(crate) fn refuse(&mut self, why: &str) -> Result<Went, EvalError> {
         let mut stop = ScriptStop::default();
         done(sys::script_refuse(&self.world.handle, why.as_bytes(), &mut stop))?;
-        let (_, message) = self.texts(&stop)?;
-        self.stopped(&stop, message).map(drop)
+        self.went(&stop)
     }
 
-    /// Ends the run: the variables are here again.
+    /// Ends the run, if one stands: the variables are here again, and may be read and written without a cap on memory.
     pub(crate) fn end(&mut self) -> Result<(), EvalError> {
+        self.world.set_max_memory(None);
         Ok(done(sys::script_end(&self.world.handle))?)
     }
 
@@ -235,5 +287,39 @@ impl Scope {
 impl fmt::Debug for Scope {
     fn fmt(&self, f: &mut fmt::Formatter<'_>) -> fmt::Result {
         f.debug_struct("Scope").field("len", &self.len()).finish_non_exhaustive()
+    }
+}
+
+#[cfg(test)]
+mod tests {
+    use super::{Engine, EvalError, Scope};
+    use crate::sys;
+
+    const TEXT: &str = "let t = \"some text that is longer than others\"; let add = |by| t += by; add.call(`!`);
+        fn deep(n) { if n == 0 { [t_of(n)] } else { deep(n - 1) + [n] } } let all = deep(50); print(all); all.len()";
+
+    #[test]
+    fn a_closed_scope_has_given_all_back() -> Result<(), EvalError> {
+        let mut engine = Engine::new();
+        engine.on_print(|_| {}).register_fn("t_of", |n: i64| format!("text number {n}"));
+        let text = TEXT.replace('`', "\"");
+        let mut ends = (0, 0);
+        for bytes in (0..60_000).step_by(500) {
+            engine.set_max_memory(bytes);
+            let mut scope = Scope::new()?;
+            scope.push("before", "a variable that was there before")?;
+            match engine.eval_with_scope::<i64>(&mut scope, &text) {
+                Ok(count) => ends.0 += usize::from(count == 51),
+                Err(error) => {
+                    assert!(matches!(error, EvalError::OutOfMemory { .. }), "{error:?}");
+                    ends.1 += 1;
+                }
+            }
+            assert_eq!(scope.get::<String>("before").as_deref(), Some("a variable that was there before"));
+            sys::close(&scope.world.handle);
+            assert_eq!(scope.memory().held, 0);
+        }
+        assert!(ends.0 > 0 && ends.1 > 0 && ends.0 + ends.1 == 120, "{ends:?}");
+        Ok(())
     }
 }

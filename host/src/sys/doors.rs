@@ -1,16 +1,11 @@
-//! The three doors by which the library asks for memory: C's `malloc`, `realloc` and `free`, which align a block to 16 bytes.
-
+//! The three doors by which the library asks for memory: C's `malloc`, `realloc` and `free`, which align a block to 16 bytes. Each block is
+//! counted for the world whose call is under way, and refused where that would hold more than it may.
+use super::account;
+use super::blocks;
 use std::ffi::c_void;
 
 /// To how many bytes C's functions align a block, so that the library may ask for no more. (A block that is given back has no alignment told.)
 const ALIGN: usize = 16;
-
-// SAFETY: these are the C library's own, as C declares them.
-unsafe extern "C" {
-    fn malloc(size: usize) -> *mut c_void;
-    fn realloc(at: *mut c_void, size: usize) -> *mut c_void;
-    fn free(at: *mut c_void);
-}
 
 /// Whether there is memory, and where. Where there is none, the address is still not null.
 #[repr(C)]
@@ -42,30 +37,43 @@ fn at_least(size: usize, align: usize) -> usize {
 #[unsafe(no_mangle)]
 extern "C" fn rattle_alloc(size: usize, align: usize) -> Tried {
     let size = at_least(size, align);
-    if is_refused() {
+    if is_refused() || !account::has_room(size) {
         return Tried::of(std::ptr::null_mut());
     }
-    // SAFETY: `malloc` takes any size.
-    Tried::of(unsafe { malloc(size) })
+    let at = blocks::make(size);
+    if !at.is_null() {
+        // SAFETY: it was just made.
+        account::take(unsafe { blocks::size(at) });
+    }
+    Tried::of(at)
 }
 
 // SAFETY: as of `rattle_alloc`.
 #[unsafe(no_mangle)]
 unsafe extern "C" fn rattle_realloc(at: *mut c_void, _kept: usize, size: usize, align: usize) -> Tried {
     let size = at_least(size, align);
-    if is_refused() {
+    // SAFETY: the library passes a block that one of these doors gave, and that it has not given back.
+    let before = unsafe { blocks::size(at) };
+    if is_refused() || !account::has_room(size.saturating_sub(before)) {
         return Tried::of(std::ptr::null_mut());
     }
-    // SAFETY: the library passes a block that one of these doors gave, and that it has not given back. It uses the old one no more where
-    // there is a new one, and keeps it where there is none.
-    Tried::of(unsafe { realloc(at, size) })
+    // SAFETY: as above. The library uses the old one no more where there is a new one, and keeps it where there is none.
+    let new = unsafe { blocks::resize(at, size) };
+    if !new.is_null() {
+        account::give(before);
+        // SAFETY: it was just made.
+        account::take(unsafe { blocks::size(new) });
+    }
+    Tried::of(new)
 }
 
 // SAFETY: as of `rattle_alloc`.
 #[unsafe(no_mangle)]
 unsafe extern "C" fn rattle_dealloc(at: *mut c_void) {
     // SAFETY: the library passes a block that one of these doors gave, once.
-    unsafe { free(at) }
+    account::give(unsafe { blocks::size(at) });
+    // SAFETY: the same.
+    unsafe { blocks::free(at) }
 }
 
 #[cfg(not(feature = "faults"))]
@@ -101,5 +109,50 @@ mod faults {
         let n = SO_FAR.get();
         SO_FAR.set(n + 1);
         n == NTH.get() || LASTS.get() && n > NTH.get()
+    }
+}
+
+#[cfg(test)]
+mod tests {
+    use super::{rattle_alloc, rattle_dealloc, rattle_realloc};
+    use crate::sys::account::Account;
+    use std::num::NonZeroUsize;
+
+    #[test]
+    fn what_is_refused_changes_nothing() {
+        let account = Account::new();
+        account.set_cap(NonZeroUsize::new(10_000));
+        let _entered = account.enter();
+        let block = rattle_alloc(1_000, 8);
+        assert!(block.is_there && account.held() >= 1_000);
+        // SAFETY: the block has as many bytes.
+        unsafe { block.at.cast::<[u8; 1_000]>().write([7; 1_000]) };
+        let held = account.held();
+        assert!(!rattle_alloc(10_000, 8).is_there && !rattle_alloc(usize::MAX, 8).is_there);
+        // SAFETY: the block is there still.
+        let refused = unsafe { rattle_realloc(block.at, 1_000, 20_000, 8) };
+        assert!(!refused.is_there && account.held() == held);
+        // SAFETY: it has as many bytes.
+        assert_eq!(unsafe { block.at.cast::<[u8; 1_000]>().read() }, [7; 1_000]);
+        // SAFETY: it is given back once.
+        unsafe { rattle_dealloc(block.at) };
+        assert_eq!((account.held(), account.most()), (0, held));
+    }
+
+    #[test]
+    fn past_the_cap_a_block_may_become_smaller() {
+        let account = Account::new();
+        let _entered = account.enter();
+        let block = rattle_alloc(100_000, 8);
+        account.set_cap(NonZeroUsize::new(10));
+        // SAFETY: the block is there still.
+        let smaller = unsafe { rattle_realloc(block.at, 100_000, 100, 8) };
+        assert!(smaller.is_there && account.held() >= 100 && account.held() < 100_000);
+        // SAFETY: the same.
+        let larger = unsafe { rattle_realloc(smaller.at, 100, 50_000, 8) };
+        assert!(!larger.is_there);
+        // SAFETY: it is given back once.
+        unsafe { rattle_dealloc(smaller.at) };
+        assert_eq!(account.held(), 0);
     }
 }

@@ -4,9 +4,9 @@ ghost use Rattle.std.specs.Prelude.{◌≡◌, ℕ, Bool, List, Option, map, rev
 ghost use Rattle.std.specs.List.{AllZip, zip};
 ghost use Rattle.rhai_value.specs.Relation.{Renaming, Related, Alike, IsOneToOne, RelatedCells};
 ghost use Rattle.rhai_value.specs.Tree.{Tree};
-ghost use Rattle.rhai_value.specs.declared.access_mode.AccessMode.{AccessMode};
-ghost use Rattle.rhai_value.specs.declared.store.Cell.{Cell};
-ghost use Rattle.rhai_value.specs.declared.type_id.TypeId.{TypeId};
+ghost use Rattle.rhai_value.specs.declared.value.access_mode.AccessMode.{AccessMode};
+ghost use Rattle.rhai_value.specs.declared.cells.store.Cell.{Cell};
+ghost use Rattle.rhai_value.specs.declared.value.type_id.TypeId.{TypeId};
 ghost use Rattle.rhai_scope.specs.Alias.{aliased};
 ghost use Rattle.rhai_scope.specs.Entry.{Entry, pushed, popped, is_constant_entry, with_value, copied_entry};
 ghost use Rattle.rhai_scope.specs.Extended.{extended, extended_flagged, flagged_values};

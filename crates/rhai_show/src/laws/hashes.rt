@@ -1,7 +1,7 @@
 //! Laws of plain values and of hash bytes, each the contract of a function that does nothing.
 ghost use Rattle.std.specs.Prelude.{◌≡◌, ◌↔◌, ◌∷◌, [], ℕ, ℤ, List, Some, map};
-ghost use Rattle.rhai_value.specs.declared.access_mode.AccessMode.{AccessMode};
-ghost use Rattle.rhai_value.specs.declared.store.Cell.{Cell};
+ghost use Rattle.rhai_value.specs.declared.value.access_mode.AccessMode.{AccessMode};
+ghost use Rattle.rhai_value.specs.declared.cells.store.Cell.{Cell};
 ghost use Rattle.rhai_value.specs.Store.{at};
 ghost use Rattle.rhai_value.specs.Tree.{Tree, Content, node, holder};
 ghost use Rattle.rhai_value.specs.Walk.{visit, visit_map, entered};

@@ -3,9 +3,9 @@ ghost use Rattle.std.specs.Prelude.{◌≡◌, ◌↔◌, [], ℕ, List, None, S
 ghost use Rattle.std.specs.BTreeMap.{insert_entry, is_at};
 ghost use Rattle.std.specs.Map.{lookup, remove_entry, set_value};
 ghost use Rattle.std.specs.Str.{chars, IsUtf8};
-ghost use Rattle.rhai_value.specs.declared.chain.Site.{Site};
-ghost use Rattle.rhai_value.specs.declared.in_store.InStore.{InStore};
-ghost use Rattle.rhai_value.specs.declared.store.Cell.{Cell};
+ghost use Rattle.rhai_value.specs.declared.cells.chain.Site.{Site};
+ghost use Rattle.rhai_value.specs.declared.parts.in_store.InStore.{InStore};
+ghost use Rattle.rhai_value.specs.declared.cells.store.Cell.{Cell};
 ghost use Rattle.rhai_value.specs.End.{End, end, held, held_part, value_after, store_after};
 ghost use Rattle.rhai_value.specs.Items.{items_in, items_of, with_items, map_get, with_rows, end_after, KeyBecomes};
 ghost use Rattle.rhai_value.specs.Parts.{array_of, map_of, with_content};
@@ -13,7 +13,7 @@ ghost use Rattle.rhai_value.specs.Rows.{Rows, bytes_cmp, AreRising, AreTexts, tr
 ghost use Rattle.rhai_value.specs.Tree.{Tree, cell_of};
 ghost use Rattle.rhai_value.specs.Writes.{written};
 
-use crate::part::Part;
+use crate::parts::part::Part;
 
 /// A part that is written over itself changes nothing: neither the value that has it, nor, where it is held, value and store.
 pub fn part_is_written_over_itself<T: Part>()

@@ -2,9 +2,9 @@
 ghost use Rattle.std.specs.Prelude.{◌≡◌, ℕ, ℤ, [], ◌∷◌, true, false, List, length, Some, None, Ok, slice_get};
 ghost use Rattle.std.specs.Borrow.{Bor};
 ghost use Rattle.std.specs.Str.{chars};
-ghost use Rattle.rhai_value.specs.declared.step.Step.{Step};
-ghost use Rattle.rhai_value.specs.declared.step.Step.TheVariants.{Index, Key};
-ghost use Rattle.rhai_value.specs.declared.store.Cell.{Cell};
+ghost use Rattle.rhai_value.specs.declared.places.step.Step.{Step};
+ghost use Rattle.rhai_value.specs.declared.places.step.Step.TheVariants.{Index, Key};
+ghost use Rattle.rhai_value.specs.declared.cells.store.Cell.{Cell};
 ghost use Rattle.rhai_value.specs.End.{end, held_cell, store_after};
 ghost use Rattle.rhai_value.specs.Items.{items_of};
 ghost use Rattle.rhai_value.specs.Places.{Place, RelatedWays, around, is_kept, lent_out, put_back, way, whole_place};

@@ -4,7 +4,7 @@ ghost use Rattle.rhai_value.specs.Tree.{Tree};
 ghost use Rattle.rhai_value.specs.Relation.{Renaming};
 ghost use Rattle.rhai_value.specs.Scan.{SameVisits, children_scanned, scan};
 
-use crate::scan::Visitor;
+use crate::walk::scan::Visitor;
 
 /// A scan visits the value, and then the children of what came out, the visitor handed on. No number of nodes is in it.
 pub fn scan_opens<V: Visitor>()

@@ -12,16 +12,23 @@ impl Parser {
     #[cycle(parse)]
     pub(super) fn block(&mut self, levels: usize) -> Result<Block, SyntaxError> {
         self.expect(Symbol::OpenBrace)?;
+        let block = self.statements(levels)?;
+        self.expect(Symbol::CloseBrace)?;
+        Ok(block)
+    }
+
+    /// Reads statements up to a brace, or to the end, which stays the next lexeme. Their variables end there.
+    #[cycle(parse)]
+    pub(super) fn statements(&mut self, levels: usize) -> Result<Block, SyntaxError> {
         let first_slot = self.names.count();
         let mut statements = Vec::new(self.alloc);
         let mut positions = Vec::new(self.alloc);
         for _ in 0..self.lexemes_left() {
-            if self.is_next(Symbol::CloseBrace) {
+            if self.is_next(Symbol::CloseBrace) || self.is_next(Symbol::End) {
                 break;
             }
             self.terminated_statement(levels, &mut statements, &mut positions)?;
         }
-        self.expect(Symbol::CloseBrace)?;
         let end_slot = self.names.count();
         self.names.close(first_slot)?;
         Ok(Block {
@@ -72,6 +79,7 @@ impl Parser {
             Symbol::Do => self.do_loop(levels),
             Symbol::Loop => self.endless_loop(levels),
             Symbol::For => self.for_loop(levels),
+            Symbol::Switch => self.switch(levels),
             Symbol::Break
             | Symbol::Catch
             | Symbol::Const
@@ -86,6 +94,7 @@ impl Parser {
             | Symbol::True
             | Symbol::Try
             | Symbol::Until
+            | Symbol::Underscore
             | Symbol::OpenParenthesis
             | Symbol::CloseParenthesis
             | Symbol::OpenBracket
@@ -96,9 +105,12 @@ impl Parser {
             | Symbol::Semicolon
             | Symbol::Colon
             | Symbol::Dot
+            | Symbol::Arrow
             | Symbol::Not
             | Symbol::And
             | Symbol::Or
+            | Symbol::Coalesce
+            | Symbol::NotIn
             | Symbol::Operator(_)
             | Symbol::End => Err(self.fault(SyntaxFault::ExpectedExpression)),
         }

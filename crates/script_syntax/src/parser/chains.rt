@@ -2,11 +2,11 @@
 ghost use Rattle.std.specs.Prelude.{◌≡◌};
 
 use super::Parser;
-use crate::error::{SyntaxError, SyntaxFault};
+use crate::error::SyntaxError;
 use crate::operators::LOOSEST;
 use crate::symbol::Symbol;
 use crate::tree::{Expr, Step};
-use crate::words::{is_method, is_reserved};
+use crate::words::{no_method, no_name};
 use rhai_text::{ImmutableString, Position};
 
 impl Parser {
@@ -61,8 +61,8 @@ impl Parser {
         word: String,
         position: Position,
     ) -> Result<Step, SyntaxError> {
-        if !is_method(word.as_str()) {
-            return Err(SyntaxError::Fault(SyntaxFault::ReservedWord, position));
+        if let Some(fault) = no_method(word.as_str()) {
+            return Err(SyntaxError::Fault(fault, position));
         }
         let arguments = self.arguments(levels)?;
         let count = arguments.len().saturating_add(1);
@@ -75,8 +75,8 @@ impl Parser {
     }
 
     fn property(&mut self, word: String, position: Position) -> Result<Step, SyntaxError> {
-        if is_reserved(word.as_str()) {
-            return Err(SyntaxError::Fault(SyntaxFault::ReservedWord, position));
+        if let Some(fault) = no_name(word.as_str()) {
+            return Err(SyntaxError::Fault(fault, position));
         }
         let key = ImmutableString::from_str(self.alloc, word.as_str())?;
         Ok(Step::Property { key, position })

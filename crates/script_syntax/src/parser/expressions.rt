@@ -2,7 +2,7 @@
 
 use super::Parser;
 use crate::error::SyntaxError;
-use crate::operators::{LOOSEST, POWER, TIGHTEST, operator_of};
+use crate::operators::{LOOSEST, MEMBERSHIP, POWER, operator_of};
 use crate::symbol::Symbol;
 use crate::tree::{Expr, Operator, Term, UnaryOperator};
 use rhai_text::{Position, Token};
@@ -14,15 +14,19 @@ impl Parser {
     pub(super) fn expression(&mut self, levels: usize, least: u8) -> Result<Expr, SyntaxError> {
         let outer = mem::replace(&mut self.lowest, levels);
         let mut read = self.unary(levels)?;
-        for _ in LOOSEST..=TIGHTEST {
+        for _ in 0..self.lexemes_left() {
             let Some(level) = self.next_level(least) else {
                 break;
             };
-            self.lower()?;
-            let rest = self.run(levels, level)?;
-            read = Expr::Run {
-                first: Box::new(self.alloc, read)?,
-                rest,
+            read = if level == MEMBERSHIP {
+                self.membership(levels, read)?
+            } else {
+                self.lower()?;
+                let rest = self.run(levels, level)?;
+                Expr::Run {
+                    first: Box::new(self.alloc, read)?,
+                    rest,
+                }
             };
         }
         self.reach(outer);
@@ -56,6 +60,38 @@ impl Parser {
             })?;
         }
         Ok(terms)
+    }
+
+    /// Reads `in` or `!in` behind an item, and what contains it or not.
+    #[cycle(parse)]
+    fn membership(&mut self, levels: usize, item: Expr) -> Result<Expr, SyntaxError> {
+        let below = self.below(levels)?;
+        let is_in = self.is_next(Symbol::In);
+        self.lower()?;
+        let position = self.position;
+        self.advance()?;
+        let container = self.expression(below, least_behind(MEMBERSHIP))?;
+        self.contains(container, item, is_in, position)
+    }
+
+    /// What tells whether a container has an item, or whether it lacks it.
+    fn contains(
+        &mut self,
+        container: Expr,
+        item: Expr,
+        is_in: bool,
+        position: Position,
+    ) -> Result<Expr, SyntaxError> {
+        let contains = Expr::Contains {
+            callee: self.callees.number("contains", 2)?,
+            operands: vec![in self.alloc; container, item]?,
+            position,
+        };
+        if is_in {
+            return Ok(contains);
+        }
+        self.lower()?;
+        self.with_unary(UnaryOperator::Not, contains, position)
     }
 
     /// Reads an operand, with the operators before it.
@@ -93,7 +129,10 @@ impl Parser {
 
     /// The level of the operator that comes next, unless it is looser than this one.
     fn next_level(&self, least: u8) -> Option<u8> {
-        let (level, _) = operator_of(self.symbol()?)?;
+        let level = match self.symbol()? {
+            Symbol::In | Symbol::NotIn => MEMBERSHIP,
+            symbol => operator_of(symbol)?.0,
+        };
         if level < least { None } else { Some(level) }
     }
 

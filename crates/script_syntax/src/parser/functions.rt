@@ -98,7 +98,8 @@ impl Parser {
         let given = known.given(parameters)?;
         let (slots, captured) = known.into_parts();
         let function = self.functions.len();
-        let name = format!(in self.alloc; "anon${function}")?;
+        let stamp = self.stamp;
+        let name = format!(in self.alloc; "anon${stamp:016x}${function}")?;
         self.functions.push(Function {
             name: ImmutableString::from_str(self.alloc, name.as_str())?,
             captured: captured.len(),

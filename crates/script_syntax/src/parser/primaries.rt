@@ -7,7 +7,7 @@ use crate::lexeme::Lexeme;
 use crate::operators::LOOSEST;
 use crate::symbol::Symbol;
 use crate::tree::{Expr, Field, Variable};
-use crate::words::{is_callable, is_reserved};
+use crate::words::{no_function, no_name};
 use rhai_text::{ImmutableString, Position, Token};
 use std::collections::BTreeSet;
 
@@ -44,6 +44,7 @@ impl Parser {
                 let text = ImmutableString::from_str(self.alloc, text.as_str())?;
                 self.literal(Expr::Text(text))
             }
+            Lexeme::TextBefore(text) => self.template(levels, text.as_str(), position),
             Lexeme::Name(word) => {
                 self.advance()?;
                 if self.is_next(Symbol::OpenParenthesis) {
@@ -64,8 +65,8 @@ impl Parser {
         word: String,
         position: Position,
     ) -> Result<Expr, SyntaxError> {
-        if !is_callable(word.as_str()) {
-            return Err(SyntaxError::Fault(SyntaxFault::ReservedWord, position));
+        if let Some(fault) = no_function(word.as_str()) {
+            return Err(SyntaxError::Fault(fault, position));
         }
         let below = self.below(levels)?;
         let arguments = self.arguments(below)?;
@@ -78,11 +79,14 @@ impl Parser {
     }
 
     fn variable(&mut self, word: String, position: Position) -> Result<Expr, SyntaxError> {
-        if is_reserved(word.as_str()) {
-            return Err(SyntaxError::Fault(SyntaxFault::ReservedWord, position));
+        if let Some(fault) = no_name(word.as_str()) {
+            return Err(SyntaxError::Fault(fault, position));
         }
         let variable = match self.names.resolve(word.as_str())? {
             Some(slot) => Variable::Known(slot),
+            None if self.names.is_inside() => {
+                return Err(SyntaxError::Fault(SyntaxFault::UnknownVariable, position));
+            }
             None => Variable::Unknown(ImmutableString::from_str(self.alloc, word.as_str())?),
         };
         Ok(Expr::Variable { variable, position })
@@ -133,9 +137,11 @@ impl Parser {
         let position = self.position;
         let key = match self.take_lexeme() {
             Lexeme::Text(text) => text,
-            Lexeme::Name(word) if !is_reserved(word.as_str()) => word,
-            Lexeme::Name(_) => return Err(self.fault(SyntaxFault::ReservedWord)),
-            Lexeme::Int(_) | Lexeme::Char(_) | Lexeme::Symbol(_) => {
+            Lexeme::Name(word) => match no_name(word.as_str()) {
+                Some(fault) => return Err(self.fault(fault)),
+                None => word,
+            },
+            Lexeme::Int(_) | Lexeme::Char(_) | Lexeme::TextBefore(_) | Lexeme::Symbol(_) => {
                 return Err(self.fault(SyntaxFault::ExpectedKey));
             }
         };

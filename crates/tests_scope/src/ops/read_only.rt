@@ -4,7 +4,7 @@ ghost use Rattle.rhai_ops.specs.Outcome.{answers};
 ghost use Rattle.rhai_ops.specs.Results.{outcome};
 ghost use Rattle.rhai_ops.specs.Table.{row_of};
 
-use super::shared;
+use super::holders::shared;
 use rhai_ops::get_builtin_binary_op_fn;
 use rhai_ops::laws::{operators_write_nothing, rows_suit};
 use rhai_text::{ArithmeticFault, EvalAltResult, Limits, Position, Token};

@@ -1,6 +1,6 @@
 //! The caller that the README shows.
 ghost use Rattle.std.specs.Prelude.{◌≡◌, true, IfSome, IsNone};
-ghost use Rattle.rhai_value.specs.declared.type_id.TypeId.TheVariants as type_id;
+ghost use Rattle.rhai_value.specs.declared.value.type_id.TypeId.TheVariants as type_id;
 ghost use Rattle.rhai_value.specs.Types.{is_type};
 
 use rhai_variant::Variant;

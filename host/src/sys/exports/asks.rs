@@ -27,7 +27,7 @@ unsafe extern "C" {
 pub fn tag(handle: &Handle, i: usize, told: &mut Told) -> u32 {
     // SAFETY: `handle` is zeros or what a call left, and this call's alone: it is no `Sync`, and the library comes back by
     // the doors only. `told` is a whole `Told` that nobody else has. Any `i` will do.
-    unsafe { rhai_host_tag(handle.lent(), i, told) }
+    unsafe { rhai_host_tag(handle.lent().at(), i, told) }
 }
 
 /// Answers whether the value at the hand position is of one of the host's types.
@@ -35,7 +35,7 @@ pub fn tag(handle: &Handle, i: usize, told: &mut Told) -> u32 {
 pub fn is_variant(handle: &Handle, i: usize, told: &mut Told) -> u32 {
     // SAFETY: `handle` is zeros or what a call left, and this call's alone: it is no `Sync`, and the library comes back by
     // the doors only. `told` is a whole `Told` that nobody else has. Any `i` will do.
-    unsafe { rhai_host_is_variant(handle.lent(), i, told) }
+    unsafe { rhai_host_is_variant(handle.lent().at(), i, told) }
 }
 
 /// Answers whether the value at the hand position is a holder.
@@ -43,7 +43,7 @@ pub fn is_variant(handle: &Handle, i: usize, told: &mut Told) -> u32 {
 pub fn is_shared(handle: &Handle, i: usize, told: &mut Told) -> u32 {
     // SAFETY: `handle` is zeros or what a call left, and this call's alone: it is no `Sync`, and the library comes back by
     // the doors only. `told` is a whole `Told` that nobody else has. Any `i` will do.
-    unsafe { rhai_host_is_shared(handle.lent(), i, told) }
+    unsafe { rhai_host_is_shared(handle.lent().at(), i, told) }
 }
 
 /// Answers whether the first content of the value at the hand position is a constant.
@@ -51,7 +51,7 @@ pub fn is_shared(handle: &Handle, i: usize, told: &mut Told) -> u32 {
 pub fn is_read_only(handle: &Handle, i: usize, told: &mut Told) -> u32 {
     // SAFETY: `handle` is zeros or what a call left, and this call's alone: it is no `Sync`, and the library comes back by
     // the doors only. `told` is a whole `Told` that nobody else has. Any `i` will do.
-    unsafe { rhai_host_is_read_only(handle.lent(), i, told) }
+    unsafe { rhai_host_is_read_only(handle.lent().at(), i, told) }
 }
 
 /// Answers whether the value at the hand position is, or has inside, a holder of a marked cell.
@@ -59,7 +59,7 @@ pub fn is_read_only(handle: &Handle, i: usize, told: &mut Told) -> u32 {
 pub fn is_locked(handle: &Handle, i: usize, told: &mut Told) -> u32 {
     // SAFETY: `handle` is zeros or what a call left, and this call's alone: it is no `Sync`, and the library comes back by
     // the doors only. `told` is a whole `Told` that nobody else has. Any `i` will do.
-    unsafe { rhai_host_is_locked(handle.lent(), i, told) }
+    unsafe { rhai_host_is_locked(handle.lent().at(), i, told) }
 }
 
 /// Answers the name of the type that is held at the hand position.
@@ -67,7 +67,7 @@ pub fn is_locked(handle: &Handle, i: usize, told: &mut Told) -> u32 {
 pub fn type_name(handle: &Handle, i: usize, told: &mut Told) -> u32 {
     // SAFETY: `handle` is zeros or what a call left, and this call's alone: it is no `Sync`, and the library comes back by
     // the doors only. `told` is a whole `Told` that nobody else has. Any `i` will do.
-    unsafe { rhai_host_type_name(handle.lent(), i, told) }
+    unsafe { rhai_host_type_name(handle.lent().at(), i, told) }
 }
 
 /// Answers whether the value at the hand position can be hashed.
@@ -75,7 +75,7 @@ pub fn type_name(handle: &Handle, i: usize, told: &mut Told) -> u32 {
 pub fn is_hashable(handle: &Handle, i: usize, told: &mut Told) -> u32 {
     // SAFETY: `handle` is zeros or what a call left, and this call's alone: it is no `Sync`, and the library comes back by
     // the doors only. `told` is a whole `Told` that nobody else has. Any `i` will do.
-    unsafe { rhai_host_is_hashable(handle.lent(), i, told) }
+    unsafe { rhai_host_is_hashable(handle.lent().at(), i, told) }
 }
 
 /// Is done where unit is held at the hand position.
@@ -83,7 +83,7 @@ pub fn is_hashable(handle: &Handle, i: usize, told: &mut Told) -> u32 {
 pub fn as_unit(handle: &Handle, i: usize, told: &mut Told) -> u32 {
     // SAFETY: `handle` is zeros or what a call left, and this call's alone: it is no `Sync`, and the library comes back by
     // the doors only. `told` is a whole `Told` that nobody else has. Any `i` will do.
-    unsafe { rhai_host_as_unit(handle.lent(), i, told) }
+    unsafe { rhai_host_as_unit(handle.lent().at(), i, told) }
 }
 
 /// Answers the int that is held at the hand position.
@@ -91,7 +91,7 @@ pub fn as_unit(handle: &Handle, i: usize, told: &mut Told) -> u32 {
 pub fn as_int(handle: &Handle, i: usize, told: &mut Told) -> u32 {
     // SAFETY: `handle` is zeros or what a call left, and this call's alone: it is no `Sync`, and the library comes back by
     // the doors only. `told` is a whole `Told` that nobody else has. Any `i` will do.
-    unsafe { rhai_host_as_int(handle.lent(), i, told) }
+    unsafe { rhai_host_as_int(handle.lent().at(), i, told) }
 }
 
 /// Answers the boolean that is held at the hand position.
@@ -99,7 +99,7 @@ pub fn as_int(handle: &Handle, i: usize, told: &mut Told) -> u32 {
 pub fn as_bool(handle: &Handle, i: usize, told: &mut Told) -> u32 {
     // SAFETY: `handle` is zeros or what a call left, and this call's alone: it is no `Sync`, and the library comes back by
     // the doors only. `told` is a whole `Told` that nobody else has. Any `i` will do.
-    unsafe { rhai_host_as_bool(handle.lent(), i, told) }
+    unsafe { rhai_host_as_bool(handle.lent().at(), i, told) }
 }
 
 /// Answers the character that is held at the hand position, as a text.
@@ -107,7 +107,7 @@ pub fn as_bool(handle: &Handle, i: usize, told: &mut Told) -> u32 {
 pub fn as_char(handle: &Handle, i: usize, told: &mut Told) -> u32 {
     // SAFETY: `handle` is zeros or what a call left, and this call's alone: it is no `Sync`, and the library comes back by
     // the doors only. `told` is a whole `Told` that nobody else has. Any `i` will do.
-    unsafe { rhai_host_as_char(handle.lent(), i, told) }
+    unsafe { rhai_host_as_char(handle.lent().at(), i, told) }
 }
 
 /// Answers the text of the value at the hand position, as it is displayed.
@@ -115,7 +115,7 @@ pub fn as_char(handle: &Handle, i: usize, told: &mut Told) -> u32 {
 pub fn show(handle: &Handle, i: usize, told: &mut Told) -> u32 {
     // SAFETY: `handle` is zeros or what a call left, and this call's alone: it is no `Sync`, and the library comes back by
     // the doors only. `told` is a whole `Told` that nobody else has. Any `i` will do.
-    unsafe { rhai_host_show(handle.lent(), i, told) }
+    unsafe { rhai_host_show(handle.lent().at(), i, told) }
 }
 
 /// Answers the text of the value at the hand position, as it is debugged.
@@ -123,7 +123,7 @@ pub fn show(handle: &Handle, i: usize, told: &mut Told) -> u32 {
 pub fn debug(handle: &Handle, i: usize, told: &mut Told) -> u32 {
     // SAFETY: `handle` is zeros or what a call left, and this call's alone: it is no `Sync`, and the library comes back by
     // the doors only. `told` is a whole `Told` that nobody else has. Any `i` will do.
-    unsafe { rhai_host_debug(handle.lent(), i, told) }
+    unsafe { rhai_host_debug(handle.lent().at(), i, told) }
 }
 
 /// Answers the hash bytes of the value at the hand position.
@@ -131,7 +131,7 @@ pub fn debug(handle: &Handle, i: usize, told: &mut Told) -> u32 {
 pub fn hash(handle: &Handle, i: usize, told: &mut Told) -> u32 {
     // SAFETY: `handle` is zeros or what a call left, and this call's alone: it is no `Sync`, and the library comes back by
     // the doors only. `told` is a whole `Told` that nobody else has. Any `i` will do.
-    unsafe { rhai_host_hash(handle.lent(), i, told) }
+    unsafe { rhai_host_hash(handle.lent().at(), i, told) }
 }
 
 /// Answers where a slice of a list of this length starts and how many items it has, for a start and a number of items.
@@ -139,7 +139,7 @@ pub fn hash(handle: &Handle, i: usize, told: &mut Told) -> u32 {
 pub fn offset(handle: &Handle, length: usize, start: i64, count: i64, told: &mut Told) -> u32 {
     // SAFETY: `handle` is zeros or what a call left, and this call's alone: it is no `Sync`, and the library comes back by
     // the doors only. `told` is a whole `Told` that nobody else has. Any `length`, `start`, `count` will do.
-    unsafe { rhai_host_offset(handle.lent(), length, start, count, told) }
+    unsafe { rhai_host_offset(handle.lent().at(), length, start, count, told) }
 }
 
 /// Answers the place of an item of a list of this length, or nothing; with the flag a negative index counts from the end.
@@ -147,5 +147,5 @@ pub fn offset(handle: &Handle, length: usize, start: i64, count: i64, told: &mut
 pub fn index(handle: &Handle, length: usize, index: i64, from_end: bool, told: &mut Told) -> u32 {
     // SAFETY: `handle` is zeros or what a call left, and this call's alone: it is no `Sync`, and the library comes back by
     // the doors only. `told` is a whole `Told` that nobody else has. Any `length`, `index`, `from_end` will do.
-    unsafe { rhai_host_index(handle.lent(), length, index, from_end, told) }
+    unsafe { rhai_host_index(handle.lent().at(), length, index, from_end, told) }
 }

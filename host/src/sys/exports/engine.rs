@@ -35,7 +35,14 @@ unsafe extern "C" {
         names_len: usize,
         stop: &mut ScriptStop,
     ) -> u32;
-    fn rhai_host_script_begin(handle: *mut Handle, text: usize, items: usize, calls: usize, with_body: bool) -> u32;
+    fn rhai_host_script_begin(
+        handle: *mut Handle,
+        text: usize,
+        items: usize,
+        entries: usize,
+        calls: usize,
+        with_body: bool,
+    ) -> u32;
     fn rhai_host_script_stop_at_statements(handle: *mut Handle, stops: bool) -> u32;
     fn rhai_host_script_go(handle: *mut Handle, operations: u64, stop: &mut ScriptStop) -> u32;
     fn rhai_host_script_argument(handle: *mut Handle, number: usize, told: &mut Told) -> u32;
@@ -59,16 +66,16 @@ pub fn script_compile(handle: &Handle, text: &[u8], names: &[u8], stop: &mut Scr
     // SAFETY: `handle` is zeros or what a call left, and this call's alone: it is no `Sync`, and the library comes back by
     // the doors only. `text` is a slice with its own length, and is read. `names` is a slice with its own length, and is
     // read. `stop` is a whole `ScriptStop` that nobody else has.
-    unsafe { rhai_host_script_compile(handle.lent(), text.as_ptr(), text.len(), names.as_ptr(), names.len(), stop) }
+    unsafe { rhai_host_script_compile(handle.lent().at(), text.as_ptr(), text.len(), names.as_ptr(), names.len(), stop) }
 }
 
-/// Begins a run of the script over the variables, with the largest sizes of texts and arrays, 0 being none, and of calls within each
+/// Begins a run of the script over the variables, with the largest sizes of texts, arrays and maps, 0 being none, and of calls within each
 /// other. Without its body, it has ended at once, and functions may be called.
 #[inline]
-pub fn script_begin(handle: &Handle, text: usize, items: usize, calls: usize, with_body: bool) -> u32 {
+pub fn script_begin(handle: &Handle, text: usize, items: usize, entries: usize, calls: usize, with_body: bool) -> u32 {
     // SAFETY: `handle` is zeros or what a call left, and this call's alone: it is no `Sync`, and the library comes back by
-    // the doors only. Any `text`, `items`, `calls`, `with_body` will do.
-    unsafe { rhai_host_script_begin(handle.lent(), text, items, calls, with_body) }
+    // the doors only. Any `text`, `items`, `entries`, `calls`, `with_body` will do.
+    unsafe { rhai_host_script_begin(handle.lent().at(), text, items, entries, calls, with_body) }
 }
 
 /// Has the run stop before each statement, or no longer.
@@ -76,7 +83,7 @@ pub fn script_begin(handle: &Handle, text: usize, items: usize, calls: usize, wi
 pub fn script_stop_at_statements(handle: &Handle, stops: bool) -> u32 {
     // SAFETY: `handle` is zeros or what a call left, and this call's alone: it is no `Sync`, and the library comes back by
     // the doors only. Any `stops` will do.
-    unsafe { rhai_host_script_stop_at_statements(handle.lent(), stops) }
+    unsafe { rhai_host_script_stop_at_statements(handle.lent().at(), stops) }
 }
 
 /// Goes on with the run by up to so many operations.
@@ -84,7 +91,7 @@ pub fn script_stop_at_statements(handle: &Handle, stops: bool) -> u32 {
 pub fn script_go(handle: &Handle, operations: u64, stop: &mut ScriptStop) -> u32 {
     // SAFETY: `handle` is zeros or what a call left, and this call's alone: it is no `Sync`, and the library comes back by
     // the doors only. `stop` is a whole `ScriptStop` that nobody else has. Any `operations` will do.
-    unsafe { rhai_host_script_go(handle.lent(), operations, stop) }
+    unsafe { rhai_host_script_go(handle.lent().at(), operations, stop) }
 }
 
 /// Answers the hash bytes of an argument that the host's function is called with.
@@ -92,7 +99,7 @@ pub fn script_go(handle: &Handle, operations: u64, stop: &mut ScriptStop) -> u32
 pub fn script_argument(handle: &Handle, number: usize, told: &mut Told) -> u32 {
     // SAFETY: `handle` is zeros or what a call left, and this call's alone: it is no `Sync`, and the library comes back by
     // the doors only. `told` is a whole `Told` that nobody else has. Any `number` will do.
-    unsafe { rhai_host_script_argument(handle.lent(), number, told) }
+    unsafe { rhai_host_script_argument(handle.lent().at(), number, told) }
 }
 
 /// Answers the hash bytes of the value that the run came to.
@@ -100,7 +107,7 @@ pub fn script_argument(handle: &Handle, number: usize, told: &mut Told) -> u32 {
 pub fn script_value(handle: &Handle, told: &mut Told) -> u32 {
     // SAFETY: `handle` is zeros or what a call left, and this call's alone: it is no `Sync`, and the library comes back by
     // the doors only. `told` is a whole `Told` that nobody else has.
-    unsafe { rhai_host_script_value(handle.lent(), told) }
+    unsafe { rhai_host_script_value(handle.lent().at(), told) }
 }
 
 /// Answers the call of the host's function with the value of these hash bytes.
@@ -108,7 +115,7 @@ pub fn script_value(handle: &Handle, told: &mut Told) -> u32 {
 pub fn script_answer(handle: &Handle, value: &[u8]) -> u32 {
     // SAFETY: `handle` is zeros or what a call left, and this call's alone: it is no `Sync`, and the library comes back by
     // the doors only. `value` is a slice with its own length, and is read.
-    unsafe { rhai_host_script_answer(handle.lent(), value.as_ptr(), value.len()) }
+    unsafe { rhai_host_script_answer(handle.lent().at(), value.as_ptr(), value.len()) }
 }
 
 /// Refuses the call of the host's function with a text, which the script may catch: it goes on then, and the stop is of kind 1.
@@ -117,7 +124,7 @@ pub fn script_refuse(handle: &Handle, why: &[u8], stop: &mut ScriptStop) -> u32 
     // SAFETY: `handle` is zeros or what a call left, and this call's alone: it is no `Sync`, and the library comes back by
     // the doors only. `why` is a slice with its own length, and is read. `stop` is a whole `ScriptStop` that nobody else
     // has.
-    unsafe { rhai_host_script_refuse(handle.lent(), why.as_ptr(), why.len(), stop) }
+    unsafe { rhai_host_script_refuse(handle.lent().at(), why.as_ptr(), why.len(), stop) }
 }
 
 /// Begins a call of a function of the script with these arguments: the hash bytes of an array of them. The script's body is done, and no
@@ -127,7 +134,7 @@ pub fn script_call(handle: &Handle, name: &[u8], arguments: &[u8]) -> u32 {
     // SAFETY: `handle` is zeros or what a call left, and this call's alone: it is no `Sync`, and the library comes back by
     // the doors only. `name` is a slice with its own length, and is read. `arguments` is a slice with its own length, and is
     // read.
-    unsafe { rhai_host_script_call(handle.lent(), name.as_ptr(), name.len(), arguments.as_ptr(), arguments.len()) }
+    unsafe { rhai_host_script_call(handle.lent().at(), name.as_ptr(), name.len(), arguments.as_ptr(), arguments.len()) }
 }
 
 /// Ends the run, wherever it stands: its variables can be looked at and written then.
@@ -135,5 +142,5 @@ pub fn script_call(handle: &Handle, name: &[u8], arguments: &[u8]) -> u32 {
 pub fn script_end(handle: &Handle) -> u32 {
     // SAFETY: `handle` is zeros or what a call left, and this call's alone: it is no `Sync`, and the library comes back by
     // the doors only.
-    unsafe { rhai_host_script_end(handle.lent()) }
+    unsafe { rhai_host_script_end(handle.lent().at()) }
 }

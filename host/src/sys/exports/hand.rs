@@ -26,7 +26,7 @@ unsafe extern "C" {
 pub fn make_array(handle: &Handle, count: usize, told: &mut Told) -> u32 {
     // SAFETY: `handle` is zeros or what a call left, and this call's alone: it is no `Sync`, and the library comes back by
     // the doors only. `told` is a whole `Told` that nobody else has. Any `count` will do.
-    unsafe { rhai_host_make_array(handle.lent(), count, told) }
+    unsafe { rhai_host_make_array(handle.lent().at(), count, told) }
 }
 
 /// Appends a copy of the value at the hand position.
@@ -34,7 +34,7 @@ pub fn make_array(handle: &Handle, count: usize, told: &mut Told) -> u32 {
 pub fn copy(handle: &Handle, i: usize, told: &mut Told) -> u32 {
     // SAFETY: `handle` is zeros or what a call left, and this call's alone: it is no `Sync`, and the library comes back by
     // the doors only. `told` is a whole `Told` that nobody else has. Any `i` will do.
-    unsafe { rhai_host_copy(handle.lent(), i, told) }
+    unsafe { rhai_host_copy(handle.lent().at(), i, told) }
 }
 
 /// Appends a copy of the value at the hand position without its holders.
@@ -42,7 +42,7 @@ pub fn copy(handle: &Handle, i: usize, told: &mut Told) -> u32 {
 pub fn flatten_clone(handle: &Handle, i: usize, told: &mut Told) -> u32 {
     // SAFETY: `handle` is zeros or what a call left, and this call's alone: it is no `Sync`, and the library comes back by
     // the doors only. `told` is a whole `Told` that nobody else has. Any `i` will do.
-    unsafe { rhai_host_flatten_clone(handle.lent(), i, told) }
+    unsafe { rhai_host_flatten_clone(handle.lent().at(), i, told) }
 }
 
 /// Moves the value at the hand position to the end, and leaves unit.
@@ -50,7 +50,7 @@ pub fn flatten_clone(handle: &Handle, i: usize, told: &mut Told) -> u32 {
 pub fn take(handle: &Handle, i: usize, told: &mut Told) -> u32 {
     // SAFETY: `handle` is zeros or what a call left, and this call's alone: it is no `Sync`, and the library comes back by
     // the doors only. `told` is a whole `Told` that nobody else has. Any `i` will do.
-    unsafe { rhai_host_take(handle.lent(), i, told) }
+    unsafe { rhai_host_take(handle.lent().at(), i, told) }
 }
 
 /// Drops the last value.
@@ -58,7 +58,7 @@ pub fn take(handle: &Handle, i: usize, told: &mut Told) -> u32 {
 pub fn drop(handle: &Handle, told: &mut Told) -> u32 {
     // SAFETY: `handle` is zeros or what a call left, and this call's alone: it is no `Sync`, and the library comes back by
     // the doors only. `told` is a whole `Told` that nobody else has.
-    unsafe { rhai_host_drop(handle.lent(), told) }
+    unsafe { rhai_host_drop(handle.lent().at(), told) }
 }
 
 /// Moves the value at the hand position into a new cell, and leaves a holder of it; a holder stays.
@@ -66,7 +66,7 @@ pub fn drop(handle: &Handle, told: &mut Told) -> u32 {
 pub fn share(handle: &Handle, i: usize, told: &mut Told) -> u32 {
     // SAFETY: `handle` is zeros or what a call left, and this call's alone: it is no `Sync`, and the library comes back by
     // the doors only. `told` is a whole `Told` that nobody else has. Any `i` will do.
-    unsafe { rhai_host_share(handle.lent(), i, told) }
+    unsafe { rhai_host_share(handle.lent().at(), i, told) }
 }
 
 /// Puts in the place of a holder at the hand position what is held, without its holders.
@@ -74,7 +74,7 @@ pub fn share(handle: &Handle, i: usize, told: &mut Told) -> u32 {
 pub fn flatten(handle: &Handle, i: usize, told: &mut Told) -> u32 {
     // SAFETY: `handle` is zeros or what a call left, and this call's alone: it is no `Sync`, and the library comes back by
     // the doors only. `told` is a whole `Told` that nobody else has. Any `i` will do.
-    unsafe { rhai_host_flatten(handle.lent(), i, told) }
+    unsafe { rhai_host_flatten(handle.lent().at(), i, told) }
 }
 
 /// Makes the value at the hand position a constant.
@@ -82,7 +82,7 @@ pub fn flatten(handle: &Handle, i: usize, told: &mut Told) -> u32 {
 pub fn make_read_only(handle: &Handle, i: usize, told: &mut Told) -> u32 {
     // SAFETY: `handle` is zeros or what a call left, and this call's alone: it is no `Sync`, and the library comes back by
     // the doors only. `told` is a whole `Told` that nobody else has. Any `i` will do.
-    unsafe { rhai_host_make_read_only(handle.lent(), i, told) }
+    unsafe { rhai_host_make_read_only(handle.lent().at(), i, told) }
 }
 
 /// Sets the tag of the value at the hand position.
@@ -90,7 +90,7 @@ pub fn make_read_only(handle: &Handle, i: usize, told: &mut Told) -> u32 {
 pub fn set_tag(handle: &Handle, i: usize, tag: i32, told: &mut Told) -> u32 {
     // SAFETY: `handle` is zeros or what a call left, and this call's alone: it is no `Sync`, and the library comes back by
     // the doors only. `told` is a whole `Told` that nobody else has. Any `i`, `tag` will do.
-    unsafe { rhai_host_set_tag(handle.lent(), i, tag, told) }
+    unsafe { rhai_host_set_tag(handle.lent().at(), i, tag, told) }
 }
 
 /// Writes over the int that is held at the hand position.
@@ -98,7 +98,7 @@ pub fn set_tag(handle: &Handle, i: usize, tag: i32, told: &mut Told) -> u32 {
 pub fn write_int(handle: &Handle, i: usize, n: i64, told: &mut Told) -> u32 {
     // SAFETY: `handle` is zeros or what a call left, and this call's alone: it is no `Sync`, and the library comes back by
     // the doors only. `told` is a whole `Told` that nobody else has. Any `i`, `n` will do.
-    unsafe { rhai_host_write_int(handle.lent(), i, n, told) }
+    unsafe { rhai_host_write_int(handle.lent().at(), i, n, told) }
 }
 
 /// Writes the value at the second hand position over the first content of the one at the first, and leaves unit at the second.
@@ -106,7 +106,7 @@ pub fn write_int(handle: &Handle, i: usize, n: i64, told: &mut Told) -> u32 {
 pub fn write(handle: &Handle, i: usize, j: usize, told: &mut Told) -> u32 {
     // SAFETY: `handle` is zeros or what a call left, and this call's alone: it is no `Sync`, and the library comes back by
     // the doors only. `told` is a whole `Told` that nobody else has. Any `i`, `j` will do.
-    unsafe { rhai_host_write(handle.lent(), i, j, told) }
+    unsafe { rhai_host_write(handle.lent().at(), i, j, told) }
 }
 
 /// Sets the tag of each value that a scan of the one at the hand position comes to, and answers how many these are.
@@ -114,7 +114,7 @@ pub fn write(handle: &Handle, i: usize, j: usize, told: &mut Told) -> u32 {
 pub fn scan_tags(handle: &Handle, i: usize, tag: i32, told: &mut Told) -> u32 {
     // SAFETY: `handle` is zeros or what a call left, and this call's alone: it is no `Sync`, and the library comes back by
     // the doors only. `told` is a whole `Told` that nobody else has. Any `i`, `tag` will do.
-    unsafe { rhai_host_scan_tags(handle.lent(), i, tag, told) }
+    unsafe { rhai_host_scan_tags(handle.lent().at(), i, tag, told) }
 }
 
 /// Makes each int 0 that a scan of the value at the hand position comes to, and answers how many values it came to.
@@ -122,7 +122,7 @@ pub fn scan_tags(handle: &Handle, i: usize, tag: i32, told: &mut Told) -> u32 {
 pub fn scan_zero(handle: &Handle, i: usize, told: &mut Told) -> u32 {
     // SAFETY: `handle` is zeros or what a call left, and this call's alone: it is no `Sync`, and the library comes back by
     // the doors only. `told` is a whole `Told` that nobody else has. Any `i` will do.
-    unsafe { rhai_host_scan_zero(handle.lent(), i, told) }
+    unsafe { rhai_host_scan_zero(handle.lent().at(), i, told) }
 }
 
 /// Makes each holder unit that a scan of the value at the hand position comes to, and answers how many values it came to.
@@ -130,7 +130,7 @@ pub fn scan_zero(handle: &Handle, i: usize, told: &mut Told) -> u32 {
 pub fn scan_no_share(handle: &Handle, i: usize, told: &mut Told) -> u32 {
     // SAFETY: `handle` is zeros or what a call left, and this call's alone: it is no `Sync`, and the library comes back by
     // the doors only. `told` is a whole `Told` that nobody else has. Any `i` will do.
-    unsafe { rhai_host_scan_no_share(handle.lent(), i, told) }
+    unsafe { rhai_host_scan_no_share(handle.lent().at(), i, told) }
 }
 
 /// Keeps this many items of each array that a scan of the value at the hand position comes to, and answers how many values it came to.
@@ -138,5 +138,5 @@ pub fn scan_no_share(handle: &Handle, i: usize, told: &mut Told) -> u32 {
 pub fn scan_cut(handle: &Handle, i: usize, count: usize, told: &mut Told) -> u32 {
     // SAFETY: `handle` is zeros or what a call left, and this call's alone: it is no `Sync`, and the library comes back by
     // the doors only. `told` is a whole `Told` that nobody else has. Any `i`, `count` will do.
-    unsafe { rhai_host_scan_cut(handle.lent(), i, count, told) }
+    unsafe { rhai_host_scan_cut(handle.lent().at(), i, count, told) }
 }

@@ -14,7 +14,7 @@ unsafe extern "C" {
 pub fn line(handle: &Handle, line: &[u8], told: &mut Told) -> u32 {
     // SAFETY: `handle` is zeros or what a call left, and this call's alone: it is no `Sync`, and the library comes back by
     // the doors only. `line` is a slice with its own length, and is read. `told` is a whole `Told` that nobody else has.
-    unsafe { rhai_host_line(handle.lent(), line.as_ptr(), line.len(), told) }
+    unsafe { rhai_host_line(handle.lent().at(), line.as_ptr(), line.len(), told) }
 }
 
 /// Runs lines on a world of their own, and answers the bytes that they print; the handle's world stays.
@@ -22,7 +22,7 @@ pub fn line(handle: &Handle, line: &[u8], told: &mut Told) -> u32 {
 pub fn run_lines(handle: &Handle, input: &[u8], told: &mut Told) -> u32 {
     // SAFETY: `handle` is zeros or what a call left, and this call's alone: it is no `Sync`, and the library comes back by
     // the doors only. `input` is a slice with its own length, and is read. `told` is a whole `Told` that nobody else has.
-    unsafe { rhai_host_run_lines(handle.lent(), input.as_ptr(), input.len(), told) }
+    unsafe { rhai_host_run_lines(handle.lent().at(), input.as_ptr(), input.len(), told) }
 }
 
 /// Answers the journal of the commands that lines say: the lines by which they are written, in turn, each with a line feed.
@@ -30,5 +30,5 @@ pub fn run_lines(handle: &Handle, input: &[u8], told: &mut Told) -> u32 {
 pub fn journal(handle: &Handle, lines: &[u8], told: &mut Told) -> u32 {
     // SAFETY: `handle` is zeros or what a call left, and this call's alone: it is no `Sync`, and the library comes back by
     // the doors only. `lines` is a slice with its own length, and is read. `told` is a whole `Told` that nobody else has.
-    unsafe { rhai_host_journal(handle.lent(), lines.as_ptr(), lines.len(), told) }
+    unsafe { rhai_host_journal(handle.lent().at(), lines.as_ptr(), lines.len(), told) }
 }

@@ -22,7 +22,7 @@ unsafe extern "C" {
 pub fn make_map(handle: &Handle, keys: &[usize], told: &mut Told) -> u32 {
     // SAFETY: `handle` is zeros or what a call left, and this call's alone: it is no `Sync`, and the library comes back by
     // the doors only. `keys` is a slice with its own length, and is read. `told` is a whole `Told` that nobody else has.
-    unsafe { rhai_host_make_map(handle.lent(), keys.as_ptr(), keys.len(), told) }
+    unsafe { rhai_host_make_map(handle.lent().at(), keys.as_ptr(), keys.len(), told) }
 }
 
 /// Takes as many values off the end of the hand as there are names, and adds an entry of each name with its value, which may be written.
@@ -30,7 +30,7 @@ pub fn make_map(handle: &Handle, keys: &[usize], told: &mut Told) -> u32 {
 pub fn extend(handle: &Handle, names: &[usize], told: &mut Told) -> u32 {
     // SAFETY: `handle` is zeros or what a call left, and this call's alone: it is no `Sync`, and the library comes back by
     // the doors only. `names` is a slice with its own length, and is read. `told` is a whole `Told` that nobody else has.
-    unsafe { rhai_host_extend(handle.lent(), names.as_ptr(), names.len(), told) }
+    unsafe { rhai_host_extend(handle.lent().at(), names.as_ptr(), names.len(), told) }
 }
 
 /// Takes as many values off the end of the hand as there are names, and adds an entry of each name with its value, which is a constant where its flag says so.
@@ -39,7 +39,9 @@ pub fn extend_flagged(handle: &Handle, names: &[usize], constants: &[bool], told
     // SAFETY: `handle` is zeros or what a call left, and this call's alone: it is no `Sync`, and the library comes back by
     // the doors only. `names` is a slice with its own length, and is read. `constants` is a slice with its own length, and
     // is read. `told` is a whole `Told` that nobody else has.
-    unsafe { rhai_host_extend_flagged(handle.lent(), names.as_ptr(), names.len(), constants.as_ptr(), constants.len(), told) }
+    unsafe {
+        rhai_host_extend_flagged(handle.lent().at(), names.as_ptr(), names.len(), constants.as_ptr(), constants.len(), told)
+    }
 }
 
 /// Gives the last entry of the name the alias, if it hasn't got it; an empty alias means the name.
@@ -48,5 +50,5 @@ pub fn set_alias(handle: &Handle, name: usize, alias: &[u8], told: &mut Told) ->
     // SAFETY: `handle` is zeros or what a call left, and this call's alone: it is no `Sync`, and the library comes back by
     // the doors only. `alias` is a slice with its own length, and is read. `told` is a whole `Told` that nobody else has.
     // Any `name` will do.
-    unsafe { rhai_host_set_alias(handle.lent(), name, alias.as_ptr(), alias.len(), told) }
+    unsafe { rhai_host_set_alias(handle.lent().at(), name, alias.as_ptr(), alias.len(), told) }
 }

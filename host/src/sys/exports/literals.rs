@@ -23,7 +23,7 @@ unsafe extern "C" {
 pub fn put_unit(handle: &Handle, told: &mut Told) -> u32 {
     // SAFETY: `handle` is zeros or what a call left, and this call's alone: it is no `Sync`, and the library comes back by
     // the doors only. `told` is a whole `Told` that nobody else has.
-    unsafe { rhai_host_put_unit(handle.lent(), told) }
+    unsafe { rhai_host_put_unit(handle.lent().at(), told) }
 }
 
 /// Appends a boolean.
@@ -31,7 +31,7 @@ pub fn put_unit(handle: &Handle, told: &mut Told) -> u32 {
 pub fn put_bool(handle: &Handle, truth: bool, told: &mut Told) -> u32 {
     // SAFETY: `handle` is zeros or what a call left, and this call's alone: it is no `Sync`, and the library comes back by
     // the doors only. `told` is a whole `Told` that nobody else has. Any `truth` will do.
-    unsafe { rhai_host_put_bool(handle.lent(), truth, told) }
+    unsafe { rhai_host_put_bool(handle.lent().at(), truth, told) }
 }
 
 /// Appends an int.
@@ -39,7 +39,7 @@ pub fn put_bool(handle: &Handle, truth: bool, told: &mut Told) -> u32 {
 pub fn put_int(handle: &Handle, n: i64, told: &mut Told) -> u32 {
     // SAFETY: `handle` is zeros or what a call left, and this call's alone: it is no `Sync`, and the library comes back by
     // the doors only. `told` is a whole `Told` that nobody else has. Any `n` will do.
-    unsafe { rhai_host_put_int(handle.lent(), n, told) }
+    unsafe { rhai_host_put_int(handle.lent().at(), n, told) }
 }
 
 /// Appends the range from one int to another, without the end.
@@ -47,7 +47,7 @@ pub fn put_int(handle: &Handle, n: i64, told: &mut Told) -> u32 {
 pub fn put_range(handle: &Handle, start: i64, end: i64, told: &mut Told) -> u32 {
     // SAFETY: `handle` is zeros or what a call left, and this call's alone: it is no `Sync`, and the library comes back by
     // the doors only. `told` is a whole `Told` that nobody else has. Any `start`, `end` will do.
-    unsafe { rhai_host_put_range(handle.lent(), start, end, told) }
+    unsafe { rhai_host_put_range(handle.lent().at(), start, end, told) }
 }
 
 /// Appends the range from one int to another, with the end.
@@ -55,7 +55,7 @@ pub fn put_range(handle: &Handle, start: i64, end: i64, told: &mut Told) -> u32 
 pub fn put_range_with_end(handle: &Handle, start: i64, end: i64, told: &mut Told) -> u32 {
     // SAFETY: `handle` is zeros or what a call left, and this call's alone: it is no `Sync`, and the library comes back by
     // the doors only. `told` is a whole `Told` that nobody else has. Any `start`, `end` will do.
-    unsafe { rhai_host_put_range_with_end(handle.lent(), start, end, told) }
+    unsafe { rhai_host_put_range_with_end(handle.lent().at(), start, end, told) }
 }
 
 /// Appends a `u8` of the host's.
@@ -63,7 +63,7 @@ pub fn put_range_with_end(handle: &Handle, start: i64, end: i64, told: &mut Told
 pub fn put_u8(handle: &Handle, n: u8, told: &mut Told) -> u32 {
     // SAFETY: `handle` is zeros or what a call left, and this call's alone: it is no `Sync`, and the library comes back by
     // the doors only. `told` is a whole `Told` that nobody else has. Any `n` will do.
-    unsafe { rhai_host_put_u8(handle.lent(), n, told) }
+    unsafe { rhai_host_put_u8(handle.lent().at(), n, told) }
 }
 
 /// Appends a `u16` of the host's.
@@ -71,7 +71,7 @@ pub fn put_u8(handle: &Handle, n: u8, told: &mut Told) -> u32 {
 pub fn put_u16(handle: &Handle, n: u16, told: &mut Told) -> u32 {
     // SAFETY: `handle` is zeros or what a call left, and this call's alone: it is no `Sync`, and the library comes back by
     // the doors only. `told` is a whole `Told` that nobody else has. Any `n` will do.
-    unsafe { rhai_host_put_u16(handle.lent(), n, told) }
+    unsafe { rhai_host_put_u16(handle.lent().at(), n, told) }
 }
 
 /// Appends a `u32` of the host's.
@@ -79,7 +79,7 @@ pub fn put_u16(handle: &Handle, n: u16, told: &mut Told) -> u32 {
 pub fn put_u32(handle: &Handle, n: u32, told: &mut Told) -> u32 {
     // SAFETY: `handle` is zeros or what a call left, and this call's alone: it is no `Sync`, and the library comes back by
     // the doors only. `told` is a whole `Told` that nobody else has. Any `n` will do.
-    unsafe { rhai_host_put_u32(handle.lent(), n, told) }
+    unsafe { rhai_host_put_u32(handle.lent().at(), n, told) }
 }
 
 /// Appends a `u64` of the host's.
@@ -87,7 +87,7 @@ pub fn put_u32(handle: &Handle, n: u32, told: &mut Told) -> u32 {
 pub fn put_u64(handle: &Handle, n: u64, told: &mut Told) -> u32 {
     // SAFETY: `handle` is zeros or what a call left, and this call's alone: it is no `Sync`, and the library comes back by
     // the doors only. `told` is a whole `Told` that nobody else has. Any `n` will do.
-    unsafe { rhai_host_put_u64(handle.lent(), n, told) }
+    unsafe { rhai_host_put_u64(handle.lent().at(), n, told) }
 }
 
 /// Appends an `i8` of the host's.
@@ -95,7 +95,7 @@ pub fn put_u64(handle: &Handle, n: u64, told: &mut Told) -> u32 {
 pub fn put_i8(handle: &Handle, n: i8, told: &mut Told) -> u32 {
     // SAFETY: `handle` is zeros or what a call left, and this call's alone: it is no `Sync`, and the library comes back by
     // the doors only. `told` is a whole `Told` that nobody else has. Any `n` will do.
-    unsafe { rhai_host_put_i8(handle.lent(), n, told) }
+    unsafe { rhai_host_put_i8(handle.lent().at(), n, told) }
 }
 
 /// Appends an `i16` of the host's.
@@ -103,7 +103,7 @@ pub fn put_i8(handle: &Handle, n: i8, told: &mut Told) -> u32 {
 pub fn put_i16(handle: &Handle, n: i16, told: &mut Told) -> u32 {
     // SAFETY: `handle` is zeros or what a call left, and this call's alone: it is no `Sync`, and the library comes back by
     // the doors only. `told` is a whole `Told` that nobody else has. Any `n` will do.
-    unsafe { rhai_host_put_i16(handle.lent(), n, told) }
+    unsafe { rhai_host_put_i16(handle.lent().at(), n, told) }
 }
 
 /// Appends an `i32` of the host's.
@@ -111,5 +111,5 @@ pub fn put_i16(handle: &Handle, n: i16, told: &mut Told) -> u32 {
 pub fn put_i32(handle: &Handle, n: i32, told: &mut Told) -> u32 {
     // SAFETY: `handle` is zeros or what a call left, and this call's alone: it is no `Sync`, and the library comes back by
     // the doors only. `told` is a whole `Told` that nobody else has. Any `n` will do.
-    unsafe { rhai_host_put_i32(handle.lent(), n, told) }
+    unsafe { rhai_host_put_i32(handle.lent().at(), n, told) }
 }

@@ -14,7 +14,7 @@ unsafe extern "C" {
 pub fn unmark(handle: &Handle, mark: usize, told: &mut Told) -> u32 {
     // SAFETY: `handle` is zeros or what a call left, and this call's alone: it is no `Sync`, and the library comes back by
     // the doors only. `told` is a whole `Told` that nobody else has. Any `mark` will do.
-    unsafe { rhai_host_unmark(handle.lent(), mark, told) }
+    unsafe { rhai_host_unmark(handle.lent().at(), mark, told) }
 }
 
 /// Moves the value at the hand position into the cell of the mark at this position, and leaves unit.
@@ -22,7 +22,7 @@ pub fn unmark(handle: &Handle, mark: usize, told: &mut Told) -> u32 {
 pub fn write_marked(handle: &Handle, mark: usize, i: usize, told: &mut Told) -> u32 {
     // SAFETY: `handle` is zeros or what a call left, and this call's alone: it is no `Sync`, and the library comes back by
     // the doors only. `told` is a whole `Told` that nobody else has. Any `mark`, `i` will do.
-    unsafe { rhai_host_write_marked(handle.lent(), mark, i, told) }
+    unsafe { rhai_host_write_marked(handle.lent().at(), mark, i, told) }
 }
 
 /// Appends a copy of what is in the cell of the mark at this position.
@@ -30,5 +30,5 @@ pub fn write_marked(handle: &Handle, mark: usize, i: usize, told: &mut Told) -> 
 pub fn read_marked(handle: &Handle, mark: usize, told: &mut Told) -> u32 {
     // SAFETY: `handle` is zeros or what a call left, and this call's alone: it is no `Sync`, and the library comes back by
     // the doors only. `told` is a whole `Told` that nobody else has. Any `mark` will do.
-    unsafe { rhai_host_read_marked(handle.lent(), mark, told) }
+    unsafe { rhai_host_read_marked(handle.lent().at(), mark, told) }
 }

@@ -13,7 +13,7 @@ unsafe extern "C" {
 pub fn name_text(handle: &Handle, number: usize, told: &mut Told) -> u32 {
     // SAFETY: `handle` is zeros or what a call left, and this call's alone: it is no `Sync`, and the library comes back by
     // the doors only. `told` is a whole `Told` that nobody else has. Any `number` will do.
-    unsafe { rhai_host_name_text(handle.lent(), number, told) }
+    unsafe { rhai_host_name_text(handle.lent().at(), number, told) }
 }
 
 /// Answers the name of the entry at this position, counted from the oldest, as a text, and tells whether the entry is a constant.
@@ -22,5 +22,5 @@ pub fn entry(handle: &Handle, i: usize, is_constant: &mut bool, told: &mut Told)
     // SAFETY: `handle` is zeros or what a call left, and this call's alone: it is no `Sync`, and the library comes back by
     // the doors only. `is_constant` is a whole `bool` that nobody else has. `told` is a whole `Told` that nobody else has.
     // Any `i` will do.
-    unsafe { rhai_host_entry(handle.lent(), i, is_constant, told) }
+    unsafe { rhai_host_entry(handle.lent().at(), i, is_constant, told) }
 }

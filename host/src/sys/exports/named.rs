@@ -24,7 +24,7 @@ unsafe extern "C" {
 pub fn make_fn(handle: &Handle, name: usize, count: usize, told: &mut Told) -> u32 {
     // SAFETY: `handle` is zeros or what a call left, and this call's alone: it is no `Sync`, and the library comes back by
     // the doors only. `told` is a whole `Told` that nobody else has. Any `name`, `count` will do.
-    unsafe { rhai_host_make_fn(handle.lent(), name, count, told) }
+    unsafe { rhai_host_make_fn(handle.lent().at(), name, count, told) }
 }
 
 /// Moves the value at the hand position into a new entry of the name that may be written, and leaves unit.
@@ -32,7 +32,7 @@ pub fn make_fn(handle: &Handle, name: usize, count: usize, told: &mut Told) -> u
 pub fn push(handle: &Handle, name: usize, i: usize, told: &mut Told) -> u32 {
     // SAFETY: `handle` is zeros or what a call left, and this call's alone: it is no `Sync`, and the library comes back by
     // the doors only. `told` is a whole `Told` that nobody else has. Any `name`, `i` will do.
-    unsafe { rhai_host_push(handle.lent(), name, i, told) }
+    unsafe { rhai_host_push(handle.lent().at(), name, i, told) }
 }
 
 /// Moves the value at the hand position into a new entry of the name, which is a constant where the value is, and leaves unit.
@@ -40,7 +40,7 @@ pub fn push(handle: &Handle, name: usize, i: usize, told: &mut Told) -> u32 {
 pub fn push_dynamic(handle: &Handle, name: usize, i: usize, told: &mut Told) -> u32 {
     // SAFETY: `handle` is zeros or what a call left, and this call's alone: it is no `Sync`, and the library comes back by
     // the doors only. `told` is a whole `Told` that nobody else has. Any `name`, `i` will do.
-    unsafe { rhai_host_push_dynamic(handle.lent(), name, i, told) }
+    unsafe { rhai_host_push_dynamic(handle.lent().at(), name, i, told) }
 }
 
 /// Moves the value at the hand position into a new entry of the name that is a constant, and leaves unit.
@@ -48,7 +48,7 @@ pub fn push_dynamic(handle: &Handle, name: usize, i: usize, told: &mut Told) -> 
 pub fn push_constant(handle: &Handle, name: usize, i: usize, told: &mut Told) -> u32 {
     // SAFETY: `handle` is zeros or what a call left, and this call's alone: it is no `Sync`, and the library comes back by
     // the doors only. `told` is a whole `Told` that nobody else has. Any `name`, `i` will do.
-    unsafe { rhai_host_push_constant(handle.lent(), name, i, told) }
+    unsafe { rhai_host_push_constant(handle.lent().at(), name, i, told) }
 }
 
 /// Moves the value at the hand position over the value of the last entry of the name, and leaves unit.
@@ -56,7 +56,7 @@ pub fn push_constant(handle: &Handle, name: usize, i: usize, told: &mut Told) ->
 pub fn set_entry(handle: &Handle, name: usize, i: usize, told: &mut Told) -> u32 {
     // SAFETY: `handle` is zeros or what a call left, and this call's alone: it is no `Sync`, and the library comes back by
     // the doors only. `told` is a whole `Told` that nobody else has. Any `name`, `i` will do.
-    unsafe { rhai_host_set_entry(handle.lent(), name, i, told) }
+    unsafe { rhai_host_set_entry(handle.lent().at(), name, i, told) }
 }
 
 /// Moves the value at the hand position over the value of the last entry of the name, or into a new one where none may be written.
@@ -64,7 +64,7 @@ pub fn set_entry(handle: &Handle, name: usize, i: usize, told: &mut Told) -> u32
 pub fn set_or_push(handle: &Handle, name: usize, i: usize, told: &mut Told) -> u32 {
     // SAFETY: `handle` is zeros or what a call left, and this call's alone: it is no `Sync`, and the library comes back by
     // the doors only. `told` is a whole `Told` that nobody else has. Any `name`, `i` will do.
-    unsafe { rhai_host_set_or_push(handle.lent(), name, i, told) }
+    unsafe { rhai_host_set_or_push(handle.lent().at(), name, i, told) }
 }
 
 /// Moves the value at the hand position over the value of the last entry of the name, or into a new one where none is there.
@@ -72,7 +72,7 @@ pub fn set_or_push(handle: &Handle, name: usize, i: usize, told: &mut Told) -> u
 pub fn set_value(handle: &Handle, name: usize, i: usize, told: &mut Told) -> u32 {
     // SAFETY: `handle` is zeros or what a call left, and this call's alone: it is no `Sync`, and the library comes back by
     // the doors only. `told` is a whole `Told` that nobody else has. Any `name`, `i` will do.
-    unsafe { rhai_host_set_value(handle.lent(), name, i, told) }
+    unsafe { rhai_host_set_value(handle.lent().at(), name, i, told) }
 }
 
 /// Answers whether an entry has the name.
@@ -80,7 +80,7 @@ pub fn set_value(handle: &Handle, name: usize, i: usize, told: &mut Told) -> u32
 pub fn contains(handle: &Handle, name: usize, told: &mut Told) -> u32 {
     // SAFETY: `handle` is zeros or what a call left, and this call's alone: it is no `Sync`, and the library comes back by
     // the doors only. `told` is a whole `Told` that nobody else has. Any `name` will do.
-    unsafe { rhai_host_contains(handle.lent(), name, told) }
+    unsafe { rhai_host_contains(handle.lent().at(), name, told) }
 }
 
 /// Answers the position of the last entry of the name, counted from 0, or nothing.
@@ -88,7 +88,7 @@ pub fn contains(handle: &Handle, name: usize, told: &mut Told) -> u32 {
 pub fn search(handle: &Handle, name: usize, told: &mut Told) -> u32 {
     // SAFETY: `handle` is zeros or what a call left, and this call's alone: it is no `Sync`, and the library comes back by
     // the doors only. `told` is a whole `Told` that nobody else has. Any `name` will do.
-    unsafe { rhai_host_search(handle.lent(), name, told) }
+    unsafe { rhai_host_search(handle.lent().at(), name, told) }
 }
 
 /// Answers whether the last entry of the name is a constant, or nothing.
@@ -96,7 +96,7 @@ pub fn search(handle: &Handle, name: usize, told: &mut Told) -> u32 {
 pub fn is_constant(handle: &Handle, name: usize, told: &mut Told) -> u32 {
     // SAFETY: `handle` is zeros or what a call left, and this call's alone: it is no `Sync`, and the library comes back by
     // the doors only. `told` is a whole `Told` that nobody else has. Any `name` will do.
-    unsafe { rhai_host_is_constant(handle.lent(), name, told) }
+    unsafe { rhai_host_is_constant(handle.lent().at(), name, told) }
 }
 
 /// Appends a copy of the value of the last entry of the name.
@@ -104,7 +104,7 @@ pub fn is_constant(handle: &Handle, name: usize, told: &mut Told) -> u32 {
 pub fn get(handle: &Handle, name: usize, told: &mut Told) -> u32 {
     // SAFETY: `handle` is zeros or what a call left, and this call's alone: it is no `Sync`, and the library comes back by
     // the doors only. `told` is a whole `Told` that nobody else has. Any `name` will do.
-    unsafe { rhai_host_get(handle.lent(), name, told) }
+    unsafe { rhai_host_get(handle.lent().at(), name, told) }
 }
 
 /// Writes over the int that the last entry of the name itself is; or answers nothing.
@@ -112,7 +112,7 @@ pub fn get(handle: &Handle, name: usize, told: &mut Told) -> u32 {
 pub fn set_ref(handle: &Handle, name: usize, value: i64, told: &mut Told) -> u32 {
     // SAFETY: `handle` is zeros or what a call left, and this call's alone: it is no `Sync`, and the library comes back by
     // the doors only. `told` is a whole `Told` that nobody else has. Any `name`, `value` will do.
-    unsafe { rhai_host_set_ref(handle.lent(), name, value, told) }
+    unsafe { rhai_host_set_ref(handle.lent().at(), name, value, told) }
 }
 
 /// Answers the aliases of the last entry of the name, each with a line feed.
@@ -120,5 +120,5 @@ pub fn set_ref(handle: &Handle, name: usize, value: i64, told: &mut Told) -> u32
 pub fn aliases(handle: &Handle, name: usize, told: &mut Told) -> u32 {
     // SAFETY: `handle` is zeros or what a call left, and this call's alone: it is no `Sync`, and the library comes back by
     // the doors only. `told` is a whole `Told` that nobody else has. Any `name` will do.
-    unsafe { rhai_host_aliases(handle.lent(), name, told) }
+    unsafe { rhai_host_aliases(handle.lent().at(), name, told) }
 }

@@ -20,7 +20,7 @@ unsafe extern "C" {
 pub fn new(handle: &Handle, text: usize, items: usize) -> u32 {
     // SAFETY: `handle` is zeros or what a call left, and this call's alone: it is no `Sync`, and the library comes back by
     // the doors only. Any `text`, `items` will do.
-    unsafe { rhai_host_new(handle.lent(), text, items) }
+    unsafe { rhai_host_new(handle.lent().at(), text, items) }
 }
 
 /// Closes the world, if one is open.
@@ -28,7 +28,7 @@ pub fn new(handle: &Handle, text: usize, items: usize) -> u32 {
 pub fn close(handle: &Handle) {
     // SAFETY: `handle` is zeros or what a call left, and this call's alone: it is no `Sync`, and the library comes back by
     // the doors only.
-    unsafe { rhai_host_close(handle.lent()) }
+    unsafe { rhai_host_close(handle.lent().at()) }
 }
 
 /// Tells whether a world is open.
@@ -36,7 +36,7 @@ pub fn close(handle: &Handle) {
 pub fn is_open(handle: &Handle) -> bool {
     // SAFETY: `handle` is zeros or what a call left, and this call's alone: it is no `Sync`, and the library comes back by
     // the doors only.
-    unsafe { rhai_host_is_open(handle.lent()) }
+    unsafe { rhai_host_is_open(handle.lent().at()) }
 }
 
 /// Gives a name a number that no other has, by which commands name it. Room for one more is asked for only where no number was given back.
@@ -44,7 +44,7 @@ pub fn is_open(handle: &Handle) -> bool {
 pub fn name(handle: &Handle, text: &[u8], number: &mut usize) -> u32 {
     // SAFETY: `handle` is zeros or what a call left, and this call's alone: it is no `Sync`, and the library comes back by
     // the doors only. `text` is a slice with its own length, and is read. `number` is a whole `usize` that nobody else has.
-    unsafe { rhai_host_name(handle.lent(), text.as_ptr(), text.len(), number) }
+    unsafe { rhai_host_name(handle.lent().at(), text.as_ptr(), text.len(), number) }
 }
 
 /// Tells how many values are in the hand, 0 where no world is open.
@@ -52,7 +52,7 @@ pub fn name(handle: &Handle, text: &[u8], number: &mut usize) -> u32 {
 pub fn hand_len(handle: &Handle) -> usize {
     // SAFETY: `handle` is zeros or what a call left, and this call's alone: it is no `Sync`, and the library comes back by
     // the doors only.
-    unsafe { rhai_host_hand_len(handle.lent()) }
+    unsafe { rhai_host_hand_len(handle.lent().at()) }
 }
 
 /// Copies the bytes of the last text, bytes or refusal that was answered, or those of its second name, as far as there is room; answers how
@@ -61,7 +61,7 @@ pub fn hand_len(handle: &Handle) -> usize {
 pub fn answer(handle: &Handle, second: bool, room: &mut [u8]) -> usize {
     // SAFETY: `handle` is zeros or what a call left, and this call's alone: it is no `Sync`, and the library comes back by
     // the doors only. `room` is a slice with its own length, and is written. Any `second` will do.
-    unsafe { rhai_host_answer(handle.lent(), second, room.as_mut_ptr(), room.len()) }
+    unsafe { rhai_host_answer(handle.lent().at(), second, room.as_mut_ptr(), room.len()) }
 }
 
 /// Takes a number back from a name. It is given out again, in the place of a new one.
@@ -69,7 +69,7 @@ pub fn answer(handle: &Handle, second: bool, room: &mut [u8]) -> usize {
 pub fn forget_name(handle: &Handle, number: usize) -> u32 {
     // SAFETY: `handle` is zeros or what a call left, and this call's alone: it is no `Sync`, and the library comes back by
     // the doors only. Any `number` will do.
-    unsafe { rhai_host_forget_name(handle.lent(), number) }
+    unsafe { rhai_host_forget_name(handle.lent().at(), number) }
 }
 
 /// Gives back each cell that nothing reaches.
@@ -77,7 +77,7 @@ pub fn forget_name(handle: &Handle, number: usize) -> u32 {
 pub fn collect(handle: &Handle) -> u32 {
     // SAFETY: `handle` is zeros or what a call left, and this call's alone: it is no `Sync`, and the library comes back by
     // the doors only.
-    unsafe { rhai_host_collect(handle.lent()) }
+    unsafe { rhai_host_collect(handle.lent().at()) }
 }
 
 /// Tells how many bytes a handle takes.

@@ -34,7 +34,7 @@ unsafe extern "C" {
 pub fn mark(handle: &Handle, is_entry: bool, at: usize, told: &mut Told) -> u32 {
     // SAFETY: `handle` is zeros or what a call left, and this call's alone: it is no `Sync`, and the library comes back by
     // the doors only. `told` is a whole `Told` that nobody else has. Any `is_entry`, `at` will do.
-    unsafe { rhai_host_mark(handle.lent(), is_entry, at, told) }
+    unsafe { rhai_host_mark(handle.lent().at(), is_entry, at, told) }
 }
 
 /// Writes the boolean at the hand position to this bit of the int at the place.
@@ -42,7 +42,7 @@ pub fn mark(handle: &Handle, is_entry: bool, at: usize, told: &mut Told) -> u32 
 pub fn write_bit(handle: &Handle, is_entry: bool, at: usize, bit: u8, j: usize, told: &mut Told) -> u32 {
     // SAFETY: `handle` is zeros or what a call left, and this call's alone: it is no `Sync`, and the library comes back by
     // the doors only. `told` is a whole `Told` that nobody else has. Any `is_entry`, `at`, `bit`, `j` will do.
-    unsafe { rhai_host_write_bit(handle.lent(), is_entry, at, bit, j, told) }
+    unsafe { rhai_host_write_bit(handle.lent().at(), is_entry, at, bit, j, told) }
 }
 
 /// Writes the int at the hand position, shifted left, to the bits of the mask in the int at the place.
@@ -50,7 +50,7 @@ pub fn write_bit(handle: &Handle, is_entry: bool, at: usize, bit: u8, j: usize, 
 pub fn write_field(handle: &Handle, is_entry: bool, at: usize, mask: i64, shift: u8, j: usize, told: &mut Told) -> u32 {
     // SAFETY: `handle` is zeros or what a call left, and this call's alone: it is no `Sync`, and the library comes back by
     // the doors only. `told` is a whole `Told` that nobody else has. Any `is_entry`, `at`, `mask`, `shift`, `j` will do.
-    unsafe { rhai_host_write_field(handle.lent(), is_entry, at, mask, shift, j, told) }
+    unsafe { rhai_host_write_field(handle.lent().at(), is_entry, at, mask, shift, j, told) }
 }
 
 /// Writes the int at the hand position to the byte of this index of the blob at the place.
@@ -58,7 +58,7 @@ pub fn write_field(handle: &Handle, is_entry: bool, at: usize, mask: i64, shift:
 pub fn write_byte(handle: &Handle, is_entry: bool, at: usize, index: usize, j: usize, told: &mut Told) -> u32 {
     // SAFETY: `handle` is zeros or what a call left, and this call's alone: it is no `Sync`, and the library comes back by
     // the doors only. `told` is a whole `Told` that nobody else has. Any `is_entry`, `at`, `index`, `j` will do.
-    unsafe { rhai_host_write_byte(handle.lent(), is_entry, at, index, j, told) }
+    unsafe { rhai_host_write_byte(handle.lent().at(), is_entry, at, index, j, told) }
 }
 
 /// Writes the character at the hand position over the one of this index of the text at the place.
@@ -66,7 +66,7 @@ pub fn write_byte(handle: &Handle, is_entry: bool, at: usize, index: usize, j: u
 pub fn write_char(handle: &Handle, is_entry: bool, at: usize, index: usize, j: usize, told: &mut Told) -> u32 {
     // SAFETY: `handle` is zeros or what a call left, and this call's alone: it is no `Sync`, and the library comes back by
     // the doors only. `told` is a whole `Told` that nobody else has. Any `is_entry`, `at`, `index`, `j` will do.
-    unsafe { rhai_host_write_char(handle.lent(), is_entry, at, index, j, told) }
+    unsafe { rhai_host_write_char(handle.lent().at(), is_entry, at, index, j, told) }
 }
 
 /// Writes what the value at the hand position prints as over the characters from the first index on, up to the second one, which is replaced too unless the slice is exclusive.
@@ -85,5 +85,5 @@ pub fn write_slice(
     // SAFETY: `handle` is zeros or what a call left, and this call's alone: it is no `Sync`, and the library comes back by
     // the doors only. `told` is a whole `Told` that nobody else has. Any `is_entry`, `at`, `start`, `end`, `exclusive`, `j`
     // will do.
-    unsafe { rhai_host_write_slice(handle.lent(), is_entry, at, start, end, exclusive, j, told) }
+    unsafe { rhai_host_write_slice(handle.lent().at(), is_entry, at, start, end, exclusive, j, told) }
 }

@@ -22,7 +22,7 @@ unsafe extern "C" {
 pub fn pop(handle: &Handle, told: &mut Told) -> u32 {
     // SAFETY: `handle` is zeros or what a call left, and this call's alone: it is no `Sync`, and the library comes back by
     // the doors only. `told` is a whole `Told` that nobody else has.
-    unsafe { rhai_host_pop(handle.lent(), told) }
+    unsafe { rhai_host_pop(handle.lent().at(), told) }
 }
 
 /// Keeps as many entries as the number says, the first ones.
@@ -30,7 +30,7 @@ pub fn pop(handle: &Handle, told: &mut Told) -> u32 {
 pub fn rewind(handle: &Handle, count: usize, told: &mut Told) -> u32 {
     // SAFETY: `handle` is zeros or what a call left, and this call's alone: it is no `Sync`, and the library comes back by
     // the doors only. `told` is a whole `Told` that nobody else has. Any `count` will do.
-    unsafe { rhai_host_rewind(handle.lent(), count, told) }
+    unsafe { rhai_host_rewind(handle.lent().at(), count, told) }
 }
 
 /// Drops all entries.
@@ -38,7 +38,7 @@ pub fn rewind(handle: &Handle, count: usize, told: &mut Told) -> u32 {
 pub fn clear(handle: &Handle, told: &mut Told) -> u32 {
     // SAFETY: `handle` is zeros or what a call left, and this call's alone: it is no `Sync`, and the library comes back by
     // the doors only. `told` is a whole `Told` that nobody else has.
-    unsafe { rhai_host_clear(handle.lent(), told) }
+    unsafe { rhai_host_clear(handle.lent().at(), told) }
 }
 
 /// Answers how many entries there are.
@@ -46,7 +46,7 @@ pub fn clear(handle: &Handle, told: &mut Told) -> u32 {
 pub fn len(handle: &Handle, told: &mut Told) -> u32 {
     // SAFETY: `handle` is zeros or what a call left, and this call's alone: it is no `Sync`, and the library comes back by
     // the doors only. `told` is a whole `Told` that nobody else has.
-    unsafe { rhai_host_len(handle.lent(), told) }
+    unsafe { rhai_host_len(handle.lent().at(), told) }
 }
 
 /// Answers whether there is no entry.
@@ -54,7 +54,7 @@ pub fn len(handle: &Handle, told: &mut Told) -> u32 {
 pub fn is_empty(handle: &Handle, told: &mut Told) -> u32 {
     // SAFETY: `handle` is zeros or what a call left, and this call's alone: it is no `Sync`, and the library comes back by
     // the doors only. `told` is a whole `Told` that nobody else has.
-    unsafe { rhai_host_is_empty(handle.lent(), told) }
+    unsafe { rhai_host_is_empty(handle.lent().at(), told) }
 }
 
 /// Keeps copies of the last entries of each name, the newest first.
@@ -62,7 +62,7 @@ pub fn is_empty(handle: &Handle, told: &mut Told) -> u32 {
 pub fn keep_visible(handle: &Handle, told: &mut Told) -> u32 {
     // SAFETY: `handle` is zeros or what a call left, and this call's alone: it is no `Sync`, and the library comes back by
     // the doors only. `told` is a whole `Told` that nobody else has.
-    unsafe { rhai_host_keep_visible(handle.lent(), told) }
+    unsafe { rhai_host_keep_visible(handle.lent().at(), told) }
 }
 
 /// Keeps copies of all entries.
@@ -70,7 +70,7 @@ pub fn keep_visible(handle: &Handle, told: &mut Told) -> u32 {
 pub fn copy_scope(handle: &Handle, told: &mut Told) -> u32 {
     // SAFETY: `handle` is zeros or what a call left, and this call's alone: it is no `Sync`, and the library comes back by
     // the doors only. `told` is a whole `Told` that nobody else has.
-    unsafe { rhai_host_copy_scope(handle.lent(), told) }
+    unsafe { rhai_host_copy_scope(handle.lent().at(), told) }
 }
 
 /// Appends copies of the values of all entries, without their holders.
@@ -78,7 +78,7 @@ pub fn copy_scope(handle: &Handle, told: &mut Told) -> u32 {
 pub fn entries(handle: &Handle, told: &mut Told) -> u32 {
     // SAFETY: `handle` is zeros or what a call left, and this call's alone: it is no `Sync`, and the library comes back by
     // the doors only. `told` is a whole `Told` that nobody else has.
-    unsafe { rhai_host_entries(handle.lent(), told) }
+    unsafe { rhai_host_entries(handle.lent().at(), told) }
 }
 
 /// Answers the names of the entries, the newest first, each with a line feed, and with `const ` before that of a constant.
@@ -86,7 +86,7 @@ pub fn entries(handle: &Handle, told: &mut Told) -> u32 {
 pub fn names(handle: &Handle, told: &mut Told) -> u32 {
     // SAFETY: `handle` is zeros or what a call left, and this call's alone: it is no `Sync`, and the library comes back by
     // the doors only. `told` is a whole `Told` that nobody else has.
-    unsafe { rhai_host_names(handle.lent(), told) }
+    unsafe { rhai_host_names(handle.lent().at(), told) }
 }
 
 /// Answers the text of the scope.
@@ -94,7 +94,7 @@ pub fn names(handle: &Handle, told: &mut Told) -> u32 {
 pub fn show_scope(handle: &Handle, told: &mut Told) -> u32 {
     // SAFETY: `handle` is zeros or what a call left, and this call's alone: it is no `Sync`, and the library comes back by
     // the doors only. `told` is a whole `Told` that nobody else has.
-    unsafe { rhai_host_show_scope(handle.lent(), told) }
+    unsafe { rhai_host_show_scope(handle.lent().at(), told) }
 }
 
 /// Answers the hash bytes of the scope.
@@ -102,5 +102,5 @@ pub fn show_scope(handle: &Handle, told: &mut Told) -> u32 {
 pub fn hash_scope(handle: &Handle, told: &mut Told) -> u32 {
     // SAFETY: `handle` is zeros or what a call left, and this call's alone: it is no `Sync`, and the library comes back by
     // the doors only. `told` is a whole `Told` that nobody else has.
-    unsafe { rhai_host_hash_scope(handle.lent(), told) }
+    unsafe { rhai_host_hash_scope(handle.lent().at(), told) }
 }

@@ -46,5 +46,5 @@ pub fn run_script(
     // SAFETY: `handle` is zeros or what a call left, and this call's alone: it is no `Sync`, and the library comes back by
     // the doors only. `script` is a slice with its own length, and is read. `end` is a whole `ScriptEnd` that nobody else
     // has. Any `text`, `items`, `operations`, `calls` will do.
-    unsafe { rhai_host_run_script(handle.lent(), script.as_ptr(), script.len(), text, items, operations, calls, end) }
+    unsafe { rhai_host_run_script(handle.lent().at(), script.as_ptr(), script.len(), text, items, operations, calls, end) }
 }

@@ -1,12 +1,12 @@
 //! Of the module `stamp`: written by `tools/host_declarations` from the lines of `crates/rhai_host`.
 
 unsafe extern "C" {
-    fn rhai_host_stamp_4ca27d418a440669();
+    fn rhai_host_stamp_45eb2456b2bd3373();
 }
 
 /// Does nothing: its name is a sum of all that is exported, so that a host of other declarations doesn't link.
 #[inline]
 pub fn stamp() {
     // SAFETY: It takes nothing.
-    unsafe { rhai_host_stamp_4ca27d418a440669() }
+    unsafe { rhai_host_stamp_45eb2456b2bd3373() }
 }

@@ -16,7 +16,7 @@ unsafe extern "C" {
 pub fn put_u128(handle: &Handle, low: u64, high: u64, told: &mut Told) -> u32 {
     // SAFETY: `handle` is zeros or what a call left, and this call's alone: it is no `Sync`, and the library comes back by
     // the doors only. `told` is a whole `Told` that nobody else has. Any `low`, `high` will do.
-    unsafe { rhai_host_put_u128(handle.lent(), low, high, told) }
+    unsafe { rhai_host_put_u128(handle.lent().at(), low, high, told) }
 }
 
 /// Appends an `i128` of the host's, told by the lower and the upper 64 bits of its two's complement.
@@ -24,7 +24,7 @@ pub fn put_u128(handle: &Handle, low: u64, high: u64, told: &mut Told) -> u32 {
 pub fn put_i128(handle: &Handle, low: u64, high: u64, told: &mut Told) -> u32 {
     // SAFETY: `handle` is zeros or what a call left, and this call's alone: it is no `Sync`, and the library comes back by
     // the doors only. `told` is a whole `Told` that nobody else has. Any `low`, `high` will do.
-    unsafe { rhai_host_put_i128(handle.lent(), low, high, told) }
+    unsafe { rhai_host_put_i128(handle.lent().at(), low, high, told) }
 }
 
 /// Appends a text of these bytes, which are UTF-8.
@@ -32,7 +32,7 @@ pub fn put_i128(handle: &Handle, low: u64, high: u64, told: &mut Told) -> u32 {
 pub fn put_text(handle: &Handle, text: &[u8], told: &mut Told) -> u32 {
     // SAFETY: `handle` is zeros or what a call left, and this call's alone: it is no `Sync`, and the library comes back by
     // the doors only. `text` is a slice with its own length, and is read. `told` is a whole `Told` that nobody else has.
-    unsafe { rhai_host_put_text(handle.lent(), text.as_ptr(), text.len(), told) }
+    unsafe { rhai_host_put_text(handle.lent().at(), text.as_ptr(), text.len(), told) }
 }
 
 /// Appends a blob of these bytes.
@@ -40,7 +40,7 @@ pub fn put_text(handle: &Handle, text: &[u8], told: &mut Told) -> u32 {
 pub fn put_blob(handle: &Handle, bytes: &[u8], told: &mut Told) -> u32 {
     // SAFETY: `handle` is zeros or what a call left, and this call's alone: it is no `Sync`, and the library comes back by
     // the doors only. `bytes` is a slice with its own length, and is read. `told` is a whole `Told` that nobody else has.
-    unsafe { rhai_host_put_blob(handle.lent(), bytes.as_ptr(), bytes.len(), told) }
+    unsafe { rhai_host_put_blob(handle.lent().at(), bytes.as_ptr(), bytes.len(), told) }
 }
 
 /// Appends the character of this number.
@@ -48,5 +48,5 @@ pub fn put_blob(handle: &Handle, bytes: &[u8], told: &mut Told) -> u32 {
 pub fn put_char(handle: &Handle, code: u32, told: &mut Told) -> u32 {
     // SAFETY: `handle` is zeros or what a call left, and this call's alone: it is no `Sync`, and the library comes back by
     // the doors only. `told` is a whole `Told` that nobody else has. Any `code` will do.
-    unsafe { rhai_host_put_char(handle.lent(), code, told) }
+    unsafe { rhai_host_put_char(handle.lent().at(), code, told) }
 }

@@ -19,7 +19,7 @@ unsafe extern "C" {
 pub fn cast(handle: &Handle, i: usize, kind: u32, told: &mut Told) -> u32 {
     // SAFETY: `handle` is zeros or what a call left, and this call's alone: it is no `Sync`, and the library comes back by
     // the doors only. `told` is a whole `Told` that nobody else has. Any `i`, `kind` will do.
-    unsafe { rhai_host_cast(handle.lent(), i, kind, told) }
+    unsafe { rhai_host_cast(handle.lent().at(), i, kind, told) }
 }
 
 /// Answers whether this is the type that is held at the hand position.
@@ -27,7 +27,7 @@ pub fn cast(handle: &Handle, i: usize, kind: u32, told: &mut Told) -> u32 {
 pub fn is_held(handle: &Handle, i: usize, kind: u32, told: &mut Told) -> u32 {
     // SAFETY: `handle` is zeros or what a call left, and this call's alone: it is no `Sync`, and the library comes back by
     // the doors only. `told` is a whole `Told` that nobody else has. Any `i`, `kind` will do.
-    unsafe { rhai_host_is_held(handle.lent(), i, kind, told) }
+    unsafe { rhai_host_is_held(handle.lent().at(), i, kind, told) }
 }
 
 /// Answers whether the value at the hand position is of this type: by its constructor, or for a holder by the held type.
@@ -35,7 +35,7 @@ pub fn is_held(handle: &Handle, i: usize, kind: u32, told: &mut Told) -> u32 {
 pub fn is_type(handle: &Handle, i: usize, kind: u32, told: &mut Told) -> u32 {
     // SAFETY: `handle` is zeros or what a call left, and this call's alone: it is no `Sync`, and the library comes back by
     // the doors only. `told` is a whole `Told` that nobody else has. Any `i`, `kind` will do.
-    unsafe { rhai_host_is_type(handle.lent(), i, kind, told) }
+    unsafe { rhai_host_is_type(handle.lent().at(), i, kind, told) }
 }
 
 /// Appends what the operator answers on the values at the two hand positions.
@@ -43,7 +43,7 @@ pub fn is_type(handle: &Handle, i: usize, kind: u32, told: &mut Told) -> u32 {
 pub fn binary(handle: &Handle, operator: u32, i: usize, j: usize, told: &mut Told) -> u32 {
     // SAFETY: `handle` is zeros or what a call left, and this call's alone: it is no `Sync`, and the library comes back by
     // the doors only. `told` is a whole `Told` that nobody else has. Any `operator`, `i`, `j` will do.
-    unsafe { rhai_host_binary(handle.lent(), operator, i, j, told) }
+    unsafe { rhai_host_binary(handle.lent().at(), operator, i, j, told) }
 }
 
 /// Calls the assignment of the operator on the value at the place and the one at the hand position.
@@ -51,7 +51,7 @@ pub fn binary(handle: &Handle, operator: u32, i: usize, j: usize, told: &mut Tol
 pub fn assign(handle: &Handle, operator: u32, is_entry: bool, at: usize, j: usize, told: &mut Told) -> u32 {
     // SAFETY: `handle` is zeros or what a call left, and this call's alone: it is no `Sync`, and the library comes back by
     // the doors only. `told` is a whole `Told` that nobody else has. Any `operator`, `is_entry`, `at`, `j` will do.
-    unsafe { rhai_host_assign(handle.lent(), operator, is_entry, at, j, told) }
+    unsafe { rhai_host_assign(handle.lent().at(), operator, is_entry, at, j, told) }
 }
 
 /// Appends what the value of the last entry of the name is as this type, copied without its holders; or answers nothing.
@@ -59,7 +59,7 @@ pub fn assign(handle: &Handle, operator: u32, is_entry: bool, at: usize, j: usiz
 pub fn get_value(handle: &Handle, name: usize, kind: u32, told: &mut Told) -> u32 {
     // SAFETY: `handle` is zeros or what a call left, and this call's alone: it is no `Sync`, and the library comes back by
     // the doors only. `told` is a whole `Told` that nobody else has. Any `name`, `kind` will do.
-    unsafe { rhai_host_get_value(handle.lent(), name, kind, told) }
+    unsafe { rhai_host_get_value(handle.lent().at(), name, kind, told) }
 }
 
 /// Appends a copy of what the last entry of the name itself is as this type, by reference; or answers nothing.
@@ -67,7 +67,7 @@ pub fn get_value(handle: &Handle, name: usize, kind: u32, told: &mut Told) -> u3
 pub fn get_ref(handle: &Handle, name: usize, kind: u32, told: &mut Told) -> u32 {
     // SAFETY: `handle` is zeros or what a call left, and this call's alone: it is no `Sync`, and the library comes back by
     // the doors only. `told` is a whole `Told` that nobody else has. Any `name`, `kind` will do.
-    unsafe { rhai_host_get_ref(handle.lent(), name, kind, told) }
+    unsafe { rhai_host_get_ref(handle.lent().at(), name, kind, told) }
 }
 
 /// Takes the last entry of the name out, and appends what its value is as this type, without its holders; or answers nothing.
@@ -75,5 +75,5 @@ pub fn get_ref(handle: &Handle, name: usize, kind: u32, told: &mut Told) -> u32 
 pub fn remove(handle: &Handle, name: usize, kind: u32, told: &mut Told) -> u32 {
     // SAFETY: `handle` is zeros or what a call left, and this call's alone: it is no `Sync`, and the library comes back by
     // the doors only. `told` is a whole `Told` that nobody else has. Any `name`, `kind` will do.
-    unsafe { rhai_host_remove(handle.lent(), name, kind, told) }
+    unsafe { rhai_host_remove(handle.lent().at(), name, kind, told) }
 }

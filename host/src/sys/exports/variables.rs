@@ -18,7 +18,7 @@ pub fn variable_push(handle: &Handle, name: &[u8], value: &[u8]) -> u32 {
     // SAFETY: `handle` is zeros or what a call left, and this call's alone: it is no `Sync`, and the library comes back by
     // the doors only. `name` is a slice with its own length, and is read. `value` is a slice with its own length, and is
     // read.
-    unsafe { rhai_host_variable_push(handle.lent(), name.as_ptr(), name.len(), value.as_ptr(), value.len()) }
+    unsafe { rhai_host_variable_push(handle.lent().at(), name.as_ptr(), name.len(), value.as_ptr(), value.len()) }
 }
 
 /// Writes the value of these hash bytes over that of the variable of this number, the oldest being 0. One that closures share is written for
@@ -27,7 +27,7 @@ pub fn variable_push(handle: &Handle, name: &[u8], value: &[u8]) -> u32 {
 pub fn variable_set(handle: &Handle, number: usize, value: &[u8]) -> u32 {
     // SAFETY: `handle` is zeros or what a call left, and this call's alone: it is no `Sync`, and the library comes back by
     // the doors only. `value` is a slice with its own length, and is read. Any `number` will do.
-    unsafe { rhai_host_variable_set(handle.lent(), number, value.as_ptr(), value.len()) }
+    unsafe { rhai_host_variable_set(handle.lent().at(), number, value.as_ptr(), value.len()) }
 }
 
 /// Ends the variables from this number on.
@@ -35,7 +35,7 @@ pub fn variable_set(handle: &Handle, number: usize, value: &[u8]) -> u32 {
 pub fn variable_rewind(handle: &Handle, count: usize) -> u32 {
     // SAFETY: `handle` is zeros or what a call left, and this call's alone: it is no `Sync`, and the library comes back by
     // the doors only. Any `count` will do.
-    unsafe { rhai_host_variable_rewind(handle.lent(), count) }
+    unsafe { rhai_host_variable_rewind(handle.lent().at(), count) }
 }
 
 /// Counts the variables, 0 where no world is open.
@@ -43,7 +43,7 @@ pub fn variable_rewind(handle: &Handle, count: usize) -> u32 {
 pub fn variable_count(handle: &Handle) -> usize {
     // SAFETY: `handle` is zeros or what a call left, and this call's alone: it is no `Sync`, and the library comes back by
     // the doors only.
-    unsafe { rhai_host_variable_count(handle.lent()) }
+    unsafe { rhai_host_variable_count(handle.lent().at()) }
 }
 
 /// Answers the name of the variable of this number.
@@ -51,7 +51,7 @@ pub fn variable_count(handle: &Handle) -> usize {
 pub fn variable_name(handle: &Handle, number: usize, told: &mut Told) -> u32 {
     // SAFETY: `handle` is zeros or what a call left, and this call's alone: it is no `Sync`, and the library comes back by
     // the doors only. `told` is a whole `Told` that nobody else has. Any `number` will do.
-    unsafe { rhai_host_variable_name(handle.lent(), number, told) }
+    unsafe { rhai_host_variable_name(handle.lent().at(), number, told) }
 }
 
 /// Answers the hash bytes of the value of the variable of this number.
@@ -59,5 +59,5 @@ pub fn variable_name(handle: &Handle, number: usize, told: &mut Told) -> u32 {
 pub fn variable_value(handle: &Handle, number: usize, told: &mut Told) -> u32 {
     // SAFETY: `handle` is zeros or what a call left, and this call's alone: it is no `Sync`, and the library comes back by
     // the doors only. `told` is a whole `Told` that nobody else has. Any `number` will do.
-    unsafe { rhai_host_variable_value(handle.lent(), number, told) }
+    unsafe { rhai_host_variable_value(handle.lent().at(), number, told) }
 }

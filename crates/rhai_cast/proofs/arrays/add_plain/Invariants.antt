@@ -1,5 +1,5 @@
 use Rattle.std.proofs.Common.{◌≡◌, ◌+◌, ◌≤◌, ◌++◌, List, length, map, option_map, drop, vec_len, vec_capacity}
-use Rattle.rhai_value.specs.declared.store.Cell.{Cell}
+use Rattle.rhai_value.specs.declared.cells.store.Cell.{Cell}
 use Rattle.rhai_value.specs.Rows.{trees_of}
 use Rattle.rhai_cast.specs.Arrays.{read_all}
 use Rattle.rhai_cast.proofs.arrays.add_plain.Given as goal

@@ -37,11 +37,11 @@ use Rattle.std.specs.Option.{ghost_name_of}
 use Rattle.std.specs.contracts.option.Option as option
 use Rattle.std.proofs.option.Option.TheLaws as option_laws
 use Rattle.rhai_value.specs.Tree.{Tree}
-use Rattle.rhai_value.specs.contracts.dynamic.Dynamic as dynamic
-use Rattle.rhai_value.specs.contracts.store.Store as store
-use Rattle.rhai_value.specs.contracts.place.Place as place
-use Rattle.rhai_value.proofs.place.Place.TheLaws as place_laws
-use Rattle.rhai_value.specs.declared.type_id.TypeId.TheVariants as id
+use Rattle.rhai_value.specs.contracts.value.dynamic.Dynamic as dynamic
+use Rattle.rhai_value.specs.contracts.cells.store.Store as store
+use Rattle.rhai_value.specs.contracts.places.place.Place as place
+use Rattle.rhai_value.proofs.places.place.Place.TheLaws as place_laws
+use Rattle.rhai_value.specs.declared.value.type_id.TypeId.TheVariants as id
 use Rattle.rhai_value.specs.Types.{is_type}
 use Rattle.rhai_value.specs.Lent.{either_of, content_in, edit_in, IsOpen}
 use Rattle.rhai_variant.specs.Reads.{viewed, written_as}

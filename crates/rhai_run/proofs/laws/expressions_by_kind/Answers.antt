@@ -1,8 +1,8 @@
 use Rattle.std.proofs.Common.{ap, ◌∙◌, ◌∷◌, [], map}
 use Rattle.std.proofs.lemmas.List.{length-map}
 use Rattle.rhai_run.specs.declared.command.Command.TheVariants as command
-use Rattle.rhai_run.specs.Programs.{all, sequence, program_of}
-use Rattle.rhai_run.proofs.Meant.{program_of-Literal, program_of-Var, program_of-Op, program_of-Array, program_of-Let, program_of-Const, program_of-Set, program_of-Update, program_of-Capture, program_of-Closure, program_of-Block}
+use Rattle.rhai_run.specs.Expressions.Programs.{all, sequence, program_of}
+use Rattle.rhai_run.proofs.Expressions.Meant.{program_of-Literal, program_of-Var, program_of-Op, program_of-Array, program_of-Let, program_of-Const, program_of-Set, program_of-Update, program_of-Capture, program_of-Closure, program_of-Block}
 use Rattle.rhai_run.proofs.laws.expressions_by_kind.Goals as goal
 
 pub returns-clause-literal : goal.returns-clause-literal

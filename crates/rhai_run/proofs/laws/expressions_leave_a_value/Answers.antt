@@ -1,4 +1,4 @@
-use Rattle.rhai_run.proofs.Left.{value_left, entries_left}
+use Rattle.rhai_run.proofs.Expressions.Left.{value_left, entries_left}
 use Rattle.rhai_run.proofs.laws.expressions_leave_a_value.Goals as goal
 
 pub returns-clause-hand : goal.returns-clause-hand

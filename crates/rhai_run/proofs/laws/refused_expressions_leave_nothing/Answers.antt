@@ -1,4 +1,4 @@
-use Rattle.rhai_run.proofs.Left.{nothing_left}
+use Rattle.rhai_run.proofs.Expressions.Left.{nothing_left}
 use Rattle.rhai_run.proofs.laws.refused_expressions_leave_nothing.Goals as goal
 
 pub returns-clause-hand : goal.returns-clause-hand

@@ -1,7 +1,7 @@
 use Rattle.std.proofs.Common.{◌≡◌, Some, sym, subst, List}
 use Rattle.std.specs.Prelude.{slice_get}
 use Rattle.std.proofs.lemmas.Option.{slice_get_read}
-use Rattle.rhai_value.specs.declared.store.Cell.{Cell}
+use Rattle.rhai_value.specs.declared.cells.store.Cell.{Cell}
 use Rattle.rhai_run.specs.Fits.{MarksAre}
 use Rattle.rhai_run.proofs.MarkLists.{mark_taken}
 use Rattle.rhai_run.proofs.marks.release_at.Goals as goal

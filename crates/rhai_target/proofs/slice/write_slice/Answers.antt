@@ -1,7 +1,7 @@
 use Rattle.std.proofs.Common.{◌≡◌, [], true, false, string_bytes, IfSome, refl, ap, sym, ◌∙◌}
 use Rattle.std.specs.Str.{chars}
 use Rattle.std.proofs.lemmas.Result.{on_ok_weaker, on_err_weaker}
-use Rattle.rhai_value.specs.declared.in_store.InStore.{InStore}
+use Rattle.rhai_value.specs.declared.parts.in_store.InStore.{InStore}
 use Rattle.rhai_value.specs.End.{end, value_after, store_after}
 use Rattle.rhai_value.specs.Store.{content_at, is_marked_at, put, set_mark, marked_with}
 use Rattle.rhai_target.specs.Change.{on_text, spliced, sliced}

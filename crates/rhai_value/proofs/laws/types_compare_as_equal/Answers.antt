@@ -1,5 +1,5 @@
 use denote.Enum.Bare.{true_same}
-use Rattle.rhai_value.specs.contracts.type_id.TypeId as type_id
+use Rattle.rhai_value.specs.contracts.value.type_id.TypeId as type_id
 use Rattle.rhai_value.specs.Kinds.{one_type}
 use Rattle.rhai_value.proofs.laws.types_compare_as_equal.Goals as goal
 

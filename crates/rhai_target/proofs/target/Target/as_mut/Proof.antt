@@ -1,8 +1,8 @@
 -- `as_mut` hands on what `lent_mut` lends.
 use Rattle.rhai_target.proofs.Steps.{◌≡◌, [], ◌∷◌, Some, refl, MutBor, proved, emp, id⊢, ftrue, flft, named, fact, fact_i, tables, ‵, raw, ◌⊛◌, some, later, ◌$◌, ◌∵◌, !, qed, by, move, keep, drop, use0, use1, use2, split, split3, join, pick, await, suffices, frame, enter, addr, stop, no_more, and_then, returns, alloc_all, pass_all, free_all, look_at, get, through, sets, lands_as, no, shows, MutRef, mut_vals, mut_Tells, RattleType, plain, mut_ref_to, named_lft, nothing, heard, peeks, calls_at, Lasts, lasts, triple_of, framed, Stays, stay_dropped, Goes-spent_ref, ends_at, Lfts}
 use Rattle.rhai_value.specs.Tree.{Tree}
-use Rattle.rhai_value.specs.contracts.dynamic.Dynamic as dynamic
-use Rattle.rhai_value.specs.contracts.store.Store as store
+use Rattle.rhai_value.specs.contracts.value.dynamic.Dynamic as dynamic
+use Rattle.rhai_value.specs.contracts.cells.store.Store as store
 use Rattle.rhai_target.specs.contracts.target.Target as target
 use Rattle.rhai_target.proofs.LetGo.{Ref, ref_laws}
 use Rattle.rhai_target.specs.Target.{IsMarkedIn, value_in}

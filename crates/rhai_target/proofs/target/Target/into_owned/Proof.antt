@@ -4,9 +4,9 @@ use Rattle.std.specs.contracts.alloc.Global as heap
 use Rattle.std.proofs.alloc.Global.TheLaws as heap_laws
 use Rattle.std.specs.contracts.result.Result as result
 use Rattle.std.proofs.result.Result.TheLaws as result_laws
-use Rattle.rhai_value.specs.declared.store.Cell.{Cell}
+use Rattle.rhai_value.specs.declared.cells.store.Cell.{Cell}
 use Rattle.rhai_value.specs.Tree.{Tree, TakesNoMemory}
-use Rattle.rhai_value.specs.contracts.store.Store as store
+use Rattle.rhai_value.specs.contracts.cells.store.Store as store
 use Rattle.rhai_target.specs.declared.target.Target.{Target}
 use Rattle.rhai_target.specs.Target.{reference_in, mark_in, IsMarkedIn, unmarked_from, owned}
 use Rattle.rhai_target.specs.Spent.{source_of, Leaves, let_go, kept_in}

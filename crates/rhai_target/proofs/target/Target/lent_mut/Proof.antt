@@ -11,8 +11,8 @@ use mathlib.Core.List.{◌++◌}
 use types.Kit.{fjoin}
 use Rattle.std.specs.Option.{ghost_name_of}
 use Rattle.rhai_value.specs.Tree.{Tree}
-use Rattle.rhai_value.specs.contracts.dynamic.Dynamic as dynamic
-use Rattle.rhai_value.specs.contracts.store.Store as store
+use Rattle.rhai_value.specs.contracts.value.dynamic.Dynamic as dynamic
+use Rattle.rhai_value.specs.contracts.cells.store.Store as store
 use Rattle.rhai_target.specs.declared.target.Target.{Target}
 use Rattle.rhai_target.specs.contracts.target.Target as target
 use Rattle.rhai_target.proofs.LetGo.{Ref, ref_laws, RefOf, ref_of_laws}

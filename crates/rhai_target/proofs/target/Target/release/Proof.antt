@@ -3,9 +3,9 @@ use Rattle.rhai_target.proofs.Steps.{◌≡◌, [], ◌∷◌, List, Option, Non
 use mir.Val.{vunit}
 use types.Kit.{feq_i}
 use types.Run.{unit_lit}
-use Rattle.rhai_value.specs.declared.store.Cell.{Cell}
+use Rattle.rhai_value.specs.declared.cells.store.Cell.{Cell}
 use Rattle.rhai_value.specs.Tree.{Tree}
-use Rattle.rhai_value.specs.contracts.store.Store as store
+use Rattle.rhai_value.specs.contracts.cells.store.Store as store
 use Rattle.rhai_target.specs.declared.target.Target.{Target}
 use Rattle.rhai_target.specs.Target.{mark_in, IsMarkedIn, unmarked_from}
 use Rattle.rhai_target.specs.Spent.{source_of, Leaves}

@@ -1,8 +1,8 @@
 -- `take_ref` hands a reference back, or lets it go and leaves its value as it was.
 use Rattle.rhai_target.proofs.Steps.{◌≡◌, [], ◌∷◌, List, Option, None, refl, sym, subst, MutBor, proved_at, Ura, full_share, emp, id⊢, ent, via, Lft, GName, Share, ftrue, flft, named, Val, fact, fact_i, tables, Running, Model, Wired, WpFn, Logic, ‵, raw, ◌⊛◌, some, later, ◌$◌, ◌∵◌, !, qed, by, move, keep, use0, use1, use2, use3, split, split3, join, fsplit, fpick, feq_l, pick, await, rewrite, suffices, frame, group, whole, sub, enter, of_opd, addr, stop, fld, no_more, and_then, returns, alloc_all, pass_all, free_all, look_at, get, get_in, through, sets, lands_as, lft_new, lft_end, no, rest, shows, Is, lends_again, comes_back, LentAgain, MutRef, mut_vals, mut_Tells, plain, nothing, heard, peeks, Lone, calls_at, Clauses, Lasts, lasts, triple_of, Contract, framed, Stays, says, stay_dropped, stay_ref, Goes-ref, walk_of, ends_at}
-use Rattle.rhai_value.specs.declared.store.Cell.{Cell}
+use Rattle.rhai_value.specs.declared.cells.store.Cell.{Cell}
 use Rattle.rhai_value.specs.Tree.{Tree}
-use Rattle.rhai_value.specs.contracts.store.Store as store
+use Rattle.rhai_value.specs.contracts.cells.store.Store as store
 use Rattle.rhai_target.specs.declared.target.Target.{Target}
 use Rattle.rhai_target.specs.Target.{reference_in, mark_in, IsMarkedIn, unmarked_from}
 use Rattle.rhai_target.specs.Spent.{source_of, Leaves, let_go}

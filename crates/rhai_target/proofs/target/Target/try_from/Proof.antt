@@ -7,8 +7,8 @@ use Rattle.std.proofs.result.Result.TheLaws as result_laws
 use Rattle.std.specs.contracts.result.Result as result
 use Rattle.rhai_text.specs.contracts.error.EvalAltResult as error
 use Rattle.rhai_text.proofs.error.EvalAltResult.TheLaws as error_laws
-use Rattle.rhai_value.specs.contracts.dynamic.Dynamic as dynamic
-use Rattle.rhai_value.specs.contracts.store.Store as store
+use Rattle.rhai_value.specs.contracts.value.dynamic.Dynamic as dynamic
+use Rattle.rhai_value.specs.contracts.cells.store.Store as store
 use Rattle.rhai_value.specs.Store.{marked_with}
 use Rattle.rhai_value.specs.End.{first_cell}
 use Rattle.rhai_text.specs.declared.error.EvalAltResult.{EvalAltResult}

@@ -2,7 +2,7 @@ use Rattle.std.proofs.Common.{◌≡◌, ◌+◌, ◌-◌, ◌≤◌, ◌<◌, s
 use Rattle.std.specs.List.{insert}
 use Rattle.rhai_value.specs.Lists.{lists_of, joined}
 use Rattle.rhai_value.specs.Seats.{list_at}
-use Rattle.rhai_value.specs.declared.map_seat.Seat.{Seat}
+use Rattle.rhai_value.specs.declared.map.seat.Seat.{Seat}
 use Rattle.rhai_value.proofs.SeatEdits.{same_whole}
 use Rattle.rhai_value.proofs.SeatSplits.{split_lower, split_rows, split_upper, split_whole}
 use Rattle.rhai_value.proofs.map.MapParts.split.Goals as goal

@@ -1,0 +1,233 @@
+//! That calls succeed while memory is there, and what they make of worked values.
+use super::readme::push_held;
+use rhai_packs::{arrays, blobs, ints, maps, texts};
+use rhai_show::display_text;
+use rhai_text::{EvalAltResult, ImmutableString, Limits};
+use rhai_value::{Array, Dynamic, INT, Map, Store};
+use std::alloc::{AllocError, Global};
+
+const LIMITS: Limits = Limits { text: 8, items: 4 };
+
+/// Whether a call is refused for the type of a value, by these names of the type that is wanted and of the one that is there.
+fn is_mismatch(done: Result<(), EvalAltResult>, wanted: &str, found: &str) -> bool {
+    match done {
+        Err(EvalAltResult::ErrorMismatchDataType(w, f, _)) => {
+            w.as_str() == wanted && f.as_str() == found
+        }
+        _ => false,
+    }
+}
+
+/// An array of these ints.
+fn array_of(alloc: Global, numbers: &[INT]) -> Result<Array, AllocError> {
+    let mut items = Vec::new(alloc);
+    for number in numbers {
+        items.push(Dynamic::from_int(*number))?;
+    }
+    Ok(items)
+}
+
+/// Whether these items print so.
+fn prints(alloc: Global, items: Array, wanted: &str) -> Result<bool, AllocError> {
+    let store = Store::new(alloc);
+    let text = display_text(alloc, &Dynamic::from_array(items), &store)?;
+    Ok(text.as_str() == wanted)
+}
+
+fn arrays_change(alloc: Global) -> Result<bool, EvalAltResult> {
+    let mut items = array_of(alloc, &[1, 2, 3])?;
+    let set = arrays::set(&mut items, -1, Dynamic::from_int(9))
+        && !arrays::set(&mut items, 3, Dynamic::UNIT);
+    arrays::insert(&mut items, &LIMITS, -1, Dynamic::from_int(7))?;
+    let full = arrays::push(&mut items, &LIMITS, Dynamic::UNIT).is_err();
+    let gone = arrays::remove(&mut items, 0).is_some() && arrays::remove(&mut items, -4).is_none();
+    arrays::pad(alloc, &mut items, &LIMITS, 4, &Dynamic::TRUE)?;
+    arrays::chop(&mut items, 3);
+    arrays::reverse(&mut items);
+    let rest = arrays::split(&mut items, -1)?;
+    Ok(set && full && gone && prints(alloc, items, "[true, 9]")? && prints(alloc, rest, "[7]")?)
+}
+
+#[test]
+fn arrays_change_as_scripts_see_it(rt: HostRuntime) {
+    assert!(rt; matches!(arrays_change(rt.alloc()), Ok(true)));
+}
+
+fn arrays_are_spliced(alloc: Global) -> Result<bool, EvalAltResult> {
+    let mut items = array_of(alloc, &[1, 2, 3])?;
+    arrays::splice(&mut items, &LIMITS, -2, 1, array_of(alloc, &[8, 9])?)?;
+    let full = arrays::splice(&mut items, &LIMITS, 4, 0, array_of(alloc, &[0])?).is_err();
+    Ok(full && prints(alloc, items, "[1, 8, 9, 3]")?)
+}
+
+#[test]
+fn items_are_put_in_the_place_of_others(rt: HostRuntime) {
+    assert!(rt; matches!(arrays_are_spliced(rt.alloc()), Ok(true)));
+}
+
+fn items_are_found(alloc: Global) -> Result<bool, EvalAltResult> {
+    let store = Store::new(alloc);
+    let items = array_of(alloc, &[4, 5, 4])?;
+    let four = Dynamic::from_int(4);
+    let first = arrays::index_of(alloc, &items, &store, &four)? == Some(0);
+    Ok(first && !arrays::contains(alloc, &items, &store, &Dynamic::UNIT)?)
+}
+
+#[test]
+fn items_are_found_by_value(rt: HostRuntime) {
+    assert!(rt; matches!(items_are_found(rt.alloc()), Ok(true)));
+}
+
+fn repeats_go(alloc: Global) -> Result<bool, EvalAltResult> {
+    let store = Store::new(alloc);
+    let mut items = array_of(alloc, &[1, 1, 2, 1, 1])?;
+    let mut tagged = Dynamic::ONE;
+    tagged.set_tag(5);
+    let set = arrays::set(&mut items, 1, tagged);
+    arrays::dedup(alloc, &mut items, &store)?;
+    Ok(set && prints(alloc, items, "[1, 2, 1]")?)
+}
+
+#[test]
+fn items_that_repeat_the_one_before_go(rt: HostRuntime) {
+    assert!(rt; matches!(repeats_go(rt.alloc()), Ok(true)));
+}
+
+/// An array of these texts.
+fn texts_of(alloc: Global, texts: &[&str]) -> Result<Array, AllocError> {
+    let mut items = Vec::new(alloc);
+    for text in texts {
+        items.push(Dynamic::from_text(alloc, text)?)?;
+    }
+    Ok(items)
+}
+
+fn arrays_are_sorted(alloc: Global) -> Result<bool, EvalAltResult> {
+    let store = Store::new(alloc);
+    let mut ints = array_of(alloc, &[3, -1, 2])?;
+    arrays::sort(&mut ints, &store)?;
+    let mut mixed = array_of(alloc, &[1, 2])?;
+    let set = arrays::set(&mut mixed, 1, Dynamic::TRUE);
+    let named = is_mismatch(arrays::sort(&mut mixed, &store), "i64", "bool");
+    Ok(set && named && prints(alloc, ints, "[-1, 2, 3]")?)
+}
+
+fn texts_are_sorted(alloc: Global) -> Result<bool, EvalAltResult> {
+    let store = Store::new(alloc);
+    let mut texts = texts_of(alloc, &["b", "ab", "a"])?;
+    arrays::sort(&mut texts, &store)?;
+    Ok(prints(alloc, texts, "[\"a\", \"ab\", \"b\"]")?)
+}
+
+#[test]
+fn items_are_put_in_order(rt: HostRuntime) {
+    assert!(rt; matches!(arrays_are_sorted(rt.alloc()), Ok(true)));
+    assert!(rt; matches!(texts_are_sorted(rt.alloc()), Ok(true)));
+}
+
+fn an_array_is_pushed_to(alloc: Global) -> Result<bool, EvalAltResult> {
+    let mut store = Store::new(alloc);
+    let mut array = Dynamic::from_array(array_of(alloc, &[1])?);
+    let mut number = Dynamic::ONE;
+    push_held(&mut array, &mut store, &LIMITS, Dynamic::ONE)?;
+    let refused = is_mismatch(
+        push_held(&mut number, &mut store, &LIMITS, Dynamic::ONE),
+        "array",
+        "i64",
+    );
+    Ok(refused && display_text(alloc, &array, &store)?.as_str() == "[1, 1]")
+}
+
+#[test]
+fn what_is_no_array_is_named(rt: HostRuntime) {
+    assert!(rt; matches!(an_array_is_pushed_to(rt.alloc()), Ok(true)));
+}
+
+fn maps_mix(alloc: Global) -> Result<bool, EvalAltResult> {
+    let mut map = Map::new(alloc);
+    let mut other = Map::new(alloc);
+    maps::set(&mut map, "b", Dynamic::ONE)?;
+    maps::set(&mut other, "a", Dynamic::TWO)?;
+    maps::set(&mut other, "b", Dynamic::TWO)?;
+    maps::fill_with(&mut map, other)?;
+    let keys = prints(alloc, maps::keys(alloc, &map)?, "[\"a\", \"b\"]")?;
+    Ok(keys && prints(alloc, maps::values(alloc, &map)?, "[2, 1]")?)
+}
+
+#[test]
+fn maps_are_filled(rt: HostRuntime) {
+    assert!(rt; matches!(maps_mix(rt.alloc()), Ok(true)));
+}
+
+fn texts_change(alloc: Global) -> Result<bool, EvalAltResult> {
+    let mut text = ImmutableString::from_str(alloc, " héé ")?;
+    texts::trim(alloc, &mut text)?;
+    texts::replace(alloc, &LIMITS, &mut text, "é", "ab")?;
+    let upper = texts::to_upper(alloc, &LIMITS, &text)?.as_str() == "HABAB";
+    let found = texts::index_of(&text, "b") == Some(2) && texts::ends_with(&text, "bab");
+    let part = texts::sub_string(alloc, &text, -2, 9)?.as_str() == "ab";
+    let full = texts::replace(alloc, &LIMITS, &mut text, "a", "123").is_err();
+    Ok(upper && found && part && full && texts::len(&text) == 5)
+}
+
+#[test]
+fn texts_change_by_characters(rt: HostRuntime) {
+    assert!(rt; matches!(texts_change(rt.alloc()), Ok(true)));
+}
+
+fn texts_are_split(alloc: Global) -> Result<bool, EvalAltResult> {
+    let text = ImmutableString::from_str(alloc, "a,é,")?;
+    let parts = texts::split(alloc, &text, ",")?;
+    let each = texts::split(alloc, &text, "")?;
+    let same = texts::split_char(alloc, &text, ',')?;
+    let two = texts::split_at(alloc, &text, -2)?;
+    Ok(
+        prints(alloc, parts, "[\"a\", \"é\", \"\"]")?
+            && prints(alloc, each, "[\"\", \"a\", \",\", \"é\", \",\", \"\"]")?
+            && prints(alloc, same, "[\"a\", \"é\", \"\"]")?
+            && prints(alloc, two, "[\"a,\", \"é,\"]")?,
+    )
+}
+
+#[test]
+fn texts_are_split_at_separators(rt: HostRuntime) {
+    assert!(rt; matches!(texts_are_split(rt.alloc()), Ok(true)));
+}
+
+fn texts_are_padded(alloc: Global) -> Result<bool, EvalAltResult> {
+    let mut text = ImmutableString::from_str(alloc, "x")?;
+    texts::pad_with_string(alloc, &LIMITS, &mut text, 4, "ab")?;
+    let over_and_over = text.as_str() == "xaba";
+    texts::pad(alloc, &LIMITS, &mut text, 6, 'é')?;
+    let full = texts::pad(alloc, &LIMITS, &mut text, 7, '.').is_err();
+    Ok(over_and_over && full && text.as_str() == "xabaéé")
+}
+
+#[test]
+fn texts_get_a_number_of_characters(rt: HostRuntime) {
+    assert!(rt; matches!(texts_are_padded(rt.alloc()), Ok(true)));
+}
+
+fn ints_in_a_radix() -> bool {
+    let read = matches!(ints::parse_int_radix(" -fF ", 16), Ok(-255));
+    read && ints::parse_int_radix("1", 37).is_err() && ints::parse_int_radix("2", 2).is_err()
+}
+
+#[test]
+fn ints_are_read_in_a_radix(rt: HostRuntime) {
+    assert!(rt; ints_in_a_radix());
+}
+
+fn blobs_and_ints(alloc: Global) -> Result<bool, EvalAltResult> {
+    let mut bytes = blobs::blob(alloc, &LIMITS, 2, 258)?;
+    blobs::push(&mut bytes, &LIMITS, -1)?;
+    let ends = blobs::get(&bytes, -1) == Some(255) && blobs::get(&bytes, 3).is_none();
+    let ints = prints(alloc, blobs::to_array(alloc, &bytes)?, "[2, 2, 255]")?;
+    let least = ints::abs(INT::MIN).is_err() && matches!(ints::parse_int(" -7 "), Ok(-7));
+    Ok(ends && ints && least && ints::to_string(alloc, -12)?.as_str() == "-12")
+}
+
+#[test]
+fn blobs_have_the_low_bytes_of_ints(rt: HostRuntime) {
+    assert!(rt; matches!(blobs_and_ints(rt.alloc()), Ok(true)));
+}

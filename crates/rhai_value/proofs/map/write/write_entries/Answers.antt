@@ -1,0 +1,28 @@
+use Rattle.std.proofs.Common.{◌≡◌, ◌∙◌, ap, get_or, length-set, arith, rules}
+use Rattle.std.proofs.lemmas.List.{get_or_default}
+use Rattle.rhai_value.specs.Lists.{row_of}
+use Rattle.rhai_value.specs.RowWalks.{row_scanned}
+use Rattle.rhai_value.proofs.RowWalks.{walk_on, walk_rest, walk_end}
+use Rattle.rhai_value.proofs.map.write.write_entries.Goals as goal
+
+pub loop-entry-preserved : goal.loop-entry-preserved
+loop-entry-preserved g c =
+    let i = c.loop-entry.invariant in
+    let xs = c.loop-entry.entry-items in
+    let old = c.args.entries.now.items in
+    let n = c.loop-entry.entry-index in
+    let f = row_scanned g.W.ValueWriter.writes in
+    let x = get_or xs n c.entry-item.result in
+    let is = get_or_default xs n c.entry-item.result x (omega arith) in
+    let u = record x { value = c.write.new.value } in
+    let did : (c.write.new.self, row_of u) ≡ f c.loop-entry.writer (row_of x) = ap (λ y. (y.0, (x.key, y.1))) c.write.ensures in
+    record {
+      on = walk_on row_of f c.args.writer.now c.loop-entry.writer c.write.new.self xs old n x u i.on i.rest (omega arith) i.long is did;
+      rest = walk_rest row_of f c.args.writer.now c.loop-entry.writer c.write.new.self xs old n x u i.on i.rest (omega arith) i.long is did;
+      long = length-set xs n u ∙ i.long;
+    }
+
+pub returns : goal.returns
+returns g c =
+    let i = c.loop-entry.invariant in
+    walk_end row_of (row_scanned g.W.ValueWriter.writes) c.args.writer.now c.loop-entry.writer c.loop-entry.entry-items c.args.entries.now.items c.loop-entry.entry-index c.args.entries.now.len i.on i.long (omega arith) (search rules)

@@ -1,0 +1,7 @@
+//! Steps into a value, and work on what stands where they lead.
+
+pub(crate) mod place;
+pub(crate) mod step;
+pub(crate) mod with_held;
+pub(crate) mod with_place;
+pub(crate) mod writes;

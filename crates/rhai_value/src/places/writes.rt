@@ -1,0 +1,84 @@
+//! Writes to what is held.
+ghost use Rattle.std.specs.Prelude.{◌≡◌, [], IfOk, IfErr, Some, None, is_some};
+ghost use Rattle.std.specs.Bool.{OnFalse};
+ghost use Rattle.rhai_value.specs.End.{end, held_part, value_after, store_after, end_name};
+ghost use Rattle.rhai_value.specs.Parts.{int_of, text_of, blob_of, array_of, map_of, with_int};
+ghost use Rattle.rhai_value.specs.Rows.{trees_of, fields_of};
+
+use crate::cells::store::Store;
+use crate::map::Map;
+use crate::value::dynamic::Dynamic;
+use crate::value::union::{Array, Blob, INT};
+use rhai_text::ImmutableString;
+
+impl Dynamic {
+    /// Writes over the held int, tag and mode staying, and tells whether an int is held; where none is, nothing changes.
+    /// Cost: that of `held`; no memory.
+    pub fn set_int(&mut self, store: &mut Store, value: INT) -> bool
+        ensures is_int { result ≡ is_some (held_part int_of (end store.old [] self.old)) }
+        ensures own { self.new ≡ value_after (with_int value) (end store.old [] self.old) self.old }
+        ensures store { store.new ≡ store_after (with_int value) (end store.old [] self.old) store.old }
+        ensures stays { OnFalse result ((self.new ≡ self.old) × (store.new ≡ store.old)) }
+    {
+        self.put_part::<INT>(store, value).is_ok()
+    }
+}
+
+/// Lends what is held, to write, or names the held type. Each takes no memory, and is one call of `lent_part_mut` at the type, which
+/// says what value and store are once it was written. There are two, since a proof that the check writes by itself can't call a
+/// method of the value with a clause on two lenders; such a proof reads it of the calls of `InStore`, which lend from the pair.
+impl Dynamic {
+    /// Lends the held text, to write.
+    /// Errors: the name of the held type.
+    /// Cost: that of `held`; no memory.
+    /// rhai: `Dynamic::as_immutable_string_mut`.
+    pub fn as_immutable_string_mut<'s>(
+        &'s mut self,
+        store: &'s mut Store,
+    ) -> Result<&'s mut ImmutableString, &'static str>
+        ensures ok { IfOk result (λ v. held_part text_of (end store.old [] self.old) ≡ Some v.now) }
+        ensures err { IfErr result (λ name. (held_part text_of (end store.old [] self.old) ≡ None)
+            × (name.now ≡ end_name (end store.old [] self.old))) }
+    {
+        self.as_part_mut::<ImmutableString>(store)
+    }
+
+    /// Lends the held array, to write.
+    /// Errors: the name of the held type.
+    /// Cost: that of `held`; no memory.
+    /// rhai: `Dynamic::as_array_mut`.
+    pub fn as_array_mut<'s>(
+        &'s mut self,
+        store: &'s mut Store,
+    ) -> Result<&'s mut Array, &'static str>
+        ensures ok { IfOk result (λ v. held_part array_of (end store.old [] self.old) ≡ Some (trees_of v.now.items)) }
+        ensures err { IfErr result (λ name. (held_part array_of (end store.old [] self.old) ≡ None)
+            × (name.now ≡ end_name (end store.old [] self.old))) }
+    {
+        self.as_part_mut::<Array>(store)
+    }
+
+    /// Lends the held blob, to write.
+    /// Errors: the name of the held type.
+    /// Cost: that of `held`; no memory.
+    /// rhai: `Dynamic::as_blob_mut`.
+    pub fn as_blob_mut<'s>(&'s mut self, store: &'s mut Store) -> Result<&'s mut Blob, &'static str>
+        ensures ok { IfOk result (λ v. held_part blob_of (end store.old [] self.old) ≡ Some v.now.items) }
+        ensures err { IfErr result (λ name. (held_part blob_of (end store.old [] self.old) ≡ None)
+            × (name.now ≡ end_name (end store.old [] self.old))) }
+    {
+        self.as_part_mut::<Blob>(store)
+    }
+
+    /// Lends the held map, to write.
+    /// Errors: the name of the held type.
+    /// Cost: that of `held`; no memory.
+    /// rhai: `Dynamic::as_map_mut`.
+    pub fn as_map_mut<'s>(&'s mut self, store: &'s mut Store) -> Result<&'s mut Map, &'static str>
+        ensures ok { IfOk result (λ v. held_part map_of (end store.old [] self.old) ≡ Some (fields_of v.now)) }
+        ensures err { IfErr result (λ name. (held_part map_of (end store.old [] self.old) ≡ None)
+            × (name.now ≡ end_name (end store.old [] self.old))) }
+    {
+        self.as_part_mut::<Map>(store)
+    }
+}

@@ -1,0 +1,162 @@
+//! What operators go through, in operations.
+
+use crate::assigning::Assignment;
+use crate::cost::{bytes_cost, copy_cost, has_parts, values_cost};
+use crate::faults::FaultKind;
+use crate::resources::Means;
+use crate::ways::walk_cost;
+use rhai_text::Token;
+use rhai_value::{Dynamic, Store, Union};
+
+/// Counts the operations that an operator goes through beside itself: nothing of ints and other small values; what a text is joined with,
+/// as its printed form is; all of what is joined or compared. Where it is more than `most`, no more is counted than shows that.
+/// Errors: what is compared or printed in cells is more than an array may have items; memory for lists is refused.
+/// Cost: the number of values, as far as they are counted.
+pub fn binary_cost(
+    op: Token,
+    means: &Means,
+    store: &Store,
+    x: &Dynamic,
+    y: &Dynamic,
+    most: u64,
+) -> Result<u64, FaultKind> {
+    let (Some(x), Some(y)) = (x.held(store), y.held(store)) else {
+        return Ok(0);
+    };
+    match op {
+        Token::Plus => plus_cost(means, store, x, y, most),
+        Token::Minus => Ok(own_bytes(x).saturating_add(own_bytes(y))),
+        Token::EqualsTo | Token::NotEqualsTo if has_parts(x) || has_parts(y) => {
+            walks_of_both(means, store, x, y, most)
+        }
+        Token::EqualsTo
+        | Token::NotEqualsTo
+        | Token::GreaterThan
+        | Token::GreaterThanEqualsTo
+        | Token::LessThan
+        | Token::LessThanEqualsTo => Ok(own_bytes(x).min(own_bytes(y))),
+        Token::Multiply
+        | Token::Divide
+        | Token::Modulo
+        | Token::PowerOf
+        | Token::RightShift
+        | Token::LeftShift
+        | Token::Ampersand
+        | Token::Pipe
+        | Token::XOr
+        | Token::ExclusiveRange
+        | Token::InclusiveRange
+        | Token::Equals
+        | Token::PlusAssign
+        | Token::MinusAssign
+        | Token::MultiplyAssign
+        | Token::DivideAssign
+        | Token::ModuloAssign
+        | Token::PowerOfAssign
+        | Token::RightShiftAssign
+        | Token::LeftShiftAssign
+        | Token::AndAssign
+        | Token::OrAssign
+        | Token::XOrAssign => Ok(0),
+    }
+}
+
+/// Counts the operations that an assignment by an operator goes through beside itself, as `binary_cost` does; what a text, a blob, an array
+/// or a map gets behind it doesn't count what was there.
+/// Errors: as `binary_cost`.
+/// Cost: the number of values, as far as they are counted.
+pub fn assign_cost(
+    op: Assignment,
+    means: &Means,
+    store: &Store,
+    place: &Dynamic,
+    value: &Dynamic,
+    most: u64,
+) -> Result<u64, FaultKind> {
+    let (Some(place), Some(value)) = (place.held(store), value.held(store)) else {
+        return Ok(0);
+    };
+    if op.plain != Token::Plus {
+        return binary_cost(op.plain, means, store, place, value, most);
+    }
+    match (place.parts(), value.parts()) {
+        (Union::Str(_, _, _), Union::Str(_, _, _) | Union::Char(_, _, _))
+        | (Union::Blob(_, _, _), _) => Ok(own_bytes(value)),
+        (Union::Array(_, _, _), Union::Array(_, _, more)) => Ok(values_cost(more.len())),
+        (Union::Array(_, _, _), _) => Ok(0),
+        (Union::Map(_, _, _), Union::Map(_, _, _)) => Ok(copy_cost(means.alloc, value, most)?),
+        (
+            Union::Str(_, _, _)
+            | Union::Map(_, _, _)
+            | Union::Unit(_, _, _)
+            | Union::Bool(_, _, _)
+            | Union::Char(_, _, _)
+            | Union::Int(_, _, _)
+            | Union::FnPtr(_, _, _)
+            | Union::Variant(_, _, _)
+            | Union::Shared(_, _, _),
+            _,
+        ) => binary_cost(op.plain, means, store, place, value, most),
+    }
+}
+
+/// What goes through the bytes of a text or a blob.
+fn own_bytes(value: &Dynamic) -> u64 {
+    match value.parts() {
+        Union::Str(_, _, text) => bytes_cost(text.len()),
+        Union::Blob(_, _, bytes) => bytes_cost(bytes.len()),
+        Union::Array(_, _, _)
+        | Union::Map(_, _, _)
+        | Union::FnPtr(_, _, _)
+        | Union::Unit(_, _, _)
+        | Union::Bool(_, _, _)
+        | Union::Char(_, _, _)
+        | Union::Int(_, _, _)
+        | Union::Variant(_, _, _)
+        | Union::Shared(_, _, _) => 0,
+    }
+}
+
+fn walks_of_both(
+    means: &Means,
+    store: &Store,
+    x: &Dynamic,
+    y: &Dynamic,
+    most: u64,
+) -> Result<u64, FaultKind> {
+    let first = walk_cost(means, store, x, most)?;
+    Ok(first.saturating_add(walk_cost(means, store, y, most)?))
+}
+
+/// What a sum of two values goes through.
+fn plus_cost(
+    means: &Means,
+    store: &Store,
+    x: &Dynamic,
+    y: &Dynamic,
+    most: u64,
+) -> Result<u64, FaultKind> {
+    match (x.parts(), y.parts()) {
+        (Union::Str(_, _, _), _) | (_, Union::Str(_, _, _)) => {
+            walks_of_both(means, store, x, y, most)
+        }
+        (Union::Array(_, _, _), Union::Array(_, _, _))
+        | (Union::Map(_, _, _), Union::Map(_, _, _)) => {
+            let first = copy_cost(means.alloc, x, most)?;
+            Ok(first.saturating_add(copy_cost(means.alloc, y, most)?))
+        }
+        (
+            Union::Array(_, _, _)
+            | Union::Map(_, _, _)
+            | Union::Blob(_, _, _)
+            | Union::FnPtr(_, _, _)
+            | Union::Unit(_, _, _)
+            | Union::Bool(_, _, _)
+            | Union::Char(_, _, _)
+            | Union::Int(_, _, _)
+            | Union::Variant(_, _, _)
+            | Union::Shared(_, _, _),
+            _,
+        ) => Ok(own_bytes(x).saturating_add(own_bytes(y))),
+    }
+}

@@ -1,0 +1,157 @@
+//! What reads and writes at places inside values go through, in operations.
+
+use crate::cost::{bytes_cost, copy_cost};
+use crate::faults::FaultKind;
+use crate::find::{Found, find};
+use crate::keys::Key;
+use crate::operator_walks::assign_cost;
+use crate::resources::Means;
+use crate::walks::key_cost;
+use crate::ways::walk_cost;
+use crate::writing::Change;
+use rhai_value::{Dynamic, Store, Union};
+
+/// Where keys lead through arrays and maps.
+#[derive(Clone, Copy)]
+struct Reached<'s> {
+    /// What is held there, if they lead anywhere.
+    held: Option<&'s Dynamic>,
+    /// How many keys are left, which lead into what is held.
+    left: u64,
+    /// What the keys themselves go through.
+    cost: u64,
+}
+
+/// Counts the operations that `look` goes through beside itself: the bytes of a text of which a part is made.
+/// Cost: that of `look`; no memory.
+pub fn look_cost(means: &Means, store: &Store, source: &Dynamic, keys: &[Key<'_>]) -> u64 {
+    let reached = reach(means, store, source, keys);
+    match reached.held {
+        Some(held) if reached.left > 0 => {
+            let parts = text_cost(held).saturating_mul(reached.left);
+            reached.cost.saturating_add(parts)
+        }
+        Some(_) | None => reached.cost,
+    }
+}
+
+/// Counts the operations that `read` goes through beside itself: the copy, and the bytes of a text of which a part is read. Where it is
+/// more than `most`, no more is counted than shows that.
+/// Errors: memory for lists is refused.
+/// Cost: that of `look`, and the number of values, as far as they are counted.
+pub fn read_cost(
+    means: &Means,
+    store: &Store,
+    source: &Dynamic,
+    keys: &[Key<'_>],
+    most: u64,
+) -> Result<u64, FaultKind> {
+    let reached = reach(means, store, source, keys);
+    let Some(held) = reached.held else {
+        return Ok(reached.cost);
+    };
+    let moved = if reached.left == 0 {
+        copy_cost(means.alloc, held, most)?
+    } else {
+        text_cost(held).saturating_mul(reached.left)
+    };
+    Ok(reached.cost.saturating_add(moved))
+}
+
+/// Counts the operations that `write` goes through beside itself: what an operator goes through, and the bytes of a text of which a part
+/// is written, with those of the part. Where it is more than `most`, no more is counted than shows that.
+/// Errors: as `assign_cost`.
+/// Cost: that of `look`, and the number of values, as far as they are counted.
+pub fn write_cost(
+    means: &Means,
+    store: &Store,
+    root: &Dynamic,
+    keys: &[Key<'_>],
+    change: &Change,
+    most: u64,
+) -> Result<u64, FaultKind> {
+    let reached = reach(means, store, root, keys);
+    let Some(held) = reached.held else {
+        return Ok(reached.cost);
+    };
+    let moved = match change {
+        Change::Set(_) if reached.left == 0 => 0,
+        Change::Set(value) => text_cost(held).saturating_add(text_cost(value)),
+        Change::Assign(op, value) if reached.left == 0 => {
+            assign_cost(*op, means, store, held, value, most)?
+        }
+        Change::Assign(_, value) => {
+            let twice = text_cost(held).saturating_mul(2);
+            twice.saturating_add(walk_cost(means, store, value, most)?)
+        }
+    };
+    Ok(reached.cost.saturating_add(moved))
+}
+
+/// Goes along keys through arrays and maps.
+fn reach<'s>(
+    means: &Means,
+    store: &'s Store,
+    source: &'s Dynamic,
+    keys: &[Key<'_>],
+) -> Reached<'s> {
+    let mut place = source;
+    let mut cost = 0u64;
+    let mut left = keys.len() as u64;
+    for key in keys {
+        let Some(held) = place.held(store) else {
+            return nowhere(cost);
+        };
+        if !is_listing(held) {
+            return Reached {
+                held: Some(held),
+                left,
+                cost,
+            };
+        }
+        if let Key::Index(index) = key {
+            cost = cost.saturating_add(key_cost(index, store));
+        }
+        match find(means, store, held, key) {
+            Ok(Found::Item(item)) => place = item,
+            Ok(Found::Made(_)) | Err(_) => return nowhere(cost),
+        }
+        left = left.saturating_sub(1);
+    }
+    Reached {
+        held: place.held(store),
+        left,
+        cost,
+    }
+}
+
+/// What keys come to that lead nowhere.
+fn nowhere<'s>(cost: u64) -> Reached<'s> {
+    Reached {
+        held: None,
+        left: 0,
+        cost,
+    }
+}
+
+/// Whether items or entries stand in a value.
+fn is_listing(value: &Dynamic) -> bool {
+    matches!(value.parts(), Union::Array(_, _, _) | Union::Map(_, _, _))
+}
+
+/// What goes through the bytes of a value that is a text.
+fn text_cost(value: &Dynamic) -> u64 {
+    match value.parts() {
+        Union::Str(_, _, text) => bytes_cost(text.len()),
+        Union::Array(_, _, _)
+        | Union::Map(_, _, _)
+        | Union::Blob(_, _, _)
+        | Union::FnPtr(_, _, _)
+        | Union::Unit(_, _, _)
+        | Union::Bool(_, _, _)
+        | Union::Char(_, _, _)
+        | Union::Int(_, _, _)
+        | Union::Variant(_, _, _)
+        | Union::Shared(_, _, _) => 0,
+    }
+}

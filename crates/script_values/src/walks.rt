@@ -1,0 +1,325 @@
+//! What the functions of the packages go through, in operations.
+
+use crate::any_functions::AnyFunction;
+use crate::argument_values::Arguments;
+use crate::array_functions::{ArrayChange, ArrayFunction, ArrayQuestion};
+use crate::blob_functions::{BlobChange, BlobFunction, BlobQuestion};
+use crate::bounds::{bounds_of, span_of};
+use crate::cost::{bytes_cost, copies_cost, copy_cost, operations_of, values_cost};
+use crate::faults::FaultKind;
+use crate::int_functions::IntFunction;
+use crate::map_functions::{MapChange, MapFunction, MapQuestion};
+use crate::natives::Native;
+use crate::resources::Means;
+use crate::text_walks::text_cost;
+use crate::ways::{walk_cost, walks_cost};
+use rhai_value::{Array, Blob, Dynamic, INT, Map, Store, Union};
+
+/// What a count of operations needs besides values.
+#[derive(Clone, Copy)]
+pub(crate) struct Counting<'c> {
+    pub(crate) means: &'c Means,
+    pub(crate) store: &'c Store,
+    /// What is more than so many operations isn't counted further.
+    pub(crate) most: u64,
+}
+
+impl Native {
+    /// Counts the operations that a call goes through beside itself: nothing where that is no more than a constant; the receiver's own
+    /// items or bytes where these are moved or sought through; the receiver and arguments with all that they hold where they are compared,
+    /// printed or copied; as many items or bytes as an argument says. What the call makes isn't counted, nor what it lets go. Where it is
+    /// more than `most`, no more is counted than shows that.
+    /// Errors: what is gone through in cells is more than an array may have items; memory for lists is refused.
+    /// Cost: the number of values, as far as they are counted.
+    pub fn cost(
+        &self,
+        means: &Means,
+        store: &Store,
+        receiver: &Dynamic,
+        arguments: &Arguments,
+        most: u64,
+    ) -> Result<u64, FaultKind> {
+        let Some(held) = receiver.held(store) else {
+            return Ok(0);
+        };
+        let counting = Counting { means, store, most };
+        let known = match held.parts() {
+            Union::Array(_, _, items) => array_cost(self.array, &counting, items, arguments)?,
+            Union::Map(_, _, map) => map_cost(self.map, &counting, held, map, arguments)?,
+            Union::Str(_, _, text) => text_cost(self.text, &counting, text, arguments)?,
+            Union::Blob(_, _, bytes) => blob_cost(self.blob, &counting, bytes, arguments),
+            Union::Int(_, _, number) => int_cost(self.int, *number),
+            Union::Unit(_, _, _)
+            | Union::Bool(_, _, _)
+            | Union::Char(_, _, _)
+            | Union::FnPtr(_, _, _)
+            | Union::Variant(_, _, _)
+            | Union::Shared(_, _, _) => None,
+        };
+        match known {
+            Some(cost) => Ok(cost),
+            None => any_cost(self.any, &counting, held),
+        }
+    }
+}
+
+fn any_cost(
+    function: Option<AnyFunction>,
+    counting: &Counting<'_>,
+    held: &Dynamic,
+) -> Result<u64, FaultKind> {
+    match function {
+        Some(AnyFunction::ToString | AnyFunction::ToDebug) => {
+            walk_cost(counting.means, counting.store, held, counting.most)
+        }
+        Some(AnyFunction::TypeOf) | None => Ok(0),
+    }
+}
+
+fn int_cost(function: Option<IntFunction>, number: INT) -> Option<u64> {
+    match function? {
+        IntFunction::Abs | IntFunction::Min | IntFunction::Max => Some(0),
+        IntFunction::Blob => Some(bytes_cost(usize::try_from(number).unwrap_or(0))),
+    }
+}
+
+/// The part of a list of so many items that a function extracts: where it begins, and how many items it has.
+#[derive(Clone, Copy)]
+pub(crate) struct Span {
+    pub(crate) start: usize,
+    pub(crate) length: usize,
+}
+
+/// So many items from an index on, as many as there are.
+pub(crate) fn span_at(count: usize, index: INT, length: INT) -> Span {
+    let distance = index.unsigned_abs() as usize;
+    let start = if index < 0 {
+        count.saturating_sub(distance)
+    } else {
+        distance.min(count)
+    };
+    Span {
+        start,
+        length: usize::try_from(length)
+            .unwrap_or(0)
+            .min(count.saturating_sub(start)),
+    }
+}
+
+/// The items from an index on, or those of a range; none where the argument is neither.
+pub(crate) fn span_from(count: usize, from: &Dynamic, store: &Store) -> Span {
+    if let Some(bounds) = bounds_of(from, store) {
+        return match span_of(bounds, count) {
+            Ok((start, length)) => span_at(count, start, length),
+            Err(_) => span_at(count, 0, 0),
+        };
+    }
+    match from.as_int(store) {
+        Ok(index) => span_at(count, index, INT::MAX),
+        Err(_) => span_at(count, 0, 0),
+    }
+}
+
+/// So many items from an index on, which two arguments say; none where they are no ints.
+pub(crate) fn span_between(count: usize, arguments: &Arguments, store: &Store) -> Span {
+    let (Ok(index), Ok(length)) = (
+        arguments.first.as_int(store),
+        arguments.second.as_int(store),
+    ) else {
+        return span_at(count, 0, 0);
+    };
+    span_at(count, index, length)
+}
+
+/// How many items or characters an int wants beyond so many.
+pub(crate) fn missing(count: usize, wanted: &Dynamic, store: &Store) -> u64 {
+    let wanted = wanted.as_int(store).unwrap_or(0);
+    u64::try_from(wanted)
+        .unwrap_or(0)
+        .saturating_sub(count as u64)
+}
+
+fn array_cost(
+    function: Option<ArrayFunction>,
+    counting: &Counting<'_>,
+    items: &Array,
+    arguments: &Arguments,
+) -> Result<Option<u64>, FaultKind> {
+    let cost = match function {
+        Some(ArrayFunction::Ask(question)) => {
+            array_question_cost(question, counting, items, arguments)?
+        }
+        Some(ArrayFunction::Change(change)) => {
+            array_change_cost(change, counting, items, arguments)?
+        }
+        None => return Ok(None),
+    };
+    Ok(Some(cost))
+}
+
+fn array_question_cost(
+    question: ArrayQuestion,
+    counting: &Counting<'_>,
+    items: &Array,
+    arguments: &Arguments,
+) -> Result<u64, FaultKind> {
+    let (means, store, most) = (counting.means, counting.store, counting.most);
+    let first = &arguments.first;
+    match question {
+        ArrayQuestion::Len | ArrayQuestion::IsEmpty => Ok(0),
+        ArrayQuestion::Get => {
+            let index = first.as_int(store).unwrap_or(INT::MAX);
+            match rhai_packs::arrays::get(items, index) {
+                Some(item) => held_copy_cost(counting, item),
+                None => Ok(0),
+            }
+        }
+        ArrayQuestion::Extract => span_cost(counting, items, span_from(items.len(), first, store)),
+        ArrayQuestion::ExtractSome => {
+            span_cost(counting, items, span_between(items.len(), arguments, store))
+        }
+        ArrayQuestion::Contains | ArrayQuestion::IndexOf => {
+            let wanted = walk_cost(means, store, first, most)?;
+            let sought = walks_cost(means, store, items.as_slice(), most)?;
+            Ok(wanted.saturating_add(sought))
+        }
+    }
+}
+
+/// What a copy of what a value holds goes through.
+fn held_copy_cost(counting: &Counting<'_>, value: &Dynamic) -> Result<u64, FaultKind> {
+    match value.held(counting.store) {
+        Some(held) => Ok(copy_cost(counting.means.alloc, held, counting.most)?),
+        None => Ok(0),
+    }
+}
+
+/// What copies of the items of a span go through.
+fn span_cost(counting: &Counting<'_>, items: &Array, span: Span) -> Result<u64, FaultKind> {
+    let end = span.start.saturating_add(span.length);
+    match items.as_slice().get(span.start..end) {
+        Some(part) => Ok(copies_cost(counting.means.alloc, part, counting.most)?),
+        None => Ok(0),
+    }
+}
+
+fn array_change_cost(
+    change: ArrayChange,
+    counting: &Counting<'_>,
+    items: &Array,
+    arguments: &Arguments,
+) -> Result<u64, FaultKind> {
+    let (means, store, most) = (counting.means, counting.store, counting.most);
+    let own = values_cost(items.len());
+    match change {
+        ArrayChange::Set
+        | ArrayChange::Push
+        | ArrayChange::Pop
+        | ArrayChange::Clear
+        | ArrayChange::Truncate => Ok(0),
+        ArrayChange::Insert
+        | ArrayChange::Shift
+        | ArrayChange::Remove
+        | ArrayChange::Chop
+        | ArrayChange::Reverse
+        | ArrayChange::Split => Ok(own),
+        ArrayChange::Append => match arguments.first.as_array_ref(store) {
+            Ok(more) => Ok(values_cost(more.len())),
+            Err(_) => Ok(0),
+        },
+        ArrayChange::Pad => {
+            let item = copy_cost(means.alloc, &arguments.second, most)?;
+            let more = missing(items.len(), &arguments.first, store);
+            Ok(operations_of(more).saturating_add(item.saturating_mul(more)))
+        }
+        ArrayChange::SpliceRange => {
+            Ok(own.saturating_add(copy_cost(means.alloc, &arguments.second, most)?))
+        }
+        ArrayChange::Splice => {
+            Ok(own.saturating_add(copy_cost(means.alloc, &arguments.third, most)?))
+        }
+        ArrayChange::Dedup => walks_cost(means, store, items.as_slice(), most),
+        ArrayChange::Sort => {
+            let once = walks_cost(means, store, items.as_slice(), most)?;
+            Ok(once.saturating_mul(rounds_of(items.len())))
+        }
+    }
+}
+
+/// How often each of so many items is compared where they are sorted: as often as their number has bits.
+fn rounds_of(count: usize) -> u64 {
+    u64::from(usize::BITS.saturating_sub(count.leading_zeros()))
+}
+
+fn map_cost(
+    function: Option<MapFunction>,
+    counting: &Counting<'_>,
+    held: &Dynamic,
+    map: &Map,
+    arguments: &Arguments,
+) -> Result<Option<u64>, FaultKind> {
+    let alloc = counting.means.alloc;
+    let first = &arguments.first;
+    let cost = match function {
+        Some(MapFunction::Ask(MapQuestion::Len | MapQuestion::IsEmpty)) => 0,
+        Some(MapFunction::Ask(MapQuestion::Contains)) => key_cost(first, counting.store),
+        Some(MapFunction::Ask(MapQuestion::Get)) => {
+            let found = match first.as_immutable_string_ref(counting.store) {
+                Ok(key) => match map.get(key.as_str()) {
+                    Some(value) => held_copy_cost(counting, value)?,
+                    None => 0,
+                },
+                Err(_) => 0,
+            };
+            found.saturating_add(key_cost(first, counting.store))
+        }
+        Some(MapFunction::Ask(MapQuestion::Keys | MapQuestion::Values)) => {
+            copy_cost(alloc, held, counting.most)?
+        }
+        Some(MapFunction::Change(MapChange::Set | MapChange::Remove)) => {
+            key_cost(first, counting.store)
+        }
+        Some(MapFunction::Change(MapChange::Clear)) => 0,
+        Some(MapFunction::Change(MapChange::MixIn | MapChange::FillWith)) => {
+            copy_cost(alloc, first, counting.most)?
+        }
+        None => return Ok(None),
+    };
+    Ok(Some(cost))
+}
+
+/// What a look-up of a key goes through.
+pub(crate) fn key_cost(key: &Dynamic, store: &Store) -> u64 {
+    match key.as_immutable_string_ref(store) {
+        Ok(key) => bytes_cost(key.len()),
+        Err(_) => 0,
+    }
+}
+
+fn blob_cost(
+    function: Option<BlobFunction>,
+    counting: &Counting<'_>,
+    bytes: &Blob,
+    arguments: &Arguments,
+) -> Option<u64> {
+    let store = counting.store;
+    let first = &arguments.first;
+    let own = bytes.len();
+    let cost = match function? {
+        BlobFunction::Ask(BlobQuestion::Len | BlobQuestion::Get) => 0,
+        BlobFunction::Ask(BlobQuestion::Extract) => {
+            bytes_cost(span_from(own, first, store).length)
+        }
+        BlobFunction::Ask(BlobQuestion::ExtractSome) => {
+            bytes_cost(span_between(own, arguments, store).length)
+        }
+        BlobFunction::Ask(BlobQuestion::ToArray) => values_cost(own),
+        BlobFunction::Change(BlobChange::Set | BlobChange::Push | BlobChange::Pop) => 0,
+        BlobFunction::Change(BlobChange::Append) => match first.as_blob_ref(store) {
+            Ok(more) => bytes_cost(more.len()),
+            Err(_) => 0,
+        },
+        BlobFunction::Change(BlobChange::Remove | BlobChange::Reverse) => bytes_cost(own),
+    };
+    Some(cost)
+}

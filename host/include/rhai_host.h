@@ -1,0 +1,779 @@
+/* A world of script values, and scripts, for a program in C: written by `tools/host_declarations` from the lines of `crates/rhai_host`.
+ *
+ * What the program owes:
+ * - It defines the three doors of memory, and calls RHAI_HOST_STAMP once, so that a library of other declarations doesn't link.
+ * - A handle is zeros or what a call left. It stays on its thread and in its place while a call has it. One that is open is closed in the end.
+ * - An address is never NULL, also where the length beside it is 0. What it leads to is there for the call, and is read or written that far.
+ * - `told`, `stop`, `end` and `number` lead to a whole one; what was in it doesn't count.
+ * - Indices, numbers and texts may be any: what is none gets a status or a refusal.
+ * - A call wants 512 KB of stack; one that begins with `rhai_host_script_`, and `rhai_host_run_script`, wants 2 MB.
+ *
+ * A function that answers a `uint32_t` ends with a RHAI_HOST_STATUS_*. What it answers besides is in `told`; its text or bytes are fetched by
+ * `rhai_host_answer`. Hash bytes say a value. Numbers are little-endian in their own width, a count has eight bytes.
+ *
+ *   unit; boolean       0; 1, then 0 or 1
+ *   text; character     2, the number of bytes, UTF-8; 3, four bytes
+ *   int                 4, eight bytes
+ *   array               5, the number of items, the items
+ *   blob                6, the number of bytes, the bytes
+ *   map                 7, the number of entries, each key (number of bytes, UTF-8) with its value, by rising
+ *                       keys
+ *   function pointer    8, the name (number of bytes, UTF-8), the number of curried values, these
+ *   number of the host  9, its kind (`u8` 0, `u16` 1, `u32` 2, `u64` 3, `u128` 4, `i8` 5, `i16` 6, `i32` 7,
+ *                       `i128` 8), the number
+ *   range               9, 9 without its end or 10 with it, both ends in eight bytes
+ */
+#ifndef RHAI_HOST_H
+#define RHAI_HOST_H
+
+#include <stdbool.h>
+#include <stddef.h>
+#include <stdint.h>
+
+#ifdef __cplusplus
+extern "C" {
+#define RHAI_HOST_ASSERT(holds) static_assert(holds, #holds)
+#define RHAI_HOST_ALIGN(type) alignof(type)
+#else
+#define RHAI_HOST_ASSERT(holds) _Static_assert(holds, #holds)
+#define RHAI_HOST_ALIGN(type) _Alignof(type)
+#endif
+
+/* Whether there is memory, and where. Where there is none, the address is still not NULL. */
+typedef struct RhaiHostBlock {
+    bool is_there;
+    void *at;
+} RhaiHostBlock;
+
+/* The doors: the program defines these three, and the library asks for memory by them alone.
+ * `align` is at most 16. Of no bytes the address is not NULL either. */
+RhaiHostBlock rattle_alloc(size_t size, size_t align);
+/* Gives the block room for `size` bytes, of which the first `kept` count; where there is none, the old block stays. */
+RhaiHostBlock rattle_realloc(void *at, size_t kept, size_t size, size_t align);
+void rattle_dealloc(void *at);
+
+#define RHAI_HOST_HANDLE_SIZE 16
+#define RHAI_HOST_HANDLE_ALIGN 8
+
+/* A world with what goes with it, or nothing: an open handle, or a closed one. Memory that is all zero is a
+ * closed one. The host gives it room, and looks at no field of it. An open one that is let go is a leak. Its
+ * fields are the library's alone. */
+typedef struct RhaiHostHandle {
+    bool is_open;
+    void *at;
+} RhaiHostHandle;
+RHAI_HOST_ASSERT(sizeof(RhaiHostHandle) == RHAI_HOST_HANDLE_SIZE);
+RHAI_HOST_ASSERT(RHAI_HOST_ALIGN(RhaiHostHandle) == RHAI_HOST_HANDLE_ALIGN);
+
+/* What a closed handle begins with. */
+#define RHAI_HOST_CLOSED {false, NULL}
+
+/* Why a script stopped. The answer is what it printed, and behind that what went wrong. */
+typedef struct RhaiHostScriptStop {
+    /* 0 it is done, 1 it did as many operations as it might, 2 it calls the host, 3 a statement is done next, 4
+     * memory was refused, 5 it went wrong, 6 the text is no script. */
+    uint32_t kind;
+    /* The number of the host's function that is called; else 0. */
+    uint32_t function;
+    /* How many arguments it is called with; else 0. */
+    size_t arguments;
+    /* The line where it stands, or of what went wrong, counted from 1; else 0. */
+    uint32_t line;
+    /* The place on that line, counted from 1; else 0. */
+    uint32_t column;
+    /* How many operations the run took so far, with those that the room of values counts as. */
+    uint64_t operations;
+    /* How many bytes of the answer it printed. */
+    size_t printed;
+    /* How many bytes behind these say what went wrong. */
+    size_t said;
+} RhaiHostScriptStop;
+
+/* How a script ended. The answer is what it printed, and behind that what went wrong. */
+typedef struct RhaiHostScriptEnd {
+    /* 0 it ran to its end, 1 the text is no script, 2 it went wrong when it ran. */
+    uint32_t kind;
+    /* The line of what went wrong, counted from 1; else 0. */
+    uint32_t line;
+    /* The place on that line, counted from 1; else 0. */
+    uint32_t column;
+    /* How many bytes of the answer it printed. */
+    size_t printed;
+    /* How many bytes behind these say what went wrong. */
+    size_t said;
+} RhaiHostScriptEnd;
+
+/* An answer in numbers. Its text, its bytes and the names of types are fetched by further calls. */
+typedef struct RhaiHostTold {
+    /* 0 done, 1 a truth, 2 a number, 3 a text, 4 bytes, 5 two numbers, 6 nothing, 7 a refusal. */
+    uint32_t kind;
+    /* Which refusal; else 0. */
+    uint32_t reason;
+    /* A truth as 0 or 1, the lower 64 bits of a number, a length in bytes, the first of two numbers, or which one of
+     * a kind of refusals. */
+    uint64_t low;
+    /* The upper 64 bits of a number, the second of two numbers, or the length of a second name. */
+    uint64_t high;
+} RhaiHostTold;
+
+/* How a call ended. */
+enum {
+    /* The command is done. */
+    RHAI_HOST_STATUS_DONE = 0,
+    /* Memory was refused, and nothing has changed. */
+    RHAI_HOST_STATUS_OUT_OF_MEMORY = 1,
+    /* No world is open. */
+    RHAI_HOST_STATUS_CLOSED = 2,
+    /* What was handed over says no command. */
+    RHAI_HOST_STATUS_NO_COMMAND = 3,
+    /* Memory for what a command is made of was refused, and nothing has changed. */
+    RHAI_HOST_STATUS_NO_ROOM = 4,
+};
+
+/* What an answer is. */
+enum {
+    RHAI_HOST_KIND_DONE = 0,
+    RHAI_HOST_KIND_BOOL = 1,
+    RHAI_HOST_KIND_INT = 2,
+    RHAI_HOST_KIND_TEXT = 3,
+    RHAI_HOST_KIND_BYTES = 4,
+    RHAI_HOST_KIND_PAIR = 5,
+    RHAI_HOST_KIND_NOTHING = 6,
+    RHAI_HOST_KIND_REFUSED = 7,
+};
+
+/* Which refusal. */
+enum {
+    RHAI_HOST_REASON_NO_VALUE = 0,
+    RHAI_HOST_REASON_SAME_VALUE = 1,
+    RHAI_HOST_REASON_NO_ENTRY = 2,
+    RHAI_HOST_REASON_EMPTY_SCOPE = 3,
+    RHAI_HOST_REASON_CONSTANT_ENTRY = 4,
+    RHAI_HOST_REASON_SHARED_ENTRY = 5,
+    RHAI_HOST_REASON_NO_MARK = 6,
+    RHAI_HOST_REASON_WRONG_SOURCE = 7,
+    RHAI_HOST_REASON_BIT_PLACE = 8,
+    RHAI_HOST_REASON_BYTE_PLACE = 9,
+    RHAI_HOST_REASON_NO_BUILTIN = 10,
+    RHAI_HOST_REASON_NOT_HASHABLE = 11,
+    RHAI_HOST_REASON_MISMATCH = 12,
+    RHAI_HOST_REASON_ERROR_MISMATCH_DATA_TYPE = 13,
+    RHAI_HOST_REASON_ERROR_DATA_RACE = 14,
+    RHAI_HOST_REASON_ERROR_ARITHMETIC = 15,
+    RHAI_HOST_REASON_ERROR_DATA_TOO_LARGE = 16,
+    RHAI_HOST_REASON_ERROR_MEMORY = 17,
+};
+
+/* Why an arithmetic operation has no answer. */
+enum {
+    RHAI_HOST_ARITHMETIC_OVERFLOW = 0,
+    RHAI_HOST_ARITHMETIC_DIVISION_BY_ZERO = 1,
+    RHAI_HOST_ARITHMETIC_NEGATIVE_POWER = 2,
+    RHAI_HOST_ARITHMETIC_POWER_TOO_LARGE = 3,
+};
+
+/* Which limit a value would grow past. */
+enum {
+    RHAI_HOST_SIZE_TEXT = 0,
+    RHAI_HOST_SIZE_ITEMS = 1,
+};
+
+/* How a script ended. */
+enum {
+    RHAI_HOST_END_DONE = 0,
+    RHAI_HOST_END_SYNTAX = 1,
+    RHAI_HOST_END_FAULT = 2,
+};
+
+/* The types. */
+enum {
+    RHAI_HOST_TYPE_UNIT = 0,
+    RHAI_HOST_TYPE_BOOL = 1,
+    RHAI_HOST_TYPE_CHAR = 2,
+    RHAI_HOST_TYPE_INT = 3,
+    RHAI_HOST_TYPE_U8 = 4,
+    RHAI_HOST_TYPE_U16 = 5,
+    RHAI_HOST_TYPE_U32 = 6,
+    RHAI_HOST_TYPE_U64 = 7,
+    RHAI_HOST_TYPE_U128 = 8,
+    RHAI_HOST_TYPE_I8 = 9,
+    RHAI_HOST_TYPE_I16 = 10,
+    RHAI_HOST_TYPE_I32 = 11,
+    RHAI_HOST_TYPE_I128 = 12,
+    RHAI_HOST_TYPE_STRING = 13,
+    RHAI_HOST_TYPE_IMMUTABLE_STRING = 14,
+    RHAI_HOST_TYPE_ARRAY = 15,
+    RHAI_HOST_TYPE_BLOB = 16,
+    RHAI_HOST_TYPE_MAP = 17,
+    RHAI_HOST_TYPE_FN_PTR = 18,
+    RHAI_HOST_TYPE_EXCLUSIVE_RANGE = 19,
+    RHAI_HOST_TYPE_INCLUSIVE_RANGE = 20,
+    RHAI_HOST_TYPE_DYNAMIC = 21,
+    RHAI_HOST_TYPE_SHARED = 22,
+};
+
+/* The operators. */
+enum {
+    RHAI_HOST_OPERATOR_PLUS = 0,
+    RHAI_HOST_OPERATOR_MINUS = 1,
+    RHAI_HOST_OPERATOR_MULTIPLY = 2,
+    RHAI_HOST_OPERATOR_DIVIDE = 3,
+    RHAI_HOST_OPERATOR_MODULO = 4,
+    RHAI_HOST_OPERATOR_POWER_OF = 5,
+    RHAI_HOST_OPERATOR_RIGHT_SHIFT = 6,
+    RHAI_HOST_OPERATOR_LEFT_SHIFT = 7,
+    RHAI_HOST_OPERATOR_AMPERSAND = 8,
+    RHAI_HOST_OPERATOR_PIPE = 9,
+    RHAI_HOST_OPERATOR_XOR = 10,
+    RHAI_HOST_OPERATOR_EQUALS_TO = 11,
+    RHAI_HOST_OPERATOR_NOT_EQUALS_TO = 12,
+    RHAI_HOST_OPERATOR_GREATER_THAN = 13,
+    RHAI_HOST_OPERATOR_GREATER_THAN_EQUALS_TO = 14,
+    RHAI_HOST_OPERATOR_LESS_THAN = 15,
+    RHAI_HOST_OPERATOR_LESS_THAN_EQUALS_TO = 16,
+    RHAI_HOST_OPERATOR_EXCLUSIVE_RANGE = 17,
+    RHAI_HOST_OPERATOR_INCLUSIVE_RANGE = 18,
+    RHAI_HOST_OPERATOR_EQUALS = 19,
+    RHAI_HOST_OPERATOR_PLUS_ASSIGN = 20,
+    RHAI_HOST_OPERATOR_MINUS_ASSIGN = 21,
+    RHAI_HOST_OPERATOR_MULTIPLY_ASSIGN = 22,
+    RHAI_HOST_OPERATOR_DIVIDE_ASSIGN = 23,
+    RHAI_HOST_OPERATOR_MODULO_ASSIGN = 24,
+    RHAI_HOST_OPERATOR_POWER_OF_ASSIGN = 25,
+    RHAI_HOST_OPERATOR_RIGHT_SHIFT_ASSIGN = 26,
+    RHAI_HOST_OPERATOR_LEFT_SHIFT_ASSIGN = 27,
+    RHAI_HOST_OPERATOR_AND_ASSIGN = 28,
+    RHAI_HOST_OPERATOR_OR_ASSIGN = 29,
+    RHAI_HOST_OPERATOR_XOR_ASSIGN = 30,
+};
+
+/* Answers the tag of the value at the hand position. */
+uint32_t rhai_host_tag(RhaiHostHandle *handle, size_t i, RhaiHostTold *told);
+
+/* Answers whether the value at the hand position is of one of the host's types. */
+uint32_t rhai_host_is_variant(RhaiHostHandle *handle, size_t i, RhaiHostTold *told);
+
+/* Answers whether the value at the hand position is a holder. */
+uint32_t rhai_host_is_shared(RhaiHostHandle *handle, size_t i, RhaiHostTold *told);
+
+/* Answers whether the first content of the value at the hand position is a constant. */
+uint32_t rhai_host_is_read_only(RhaiHostHandle *handle, size_t i, RhaiHostTold *told);
+
+/* Answers whether the value at the hand position is, or has inside, a holder of a marked cell. */
+uint32_t rhai_host_is_locked(RhaiHostHandle *handle, size_t i, RhaiHostTold *told);
+
+/* Answers the name of the type that is held at the hand position. */
+uint32_t rhai_host_type_name(RhaiHostHandle *handle, size_t i, RhaiHostTold *told);
+
+/* Answers whether the value at the hand position can be hashed. */
+uint32_t rhai_host_is_hashable(RhaiHostHandle *handle, size_t i, RhaiHostTold *told);
+
+/* Is done where unit is held at the hand position. */
+uint32_t rhai_host_as_unit(RhaiHostHandle *handle, size_t i, RhaiHostTold *told);
+
+/* Answers the int that is held at the hand position. */
+uint32_t rhai_host_as_int(RhaiHostHandle *handle, size_t i, RhaiHostTold *told);
+
+/* Answers the boolean that is held at the hand position. */
+uint32_t rhai_host_as_bool(RhaiHostHandle *handle, size_t i, RhaiHostTold *told);
+
+/* Answers the character that is held at the hand position, as a text. */
+uint32_t rhai_host_as_char(RhaiHostHandle *handle, size_t i, RhaiHostTold *told);
+
+/* Answers the text of the value at the hand position, as it is displayed. */
+uint32_t rhai_host_show(RhaiHostHandle *handle, size_t i, RhaiHostTold *told);
+
+/* Answers the text of the value at the hand position, as it is debugged. */
+uint32_t rhai_host_debug(RhaiHostHandle *handle, size_t i, RhaiHostTold *told);
+
+/* Answers the hash bytes of the value at the hand position. */
+uint32_t rhai_host_hash(RhaiHostHandle *handle, size_t i, RhaiHostTold *told);
+
+/* Answers where a slice of a list of this length starts and how many items it has, for a start and a number of
+ * items. */
+uint32_t rhai_host_offset(
+    RhaiHostHandle *handle,
+    size_t length,
+    int64_t start,
+    int64_t count,
+    RhaiHostTold *told);
+
+/* Answers the place of an item of a list of this length, or nothing; with the flag a negative index counts from
+ * the end. */
+uint32_t rhai_host_index(
+    RhaiHostHandle *handle,
+    size_t length,
+    int64_t index,
+    bool from_end,
+    RhaiHostTold *told);
+
+/* Compiles a script for the variables that are there. The functions of the host are a line each: the name, a
+ * space and the number of arguments; the first one has number 0. A run that stands ends. What is wrong with the
+ * text is told as a stop of kind 6. */
+uint32_t rhai_host_script_compile(
+    RhaiHostHandle *handle,
+    const uint8_t *text,
+    size_t text_len,
+    const uint8_t *names,
+    size_t names_len,
+    RhaiHostScriptStop *stop);
+
+/* Begins a run of the script over the variables, with the largest sizes of texts, arrays and maps, 0 being none,
+ * and of calls within each other. Without its body, it has ended at once, and functions may be called. */
+uint32_t rhai_host_script_begin(
+    RhaiHostHandle *handle,
+    size_t text,
+    size_t items,
+    size_t entries,
+    size_t calls,
+    bool with_body);
+
+/* Has the run stop before each statement, or no longer. */
+uint32_t rhai_host_script_stop_at_statements(RhaiHostHandle *handle, bool stops);
+
+/* Goes on with the run by up to so many operations. */
+uint32_t rhai_host_script_go(RhaiHostHandle *handle, uint64_t operations, RhaiHostScriptStop *stop);
+
+/* Answers the hash bytes of an argument that the host's function is called with. */
+uint32_t rhai_host_script_argument(RhaiHostHandle *handle, size_t number, RhaiHostTold *told);
+
+/* Answers the hash bytes of the value that the run came to. */
+uint32_t rhai_host_script_value(RhaiHostHandle *handle, RhaiHostTold *told);
+
+/* Answers the call of the host's function with the value of these hash bytes. */
+uint32_t rhai_host_script_answer(RhaiHostHandle *handle, const uint8_t *value, size_t value_len);
+
+/* Refuses the call of the host's function with a text, which the script may catch: it goes on then, and the stop
+ * is of kind 1. */
+uint32_t rhai_host_script_refuse(
+    RhaiHostHandle *handle,
+    const uint8_t *why,
+    size_t why_len,
+    RhaiHostScriptStop *stop);
+
+/* Begins a call of a function of the script with these arguments: the hash bytes of an array of them. The
+ * script's body is done, and no call stands. */
+uint32_t rhai_host_script_call(
+    RhaiHostHandle *handle,
+    const uint8_t *name,
+    size_t name_len,
+    const uint8_t *arguments,
+    size_t arguments_len);
+
+/* Ends the run, wherever it stands: its variables can be looked at and written then. */
+uint32_t rhai_host_script_end(RhaiHostHandle *handle);
+
+/* Takes this many values off the end of the hand, and appends the array of them in order. */
+uint32_t rhai_host_make_array(RhaiHostHandle *handle, size_t count, RhaiHostTold *told);
+
+/* Appends a copy of the value at the hand position. */
+uint32_t rhai_host_copy(RhaiHostHandle *handle, size_t i, RhaiHostTold *told);
+
+/* Appends a copy of the value at the hand position without its holders. */
+uint32_t rhai_host_flatten_clone(RhaiHostHandle *handle, size_t i, RhaiHostTold *told);
+
+/* Moves the value at the hand position to the end, and leaves unit. */
+uint32_t rhai_host_take(RhaiHostHandle *handle, size_t i, RhaiHostTold *told);
+
+/* Drops the last value. */
+uint32_t rhai_host_drop(RhaiHostHandle *handle, RhaiHostTold *told);
+
+/* Moves the value at the hand position into a new cell, and leaves a holder of it; a holder stays. */
+uint32_t rhai_host_share(RhaiHostHandle *handle, size_t i, RhaiHostTold *told);
+
+/* Puts in the place of a holder at the hand position what is held, without its holders. */
+uint32_t rhai_host_flatten(RhaiHostHandle *handle, size_t i, RhaiHostTold *told);
+
+/* Makes the value at the hand position a constant. */
+uint32_t rhai_host_make_read_only(RhaiHostHandle *handle, size_t i, RhaiHostTold *told);
+
+/* Sets the tag of the value at the hand position. */
+uint32_t rhai_host_set_tag(RhaiHostHandle *handle, size_t i, int32_t tag, RhaiHostTold *told);
+
+/* Writes over the int that is held at the hand position. */
+uint32_t rhai_host_write_int(RhaiHostHandle *handle, size_t i, int64_t n, RhaiHostTold *told);
+
+/* Writes the value at the second hand position over the first content of the one at the first, and leaves unit
+ * at the second. */
+uint32_t rhai_host_write(RhaiHostHandle *handle, size_t i, size_t j, RhaiHostTold *told);
+
+/* Sets the tag of each value that a scan of the one at the hand position comes to, and answers how many these
+ * are. */
+uint32_t rhai_host_scan_tags(RhaiHostHandle *handle, size_t i, int32_t tag, RhaiHostTold *told);
+
+/* Makes each int 0 that a scan of the value at the hand position comes to, and answers how many values it came
+ * to. */
+uint32_t rhai_host_scan_zero(RhaiHostHandle *handle, size_t i, RhaiHostTold *told);
+
+/* Makes each holder unit that a scan of the value at the hand position comes to, and answers how many values it
+ * came to. */
+uint32_t rhai_host_scan_no_share(RhaiHostHandle *handle, size_t i, RhaiHostTold *told);
+
+/* Keeps this many items of each array that a scan of the value at the hand position comes to, and answers how
+ * many values it came to. */
+uint32_t rhai_host_scan_cut(RhaiHostHandle *handle, size_t i, size_t count, RhaiHostTold *told);
+
+/* Does the command that a line says; `docs/LINES.md` has the lines. */
+uint32_t rhai_host_line(RhaiHostHandle *handle, const uint8_t *line, size_t line_len, RhaiHostTold *told);
+
+/* Runs lines on a world of their own, and answers the bytes that they print; the handle's world stays. */
+uint32_t rhai_host_run_lines(
+    RhaiHostHandle *handle,
+    const uint8_t *input,
+    size_t input_len,
+    RhaiHostTold *told);
+
+/* Answers the journal of the commands that lines say: the lines by which they are written, in turn, each with a
+ * line feed. */
+uint32_t rhai_host_journal(
+    RhaiHostHandle *handle,
+    const uint8_t *lines,
+    size_t lines_len,
+    RhaiHostTold *told);
+
+/* Takes as many values off the end of the hand as there are keys, and appends the map of these to those in
+ * order; of equal keys the last value stands. */
+uint32_t rhai_host_make_map(RhaiHostHandle *handle, const size_t *keys, size_t keys_len, RhaiHostTold *told);
+
+/* Takes as many values off the end of the hand as there are names, and adds an entry of each name with its
+ * value, which may be written. */
+uint32_t rhai_host_extend(RhaiHostHandle *handle, const size_t *names, size_t names_len, RhaiHostTold *told);
+
+/* Takes as many values off the end of the hand as there are names, and adds an entry of each name with its
+ * value, which is a constant where its flag says so. */
+uint32_t rhai_host_extend_flagged(
+    RhaiHostHandle *handle,
+    const size_t *names,
+    size_t names_len,
+    const bool *constants,
+    size_t constants_len,
+    RhaiHostTold *told);
+
+/* Gives the last entry of the name the alias, if it hasn't got it; an empty alias means the name. */
+uint32_t rhai_host_set_alias(
+    RhaiHostHandle *handle,
+    size_t name,
+    const uint8_t *alias,
+    size_t alias_len,
+    RhaiHostTold *told);
+
+/* Appends the unit value. */
+uint32_t rhai_host_put_unit(RhaiHostHandle *handle, RhaiHostTold *told);
+
+/* Appends a boolean. */
+uint32_t rhai_host_put_bool(RhaiHostHandle *handle, bool truth, RhaiHostTold *told);
+
+/* Appends an int. */
+uint32_t rhai_host_put_int(RhaiHostHandle *handle, int64_t n, RhaiHostTold *told);
+
+/* Appends the range from one int to another, without the end. */
+uint32_t rhai_host_put_range(RhaiHostHandle *handle, int64_t start, int64_t end, RhaiHostTold *told);
+
+/* Appends the range from one int to another, with the end. */
+uint32_t rhai_host_put_range_with_end(RhaiHostHandle *handle, int64_t start, int64_t end, RhaiHostTold *told);
+
+/* Appends a `u8` of the host's. */
+uint32_t rhai_host_put_u8(RhaiHostHandle *handle, uint8_t n, RhaiHostTold *told);
+
+/* Appends a `u16` of the host's. */
+uint32_t rhai_host_put_u16(RhaiHostHandle *handle, uint16_t n, RhaiHostTold *told);
+
+/* Appends a `u32` of the host's. */
+uint32_t rhai_host_put_u32(RhaiHostHandle *handle, uint32_t n, RhaiHostTold *told);
+
+/* Appends a `u64` of the host's. */
+uint32_t rhai_host_put_u64(RhaiHostHandle *handle, uint64_t n, RhaiHostTold *told);
+
+/* Appends an `i8` of the host's. */
+uint32_t rhai_host_put_i8(RhaiHostHandle *handle, int8_t n, RhaiHostTold *told);
+
+/* Appends an `i16` of the host's. */
+uint32_t rhai_host_put_i16(RhaiHostHandle *handle, int16_t n, RhaiHostTold *told);
+
+/* Appends an `i32` of the host's. */
+uint32_t rhai_host_put_i32(RhaiHostHandle *handle, int32_t n, RhaiHostTold *told);
+
+/* Takes the mark at this position out of the list, and frees its cell; later marks close up. */
+uint32_t rhai_host_unmark(RhaiHostHandle *handle, size_t mark, RhaiHostTold *told);
+
+/* Moves the value at the hand position into the cell of the mark at this position, and leaves unit. */
+uint32_t rhai_host_write_marked(RhaiHostHandle *handle, size_t mark, size_t i, RhaiHostTold *told);
+
+/* Appends a copy of what is in the cell of the mark at this position. */
+uint32_t rhai_host_read_marked(RhaiHostHandle *handle, size_t mark, RhaiHostTold *told);
+
+/* Answers the name of a number, as a text. */
+uint32_t rhai_host_name_text(RhaiHostHandle *handle, size_t number, RhaiHostTold *told);
+
+/* Answers the name of the entry at this position, counted from the oldest, as a text, and tells whether the
+ * entry is a constant. */
+uint32_t rhai_host_entry(RhaiHostHandle *handle, size_t i, bool *is_constant, RhaiHostTold *told);
+
+/* Takes this many values off the end of the hand, and appends the function pointer of the name with these
+ * curried in order. */
+uint32_t rhai_host_make_fn(RhaiHostHandle *handle, size_t name, size_t count, RhaiHostTold *told);
+
+/* Moves the value at the hand position into a new entry of the name that may be written, and leaves unit. */
+uint32_t rhai_host_push(RhaiHostHandle *handle, size_t name, size_t i, RhaiHostTold *told);
+
+/* Moves the value at the hand position into a new entry of the name, which is a constant where the value is, and
+ * leaves unit. */
+uint32_t rhai_host_push_dynamic(RhaiHostHandle *handle, size_t name, size_t i, RhaiHostTold *told);
+
+/* Moves the value at the hand position into a new entry of the name that is a constant, and leaves unit. */
+uint32_t rhai_host_push_constant(RhaiHostHandle *handle, size_t name, size_t i, RhaiHostTold *told);
+
+/* Moves the value at the hand position over the value of the last entry of the name, and leaves unit. */
+uint32_t rhai_host_set_entry(RhaiHostHandle *handle, size_t name, size_t i, RhaiHostTold *told);
+
+/* Moves the value at the hand position over the value of the last entry of the name, or into a new one where
+ * none may be written. */
+uint32_t rhai_host_set_or_push(RhaiHostHandle *handle, size_t name, size_t i, RhaiHostTold *told);
+
+/* Moves the value at the hand position over the value of the last entry of the name, or into a new one where
+ * none is there. */
+uint32_t rhai_host_set_value(RhaiHostHandle *handle, size_t name, size_t i, RhaiHostTold *told);
+
+/* Answers whether an entry has the name. */
+uint32_t rhai_host_contains(RhaiHostHandle *handle, size_t name, RhaiHostTold *told);
+
+/* Answers the position of the last entry of the name, counted from 0, or nothing. */
+uint32_t rhai_host_search(RhaiHostHandle *handle, size_t name, RhaiHostTold *told);
+
+/* Answers whether the last entry of the name is a constant, or nothing. */
+uint32_t rhai_host_is_constant(RhaiHostHandle *handle, size_t name, RhaiHostTold *told);
+
+/* Appends a copy of the value of the last entry of the name. */
+uint32_t rhai_host_get(RhaiHostHandle *handle, size_t name, RhaiHostTold *told);
+
+/* Writes over the int that the last entry of the name itself is; or answers nothing. */
+uint32_t rhai_host_set_ref(RhaiHostHandle *handle, size_t name, int64_t value, RhaiHostTold *told);
+
+/* Answers the aliases of the last entry of the name, each with a line feed. */
+uint32_t rhai_host_aliases(RhaiHostHandle *handle, size_t name, RhaiHostTold *told);
+
+/* Opens a world with these limits, 0 being none, and closes the one that was open before. */
+uint32_t rhai_host_new(RhaiHostHandle *handle, size_t text, size_t items);
+
+/* Closes the world, if one is open. */
+void rhai_host_close(RhaiHostHandle *handle);
+
+/* Tells whether a world is open. */
+bool rhai_host_is_open(const RhaiHostHandle *handle);
+
+/* Gives a name a number that no other has, by which commands name it. Room for one more is asked for only where
+ * no number was given back. */
+uint32_t rhai_host_name(RhaiHostHandle *handle, const uint8_t *text, size_t text_len, size_t *number);
+
+/* Tells how many values are in the hand, 0 where no world is open. */
+size_t rhai_host_hand_len(RhaiHostHandle *handle);
+
+/* Copies the bytes of the last text, bytes or refusal that was answered, or those of its second name, as far as
+ * there is room; answers how many it has. */
+size_t rhai_host_answer(RhaiHostHandle *handle, bool second, uint8_t *room, size_t room_len);
+
+/* Takes a number back from a name. It is given out again, in the place of a new one. */
+uint32_t rhai_host_forget_name(RhaiHostHandle *handle, size_t number);
+
+/* Gives back each cell that nothing reaches. */
+uint32_t rhai_host_collect(RhaiHostHandle *handle);
+
+/* Tells how many bytes a handle takes. */
+size_t rhai_host_handle_size(void);
+
+/* Tells what the address of a handle is a multiple of. */
+size_t rhai_host_handle_align(void);
+
+/* Marks the cell of the holder at the place: from then on it is read and written by the mark alone. The mark
+ * goes to the end of the list of marks. */
+uint32_t rhai_host_mark(RhaiHostHandle *handle, bool is_entry, size_t at, RhaiHostTold *told);
+
+/* Writes the boolean at the hand position to this bit of the int at the place. */
+uint32_t rhai_host_write_bit(
+    RhaiHostHandle *handle,
+    bool is_entry,
+    size_t at,
+    uint8_t bit,
+    size_t j,
+    RhaiHostTold *told);
+
+/* Writes the int at the hand position, shifted left, to the bits of the mask in the int at the place. */
+uint32_t rhai_host_write_field(
+    RhaiHostHandle *handle,
+    bool is_entry,
+    size_t at,
+    int64_t mask,
+    uint8_t shift,
+    size_t j,
+    RhaiHostTold *told);
+
+/* Writes the int at the hand position to the byte of this index of the blob at the place. */
+uint32_t rhai_host_write_byte(
+    RhaiHostHandle *handle,
+    bool is_entry,
+    size_t at,
+    size_t index,
+    size_t j,
+    RhaiHostTold *told);
+
+/* Writes the character at the hand position over the one of this index of the text at the place. */
+uint32_t rhai_host_write_char(
+    RhaiHostHandle *handle,
+    bool is_entry,
+    size_t at,
+    size_t index,
+    size_t j,
+    RhaiHostTold *told);
+
+/* Writes what the value at the hand position prints as over the characters from the first index on, up to the
+ * second one, which is replaced too unless the slice is exclusive. */
+uint32_t rhai_host_write_slice(
+    RhaiHostHandle *handle,
+    bool is_entry,
+    size_t at,
+    size_t start,
+    size_t end,
+    bool exclusive,
+    size_t j,
+    RhaiHostTold *told);
+
+/* Drops the last entry. */
+uint32_t rhai_host_pop(RhaiHostHandle *handle, RhaiHostTold *told);
+
+/* Keeps as many entries as the number says, the first ones. */
+uint32_t rhai_host_rewind(RhaiHostHandle *handle, size_t count, RhaiHostTold *told);
+
+/* Drops all entries. */
+uint32_t rhai_host_clear(RhaiHostHandle *handle, RhaiHostTold *told);
+
+/* Answers how many entries there are. */
+uint32_t rhai_host_len(RhaiHostHandle *handle, RhaiHostTold *told);
+
+/* Answers whether there is no entry. */
+uint32_t rhai_host_is_empty(RhaiHostHandle *handle, RhaiHostTold *told);
+
+/* Keeps copies of the last entries of each name, the newest first. */
+uint32_t rhai_host_keep_visible(RhaiHostHandle *handle, RhaiHostTold *told);
+
+/* Keeps copies of all entries. */
+uint32_t rhai_host_copy_scope(RhaiHostHandle *handle, RhaiHostTold *told);
+
+/* Appends copies of the values of all entries, without their holders. */
+uint32_t rhai_host_entries(RhaiHostHandle *handle, RhaiHostTold *told);
+
+/* Answers the names of the entries, the newest first, each with a line feed, and with `const ` before that of a
+ * constant. */
+uint32_t rhai_host_names(RhaiHostHandle *handle, RhaiHostTold *told);
+
+/* Answers the text of the scope. */
+uint32_t rhai_host_show_scope(RhaiHostHandle *handle, RhaiHostTold *told);
+
+/* Answers the hash bytes of the scope. */
+uint32_t rhai_host_hash_scope(RhaiHostHandle *handle, RhaiHostTold *told);
+
+/* Runs a script on values of its own: the largest sizes of texts and of arrays, 0 being none, the operations,
+ * and the calls within each other are limited. What it prints is the answer, with what went wrong behind it; the
+ * handle's world stays. */
+uint32_t rhai_host_run_script(
+    RhaiHostHandle *handle,
+    const uint8_t *script,
+    size_t script_len,
+    size_t text,
+    size_t items,
+    uint64_t operations,
+    size_t calls,
+    RhaiHostScriptEnd *end);
+
+/* Appends a `u128` of the host's, told by its lower and its upper 64 bits. */
+uint32_t rhai_host_put_u128(RhaiHostHandle *handle, uint64_t low, uint64_t high, RhaiHostTold *told);
+
+/* Appends an `i128` of the host's, told by the lower and the upper 64 bits of its two's complement. */
+uint32_t rhai_host_put_i128(RhaiHostHandle *handle, uint64_t low, uint64_t high, RhaiHostTold *told);
+
+/* Appends a text of these bytes, which are UTF-8. */
+uint32_t rhai_host_put_text(RhaiHostHandle *handle, const uint8_t *text, size_t text_len, RhaiHostTold *told);
+
+/* Appends a blob of these bytes. */
+uint32_t rhai_host_put_blob(
+    RhaiHostHandle *handle,
+    const uint8_t *bytes,
+    size_t bytes_len,
+    RhaiHostTold *told);
+
+/* Appends the character of this number. */
+uint32_t rhai_host_put_char(RhaiHostHandle *handle, uint32_t code, RhaiHostTold *told);
+
+/* Appends what the value at the hand position is as this type, copied without its holders. */
+uint32_t rhai_host_cast(RhaiHostHandle *handle, size_t i, uint32_t kind, RhaiHostTold *told);
+
+/* Answers whether this is the type that is held at the hand position. */
+uint32_t rhai_host_is_held(RhaiHostHandle *handle, size_t i, uint32_t kind, RhaiHostTold *told);
+
+/* Answers whether the value at the hand position is of this type: by its constructor, or for a holder by the
+ * held type. */
+uint32_t rhai_host_is_type(RhaiHostHandle *handle, size_t i, uint32_t kind, RhaiHostTold *told);
+
+/* Appends what the operator answers on the values at the two hand positions. */
+uint32_t rhai_host_binary(RhaiHostHandle *handle, uint32_t operator_, size_t i, size_t j, RhaiHostTold *told);
+
+/* Calls the assignment of the operator on the value at the place and the one at the hand position. */
+uint32_t rhai_host_assign(
+    RhaiHostHandle *handle,
+    uint32_t operator_,
+    bool is_entry,
+    size_t at,
+    size_t j,
+    RhaiHostTold *told);
+
+/* Appends what the value of the last entry of the name is as this type, copied without its holders; or answers
+ * nothing. */
+uint32_t rhai_host_get_value(RhaiHostHandle *handle, size_t name, uint32_t kind, RhaiHostTold *told);
+
+/* Appends a copy of what the last entry of the name itself is as this type, by reference; or answers nothing. */
+uint32_t rhai_host_get_ref(RhaiHostHandle *handle, size_t name, uint32_t kind, RhaiHostTold *told);
+
+/* Takes the last entry of the name out, and appends what its value is as this type, without its holders; or
+ * answers nothing. */
+uint32_t rhai_host_remove(RhaiHostHandle *handle, size_t name, uint32_t kind, RhaiHostTold *told);
+
+/* Declares a variable with the value of these hash bytes, behind the others. */
+uint32_t rhai_host_variable_push(
+    RhaiHostHandle *handle,
+    const uint8_t *name,
+    size_t name_len,
+    const uint8_t *value,
+    size_t value_len);
+
+/* Writes the value of these hash bytes over that of the variable of this number, the oldest being 0. One that
+ * closures share is written for all of them. */
+uint32_t rhai_host_variable_set(
+    RhaiHostHandle *handle,
+    size_t number,
+    const uint8_t *value,
+    size_t value_len);
+
+/* Ends the variables from this number on. */
+uint32_t rhai_host_variable_rewind(RhaiHostHandle *handle, size_t count);
+
+/* Counts the variables, 0 where no world is open. */
+size_t rhai_host_variable_count(RhaiHostHandle *handle);
+
+/* Answers the name of the variable of this number. */
+uint32_t rhai_host_variable_name(RhaiHostHandle *handle, size_t number, RhaiHostTold *told);
+
+/* Answers the hash bytes of the value of the variable of this number. */
+uint32_t rhai_host_variable_value(RhaiHostHandle *handle, size_t number, RhaiHostTold *told);
+
+/* Does nothing: its name is a sum of all that is exported, so that a host of other declarations doesn't link. */
+void rhai_host_stamp_45eb2456b2bd3373(void);
+
+#define RHAI_HOST_STAMP rhai_host_stamp_45eb2456b2bd3373
+
+#undef RHAI_HOST_ASSERT
+#undef RHAI_HOST_ALIGN
+
+#ifdef __cplusplus
+}
+#endif
+
+#endif

@@ -1,0 +1,157 @@
+//! Runs by pieces.
+use rhai_world::{Array, Engine, EvalError, Progress, Scope, Value};
+use std::panic::{catch_unwind, AssertUnwindSafe};
+use std::sync::{Arc, Mutex};
+
+#[test]
+fn a_run_goes_on_by_as_many_operations_as_it_is_told() -> Result<(), EvalError> {
+    let engine = Engine::new();
+    let ast = engine.compile("let sum = 0; for n in 0..10_000 { sum += n; } sum")?;
+    let mut scope = Scope::new()?;
+    let mut run = engine.start(&mut scope, &ast)?;
+    assert_eq!((run.go(0)?, run.operations(), run.line_column()), (Progress::Paused, 0, None));
+    let mut pieces = 0;
+    let value = loop {
+        match run.go(100)? {
+            Progress::Done(value) => break value,
+            Progress::Paused => pieces += 1,
+            Progress::Statement { .. } => panic!("it isn't to stop there"),
+        }
+        assert_eq!(run.operations(), 100 * pieces);
+        assert_eq!(run.line_column().map(|(line, _)| line), Some(1));
+    };
+    // (the sum of the ints below 10,000; each turn of the loop takes an operation at least)
+    assert_eq!(value, Value::Int(9_999 * 10_000 / 2));
+    assert!(pieces >= 100, "{pieces}");
+    assert!(run.memory().held > 0);
+    assert_eq!((run.go(100), run.stop_at_statements(true)), (Err(EvalError::Ended), Err(EvalError::Ended)));
+    drop(run);
+    assert_eq!(scope.get::<i64>("sum"), Some(49_995_000));
+    Ok(())
+}
+
+#[test]
+fn a_run_that_is_dropped_gives_the_variables_back() -> Result<(), EvalError> {
+    let engine = Engine::new();
+    let mut scope = Scope::new()?;
+    scope.push("n", 0)?.push("name", "kept")?;
+    let ast = engine.compile("let inside = 7; fn f(x) { loop { x += 1; } } loop { n += 1; if n > 1_000 { f(n); } }")?;
+    let mut run = engine.start(&mut scope, &ast)?;
+    assert_eq!(run.go(1_000)?, Progress::Paused);
+    drop(run);
+    let first = scope.get::<i64>("n").unwrap_or_default();
+    assert!(first > 0 && first <= 1_000, "{first}");
+    let mut run = engine.start(&mut scope, &ast)?;
+    assert_eq!(run.go(100_000)?, Progress::Paused);
+    drop(run);
+    // (the second run stood in the function, whose parameter is its own)
+    assert_eq!(scope.get::<i64>("n"), Some(1_001));
+    assert_eq!(scope.get::<String>("name"), Some("kept".to_owned()));
+    assert_eq!(scope.get::<i64>("inside"), Some(7));
+    assert_eq!(engine.eval_with_scope::<i64>(&mut scope, "n + inside")?, 1_008);
+    Ok(())
+}
+
+#[test]
+fn runs_stop_at_statements_where_they_are_told() -> Result<(), EvalError> {
+    let engine = Engine::new();
+    let ast = engine.compile("let x = 1;\nif x == 1 {\n  x += 1;\n}\nx")?;
+    let mut scope = Scope::new()?;
+    let mut run = engine.start(&mut scope, &ast)?;
+    run.stop_at_statements(true)?;
+    for (line, column) in [(1, 1), (2, 1), (3, 3), (5, 1)] {
+        assert_eq!(run.go(1_000)?, Progress::Statement { line, column });
+        assert_eq!(run.line_column(), Some((line, column)));
+    }
+    assert_eq!(run.go(1_000)?, Progress::Done(Value::Int(2)));
+    drop(run);
+    let mut run = engine.start(&mut scope, &ast)?;
+    run.stop_at_statements(true)?;
+    assert_eq!(run.go(1_000)?, Progress::Statement { line: 1, column: 1 });
+    run.stop_at_statements(false)?;
+    assert_eq!(run.go(1_000)?, Progress::Done(Value::Int(2)));
+    Ok(())
+}
+
+#[test]
+fn functions_of_the_program_are_answered_meanwhile() -> Result<(), EvalError> {
+    let mut engine = Engine::new();
+    engine.register_fn("ask", |n: i64| if n == 2 { Err("not two") } else { Ok(n * 10) });
+    let ast = engine.compile("let all = []; for n in 0..4 { try { all.push(ask(n)); } catch (why) { all.push(why); } } all")?;
+    let mut scope = Scope::new()?;
+    let mut run = engine.start(&mut scope, &ast)?;
+    let all: Array = [Value::from(0), Value::from(10), Value::from("not two"), Value::from(30)].into_iter().collect();
+    assert_eq!(run.go(u64::MAX)?, Progress::Done(all.into()));
+    Ok(())
+}
+
+#[test]
+fn calls_go_on_by_pieces_too() -> Result<(), EvalError> {
+    let engine = Engine::new();
+    let ast = engine.compile("seen += 1; let own = 3; fn sum(to) { let sum = 0; for n in 0..to { sum += n; } sum }")?;
+    let mut scope = Scope::new()?;
+    scope.push("seen", 0)?;
+    let mut run = engine.start_fn(&mut scope, &ast, "sum", (1_000,))?;
+    let value = loop {
+        if let Progress::Done(value) = run.go(50)? {
+            break value;
+        }
+    };
+    assert_eq!((value, run.operations() > 1_000), (Value::Int(499_500), true));
+    drop(run);
+    assert_eq!((scope.names()?, scope.get::<i64>("seen")), (vec!["seen".to_owned()], Some(1)));
+    let missing = engine.start_fn(&mut scope, &ast, "sum", ())?.go(1_000);
+    assert_eq!(missing, Err(EvalError::NoFunction { name: "sum".to_owned(), arguments: 0 }));
+    assert_eq!(scope.len(), 1);
+    Ok(())
+}
+
+#[test]
+fn an_error_ends_a_run() -> Result<(), EvalError> {
+    let engine = Engine::new();
+    let ast = engine.compile("let x = 7;\nx + nowhere")?;
+    let mut scope = Scope::new()?;
+    let mut run = engine.start(&mut scope, &ast)?;
+    let message = "variable not found: nowhere".to_owned();
+    assert_eq!(run.go(1_000), Err(EvalError::Runtime { message, line: 2, column: 5 }));
+    assert_eq!((run.go(1_000), run.line_column()), (Err(EvalError::Ended), Some((2, 5))));
+    drop(run);
+    assert_eq!(scope.get::<i64>("x"), Some(7));
+    Ok(())
+}
+
+#[test]
+fn operations_are_limited_where_statements_are_told() -> Result<(), EvalError> {
+    let mut engine = Engine::new();
+    engine.on_statement(|_, _| {}).set_max_operations(1_000);
+    assert!(matches!(engine.run("loop { let x = 1; }"), Err(EvalError::TooManyOperations { line: 1, .. })));
+    Ok(())
+}
+
+fn lines_of(engine: &mut Engine) -> Arc<Mutex<Vec<String>>> {
+    let lines = Arc::new(Mutex::new(Vec::new()));
+    let kept = Arc::clone(&lines);
+    engine.on_print(move |line| kept.lock().unwrap().push(line.to_owned()));
+    lines
+}
+
+#[test]
+fn what_is_printed_before_an_error_is_handed_on() {
+    let mut engine = Engine::new();
+    let lines = lines_of(&mut engine);
+    assert!(matches!(engine.run("print(1); print(2); nowhere"), Err(EvalError::Runtime { .. })));
+    assert_eq!(*lines.lock().unwrap(), ["1", "2"]);
+}
+
+#[test]
+fn a_panic_of_what_is_called_leaves_the_variables() -> Result<(), EvalError> {
+    let mut engine = Engine::new();
+    engine.on_print(|line| assert_ne!(line, "2"));
+    let mut scope = Scope::new()?;
+    let panicked = catch_unwind(AssertUnwindSafe(|| engine.run_with_scope(&mut scope, "let x = 7; print(1); print(2);")));
+    assert!(panicked.is_err());
+    assert_eq!(scope.get::<i64>("x"), Some(7));
+    engine.on_print(|_| {});
+    assert_eq!(engine.eval_with_scope::<i64>(&mut scope, "x + 1")?, 8);
+    Ok(())
+}

@@ -21,7 +21,7 @@ IsEndOf (Err (script.Syntax (syntax.Fault why place))) end = IsAt end 1 place
 IsEndOf (Err (script.Syntax syntax.OutOfMemory)) end = ⊥
 IsEndOf (Err (script.TooLarge place)) end = IsAt end 1 place
 IsEndOf (Err (script.Fault why place)) end = IsAt end 2 place
-IsEndOf (Err script.OutOfMemory) end = ⊥
+IsEndOf (Err (script.OutOfMemory place)) end = ⊥
 
 -- the bytes are what was printed, and what is said of what went wrong: nothing where nothing did
 pub record IsWhole (end : ScriptEnd) (bytes : List ℕ) : Type 0 where

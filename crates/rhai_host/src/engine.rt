@@ -23,7 +23,7 @@ use std::alloc::{AllocError, Global};
 #[derive(Drop)]
 pub struct ScriptStop {
     /// 0 it is done, 1 it did as many operations as it might, 2 it calls the host, 3 a statement is done next, 4 memory was refused, 5 it
-    /// went wrong, 6 the text is no script.
+    /// went wrong, 6 the text is no script, 7 a function that the host called while it is called itself is done, 8 it went wrong.
     pub kind: u32,
     /// The number of the host's function that is called; else 0.
     pub function: u32,
@@ -42,7 +42,13 @@ pub struct ScriptStop {
 }
 
 /// Tells a stop of this kind at a place, with what was printed and what is said of it, as far as there is memory for that.
-fn tell_stop(kept: &mut Kept, stop: &mut ScriptStop, kind: u32, place: Position, why: &str)
+pub(crate) fn tell_stop(
+    kept: &mut Kept,
+    stop: &mut ScriptStop,
+    kind: u32,
+    place: Position,
+    why: &str,
+)
     ensures { KeepsWorld kept.old kept.new }
 {
     let operations = match kept.engine.run() {
@@ -77,7 +83,7 @@ fn standing(engine: &Engine) -> Position {
 }
 
 /// Tells why a run stopped.
-fn tell_step(alloc: Global, kept: &mut Kept, stop: &mut ScriptStop, step: Step)
+pub(crate) fn tell_step(alloc: Global, kept: &mut Kept, stop: &mut ScriptStop, step: Step)
     ensures { KeepsWorld kept.old kept.new }
 {
     let place = standing(&kept.engine);
@@ -86,6 +92,7 @@ fn tell_step(alloc: Global, kept: &mut Kept, stop: &mut ScriptStop, step: Step)
         Step::Paused => tell_stop(kept, stop, 1, place, ""),
         Step::Statement => tell_stop(kept, stop, 3, place, ""),
         Step::Memory => tell_stop(kept, stop, 4, place, ""),
+        Step::Answered => tell_stop(kept, stop, 7, place, ""),
         Step::Calls(number) => {
             tell_stop(kept, stop, 2, place, "");
             stop.function = number;
@@ -95,26 +102,52 @@ fn tell_step(alloc: Global, kept: &mut Kept, stop: &mut ScriptStop, step: Step)
         }
         Step::Fault(fault) => {
             let why = fault.kind.message(alloc, kept.engine.store());
-            match why {
-                Ok(why) => tell_stop(kept, stop, 5, fault.position, why.as_str()),
-                Err(_) => tell_stop(kept, stop, 5, fault.position, ""),
-            }
+            tell_why(kept, stop, 5, fault.position, &why);
+        }
+        Step::Refused(fault) => {
+            let why = fault.kind.message(alloc, kept.engine.store());
+            tell_why(kept, stop, 8, fault.position, &why);
         }
     }
 }
 
-/// The functions of the host that a text names: a line each, of a name, a space and the number of arguments.
+/// Tells a stop of this kind by what went wrong, as far as there is memory for that.
+fn tell_why(
+    kept: &mut Kept,
+    stop: &mut ScriptStop,
+    kind: u32,
+    place: Position,
+    why: &Result<String, AllocError>,
+)
+    ensures { KeepsWorld kept.old kept.new }
+{
+    match why {
+        Ok(why) => tell_stop(kept, stop, kind, place, why.as_str()),
+        Err(_) => tell_stop(kept, stop, kind, place, ""),
+    }
+}
+
+/// The functions of the host that a text names: a line each, of a name, a space and the number of arguments, with ` mut` behind that where it
+/// changes the first one.
 fn host_names(alloc: Global, text: &str) -> Result<Option<Vec<HostName>>, AllocError> {
     let mut names = Vec::new(alloc);
     for line in text.lines() {
         let Some((name, count)) = line.split_once(' ') else {
             return Ok(None);
         };
+        let (count, changes) = match count.strip_suffix(" mut") {
+            Some(count) => (count, true),
+            None => (count, false),
+        };
         let Ok(arguments) = count.parse() else {
             return Ok(None);
         };
         let name = String::from_str(alloc, name)?;
-        names.push(HostName { name, arguments })?;
+        names.push(HostName {
+            name,
+            arguments,
+            changes,
+        })?;
     }
     Ok(Some(names))
 }
@@ -170,7 +203,8 @@ fn compile(alloc: Global, kept: &mut Kept, text: &[u8], names: &[u8], stop: &mut
 }
 
 /// Compiles a script for the variables that are there. The functions of the host are a line each: the name, a space and the number of
-/// arguments; the first one has number 0. A run that stands ends. What is wrong with the text is told as a stop of kind 6.
+/// arguments, with ` mut` behind that where it may change the first one; the first function has number 0. A run that stands ends. What is wrong
+/// with the text is told as a stop of kind 6.
 #[unsafe(no_mangle)]
 pub extern "C" fn rhai_host_script_compile(
     alloc: Global,

@@ -3,6 +3,7 @@
 
 pub mod asks;
 pub mod engine;
+pub mod functions;
 pub mod hand;
 pub mod handle;
 pub mod lines;

@@ -2,6 +2,7 @@
 
 mod asks;
 mod engine;
+mod functions;
 mod hand;
 mod lines;
 mod lists;
@@ -21,6 +22,7 @@ mod variables;
 
 pub use asks::*;
 pub use engine::*;
+pub use functions::*;
 pub use hand::*;
 pub use lines::*;
 pub use lists::*;

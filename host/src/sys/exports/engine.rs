@@ -8,7 +8,7 @@ use crate::sys::Told;
 #[derive(Clone, Copy, Debug, Default)]
 pub struct ScriptStop {
     /// 0 it is done, 1 it did as many operations as it might, 2 it calls the host, 3 a statement is done next, 4 memory was refused, 5 it
-    /// went wrong, 6 the text is no script.
+    /// went wrong, 6 the text is no script, 7 a function that the host called while it is called itself is done, 8 it went wrong.
     pub kind: u32,
     /// The number of the host's function that is called; else 0.
     pub function: u32,
@@ -60,7 +60,8 @@ unsafe extern "C" {
 }
 
 /// Compiles a script for the variables that are there. The functions of the host are a line each: the name, a space and the number of
-/// arguments; the first one has number 0. A run that stands ends. What is wrong with the text is told as a stop of kind 6.
+/// arguments, with ` mut` behind that where it may change the first one; the first function has number 0. A run that stands ends. What is wrong
+/// with the text is told as a stop of kind 6.
 #[inline]
 pub fn script_compile(handle: &Handle, text: &[u8], names: &[u8], stop: &mut ScriptStop) -> u32 {
     // SAFETY: `handle` is zeros or what a call left, and this call's alone: it is no `Sync`, and the library comes back by

@@ -8,7 +8,7 @@
 //! B2 = "large"
 //! C1: uses itself, by other cells or at once
 //! C2: uses itself, by other cells or at once
-//! E1: arithmetic fault: DivisionByZero (line 1, column 3)
+//! E1: division by zero (line 1, column 3)
 //! E2: E1 has no value
 //! F1: too many operations (line 1, column 1)
 //! ```

@@ -71,7 +71,8 @@ RHAI_HOST_ASSERT(RHAI_HOST_ALIGN(RhaiHostHandle) == RHAI_HOST_HANDLE_ALIGN);
 /* Why a script stopped. The answer is what it printed, and behind that what went wrong. */
 typedef struct RhaiHostScriptStop {
     /* 0 it is done, 1 it did as many operations as it might, 2 it calls the host, 3 a statement is done next, 4
-     * memory was refused, 5 it went wrong, 6 the text is no script. */
+     * memory was refused, 5 it went wrong, 6 the text is no script, 7 a function that the host called while it is
+     * called itself is done, 8 it went wrong. */
     uint32_t kind;
     /* The number of the host's function that is called; else 0. */
     uint32_t function;
@@ -247,6 +248,23 @@ enum {
     RHAI_HOST_OPERATOR_XOR_ASSIGN = 30,
 };
 
+/* Answers the hash bytes of an argument that the host's function is called with. */
+uint32_t rhai_host_script_argument(RhaiHostHandle *handle, size_t number, RhaiHostTold *told);
+
+/* Answers the hash bytes of the value that the run came to. */
+uint32_t rhai_host_script_value(RhaiHostHandle *handle, RhaiHostTold *told);
+
+/* Answers the call of the host's function with the value of these hash bytes. */
+uint32_t rhai_host_script_answer(RhaiHostHandle *handle, const uint8_t *value, size_t value_len);
+
+/* Refuses the call of the host's function with a text, which the script may catch: it goes on then, and the stop
+ * is of kind 1. */
+uint32_t rhai_host_script_refuse(
+    RhaiHostHandle *handle,
+    const uint8_t *why,
+    size_t why_len,
+    RhaiHostScriptStop *stop);
+
 /* Answers the tag of the value at the hand position. */
 uint32_t rhai_host_tag(RhaiHostHandle *handle, size_t i, RhaiHostTold *told);
 
@@ -308,8 +326,8 @@ uint32_t rhai_host_index(
     RhaiHostTold *told);
 
 /* Compiles a script for the variables that are there. The functions of the host are a line each: the name, a
- * space and the number of arguments; the first one has number 0. A run that stands ends. What is wrong with the
- * text is told as a stop of kind 6. */
+ * space and the number of arguments, with ` mut` behind that where it may change the first one; the first
+ * function has number 0. A run that stands ends. What is wrong with the text is told as a stop of kind 6. */
 uint32_t rhai_host_script_compile(
     RhaiHostHandle *handle,
     const uint8_t *text,
@@ -334,23 +352,6 @@ uint32_t rhai_host_script_stop_at_statements(RhaiHostHandle *handle, bool stops)
 /* Goes on with the run by up to so many operations. */
 uint32_t rhai_host_script_go(RhaiHostHandle *handle, uint64_t operations, RhaiHostScriptStop *stop);
 
-/* Answers the hash bytes of an argument that the host's function is called with. */
-uint32_t rhai_host_script_argument(RhaiHostHandle *handle, size_t number, RhaiHostTold *told);
-
-/* Answers the hash bytes of the value that the run came to. */
-uint32_t rhai_host_script_value(RhaiHostHandle *handle, RhaiHostTold *told);
-
-/* Answers the call of the host's function with the value of these hash bytes. */
-uint32_t rhai_host_script_answer(RhaiHostHandle *handle, const uint8_t *value, size_t value_len);
-
-/* Refuses the call of the host's function with a text, which the script may catch: it goes on then, and the stop
- * is of kind 1. */
-uint32_t rhai_host_script_refuse(
-    RhaiHostHandle *handle,
-    const uint8_t *why,
-    size_t why_len,
-    RhaiHostScriptStop *stop);
-
 /* Begins a call of a function of the script with these arguments: the hash bytes of an array of them. The
  * script's body is done, and no call stands. */
 uint32_t rhai_host_script_call(
@@ -362,6 +363,49 @@ uint32_t rhai_host_script_call(
 
 /* Ends the run, wherever it stands: its variables can be looked at and written then. */
 uint32_t rhai_host_script_end(RhaiHostHandle *handle);
+
+/* Keeps a function of a script, with the cells that it captured, and tells its number: that at a place among the
+ * arguments of the host's function that is called (source 0), that which the run or a call within it has just
+ * come to (source 1), or that of a variable (source 2). NO_COMMAND says that no function is there. */
+uint32_t rhai_host_function_keep(RhaiHostHandle *handle, uint32_t source, size_t at, size_t *number);
+
+/* Keeps a pointer to the function of this name, whether a script has one or not, and tells its number.
+ * NO_COMMAND says that the bytes are no text. */
+uint32_t rhai_host_function_of(RhaiHostHandle *handle, const uint8_t *name, size_t name_len, size_t *number);
+
+/* Keeps the function of this number no more, which another one may have then. NO_COMMAND says that there is
+ * none. */
+uint32_t rhai_host_function_let_go(RhaiHostHandle *handle, size_t number);
+
+/* Answers the hash bytes of the kept function of this number: its name, and what it was given ahead. */
+uint32_t rhai_host_function_value(RhaiHostHandle *handle, size_t number, RhaiHostTold *told);
+
+/* Answers the call of the host's function with the kept function of this number. NO_COMMAND says that none is
+ * called, or that there is no such function. */
+uint32_t rhai_host_function_answer(RhaiHostHandle *handle, size_t number);
+
+/* Changes the first argument of the host's function that is called to the value of these hash bytes: where the
+ * function was compiled with ` mut`, the place that it came from has it once the call is answered. NO_COMMAND
+ * says that none is called, or that it takes no argument. */
+uint32_t rhai_host_script_change(RhaiHostHandle *handle, const uint8_t *value, size_t value_len);
+
+/* Begins a call of a kept function with these arguments: the hash bytes of an array of them. Either a function
+ * of the host is called: then the run goes on to a stop of kind 7 or 8, behind which that call stands as before.
+ * Or the script's body is done, and no call stands. NO_COMMAND says that neither is so, or that there is no such
+ * function of so many arguments. */
+uint32_t rhai_host_function_call(
+    RhaiHostHandle *handle,
+    size_t number,
+    const uint8_t *arguments,
+    size_t arguments_len);
+
+/* Refuses the call of the host's function with the value of these hash bytes, as if the script threw it: the
+ * script may catch it and goes on then, and the stop is of kind 1. */
+uint32_t rhai_host_script_throw(
+    RhaiHostHandle *handle,
+    const uint8_t *value,
+    size_t value_len,
+    RhaiHostScriptStop *stop);
 
 /* Takes this many values off the end of the hand, and appends the array of them in order. */
 uint32_t rhai_host_make_array(RhaiHostHandle *handle, size_t count, RhaiHostTold *told);
@@ -765,9 +809,9 @@ uint32_t rhai_host_variable_name(RhaiHostHandle *handle, size_t number, RhaiHost
 uint32_t rhai_host_variable_value(RhaiHostHandle *handle, size_t number, RhaiHostTold *told);
 
 /* Does nothing: its name is a sum of all that is exported, so that a host of other declarations doesn't link. */
-void rhai_host_stamp_45eb2456b2bd3373(void);
+void rhai_host_stamp_c29f0ca37030a2b8(void);
 
-#define RHAI_HOST_STAMP rhai_host_stamp_45eb2456b2bd3373
+#define RHAI_HOST_STAMP rhai_host_stamp_c29f0ca37030a2b8
 
 #undef RHAI_HOST_ASSERT
 #undef RHAI_HOST_ALIGN

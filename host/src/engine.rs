@@ -1,23 +1,28 @@
 //! Scripts that a program embeds: functions of its own, variables that live on, and budgets.
 mod ast;
+mod call;
 mod error;
+mod function;
 mod functions;
+mod keeping;
 mod run;
 mod scope;
 mod variables;
 mod watch;
 
 pub use ast::Ast;
+pub use call::Call;
 pub use error::EvalError;
-pub use functions::{Arguments, HostFn, Wanted};
+pub use function::{Found, Function};
+pub use functions::{Answers, Arguments, HostFn, Wanted};
 pub use run::{Progress, Run};
 pub use scope::Scope;
 pub use variables::Variables;
 pub use watch::Interrupt;
 
 use crate::limits::Limits;
-use crate::value::Value;
-use functions::Registered;
+use functions::{Given, Refused, Registered, Unread};
+use std::any::Any;
 use std::fmt;
 use std::io::Write;
 use std::num::NonZeroUsize;
@@ -96,9 +101,14 @@ impl Engine {
     /// number the last one counts. Those of a script come first, then these, then the packages'.
     ///
     /// Parameters and answers may be integers of any type, `bool`, `char`, `String`, `()`, `Option` with unit as `None`, vectors and arrays,
-    /// maps by `String`, ranges, and [`Value`]; answers `&'static str` too, and a `Result` of one of these and an error. Where an argument or an
+    /// maps by `String`, ranges, and [`Value`](crate::Value); answers `&'static str` too, and a `Result` of one of these and an error. Where an argument or an
     /// answer doesn't fit, as a number may not, the script is told so as by an error: it is thrown where the script calls, and may be
     /// caught there. A panic is such an error too.
+    ///
+    /// A [`Function`] may be a parameter or the answer. A `&mut` [`Call`] before the parameters lets the function call those of the script.
+    ///
+    /// The first parameter may be a `&mut` of such a type: what it is left as is written where it came from, as `x` and `x.a[0]` in `x.f()` and
+    /// `x.a[0].f()`, unless the function fails. In `f(x)` that is so of a variable which no closure shares and which is no constant.
     ///
     /// ```
     /// use rhai_world::{Engine, EvalError};
@@ -107,12 +117,17 @@ impl Engine {
     /// engine.register_fn("half", |n: i64| if n % 2 == 0 { Ok(n / 2) } else { Err("it is odd") });
     /// assert_eq!(engine.eval::<i64>("half(8)")?, 4);
     /// assert_eq!(engine.eval::<String>("try { half(7) } catch (e) { e }")?, "it is odd");
+    /// engine.register_fn("grow", |list: &mut Vec<i64>, by: i64| list.push(by));
+    /// assert_eq!(engine.eval::<Vec<i64>>("let list = [1]; list.grow(2); list")?, [1, 2]);
     /// # Ok::<(), EvalError>(())
     /// ```
     pub fn register_fn<A, K, F: HostFn<A, K>>(&mut self, name: &str, function: F) -> &mut Engine {
         let registered = Registered::new(name, function);
         match self.functions.iter_mut().find(|known| known.is_like(&registered)) {
-            Some(known) => *known = registered,
+            Some(known) => {
+                *known = registered;
+                self.names = self.functions.iter().map(Registered::line).collect();
+            }
             None => {
                 self.names.push_str(&registered.line());
                 self.functions.push(registered);
@@ -179,14 +194,15 @@ impl Engine {
         self
     }
 
-    /// Reads a script, and tells what is wrong with it. Where its anonymous functions name variables of a scope, `compile_with_scope` reads it.
+    /// Reads a script, and tells what is wrong with it. That a variable isn't there is an error when the script is run.
     pub fn compile(&self, text: &str) -> Result<Ast, EvalError> {
         let ast = Ast::of(text);
         Scope::new()?.compile(&ast, self)?;
         Ok(ast)
     }
 
-    /// Reads a script for the variables of a scope, which its anonymous functions may name, and tells what is wrong with it.
+    /// Reads a script for the variables of a scope, and tells what is wrong with it. What `compile` reads may be run over a scope, too: a run reads a
+    /// script again for the variables that it runs over.
     ///
     /// ```
     /// use rhai_world::{Engine, EvalError, Scope};
@@ -194,9 +210,11 @@ impl Engine {
     /// let engine = Engine::new();
     /// let mut scope = Scope::of([("total", 1)])?;
     /// let text = "let add = |n| total += n; add.call(5); total";
-    /// assert!(engine.compile(text).is_err());
     /// let ast = engine.compile_with_scope(&scope, text)?;
     /// assert_eq!(engine.eval_ast_with_scope::<i64>(&mut scope, &ast)?, 6);
+    /// let missing = engine.eval_ast::<i64>(&ast).unwrap_err();
+    /// assert_eq!(missing.to_string(), "variable not found: total (line 1, column 15)");
+    /// assert_eq!(engine.eval_ast_with_scope::<i64>(&mut scope, &engine.compile(text)?)?, 11);
     /// # Ok::<(), EvalError>(())
     /// ```
     pub fn compile_with_scope(&self, scope: &Scope, text: &str) -> Result<Ast, EvalError> {
@@ -226,17 +244,17 @@ impl Engine {
 
     /// Runs a compiled script over the variables of a scope, in which its own stay, also after an error.
     pub fn eval_ast_with_scope<T: Wanted>(&self, scope: &mut Scope, ast: &Ast) -> Result<T, EvalError> {
-        Ok(T::wanted(self.value_of(scope, ast)?)?)
+        self.start(scope, ast)?.finish()
     }
 
     /// Runs a script of no variables, whose value isn't wanted.
     pub fn run(&self, text: &str) -> Result<(), EvalError> {
-        self.value_of(&mut Scope::new()?, &Ast::of(text)).map(drop)
+        self.run_with_scope(&mut Scope::new()?, text)
     }
 
     /// Runs a script over the variables of a scope; its value isn't wanted.
     pub fn run_with_scope(&self, scope: &mut Scope, text: &str) -> Result<(), EvalError> {
-        self.value_of(scope, &Ast::of(text)).map(drop)
+        self.run_ast_with_scope(scope, &Ast::of(text))
     }
 
     /// Runs a compiled script of no variables, whose value isn't wanted.
@@ -246,7 +264,7 @@ impl Engine {
 
     /// Runs a compiled script over the variables of a scope; its value isn't wanted.
     pub fn run_ast_with_scope(&self, scope: &mut Scope, ast: &Ast) -> Result<(), EvalError> {
-        self.value_of(scope, ast).map(drop)
+        self.start(scope, ast)?.finish::<Unread>().map(drop)
     }
 
     /// Runs the statements of a script outside of its functions, and then calls one of these. The variables of the script are gone
@@ -267,7 +285,7 @@ impl Engine {
         name: &str,
         arguments: impl Arguments,
     ) -> Result<T, EvalError> {
-        Ok(T::wanted(Run::begin_call(self, scope, ast, name, arguments.into_values()?)?.finish()?)?)
+        Run::begin_call(self, scope, ast, name, arguments.into_values()?)?.finish()
     }
 
     /// Begins a run of a compiled script over the variables of a scope, which goes on by pieces: [`Run`] tells how.
@@ -285,10 +303,6 @@ impl Engine {
     ) -> Result<Run<'a>, EvalError> {
         Run::begin_call(self, scope, ast, name, arguments.into_values()?)
     }
-
-    fn value_of(&self, scope: &mut Scope, ast: &Ast) -> Result<Value, EvalError> {
-        self.start(scope, ast)?.finish()
-    }
 }
 
 /// What runs ask of it.
@@ -299,9 +313,12 @@ impl Engine {
         }
     }
 
-    /// Calls a registered function, which answers or refuses.
-    fn call(&self, function: usize, arguments: Vec<Value>) -> Result<Result<Value, String>, EvalError> {
-        Ok(self.functions.get(function).ok_or(EvalError::Unexpected)?.call(arguments))
+    /// Calls a registered function, which answers, refuses or panics.
+    fn call(&self, function: usize, call: &mut Call<'_>) -> Result<Result<Given, Refused>, Box<dyn Any + Send>> {
+        match self.functions.get(function) {
+            Some(registered) => registered.call(call),
+            None => Ok(Err(Refused::Ends(EvalError::Unexpected))),
+        }
     }
 
     /// Hands on a line that was printed.

@@ -13,8 +13,10 @@
 //! | `eval`, `eval_with_scope`, `eval_ast`, `eval_ast_with_scope` | the same |
 //! | `run`, `run_with_scope`, `run_ast`, `run_ast_with_scope` | the same |
 //! | `call_fn` | [`call_fn`](crate::Engine::call_fn), and by pieces [`start_fn`](crate::Engine::start_fn) |
-//! | `call_fn_with_options` | not there: the language has no `this` |
-//! | `register_fn` | [`register_fn`](crate::Engine::register_fn), of up to six parameters; errors are any that display |
+//! | `call_fn_with_options` | not there: a function that a host calls by its name is called on nothing, and has no `this` |
+//! | `FnPtr::new`, its `call`, `call_within_context` | [`Scope::function`](crate::Scope::function), [`call`](crate::Function::call), [`call_within_context`](crate::Function::call_within_context) |
+//! | `NativeCallContext` | [`Call`](crate::Call), as `&mut`: its [`call`](crate::Call::call), [`call_fn`](crate::Call::call_fn), its place and operations |
+//! | `register_fn` | [`register_fn`](crate::Engine::register_fn), of up to six parameters, the first of which may be `&mut`; errors are any that display |
 //! | `register_type`, `register_get`, `register_set`, `register_indexer_get` | not there: values are those of [`Value`](crate::Value) |
 //! | `register_iterator`, `register_custom_operator`, `register_custom_syntax` | not there: the language that is proved is fixed |
 //! | `on_print`, `on_debug` | [`on_print`](crate::Engine::on_print) has both, a line at a time |
@@ -46,7 +48,7 @@
 //! | `load(text).exec()`, `.eval()` | [`run`](crate::Engine::run), [`eval`](crate::Engine::eval) |
 //! | `load(text).into_function()` | [`compile`](crate::Engine::compile) |
 //! | `globals().set`, `.get` | [`Scope::push`](crate::Scope::push) or [`set`](crate::Scope::set), [`Scope::get`](crate::Scope::get) |
-//! | `create_function`, `Function::call` | [`register_fn`](crate::Engine::register_fn), [`call_fn`](crate::Engine::call_fn) |
+//! | `create_function`, `Function` | [`register_fn`](crate::Engine::register_fn), [`Function`](crate::Function), which its scope keeps |
 //! | `create_table`, `create_string` | [`Map`](crate::Map), [`Array`](crate::Array) and `String` are values of Rust's |
 //! | `create_userdata`, `register_userdata_type` | not there: values are those of [`Value`](crate::Value); a number may stand for what the program keeps |
 //! | `create_thread`, `Thread::resume` | [`start`](crate::Engine::start), [`Run::go`](crate::Run::go): the program pauses a run, a script doesn't |

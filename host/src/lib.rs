@@ -28,6 +28,22 @@
 //! # Ok::<(), EvalError>(())
 //! ```
 //!
+//! Functions of a script come as [`Function`], to be kept, and to be called while the script waits or later:
+//!
+//! ```
+//! use rhai_world::{Call, Engine, EvalError, Function, Scope};
+//!
+//! let mut engine = Engine::new();
+//! engine.register_fn("each", |call: &mut Call, items: Vec<i64>, f: Function| -> Result<(), EvalError> {
+//!     items.into_iter().try_for_each(|item| call.call(&f, (item,)))
+//! });
+//! let ast = engine.compile("let sum = 0; each([1, 2, 3], |n| sum += n); |n| sum * n")?;
+//! let mut scope = Scope::new()?;
+//! let times: Function = engine.eval_ast_with_scope(&mut scope, &ast)?;
+//! assert_eq!(times.call::<i64>(&engine, &mut scope, &ast, (7,))?, 42);
+//! # Ok::<(), EvalError>(())
+//! ```
+//!
 //! The variables of a [`Scope`] live on between runs, and an [`Ast`] is a script that was read, for many:
 //!
 //! ```
@@ -154,7 +170,9 @@ mod world;
 
 pub use answer::{Answer, ArithmeticFault, Refusal, SizeKind};
 pub use commands::Command;
-pub use engine::{Arguments, Ast, Engine, EvalError, HostFn, Interrupt, Progress, Run, Scope, Variables, Wanted};
+pub use engine::{
+    Answers, Arguments, Ast, Call, Engine, EvalError, Found, Function, HostFn, Interrupt, Progress, Run, Scope, Variables, Wanted,
+};
 pub use error::Error;
 pub use journal::Journal;
 pub use kinds::{Operator, Type};

@@ -10,6 +10,7 @@ mod misfit;
 mod put;
 mod read;
 mod shed;
+mod show;
 mod walk;
 mod write;
 

@@ -1,8 +1,8 @@
 //! Each request for memory refused in turn, and all from one on.
 #![cfg(feature = "faults")]
 use rhai_world::{
-    refuse, Answer, Command, Engine, Error, EvalError, Journal, Limits, Name, Operator, Place, Scope, Script, ScriptError, Type,
-    World,
+    refuse, Answer, Call, Command, Engine, Error, EvalError, Function, Journal, Limits, Name, Operator, Place, Scope, Script,
+    ScriptError, Type, World,
 };
 
 fn script(x: Name) -> Vec<Command> {
@@ -208,6 +208,53 @@ fn runs_over_scopes() {
             scope.rewind(1).unwrap();
             scope.set("total", 0).unwrap();
             assert_eq!(engine.eval_ast_with_scope::<i64>(&mut scope, &ast), expected, "after request {nth}");
+        }
+    }
+    assert!(stopped > asked, "{stopped} of {}", 2 * asked);
+}
+
+/// Functions of a script that the program calls, keeps and is given, and a first argument that is changed.
+const CALLED_BACK: &str = "
+    let words = []; each([1, 2, 3], |n| { total += n; words.add(`word number ` + n); });
+    try { each([4], |n| { throw n + words.len(); }); } catch (why) { total += why; }
+    words.add(`another word that is longer`); let f = same(|n| { total += n; words.len() }); f.call(1); f";
+
+#[test]
+fn functions_in_the_programs_hands() {
+    let mut engine = Engine::new();
+    engine
+        .register_fn("each", |call: &mut Call, items: Vec<i64>, f: Function| -> Result<(), EvalError> {
+            items.into_iter().try_for_each(|item| call.call(&f, (item,)))
+        })
+        .register_fn("add", |words: &mut Vec<String>, word: String| words.push(word))
+        .register_fn("same", |f: Function| f);
+    let new = || {
+        let mut scope = Scope::new().unwrap();
+        scope.push("total", 0).unwrap();
+        scope
+    };
+    let mut scope = new();
+    let ast = engine.compile_with_scope(&scope, &CALLED_BACK.replace('`', "\"")).unwrap();
+    let run = |scope: &mut Scope| {
+        let f: Function = engine.eval_ast_with_scope(scope, &ast)?;
+        f.call::<i64>(&engine, scope, &ast, (2,))
+    };
+    let (expected, asked) = refuse(u64::MAX, false, || run(&mut scope));
+    assert_eq!(expected, Ok(4));
+    assert_eq!(scope.get::<i64>("total"), Some(16));
+    let mut stopped = 0;
+    for nth in 0..asked {
+        for lasts in [false, true] {
+            let mut scope = new();
+            let (found, _) = refuse(nth, lasts, || run(&mut scope));
+            match found {
+                Err(EvalError::OutOfMemory { .. }) => stopped += 1,
+                found => assert_eq!(found, expected, "request {nth}"),
+            }
+            scope.rewind(1).unwrap();
+            scope.set("total", 0).unwrap();
+            assert_eq!(run(&mut scope), expected, "after request {nth}");
+            assert_eq!(scope.get::<i64>("total"), Some(16), "after request {nth}");
         }
     }
     assert!(stopped > asked, "{stopped} of {}", 2 * asked);

@@ -1,17 +1,14 @@
 //! Scripts that a host embeds: compiled for the variables that are there, run over them, and stopped where the host is called.
 ghost use Rattle.std.specs.Prelude.{◌≡◌};
 ghost use Rattle.rhai_host.specs.Content.{content};
-ghost use Rattle.rhai_host.specs.Engines.{AnswersBytes, AreAnswered, KeepsWorld, OnScripts};
+ghost use Rattle.rhai_host.specs.Engines.{KeepsWorld, OnScripts};
 
 use crate::handle::Handle;
 use crate::handle::kept::Kept;
 use crate::perform::{CLOSED, DONE, NO_COMMAND, OUT_OF_MEMORY};
 use crate::texts::text_in;
-use crate::told::{Told, told_of};
 use rhai_run::{Answer, Bytes};
-use rhai_show::hashed;
 use rhai_text::{Limits, Position};
-use rhai_value::{Dynamic, Store};
 use script_code::HostName;
 use script_engine::{Engine, Step, Unread, read_value};
 use script_run::{RunLimits, ScriptError};
@@ -23,7 +20,7 @@ use std::alloc::{AllocError, Global};
 #[derive(Drop)]
 pub struct ScriptStop {
     /// 0 it is done, 1 it did as many operations as it might, 2 it calls the host, 3 a statement is done next, 4 memory was refused, 5 it
-    /// went wrong, 6 the text is no script.
+    /// went wrong, 6 the text is no script, 7 a function that the host called while it is called itself is done, 8 it went wrong.
     pub kind: u32,
     /// The number of the host's function that is called; else 0.
     pub function: u32,
@@ -42,7 +39,13 @@ pub struct ScriptStop {
 }
 
 /// Tells a stop of this kind at a place, with what was printed and what is said of it, as far as there is memory for that.
-fn tell_stop(kept: &mut Kept, stop: &mut ScriptStop, kind: u32, place: Position, why: &str)
+pub(crate) fn tell_stop(
+    kept: &mut Kept,
+    stop: &mut ScriptStop,
+    kind: u32,
+    place: Position,
+    why: &str,
+)
     ensures { KeepsWorld kept.old kept.new }
 {
     let operations = match kept.engine.run() {
@@ -77,7 +80,7 @@ fn standing(engine: &Engine) -> Position {
 }
 
 /// Tells why a run stopped.
-fn tell_step(alloc: Global, kept: &mut Kept, stop: &mut ScriptStop, step: Step)
+pub(crate) fn tell_step(alloc: Global, kept: &mut Kept, stop: &mut ScriptStop, step: Step)
     ensures { KeepsWorld kept.old kept.new }
 {
     let place = standing(&kept.engine);
@@ -86,6 +89,7 @@ fn tell_step(alloc: Global, kept: &mut Kept, stop: &mut ScriptStop, step: Step)
         Step::Paused => tell_stop(kept, stop, 1, place, ""),
         Step::Statement => tell_stop(kept, stop, 3, place, ""),
         Step::Memory => tell_stop(kept, stop, 4, place, ""),
+        Step::Answered => tell_stop(kept, stop, 7, place, ""),
         Step::Calls(number) => {
             tell_stop(kept, stop, 2, place, "");
             stop.function = number;
@@ -95,26 +99,52 @@ fn tell_step(alloc: Global, kept: &mut Kept, stop: &mut ScriptStop, step: Step)
         }
         Step::Fault(fault) => {
             let why = fault.kind.message(alloc, kept.engine.store());
-            match why {
-                Ok(why) => tell_stop(kept, stop, 5, fault.position, why.as_str()),
-                Err(_) => tell_stop(kept, stop, 5, fault.position, ""),
-            }
+            tell_why(kept, stop, 5, fault.position, &why);
+        }
+        Step::Refused(fault) => {
+            let why = fault.kind.message(alloc, kept.engine.store());
+            tell_why(kept, stop, 8, fault.position, &why);
         }
     }
 }
 
-/// The functions of the host that a text names: a line each, of a name, a space and the number of arguments.
+/// Tells a stop of this kind by what went wrong, as far as there is memory for that.
+fn tell_why(
+    kept: &mut Kept,
+    stop: &mut ScriptStop,
+    kind: u32,
+    place: Position,
+    why: &Result<String, AllocError>,
+)
+    ensures { KeepsWorld kept.old kept.new }
+{
+    match why {
+        Ok(why) => tell_stop(kept, stop, kind, place, why.as_str()),
+        Err(_) => tell_stop(kept, stop, kind, place, ""),
+    }
+}
+
+/// The functions of the host that a text names: a line each, of a name, a space and the number of arguments, with ` mut` behind that where it
+/// changes the first one.
 fn host_names(alloc: Global, text: &str) -> Result<Option<Vec<HostName>>, AllocError> {
     let mut names = Vec::new(alloc);
     for line in text.lines() {
         let Some((name, count)) = line.split_once(' ') else {
             return Ok(None);
         };
+        let (count, changes) = match count.strip_suffix(" mut") {
+            Some(count) => (count, true),
+            None => (count, false),
+        };
         let Ok(arguments) = count.parse() else {
             return Ok(None);
         };
         let name = String::from_str(alloc, name)?;
-        names.push(HostName { name, arguments })?;
+        names.push(HostName {
+            name,
+            arguments,
+            changes,
+        })?;
     }
     Ok(Some(names))
 }
@@ -170,7 +200,8 @@ fn compile(alloc: Global, kept: &mut Kept, text: &[u8], names: &[u8], stop: &mut
 }
 
 /// Compiles a script for the variables that are there. The functions of the host are a line each: the name, a space and the number of
-/// arguments; the first one has number 0. A run that stands ends. What is wrong with the text is told as a stop of kind 6.
+/// arguments, with ` mut` behind that where it may change the first one; the first function has number 0. A run that stands ends. What is wrong
+/// with the text is told as a stop of kind 6.
 #[unsafe(no_mangle)]
 pub extern "C" fn rhai_host_script_compile(
     alloc: Global,
@@ -256,135 +287,6 @@ pub extern "C" fn rhai_host_script_go(
     tell_step(alloc, &mut kept, stop, step);
     handle.put(kept);
     DONE
-}
-
-/// The hash bytes of a value, where there is one that has some.
-pub(crate) fn value_bytes(
-    alloc: Global,
-    value: Option<&Dynamic>,
-    store: &Store,
-) -> Result<Option<Bytes>, AllocError> {
-    let Some(value) = value else {
-        return Ok(None);
-    };
-    match hashed(alloc, value, store)? {
-        Some(hashed) => Ok(Some(Bytes::new(hashed.into_bytes(alloc)?))),
-        None => Ok(None),
-    }
-}
-
-/// Keeps bytes as the answer.
-pub(crate) fn tell_bytes(
-    kept: &mut Kept,
-    bytes: Result<Option<Bytes>, AllocError>,
-    told: &mut Told,
-) -> u32
-    ensures { AreAnswered result kept.old kept.new told.old told.new }
-{
-    match bytes {
-        Ok(Some(bytes)) => {
-            let answer = Answer::Bytes(bytes);
-            *told = told_of(&answer);
-            kept.answer = answer;
-            DONE
-        }
-        Ok(None) => NO_COMMAND,
-        Err(_) => OUT_OF_MEMORY,
-    }
-}
-
-/// Answers the hash bytes of an argument that the host's function is called with.
-#[unsafe(no_mangle)]
-pub extern "C" fn rhai_host_script_argument(
-    alloc: Global,
-    handle: &mut Handle,
-    number: usize,
-    told: &mut Told,
-) -> u32
-    ensures { AnswersBytes result (content handle.old) (content handle.new) told.old told.new }
-{
-    let Some(mut kept) = handle.take(alloc) else {
-        return CLOSED;
-    };
-    let argument = match kept.engine.run() {
-        Some(run) => run.argument(number),
-        None => None,
-    };
-    let bytes = value_bytes(alloc, argument, kept.engine.store());
-    let status = tell_bytes(&mut kept, bytes, told);
-    handle.put(kept);
-    status
-}
-
-/// Answers the hash bytes of the value that the run came to.
-#[unsafe(no_mangle)]
-pub extern "C" fn rhai_host_script_value(alloc: Global, handle: &mut Handle, told: &mut Told) -> u32
-    ensures { AnswersBytes result (content handle.old) (content handle.new) told.old told.new }
-{
-    let Some(mut kept) = handle.take(alloc) else {
-        return CLOSED;
-    };
-    let bytes = value_bytes(alloc, Some(kept.engine.value()), kept.engine.store());
-    let status = tell_bytes(&mut kept, bytes, told);
-    handle.put(kept);
-    status
-}
-
-fn answer(alloc: Global, engine: &mut Engine, bytes: &[u8]) -> u32 {
-    let value = match read_value(alloc, bytes) {
-        Ok(value) => value,
-        Err(Unread::Form) => return NO_COMMAND,
-        Err(Unread::Memory) => return OUT_OF_MEMORY,
-    };
-    match engine.answer(value) {
-        Ok(true) => DONE,
-        Ok(false) => NO_COMMAND,
-        Err(_) => OUT_OF_MEMORY,
-    }
-}
-
-/// Answers the call of the host's function with the value of these hash bytes.
-#[unsafe(no_mangle)]
-pub extern "C" fn rhai_host_script_answer(alloc: Global, handle: &mut Handle, value: &[u8]) -> u32
-    ensures { OnScripts result (content handle.old) (content handle.new) }
-{
-    let Some(mut kept) = handle.take(alloc) else {
-        return CLOSED;
-    };
-    let status = answer(alloc, &mut kept.engine, value);
-    handle.put(kept);
-    status
-}
-
-fn refuse(alloc: Global, kept: &mut Kept, why: &[u8], stop: &mut ScriptStop) -> u32
-    ensures { KeepsWorld kept.old kept.new }
-{
-    let Some(why) = text_in(why) else {
-        return NO_COMMAND;
-    };
-    match kept.engine.refuse(why) {
-        Some(step) => tell_step(alloc, kept, stop, step),
-        None => tell_stop(kept, stop, 1, Position::NONE, ""),
-    }
-    DONE
-}
-
-/// Refuses the call of the host's function with a text, which the script may catch: it goes on then, and the stop is of kind 1.
-#[unsafe(no_mangle)]
-pub extern "C" fn rhai_host_script_refuse(
-    alloc: Global,
-    handle: &mut Handle,
-    why: &[u8],
-    stop: &mut ScriptStop,
-) -> u32
-    ensures { OnScripts result (content handle.old) (content handle.new) }
-{
-    let Some(mut kept) = handle.take(alloc) else {
-        return CLOSED;
-    };
-    let status = refuse(alloc, &mut kept, why, stop);
-    handle.put(kept);
-    status
 }
 
 fn call(alloc: Global, engine: &mut Engine, name: &[u8], arguments: &[u8]) -> u32 {

@@ -1,8 +1,10 @@
 //! A world for a host in C or Rust.
 #![tactic(auto)]
 
+pub mod answering;
 pub mod asks;
 pub mod engine;
+pub mod functions;
 pub mod hand;
 pub mod handle;
 pub mod lines;

@@ -3,7 +3,7 @@ ghost use Rattle.std.specs.Prelude.{◌≡◌};
 ghost use Rattle.rhai_host.specs.Content.{content};
 ghost use Rattle.rhai_host.specs.Engines.{AnswersBytes, OnScripts};
 
-use crate::engine::{tell_bytes, value_bytes};
+use crate::answering::{tell_bytes, value_bytes};
 use crate::handle::Handle;
 use crate::perform::{CLOSED, DONE, NO_COMMAND, OUT_OF_MEMORY};
 use crate::texts::text_in;

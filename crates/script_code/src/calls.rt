@@ -62,10 +62,19 @@ impl<'p> Compiler<'p> {
                 self.moved(to, first)
             }
             Meaning::Sort => self.sort_first(arguments, position, to, levels),
-            Meaning::Host(_) | Meaning::Call | Meaning::Curry => {
+            Meaning::Call => self.call_function(arguments, position, to, levels),
+            Meaning::Sift(_) | Meaning::Search => {
+                let first = self.values(arguments, levels)?;
+                self.sift_or_search(meaning, callee, arguments, first, position, to)
+            }
+            Meaning::Host(_) | Meaning::Curry | Meaning::IsVariable | Meaning::IsFunction => {
                 let first = self.values(arguments, levels)?;
                 if arguments.is_empty() {
                     self.take_slot()?;
+                }
+                if let Some(number) = self.changes_first(meaning) {
+                    self.call_changing(number, arguments.as_slice(), first, position)?;
+                    return self.moved(to, first);
                 }
                 self.call_values(meaning, callee, first, arguments.len(), position)?;
                 self.moved(to, first)
@@ -95,6 +104,32 @@ impl<'p> Compiler<'p> {
         self.moved(to, first)
     }
 
+    /// Calls the function pointer that is the first argument with the others.
+    #[cycle(compile)]
+    fn call_function(
+        &mut self,
+        arguments: &Vec<Expr>,
+        position: Position,
+        to: Slot,
+        levels: u32,
+    ) -> Result<(), CodeError> {
+        let Some((pointer, others)) = arguments.split_first() else {
+            return Ok(());
+        };
+        let stays = match known_variable(pointer) {
+            Some(slot) => self.watched(slot).stays_in_all(others),
+            None => true,
+        };
+        let called = self.operand(pointer, stays, levels)?;
+        let first = self.values(others, levels)?;
+        if others.is_empty() {
+            self.take_slot()?;
+        }
+        let count = to_slot(others.len())?;
+        self.emit_at(Op::CallPointer(first, called, count), position)?;
+        self.moved(to, first)
+    }
+
     /// Whether a variable is shared; a value that is none isn't.
     #[cycle(compile)]
     fn ask_shared(
@@ -105,6 +140,9 @@ impl<'p> Compiler<'p> {
         levels: u32,
     ) -> Result<(), CodeError> {
         if let Some(slot) = only_variable(arguments) {
+            for argument in arguments {
+                self.check_expr(argument)?;
+            }
             let slot = self.slot_of(slot)?;
             let path = self.path(Vec::new(self.alloc))?;
             self.emit_at(Op::IsShared(to, slot, path), position)?;
@@ -145,6 +183,7 @@ impl<'p> Compiler<'p> {
         let number = to_number(callee)?;
         if let Some((first, others)) = arguments.split_first() {
             if let Some(slot) = known_variable(first) {
+                self.check_expr(first)?;
                 return self.native_on(number, slot, others, position, to, levels);
             }
         }
@@ -198,12 +237,22 @@ impl<'p> Compiler<'p> {
             Meaning::Print => Op::Print(first, false),
             Meaning::Debug => Op::Print(first, true),
             Meaning::IsShared => Op::Bool(first, false),
+            Meaning::IsVariable => Op::IsVariable(first),
+            Meaning::IsFunction => Op::IsFunction(first),
             Meaning::Curry => Op::Curry(first, to_slot(count.saturating_sub(1))?),
-            Meaning::Native(_) | Meaning::Call | Meaning::Each(_) | Meaning::Sort => {
-                Op::Native(first, to_number(callee)?)
-            }
+            Meaning::Native(_)
+            | Meaning::Call
+            | Meaning::Each(_)
+            | Meaning::Sift(_)
+            | Meaning::Search
+            | Meaning::Sort => Op::Native(first, to_number(callee)?),
         };
-        self.emit_at(op, position)?;
+        let place = Place {
+            position,
+            flag: matches!(op, Op::Native(_, _)),
+            ..self.place()
+        };
+        self.emit_with(op, place)?;
         if let Meaning::Print | Meaning::Debug = meaning {
             self.emit(Op::Unit(first))?;
         }

@@ -4,9 +4,8 @@ use crate::compiler::{Compiler, to_slot};
 use crate::error::CodeError;
 use crate::meaning::Meaning;
 use crate::operations::{Op, Slot};
-use crate::program::{Method, PathStep, Place};
+use crate::program::{PathStep, Place};
 use crate::quiet::known_variable;
-use crate::tables::{number_in, to_number};
 use rhai_text::Position;
 use script_syntax::{Expr, Step, Variable};
 
@@ -17,6 +16,8 @@ pub(crate) struct Called {
     pub(crate) position: Position,
     /// The steps from the method before.
     pub(crate) path: Vec<PathStep>,
+    /// How many of them lead to each place that may be `()`, where the chain ends then.
+    pub(crate) tests: Vec<usize>,
     /// Where the receiver is put; the arguments follow.
     pub(crate) receiver: Slot,
     pub(crate) arguments: usize,
@@ -26,7 +27,7 @@ pub(crate) struct Called {
 
 /// Where a chain stands.
 #[derive(Clone, Copy)]
-enum Root {
+pub(crate) enum Root {
     /// At a variable, which stays where it is.
     Variable(Slot, Position),
     /// At a value that was made.
@@ -57,14 +58,59 @@ impl<'p> Compiler<'p> {
         if self.is_free(to) && to.saturating_add(1) == self.top {
             self.top = to;
         }
-        let rest = self.operands(root, steps, &mut methods, levels)?;
+        let mut tests = Vec::new(self.alloc);
+        let rest = self.operands(root, steps, &mut methods, &mut tests, levels)?;
         let Some(mut at) = self.root(root, methods.as_slice(), levels)? else {
             return Ok(());
         };
+        let mut ends = Vec::new(self.alloc);
         for method in methods.iter() {
+            self.end_early(
+                at,
+                method.path.as_slice(),
+                method.tests.as_slice(),
+                &mut ends,
+            )?;
             at = Root::Made(self.method(at, method)?);
         }
-        self.read(at, rest, to)
+        self.end_early(at, rest.as_slice(), tests.as_slice(), &mut ends)?;
+        self.read(at, rest, to)?;
+        self.end_chain(to, ends.as_slice())
+    }
+
+    /// Has the chain end where one of the places is `()` to which so many steps lead.
+    fn end_early(
+        &mut self,
+        at: Root,
+        steps: &[PathStep],
+        tests: &[usize],
+        ends: &mut Vec<usize>,
+    ) -> Result<(), CodeError> {
+        let (Root::Made(from) | Root::Variable(from, _)) = at;
+        for count in tests {
+            let mut path = Vec::new(self.alloc);
+            for step in steps.iter().take(*count) {
+                path.push(*step)?;
+            }
+            let position = match path.first() {
+                Some(step) => step.position(),
+                None => self.position,
+            };
+            let number = self.path(path)?;
+            ends.push(self.emit_at(Op::JumpNone(from, number, 0), position)?)?;
+        }
+        Ok(())
+    }
+
+    /// Puts `()` where the value of a chain is wanted that ended early.
+    fn end_chain(&mut self, to: Slot, ends: &[usize]) -> Result<(), CodeError> {
+        if ends.is_empty() {
+            return Ok(());
+        }
+        let done = self.emit(Op::Jump(0))?;
+        self.land(ends)?;
+        self.emit(Op::Unit(to))?;
+        self.land(&[done])
     }
 
     /// Evaluates the indices and arguments of all steps: adds the methods, and gives the steps behind the last.
@@ -74,6 +120,7 @@ impl<'p> Compiler<'p> {
         root: &Expr,
         steps: &Vec<Step>,
         methods: &mut Vec<Called>,
+        tests: &mut Vec<usize>,
         levels: u32,
     ) -> Result<Vec<PathStep>, CodeError> {
         let mut next = 0;
@@ -85,7 +132,8 @@ impl<'p> Compiler<'p> {
             let end = method_from(steps, number);
             let between = steps.as_slice().get(number..end).unwrap_or(&[]);
             let behind = steps.as_slice().get(end..).unwrap_or(&[]);
-            path = self.steps(between, root, behind, levels)?;
+            let mut found = Vec::new(self.alloc);
+            path = self.steps(between, root, behind, &mut found, levels)?;
             next = end.saturating_add(1);
             if let Some(
                 Step::Method {
@@ -108,11 +156,14 @@ impl<'p> Compiler<'p> {
                     callee: *callee,
                     position: *position,
                     path,
+                    tests: found,
                     receiver,
                     arguments: arguments.len(),
                     is_direct,
                 })?;
                 path = Vec::new(self.alloc);
+            } else {
+                *tests = found;
             }
         }
         Ok(path)
@@ -134,6 +185,7 @@ impl<'p> Compiler<'p> {
         if let Expr::Variable { variable, position } = root {
             return match variable {
                 Variable::Known(slot) => {
+                    self.check_this(*slot, *position)?;
                     let slot = self.slot_of(*slot)?;
                     Ok(Some(Root::Variable(slot, *position)))
                 }
@@ -152,7 +204,12 @@ impl<'p> Compiler<'p> {
     }
 
     /// Reads what steps lead to.
-    fn read(&mut self, at: Root, path: Vec<PathStep>, to: Slot) -> Result<(), CodeError> {
+    pub(crate) fn read(
+        &mut self,
+        at: Root,
+        path: Vec<PathStep>,
+        to: Slot,
+    ) -> Result<(), CodeError> {
         let position = match path.first() {
             Some(step) => step.position(),
             None => self.position,
@@ -188,115 +245,12 @@ impl<'p> Compiler<'p> {
     }
 
     /// A copy of the steps to a method.
-    fn copied_path(&self, method: &Called) -> Result<Vec<PathStep>, CodeError> {
+    pub(crate) fn copied_path(&self, method: &Called) -> Result<Vec<PathStep>, CodeError> {
         let mut path = Vec::new(self.alloc);
         for step in method.path.iter() {
             path.push(*step)?;
         }
         Ok(path)
-    }
-
-    /// Calls a method, and gives the slot to which its answer comes.
-    fn method(&mut self, at: Root, method: &Called) -> Result<Slot, CodeError> {
-        let meaning = self.meaning(method.callee);
-        if let (Root::Variable(root, _), true) = (at, method.is_direct) {
-            return self.call_direct(root, method);
-        }
-        if let Root::Variable(root, position) = at {
-            match meaning {
-                Meaning::IsShared => return self.is_shared(root, method),
-                Meaning::Sort => return self.sort_at(root, position, method),
-                Meaning::Native(_) => return self.native_at(root, position, method),
-                Meaning::Host(_)
-                | Meaning::Print
-                | Meaning::Debug
-                | Meaning::Call
-                | Meaning::Curry
-                | Meaning::Each(_) => {}
-            }
-        }
-        let path = self.copied_path(method)?;
-        self.read(at, path, method.receiver)?;
-        self.call_made(meaning, method)
-    }
-
-    fn is_shared(&mut self, root: Slot, method: &Called) -> Result<Slot, CodeError> {
-        let path = self.copied_path(method)?;
-        let number = self.path(path)?;
-        self.emit_at(Op::IsShared(method.receiver, root, number), method.position)?;
-        Ok(method.receiver)
-    }
-
-    fn native_at(
-        &mut self,
-        root: Slot,
-        variable: Position,
-        method: &Called,
-    ) -> Result<Slot, CodeError> {
-        let path = self.copied_path(method)?;
-        let path = self.path(path)?;
-        let number = number_in(&self.program.methods)?;
-        self.program.methods.push(Method {
-            callee: to_number(method.callee)?,
-            path,
-            arguments: to_slot(method.arguments)?,
-            variable,
-        })?;
-        self.emit_at(Op::Method(method.receiver, root, number), method.position)?;
-        Ok(method.receiver)
-    }
-
-    /// Calls the variable that is the root, which stays where it is.
-    fn call_direct(&mut self, root: Slot, method: &Called) -> Result<Slot, CodeError> {
-        let count = to_slot(method.arguments)?;
-        let last = method.arguments.saturating_sub(1);
-        let first = self.at_top(method.receiver, last)?;
-        self.emit_at(Op::CallPointer(first, root, count), method.position)?;
-        Ok(first)
-    }
-
-    /// Calls the function pointer in a slot with the arguments behind another.
-    fn call_pointer(
-        &mut self,
-        first: Slot,
-        pointer: Slot,
-        method: &Called,
-    ) -> Result<Slot, CodeError> {
-        let called = first.saturating_add(1);
-        let count = to_slot(method.arguments)?;
-        self.emit_at(Op::CallPointer(called, pointer, count), method.position)?;
-        Ok(called)
-    }
-
-    /// Calls a method of a value that was made and stands in the receiver's slot.
-    fn call_made(&mut self, meaning: Meaning, method: &Called) -> Result<Slot, CodeError> {
-        let receiver = method.receiver;
-        match meaning {
-            Meaning::Call => {
-                let first = self.at_top(receiver, method.arguments)?;
-                self.call_pointer(first, first, method)
-            }
-            Meaning::Each(kind) => {
-                let first = self.at_top(receiver, method.arguments)?;
-                self.each(first, kind, method.arguments, method.position)?;
-                Ok(first)
-            }
-            Meaning::Sort => {
-                let first = self.at_top(receiver, method.arguments)?;
-                self.sort(first, method.position)?;
-                Ok(first)
-            }
-            Meaning::Host(_)
-            | Meaning::Print
-            | Meaning::Debug
-            | Meaning::IsShared
-            | Meaning::Curry
-            | Meaning::Native(_) => {
-                let count = method.arguments.saturating_add(1);
-                self.call_values(meaning, method.callee, receiver, count, method.position)?;
-                Ok(receiver)
-            }
-        }
     }
 
     /// Moves a value that isn't there already.
@@ -325,30 +279,5 @@ impl<'p> Compiler<'p> {
             self.take_slot()?;
         }
         Ok(moved)
-    }
-
-    /// Sorts what steps lead to from a variable, and puts it there.
-    fn sort_at(
-        &mut self,
-        root: Slot,
-        variable: Position,
-        method: &Called,
-    ) -> Result<Slot, CodeError> {
-        self.emit_at(Op::Writable(root), variable)?;
-        let path = self.copied_path(method)?;
-        self.read(Root::Variable(root, variable), path, method.receiver)?;
-        let first = self.at_top(method.receiver, method.arguments)?;
-        self.sort(first, method.position)?;
-        let path = self.copied_path(method)?;
-        let path = self.path(path)?;
-        let place = Place {
-            position: variable,
-            moves: true,
-            path,
-            ..self.place()
-        };
-        self.emit_with(Op::Write(root, first, path), place)?;
-        self.emit(Op::Unit(method.receiver))?;
-        Ok(method.receiver)
     }
 }

@@ -52,6 +52,9 @@ impl<'p> Compiler<'p> {
     /// Gives unit to the caller.
     pub(crate) fn give_unit(&mut self) -> Result<(), CodeError> {
         if !self.is_body {
+            if let Some(this) = self.this {
+                self.emit(Op::LeaveThis(this))?;
+            }
             self.emit(Op::ReturnUnit)?;
             return Ok(());
         }
@@ -65,11 +68,13 @@ impl<'p> Compiler<'p> {
 
     /// Gives the value of a slot to the caller.
     pub(crate) fn give(&mut self, slot: Slot) -> Result<(), CodeError> {
+        let top = self.top;
         if !self.is_body {
+            let slot = self.leave_this(slot)?;
             self.emit(Op::Return(slot))?;
+            self.top = top;
             return Ok(());
         }
-        let top = self.top;
         if self.is_free(slot) {
             self.emit(Op::Finish(slot))?;
         } else {

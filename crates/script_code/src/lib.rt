@@ -4,15 +4,18 @@
 mod callbacks;
 mod calls;
 mod chains;
+mod changes;
 mod compiler;
 mod conditions;
 mod effects;
 mod ends;
 mod error;
 mod expressions;
+mod host_calls;
 mod literals;
 mod loops;
 mod meaning;
+mod methods;
 mod operations;
 mod operators;
 mod places;
@@ -21,6 +24,7 @@ mod quiet;
 mod scan;
 mod switches;
 mod tables;
+mod this;
 mod variables;
 mod writes;
 

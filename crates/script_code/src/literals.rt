@@ -1,15 +1,25 @@
-//! Literals of arrays and maps.
+//! Literals of ints, arrays and maps.
 
 use crate::compiler::{Compiler, to_slot};
 use crate::error::CodeError;
 use crate::operations::{Op, Slot};
 use crate::tables::number_in;
+use rhai_value::INT;
 use script_syntax::{Expr, Field};
 
 /// So many items of a literal are evaluated before they are put together.
 const ITEMS_AT_ONCE: usize = 32;
 
 impl<'p> Compiler<'p> {
+    pub(crate) fn int(&mut self, value: INT, to: Slot) -> Result<(), CodeError> {
+        let op = match i32::try_from(value) {
+            Ok(small) => Op::Int(to, small),
+            Err(_) => Op::Number(to, self.number(value)?),
+        };
+        self.emit(op)?;
+        Ok(())
+    }
+
     #[cycle(compile)]
     pub(crate) fn array(
         &mut self,

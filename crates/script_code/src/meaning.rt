@@ -12,9 +12,11 @@ pub struct HostName {
     pub name: String,
     /// How many arguments it takes.
     pub arguments: usize,
+    /// Whether it changes the first one.
+    pub changes: bool,
 }
 
-/// What is made of the items of an array by a function.
+/// What is made of the items of an array by a function; `Filter`, `Drain` and `Retain` of the entries of a map, too.
 #[derive(Clone, Copy, Debug, PartialEq, Eq)]
 pub enum EachKind {
     /// The array of what it answers.
@@ -27,6 +29,24 @@ pub enum EachKind {
     All,
     /// Whether it answers true for one.
     Some,
+    /// Nothing; it is called on each, and may change it.
+    ForEach,
+    /// As `Reduce`, from the last item on.
+    ReduceBack,
+    /// The first for which it answers true.
+    Find,
+    /// The first answer that isn't unit.
+    FindMap,
+    /// The place of the first for which it answers true.
+    IndexOf,
+    /// The array of what it answers for the items of two arrays.
+    Zip,
+    /// What is left where each goes for which, with the one before, it answers true.
+    Dedup,
+    /// The array of those for which it answers true, which are taken out.
+    Drain,
+    /// The array of the others, which are taken out.
+    Retain,
 }
 
 /// What a name with a number of arguments means, beside functions of the script. The receiver of a method is an argument.
@@ -40,6 +60,10 @@ pub enum Meaning {
     Debug,
     /// Tells whether a variable is shared.
     IsShared,
+    /// Tells whether a variable of a name is in sight.
+    IsVariable,
+    /// Tells whether the script has a function of a name for so many arguments.
+    IsFunction,
     /// Calls a function pointer.
     Call,
     /// Gives a function pointer values ahead.
@@ -48,6 +72,10 @@ pub enum Meaning {
     Each(EachKind),
     /// Sorts by a function pointer.
     Sort,
+    /// Takes items out by a function pointer, or by a range.
+    Sift(EachKind),
+    /// Finds the place of an item, or of that for which a function pointer answers true; in texts that of a part.
+    Search,
     /// Functions of the packages, of which there may be none.
     Native(Native),
 }
@@ -77,11 +105,22 @@ pub fn meaning_of(name: &str, arguments: usize, host: &[HostName]) -> Meaning
         ("print", 1) => Meaning::Print,
         ("debug", 1) => Meaning::Debug,
         ("is_shared", 1) => Meaning::IsShared,
+        ("is_def_var", 1) => Meaning::IsVariable,
+        ("is_def_fn", 2) => Meaning::IsFunction,
         ("map", 2) => Meaning::Each(EachKind::Map),
         ("filter", 2) => Meaning::Each(EachKind::Filter),
         ("all", 2) => Meaning::Each(EachKind::All),
         ("some", 2) => Meaning::Each(EachKind::Some),
         ("reduce", 2) | ("reduce", 3) => Meaning::Each(EachKind::Reduce),
+        ("reduce_rev", 2) | ("reduce_rev", 3) => Meaning::Each(EachKind::ReduceBack),
+        ("find", 2) | ("find", 3) => Meaning::Each(EachKind::Find),
+        ("find_map", 2) | ("find_map", 3) => Meaning::Each(EachKind::FindMap),
+        ("for_each", 2) => Meaning::Each(EachKind::ForEach),
+        ("zip", 3) => Meaning::Each(EachKind::Zip),
+        ("dedup", 2) => Meaning::Sift(EachKind::Dedup),
+        ("drain", 2) => Meaning::Sift(EachKind::Drain),
+        ("retain", 2) => Meaning::Sift(EachKind::Retain),
+        ("index_of", 2) | ("index_of", 3) => Meaning::Search,
         ("sort", 2) => Meaning::Sort,
         _ => Meaning::Native(native_of(name, arguments.wrapping_sub(1))),
     }

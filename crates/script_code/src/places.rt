@@ -9,13 +9,15 @@ use script_syntax::{Expr, Step};
 
 impl<'p> Compiler<'p> {
     /// Evaluates the indices of steps, and gives the steps with the slots of these. A variable that is an index is copied where it may
-    /// be shared, is the root itself, or where another index or what is evaluated behind may change it.
+    /// be shared, is the root itself, or where another index or what is evaluated behind may change it. Adds how many steps lead to each place
+    /// that may be `()`.
     #[cycle(compile)]
     pub(crate) fn steps(
         &mut self,
         steps: &[Step],
         root: &Expr,
         behind: &[Step],
+        tests: &mut Vec<usize>,
         levels: u32,
     ) -> Result<Vec<PathStep>, CodeError> {
         let mut path = Vec::new(self.alloc);
@@ -32,6 +34,7 @@ impl<'p> Compiler<'p> {
                     let key = self.text(key.as_str())?;
                     path.push(PathStep::Name(key, *position))?;
                 }
+                Step::Optional { .. } => tests.push(path.len())?,
                 Step::Method { .. } => {}
             }
         }

@@ -1,8 +1,11 @@
 //! Whether the evaluation of an expression leaves a variable as it is, so that it may be read after it in place of before.
 
+use crate::host_calls::host_changes;
 use crate::meaning::{HostName, Meaning, meaning_of};
 use script_syntax::{Expr, Field, Program, Slot, Step, Term, Variable};
-use script_values::{ArrayFunction, BlobFunction, MapFunction, Native, TextFunction};
+use script_values::{
+    ArrayFunction, BlobFunction, CharFunction, IntFunction, MapFunction, Native, TextFunction,
+};
 
 /// A variable, as it is asked about.
 #[derive(Clone, Copy)]
@@ -41,6 +44,8 @@ fn may_change(native: Native) -> bool {
         || matches!(native.map, Some(MapFunction::Change(_)))
         || matches!(native.text, Some(TextFunction::Change(_)))
         || matches!(native.blob, Some(BlobFunction::Change(_)))
+        || matches!(native.int, Some(IntFunction::Change(_)))
+        || matches!(native.character, Some(CharFunction::Change(_)))
 }
 
 impl<'p> Watched<'p> {
@@ -82,12 +87,12 @@ impl<'p> Watched<'p> {
         for step in steps {
             let stays = match step {
                 Step::Index { index, position: _ } => self.stays(index),
-                Step::Property { .. } => true,
+                Step::Property { .. } | Step::Optional { .. } => true,
                 Step::Method {
-                    callee,
+                    callee: _,
                     arguments,
                     position: _,
-                } => self.stays_in_all(arguments) && self.stays_in_call(*callee, is_root),
+                } => self.stays_in_all(arguments) && self.stays_in_method(is_root),
             };
             if !stays {
                 return false;
@@ -96,16 +101,28 @@ impl<'p> Watched<'p> {
         true
     }
 
+    /// Whether a method leaves it as it is, which is called on it where this says so: each may be one of the script's.
+    fn stays_in_method(&self, is_first: bool) -> bool {
+        self.is_plain && !is_first
+    }
+
     /// Whether a callee leaves it as it is, which is given it first where this says so.
     fn stays_in_call(&self, callee: usize, is_first: bool) -> bool {
         let Some(callee) = self.program.callees.get(callee) else {
             return false;
         };
         match meaning_of(callee.name.as_str(), callee.arguments, self.host) {
-            Meaning::Print | Meaning::Debug | Meaning::IsShared | Meaning::Curry => true,
+            Meaning::Print
+            | Meaning::Debug
+            | Meaning::IsShared
+            | Meaning::IsVariable
+            | Meaning::IsFunction
+            | Meaning::Curry => true,
             Meaning::Native(native) => !is_first || !may_change(native),
-            Meaning::Call | Meaning::Each(_) | Meaning::Host(_) => self.is_plain,
-            Meaning::Sort => self.is_plain && !is_first,
+            Meaning::Call | Meaning::Each(_) | Meaning::Search => self.is_plain,
+            Meaning::Host(number) => self.is_plain
+                && !(is_first && host_changes(self.host, number)),
+            Meaning::Sort | Meaning::Sift(_) => self.is_plain && !is_first,
         }
     }
 

@@ -3,6 +3,7 @@
 
 mod engine;
 mod flat;
+mod functions;
 
 pub use engine::{Engine, Step};
 pub use flat::{Unread, read_value};

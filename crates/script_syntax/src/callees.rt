@@ -3,8 +3,8 @@
 use crate::tree::Callee;
 use rhai_text::ImmutableString;
 use std::alloc::{AllocError, Global};
-use std::collections::BTreeMap;
 use std::collections::btree_map::Entry;
+use std::collections::{BTreeMap, BTreeSet};
 
 /// A name and a number of arguments.
 #[derive(PartialEq, Eq, PartialOrd, Ord, Drop)]
@@ -18,6 +18,8 @@ struct Signature {
 pub struct Callees {
     callees: Vec<Callee>,
     numbers: BTreeMap<Signature, usize>,
+    /// The methods of one type, by their types, names and numbers of parameters.
+    methods: BTreeSet<String>,
 }
 
 impl Callees {
@@ -26,6 +28,7 @@ impl Callees {
         Callees {
             callees: Vec::new(alloc),
             numbers: BTreeMap::new(alloc),
+            methods: BTreeSet::new(alloc),
         }
     }
 
@@ -70,11 +73,26 @@ impl Callees {
         }
     }
 
+    /// Notes that there is a method of one type; `false` where it has one of this name and number of parameters already.
+    /// Errors: memory is refused.
+    /// Cost: the logarithm of the number of methods.
+    pub fn define_method(
+        &mut self,
+        this_type: &str,
+        name: &str,
+        arguments: usize,
+    ) -> Result<bool, AllocError> {
+        let alloc = *self.callees.allocator();
+        let key = format!(in alloc; "{arguments} {name} {this_type}")?;
+        Ok(self.methods.insert(key)?)
+    }
+
     /// Moves out what is called, by its numbers.
     pub fn into_vec(self) -> Vec<Callee> {
         let Callees {
             callees,
             numbers: _,
+            methods: _,
         } = self;
         callees
     }

@@ -45,9 +45,6 @@ pub enum SyntaxFault {
     /// A name has a letter.
     #[error("a name has a letter behind its underscores")]
     NoLetter,
-    /// An anonymous function shares variables that are there when it is made.
-    #[error("no variable of this name is there")]
-    UnknownVariable,
     /// The number is past the bounds of ints.
     #[error("the number is too large")]
     NumberTooLarge,
@@ -72,6 +69,12 @@ pub enum SyntaxFault {
     /// Only variables, their items and their properties are assigned to.
     #[error("this cannot be assigned to")]
     NoPlace,
+    /// Behind `?.` and `?[` nothing is assigned to.
+    #[error("behind `?.` and `?[` nothing is assigned to")]
+    OptionalPlace,
+    /// `this` stands in functions.
+    #[error("`this` stands in functions alone")]
+    ThisOutside,
     /// Functions stand outside of all else.
     #[error("a function stands at the top of a script alone")]
     FunctionInside,

@@ -17,8 +17,8 @@ pub use error::{SyntaxError, SyntaxFault};
 pub use parser::{parse, parse_with};
 pub use symbol::Symbol;
 pub use tree::{
-    Arm, Assignment, Block, Callee, Case, Expr, Field, Function, Operator, Pattern, Program, Slot,
-    Step, Switch, Term, UnaryOperator, Variable,
+    Arm, Assignment, Block, Callee, Case, Expr, Field, Function, Missing, Operator, Pattern,
+    Program, Slot, Step, Switch, Term, UnaryOperator, Variable,
 };
 
 /// How many levels a tree has at most, from a body down to a leaf.

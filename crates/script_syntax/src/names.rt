@@ -1,8 +1,8 @@
 // The names of variables, and where the frames of functions have them.
 ghost use Rattle.std.specs.Prelude.{◌≡◌, ◌≤◌, IfOk, vec_len};
 
-use crate::tree::Slot;
-use rhai_text::ImmutableString;
+use crate::tree::{Missing, Slot};
+use rhai_text::{ImmutableString, Position};
 use std::alloc::{AllocError, Global};
 use std::collections::BTreeMap;
 use std::mem;
@@ -30,6 +30,10 @@ pub struct FunctionNames {
     slots: usize,
     /// How many loops are around what is read.
     loops: usize,
+    /// The first name in an anonymous function that nothing has, and where it stands.
+    missing: Option<Missing>,
+    /// Whether `this` stands in it.
+    uses_this: bool,
     ghost room: { vec_len declared ≤ slots },
 }
 
@@ -43,6 +47,8 @@ impl FunctionNames {
             captured_names: Vec::new(alloc),
             slots: 0,
             loops: 0,
+            missing: None,
+            uses_this: false,
         }
     }
 
@@ -125,6 +131,23 @@ impl FunctionNames {
         Ok(given)
     }
 
+    /// Moves out the first name that nothing has, if the anonymous function has one.
+    pub fn take_missing(&mut self) -> Option<Missing> {
+        self.missing.take()
+    }
+
+    /// Tells whether `this` stands in the function.
+    pub fn uses_this(&self) -> bool {
+        self.uses_this
+    }
+
+    /// Notes a name that nothing has, unless one is noted.
+    fn note_missing(&mut self, missing: Missing) {
+        if self.missing.is_none() {
+            self.missing = Some(missing);
+        }
+    }
+
     /// Moves out how many variables lived at once at most, and where the function outside has the captured ones.
     pub fn into_parts(self) -> (usize, Vec<Slot>)
         ensures { vec_len self.declared ≤ result.0 }
@@ -137,6 +160,8 @@ impl FunctionNames {
             captured_names: _,
             slots,
             loops: _,
+            missing: _,
+            uses_this: _,
         } = self;
         (slots, captured)
     }
@@ -155,6 +180,8 @@ impl FunctionNames {
             captured_names: _,
             slots,
             loops: _,
+            missing: _,
+            uses_this: _,
         } = self;
         let mut names = Vec::new(alloc);
         for declared in declared {
@@ -255,6 +282,19 @@ impl Names {
     /// Tells whether an anonymous function is read, which sees the variables around it.
     pub fn is_inside(&self) -> bool {
         !self.outer.is_empty()
+    }
+
+    /// Notes that nothing has this name, which stands in anonymous functions: the outermost of them can't be made.
+    pub fn note_missing(&mut self, missing: Missing) {
+        match self.outer.get_mut(1) {
+            Some(outermost) => outermost.note_missing(missing),
+            None => self.function.note_missing(missing),
+        }
+    }
+
+    /// Notes that `this` stands in the function that is read.
+    pub fn note_this(&mut self) {
+        self.function.uses_this = true;
     }
 
     /// Begins a loop.

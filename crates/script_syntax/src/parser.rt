@@ -36,6 +36,8 @@ struct Parser {
     names: Names,
     callees: Callees,
     functions: Vec<Function>,
+    /// Whether a function of the script is read.
+    is_function: bool,
     /// Tells the script from others, in the names of its anonymous functions.
     stamp: u64,
     /// The lowest level that the expression that is read has come to.
@@ -103,6 +105,7 @@ impl Parser {
             names: Names::new(alloc),
             callees: Callees::new(alloc),
             functions: Vec::new(alloc),
+            is_function: false,
             stamp: stamp_of(text),
             lowest: MOST_LEVELS,
         })
@@ -126,6 +129,7 @@ impl Parser {
             mut names,
             callees,
             functions,
+            is_function: _,
             stamp: _,
             lowest: _,
         } = self;

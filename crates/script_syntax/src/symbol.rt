@@ -70,6 +70,10 @@ pub enum Symbol {
     Colon,
     /// `.`
     Dot,
+    /// `?.`
+    OptionalDot,
+    /// `?[`
+    OptionalBracket,
     /// `=>`
     Arrow,
     /// `!`
@@ -154,8 +158,8 @@ pub static SIGNS: [(char, &str, Option<Symbol>); 73] = [
     (':', "=", None),
     (':', ";", None),
     ('?', "?", Some(Symbol::Coalesce)),
-    ('?', ".", None),
-    ('?', "[", None),
+    ('?', ".", Some(Symbol::OptionalDot)),
+    ('?', "[", Some(Symbol::OptionalBracket)),
     ('(', "*", None),
     ('*', ")", None),
     ('!', ".", None),

@@ -38,6 +38,10 @@ pub struct Function {
     /// How many own variables live at once at most, with the parameters.
     pub slots: usize,
     pub body: Block,
+    /// Whether `this` stands in it.
+    pub uses_this: bool,
+    /// The type of what it is called on, if it is a method of one type.
+    pub this_type: Option<ImmutableString>,
     /// The names of the parameters, and behind them those of the captured variables.
     pub names: Vec<ImmutableString>,
 }
@@ -47,7 +51,7 @@ pub struct Function {
 pub struct Callee {
     pub name: ImmutableString,
     pub arguments: usize,
-    /// The function of the script that has the name and that many parameters. A method is none of these.
+    /// The function of the script that has the name and that many parameters, and is no method of one type.
     pub function: Option<usize>,
 }
 
@@ -58,6 +62,8 @@ pub enum Slot {
     Own(usize),
     /// A variable of outside, by its number among the captured ones of the anonymous function.
     Captured(usize),
+    /// `this`: what the function is called on.
+    This,
 }
 
 /// Which variable a name means, at the place where it stands.
@@ -67,6 +73,13 @@ pub enum Variable {
     Known(Slot),
     /// Nothing has the name.
     Unknown(ImmutableString),
+}
+
+/// A name in an anonymous function that nothing has, and where it stands.
+#[derive(Drop)]
+pub struct Missing {
+    pub name: ImmutableString,
+    pub position: Position,
 }
 
 /// Statements in braces, or those of the whole script. The value is that of the last.
@@ -133,10 +146,12 @@ pub enum Expr {
         arguments: Vec<Expr>,
         position: Position,
     },
-    /// `|x| a`: makes a function value of one of the program's functions, and shares these variables with it.
+    /// `|x| a`: makes a function value of one of the program's functions, and shares these variables with it. Where it names one that
+    /// isn't there, it isn't made.
     Closure {
         function: usize,
         captured: Vec<Slot>,
+        missing: Option<Missing>,
         position: Position,
     },
     /// `{ a; b }`
@@ -173,7 +188,7 @@ pub enum Expr {
         value: Option<Box<Expr>>,
         name: ImmutableString,
     },
-    /// `a[i].k = b`, or `a[i].k += b`: each step is an index or a property. The position is that of the operator.
+    /// `a[i].k = b`, or `a[i].k += b`: each step is an index or a property, and none optional. The position is that of the operator.
     Assign {
         variable: Variable,
         variable_position: Position,
@@ -222,6 +237,10 @@ pub enum Step {
     /// `.k`
     Property {
         key: ImmutableString,
+        position: Position,
+    },
+    /// `?` before one of these: where what was come to is `()`, the chain ends with it.
+    Optional {
         position: Position,
     },
     /// `.f(x)`: `callee` numbers one of the program's, which counts the receiver as its first argument.

@@ -3,20 +3,10 @@
 use crate::error::SyntaxFault;
 
 /// What rhai has and this language doesn't.
-static NOT_READ: [&str; 9] = [
-    "as",
-    "eval",
-    "exit",
-    "export",
-    "import",
-    "is_def_fn",
-    "is_def_var",
-    "private",
-    "this",
-];
+static NOT_READ: [&str; 6] = ["as", "eval", "exit", "export", "import", "private"];
 
 /// The other words that are no names, beside the keywords.
-static RESERVED: [&str; 33] = [
+static RESERVED: [&str; 36] = [
     "async",
     "await",
     "call",
@@ -27,6 +17,8 @@ static RESERVED: [&str; 33] = [
     "go",
     "goto",
     "is",
+    "is_def_fn",
+    "is_def_var",
     "is_shared",
     "match",
     "module",
@@ -42,6 +34,7 @@ static RESERVED: [&str; 33] = [
     "static",
     "super",
     "sync",
+    "this",
     "thread",
     "type_of",
     "use",
@@ -53,7 +46,17 @@ static RESERVED: [&str; 33] = [
 ];
 
 /// The reserved words that are called as functions.
-static FUNCTIONS: [&str; 6] = ["Fn", "curry", "debug", "is_shared", "print", "type_of"];
+static FUNCTIONS: [&str; 9] = [
+    "Fn",
+    "call",
+    "curry",
+    "debug",
+    "is_def_fn",
+    "is_def_var",
+    "is_shared",
+    "print",
+    "type_of",
+];
 
 /// The reserved words that are called as methods.
 static METHODS: [&str; 4] = ["call", "curry", "is_shared", "type_of"];

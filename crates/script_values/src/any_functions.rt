@@ -36,17 +36,18 @@ pub(crate) fn ask_any(
     value: &Dynamic,
 ) -> Result<Dynamic, FaultKind> {
     let alloc = means.alloc;
+    let held = value.held(store).unwrap_or(value);
     match function {
         AnyFunction::TypeOf => Ok(Dynamic::from_text(alloc, type_name_of(value, store))?),
         AnyFunction::ToString => {
-            check_ways(means, store, value)?;
-            let text = display_text(alloc, value, store)?;
+            check_ways(means, store, held)?;
+            let text = display_text(alloc, held, store)?;
             check_size(means.limits.text, text.len(), SizeKind::Text)?;
             Ok(Dynamic::from_text(alloc, text.as_str())?)
         }
         AnyFunction::ToDebug => {
-            check_ways(means, store, value)?;
-            let text = debug_text(alloc, value, store)?;
+            check_ways(means, store, held)?;
+            let text = debug_text(alloc, held, store)?;
             check_size(means.limits.text, text.len(), SizeKind::Text)?;
             Ok(Dynamic::from_text(alloc, text.as_str())?)
         }

@@ -41,6 +41,26 @@ pub(crate) fn text<'s>(argument: &'s Dynamic, store: &'s Store) -> Result<&'s st
     }
 }
 
+/// The text that an argument is, or that of a character, which is written into a buffer.
+pub(crate) fn text_or_character<'s>(
+    argument: &'s Dynamic,
+    store: &'s Store,
+    buffer: &'s mut [u8; 4],
+) -> Result<&'s str, FaultKind> {
+    match argument.as_char(store) {
+        Ok(character) => Ok(character.encode_utf8(buffer)),
+        Err(_) => text(argument, store),
+    }
+}
+
+/// The boolean that an argument is.
+pub(crate) fn boolean(argument: &Dynamic, store: &Store) -> Result<bool, FaultKind> {
+    match argument.as_bool(store) {
+        Ok(answer) => Ok(answer),
+        Err(found) => Err(mismatch("bool", found)),
+    }
+}
+
 /// The items of an argument, which is spent.
 pub(crate) fn array(argument: &mut Dynamic, store: &Store) -> Result<Array, FaultKind> {
     match Array::take_out(argument.take()) {
@@ -81,4 +101,9 @@ pub(crate) fn place_or_none(place: Option<usize>) -> Dynamic {
 /// A value, or unit where there is none.
 pub(crate) fn or_unit(value: Option<Dynamic>) -> Dynamic {
     value.unwrap_or(Dynamic::UNIT)
+}
+
+/// The fault of an argument that is no range.
+pub(crate) fn mismatched_range(argument: &Dynamic, store: &Store) -> FaultKind {
+    mismatch("range", argument.type_name(store))
 }

@@ -1,10 +1,12 @@
 //! Functions on arrays.
 
 use crate::argument_values::{Arguments, array, count, int, or_unit, place_or_none};
+use crate::array_parts::part_out;
 use crate::bounds::{bounds_of, span_of};
 use crate::cost::cost_of;
 use crate::faults::{FaultKind, check_size};
 use crate::resources::Means;
+use crate::walks::span_at;
 use crate::ways::{check_all_ways, check_ways};
 use rhai_packs::arrays;
 use rhai_text::SizeKind;
@@ -36,6 +38,8 @@ pub enum ArrayQuestion {
     Contains,
     /// `index_of(value)`
     IndexOf,
+    /// `index_of(value, index)`
+    IndexOfFrom,
 }
 
 /// A function that may change an array.
@@ -75,6 +79,14 @@ pub enum ArrayChange {
     Dedup,
     /// `sort()`
     Sort,
+    /// `drain(range)`
+    Drain,
+    /// `drain(index, count)`
+    DrainSome,
+    /// `retain(range)`
+    Retain,
+    /// `retain(index, count)`
+    RetainSome,
 }
 
 /// The function of this name for so many arguments behind the array.
@@ -94,6 +106,7 @@ fn question_of(name: &str, count: usize) -> Option<ArrayQuestion> {
         (2, "extract") => Some(ArrayQuestion::ExtractSome),
         (1, "contains") => Some(ArrayQuestion::Contains),
         (1, "index_of") => Some(ArrayQuestion::IndexOf),
+        (2, "index_of") => Some(ArrayQuestion::IndexOfFrom),
         _ => None,
     }
 }
@@ -117,6 +130,10 @@ fn change_of(name: &str, count: usize) -> Option<ArrayChange> {
         (3, "splice") => Some(ArrayChange::Splice),
         (0, "dedup") => Some(ArrayChange::Dedup),
         (0, "sort") => Some(ArrayChange::Sort),
+        (1, "drain") => Some(ArrayChange::Drain),
+        (2, "drain") => Some(ArrayChange::DrainSome),
+        (1, "retain") => Some(ArrayChange::Retain),
+        (2, "retain") => Some(ArrayChange::RetainSome),
         _ => None,
     }
 }
@@ -162,6 +179,10 @@ fn array_answer(
             means, store, items, first,
         )?.is_some())),
         ArrayQuestion::IndexOf => Ok(place_or_none(place_of(means, store, items, first)?)),
+        ArrayQuestion::IndexOfFrom => {
+            let start = int(&arguments.second, store)?;
+            Ok(place_or_none(place_from(means, store, items, first, start)?))
+        }
     }
 }
 
@@ -175,6 +196,22 @@ fn place_of(
     check_ways(means, store, wanted)?;
     check_all_ways(means, store, items.as_slice())?;
     Ok(arrays::index_of(means.alloc, items, store, wanted)?)
+}
+
+/// Where the first item stands from an index on that is the same as a value.
+fn place_from(
+    means: &Means,
+    store: &Store,
+    items: &Array,
+    wanted: &Dynamic,
+    index: INT,
+) -> Result<Option<usize>, FaultKind> {
+    let start = span_at(items.len(), index, INT::MAX).start;
+    let rest = arrays::extract(means.alloc, items, index, INT::MAX)?;
+    match place_of(means, store, &rest, wanted)? {
+        Some(place) => Ok(Some(start.saturating_add(place))),
+        None => Ok(None),
+    }
 }
 
 fn item_at(means: &Means, store: &Store, items: &Array, index: INT) -> Result<Dynamic, FaultKind> {
@@ -246,6 +283,10 @@ pub(crate) fn change_array(
             arrays::dedup(means.alloc, items, store)?;
         }
         ArrayChange::Sort => arrays::sort(items, store)?,
+        ArrayChange::Drain
+        | ArrayChange::DrainSome
+        | ArrayChange::Retain
+        | ArrayChange::RetainSome => return part_out(change, means, store, items, arguments),
     }
     Ok(Dynamic::UNIT)
 }

@@ -1,6 +1,7 @@
 //! Functions on blobs.
 
 use crate::argument_values::{Arguments, blob, count, int};
+use crate::blob_bytes::{ByteOrder, int_in, put_int_in, put_text_in};
 use crate::bounds::{bounds_of, span_of};
 use crate::faults::{FaultKind, check_size};
 use crate::resources::Means;
@@ -22,6 +23,10 @@ pub enum BlobFunction {
 pub enum BlobQuestion {
     /// `len()`
     Len,
+    /// `is_empty()`
+    IsEmpty,
+    /// `contains(byte)`
+    Contains,
     /// `get(index)`
     Get,
     /// `extract(index)`
@@ -30,6 +35,10 @@ pub enum BlobQuestion {
     ExtractSome,
     /// `to_array()`
     ToArray,
+    /// `as_string()`
+    AsString,
+    /// `parse_le_int(range)`, `parse_le_int(index, count)`, and by `be` the same
+    ParseInt(ByteOrder),
 }
 
 /// A function that may change a blob.
@@ -47,22 +56,55 @@ pub enum BlobChange {
     Remove,
     /// `reverse()`
     Reverse,
+    /// `clear()`
+    Clear,
+    /// `write_le(range, int)`, `write_le(index, count, int)`, and by `be` the same
+    WriteInt(ByteOrder),
+    /// `write_utf8(range, text)`, `write_utf8(index, count, text)`
+    WriteText,
+    /// `write_ascii(range, text)`, `write_ascii(index, count, text)`
+    WriteAscii,
 }
 
 /// The function of this name for so many arguments behind the blob.
 pub(crate) fn blob_function(name: &str, count: usize) -> Option<BlobFunction> {
+    if let Some(question) = question_of(name, count) {
+        return Some(BlobFunction::Ask(question));
+    }
+    Some(BlobFunction::Change(change_of(name, count)?))
+}
+
+fn question_of(name: &str, count: usize) -> Option<BlobQuestion> {
     match (count, name) {
-        (0, "len") => Some(BlobFunction::Ask(BlobQuestion::Len)),
-        (1, "get") => Some(BlobFunction::Ask(BlobQuestion::Get)),
-        (1, "extract") => Some(BlobFunction::Ask(BlobQuestion::Extract)),
-        (2, "extract") => Some(BlobFunction::Ask(BlobQuestion::ExtractSome)),
-        (0, "to_array") => Some(BlobFunction::Ask(BlobQuestion::ToArray)),
-        (2, "set") => Some(BlobFunction::Change(BlobChange::Set)),
-        (1, "push") => Some(BlobFunction::Change(BlobChange::Push)),
-        (1, "append") => Some(BlobFunction::Change(BlobChange::Append)),
-        (0, "pop") => Some(BlobFunction::Change(BlobChange::Pop)),
-        (1, "remove") => Some(BlobFunction::Change(BlobChange::Remove)),
-        (0, "reverse") => Some(BlobFunction::Change(BlobChange::Reverse)),
+        (0, "len") => Some(BlobQuestion::Len),
+        (0, "is_empty") => Some(BlobQuestion::IsEmpty),
+        (1, "contains") => Some(BlobQuestion::Contains),
+        (1, "get") => Some(BlobQuestion::Get),
+        (1, "extract") => Some(BlobQuestion::Extract),
+        (2, "extract") => Some(BlobQuestion::ExtractSome),
+        (0, "to_array") => Some(BlobQuestion::ToArray),
+        (0, "as_string") => Some(BlobQuestion::AsString),
+        (1, "parse_le_int") | (2, "parse_le_int") => {
+            Some(BlobQuestion::ParseInt(ByteOrder::Little))
+        }
+        (1, "parse_be_int") | (2, "parse_be_int") => Some(BlobQuestion::ParseInt(ByteOrder::Big)),
+        _ => None,
+    }
+}
+
+fn change_of(name: &str, count: usize) -> Option<BlobChange> {
+    match (count, name) {
+        (2, "set") => Some(BlobChange::Set),
+        (1, "push") => Some(BlobChange::Push),
+        (1, "append") => Some(BlobChange::Append),
+        (0, "pop") => Some(BlobChange::Pop),
+        (1, "remove") => Some(BlobChange::Remove),
+        (0, "reverse") => Some(BlobChange::Reverse),
+        (0, "clear") => Some(BlobChange::Clear),
+        (2, "write_le") | (3, "write_le") => Some(BlobChange::WriteInt(ByteOrder::Little)),
+        (2, "write_be") | (3, "write_be") => Some(BlobChange::WriteInt(ByteOrder::Big)),
+        (2, "write_utf8") | (3, "write_utf8") => Some(BlobChange::WriteText),
+        (2, "write_ascii") | (3, "write_ascii") => Some(BlobChange::WriteAscii),
         _ => None,
     }
 }
@@ -93,6 +135,11 @@ fn blob_answer(
     let first = &arguments.first;
     match question {
         BlobQuestion::Len => Ok(count(blobs::len(bytes))),
+        BlobQuestion::IsEmpty => Ok(Dynamic::from_bool(bytes.is_empty())),
+        BlobQuestion::Contains => {
+            let byte = int(first, store)?.rem_euclid(256);
+            Ok(Dynamic::from_bool(has_byte(bytes, byte)))
+        }
         BlobQuestion::Get => Ok(byte_or_unit(blobs::get(bytes, int(first, store)?))),
         BlobQuestion::Extract => match bounds_of(first, store) {
             Some(bounds) => {
@@ -113,7 +160,28 @@ fn blob_answer(
             check_size(means.limits.items, bytes.len(), SizeKind::Items)?;
             Ok(Dynamic::from_array(blobs::to_array(means.alloc, bytes)?))
         }
+        BlobQuestion::AsString => as_string(means, bytes),
+        BlobQuestion::ParseInt(order) => {
+            Ok(Dynamic::from_int(int_in(bytes, arguments, order, store)?))
+        }
     }
+}
+
+/// Whether a byte stands in a blob.
+fn has_byte(bytes: &Blob, wanted: INT) -> bool {
+    for byte in bytes.iter() {
+        if INT::from(*byte) == wanted {
+            return true;
+        }
+    }
+    false
+}
+
+/// The text of a blob, in which the sign for unknown characters stands for bytes that are no UTF-8.
+fn as_string(means: &Means, bytes: &Blob) -> Result<Dynamic, FaultKind> {
+    let text = String::from_utf8_lossy(means.alloc, bytes.as_slice())?;
+    check_size(means.limits.text, text.len(), SizeKind::Text)?;
+    Ok(Dynamic::from_text(means.alloc, text.as_str())?)
 }
 
 fn extracted(means: &Means, bytes: &Blob, start: INT, length: INT) -> Result<Dynamic, FaultKind> {
@@ -148,6 +216,10 @@ pub(crate) fn change_blob(
         BlobChange::Pop => return Ok(byte_or_unit(blobs::pop(bytes))),
         BlobChange::Remove => return Ok(byte_or_unit(blobs::remove(bytes, int(first, store)?))),
         BlobChange::Reverse => blobs::reverse(bytes),
+        BlobChange::Clear => bytes.clear(),
+        BlobChange::WriteInt(order) => put_int_in(bytes, arguments, order, store)?,
+        BlobChange::WriteText => put_text_in(bytes, arguments, false, store)?,
+        BlobChange::WriteAscii => put_text_in(bytes, arguments, true, store)?,
     }
     Ok(Dynamic::UNIT)
 }

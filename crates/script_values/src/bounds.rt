@@ -8,9 +8,20 @@ use rhai_value::{Dynamic, ExclusiveRange, INT, InclusiveRange, Store};
 /// Both ends of a range.
 #[derive(Clone, Copy)]
 pub(crate) struct Bounds {
-    start: INT,
-    end: INT,
-    is_inclusive: bool,
+    pub(crate) start: INT,
+    pub(crate) end: INT,
+    pub(crate) is_inclusive: bool,
+}
+
+impl Bounds {
+    /// Whether the range goes as far as a number, which isn't below its start.
+    pub(crate) fn reaches(&self, number: INT) -> bool {
+        if self.is_inclusive {
+            number <= self.end
+        } else {
+            number < self.end
+        }
+    }
 }
 
 /// The ends of a range, if the value is one.
@@ -61,6 +72,32 @@ fn end_of(bounds: Bounds, count: usize) -> usize {
         distance.saturating_add(more)
     };
     end.min(count)
+}
+
+/// Where the part of a text, a blob or an int begins that a range means, and how much it takes: an end below 0 means the front, and a
+/// range that goes back takes nothing; where its end is part of it, one.
+/// rhai: the ranges of `sub_string`, `crop`, `write_le` and their like.
+pub(crate) fn piece_of(bounds: Bounds) -> (INT, INT) {
+    let start = bounds.start.max(0);
+    let end = bounds.end.max(start);
+    let length = end.saturating_sub(start);
+    if bounds.is_inclusive {
+        (start, length.saturating_add(1))
+    } else {
+        (start, length)
+    }
+}
+
+/// The bits that a range means, as `piece_of` says it; a range that goes back takes none.
+/// rhai: the ranges of `get_bits` and `set_bits`.
+pub(crate) fn field_of(bounds: Bounds) -> (INT, INT) {
+    let start = bounds.start.max(0);
+    let end = if bounds.is_inclusive {
+        bounds.end.saturating_add(1)
+    } else {
+        bounds.end
+    };
+    (start, end.max(start).saturating_sub(start))
 }
 
 /// How many items a range has from its start on, and where it starts, in a list of so many.

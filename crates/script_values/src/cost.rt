@@ -1,5 +1,6 @@
 //! How much room a value takes, and how many operations it counts to go through it. An operation stands for four values, or for 64 bytes.
 
+use rhai_text::ImmutableString;
 use rhai_value::{Dynamic, Union};
 use std::alloc::{AllocError, Global};
 
@@ -19,6 +20,15 @@ pub fn bytes_cost(count: usize) -> u64 {
     operations_of_bytes(count as u64)
 }
 
+/// The operations of a walk through the characters of a text: where each is a byte they are found at once.
+pub(crate) fn characters_cost(text: &ImmutableString) -> u64 {
+    let own = bytes_cost(text.len());
+    if text.char_count() == text.len() {
+        return own;
+    }
+    own.saturating_add(values_cost(text.len()))
+}
+
 /// The operations of so many values.
 pub(crate) fn operations_of(values: u64) -> u64 {
     values / VALUES
@@ -27,6 +37,11 @@ pub(crate) fn operations_of(values: u64) -> u64 {
 /// The operations of so many bytes.
 pub(crate) fn operations_of_bytes(bytes: u64) -> u64 {
     bytes / BYTES
+}
+
+/// The operations of so many entries that are put into maps, of which each is sought and made.
+pub(crate) fn entries_cost(count: usize) -> u64 {
+    (count as u64).saturating_mul(3)
 }
 
 /// So many values are no more than so many operations.
@@ -147,6 +162,23 @@ pub(crate) fn own_weight(value: &Dynamic) -> u64 {
         | Union::Int(_, _, _)
         | Union::Variant(_, _, _)
         | Union::Shared(_, _, _) => 0,
+    }
+}
+
+/// The same where a value is printed or compared: a blob's bytes are then more than those of a text.
+pub(crate) fn walk_weight(value: &Dynamic) -> u64 {
+    match value.parts() {
+        Union::Blob(_, _, bytes) => bytes.len() as u64,
+        Union::Array(_, _, _)
+        | Union::Map(_, _, _)
+        | Union::FnPtr(_, _, _)
+        | Union::Str(_, _, _)
+        | Union::Unit(_, _, _)
+        | Union::Bool(_, _, _)
+        | Union::Char(_, _, _)
+        | Union::Int(_, _, _)
+        | Union::Variant(_, _, _)
+        | Union::Shared(_, _, _) => own_weight(value),
     }
 }
 

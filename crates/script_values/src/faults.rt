@@ -2,8 +2,8 @@
 ghost use Rattle.std.specs.Prelude.{◌≡◌};
 
 use rhai_show::display_text;
-use rhai_text::{EvalAltResult, ImmutableString, Position, SizeKind, Token};
-use rhai_value::{Dynamic, INT, Store};
+use rhai_text::{ArithmeticFault, EvalAltResult, ImmutableString, Position, SizeKind, Token};
+use rhai_value::{Dynamic, INT, Store, TypeId};
 use std::alloc::{AllocError, AllocFailed, Global};
 
 /// What went wrong, and at which place of the script.
@@ -22,6 +22,8 @@ pub enum FaultKind {
     Layer(EvalAltResult),
     /// There is no variable of this name.
     UnknownName(ImmutableString),
+    /// `this` stands in a function that was called on nothing.
+    UnboundThis,
     /// There is no function of this name for so many arguments.
     UnknownFunction(ImmutableString, usize),
     /// The operator isn't there for values of these types.
@@ -74,6 +76,7 @@ impl FaultKind {
         match self {
             FaultKind::Layer(error) => is_error_catchable(error),
             FaultKind::UnknownName(_)
+            | FaultKind::UnboundThis
             | FaultKind::UnknownFunction(_, _)
             | FaultKind::NoOperator(_, _, _)
             | FaultKind::NoParts(_)
@@ -96,6 +99,9 @@ impl FaultKind {
     /// Cost: the length of the text.
     pub fn message(&self, alloc: Global, store: &Store) -> Result<String, AllocError> {
         match self {
+            FaultKind::Layer(EvalAltResult::ErrorArithmetic(fault, _)) => {
+                String::from_str(alloc, arithmetic_message(*fault))
+            }
             FaultKind::Layer(error) => format!(in alloc; "{error}"),
             FaultKind::UnknownName(name) => {
                 let name = name.as_str();
@@ -107,15 +113,18 @@ impl FaultKind {
             }
             FaultKind::NoOperator(op, first, second) => {
                 let op = symbol_of(*op);
+                let (first, second) = (short_name(first), short_name(second));
                 format!(in alloc; "no operator {op} for {first} and {second}")
             }
-            FaultKind::NoParts(found) => format!(in alloc;
-                "no such part of a value of type {found}"
-            ),
+            FaultKind::NoParts(found) => {
+                let found = short_name(found);
+                format!(in alloc; "no such part of a value of type {found}")
+            }
             FaultKind::OutOfRange(index, count) => {
                 format!(in alloc; "index {index} out of range of {count}")
             }
             FaultKind::Thrown(value) => display_text(alloc, value, store),
+            FaultKind::UnboundThis => String::from_str(alloc, "`this` is not bound"),
             FaultKind::NoKey => String::from_str(alloc, "no such key"),
             FaultKind::TooFar => String::from_str(alloc, "too many steps to a place"),
             FaultKind::Constant => String::from_str(alloc, "a constant can't be changed"),
@@ -177,7 +186,29 @@ fn symbol_of(op: Token) -> &'static str {
 
 /// Makes the fault of a value whose type isn't the wanted one.
 pub fn mismatch(wanted: &'static str, found: &'static str) -> FaultKind {
+    let found = short_name(found);
     FaultKind::Layer(EvalAltResult::mismatch(wanted, found, Position::NONE))
+}
+
+/// How scripts see the name of a type: those of ranges are short.
+fn short_name(name: &'static str) -> &'static str {
+    if name == TypeId::ExclusiveRange.name() {
+        "range"
+    } else if name == TypeId::InclusiveRange.name() {
+        "range="
+    } else {
+        name
+    }
+}
+
+/// Why an arithmetic operation has no answer.
+fn arithmetic_message(fault: ArithmeticFault) -> &'static str {
+    match fault {
+        ArithmeticFault::Overflow => "integer overflow",
+        ArithmeticFault::DivisionByZero => "division by zero",
+        ArithmeticFault::NegativePower => "the exponent is below zero",
+        ArithmeticFault::PowerTooLarge => "the exponent is too large",
+    }
 }
 
 /// Refuses a size past a limit, of which 0 is none.

@@ -5,6 +5,7 @@ ghost use Rattle.rhai_target.specs.Part.{HasPlace};
 use crate::bounds::{bits_of, bounds_of, slice_of};
 use crate::faults::{FaultKind, in_use, mismatch};
 use crate::keys::{Key, index_in, name_in};
+use crate::properties::property;
 use crate::resources::Means;
 use rhai_packs::arrays;
 use rhai_target::{NoPart, ReadPart};
@@ -30,7 +31,10 @@ pub(crate) fn find<'s>(
         return Err(in_use());
     };
     match held.parts() {
-        Union::Array(_, _, items) => find_item(items, store, key),
+        Union::Array(_, _, items) => match key {
+            Key::Index(_) => find_item(items, store, key),
+            Key::Name(name) => Ok(Found::Made(property(means, store, held, name)?)),
+        },
         Union::Map(_, _, map) => find_value(map, store, key),
         Union::Str(_, _, _)
         | Union::Blob(_, _, _)
@@ -40,9 +44,12 @@ pub(crate) fn find<'s>(
         | Union::Char(_, _, _)
         | Union::FnPtr(_, _, _)
         | Union::Variant(_, _, _)
-        | Union::Shared(_, _, _) => match part_at(means, store, held, key) {
-            Ok(part) => Ok(Found::Made(part.value)),
-            Err(fault) => Err(fault),
+        | Union::Shared(_, _, _) => match key {
+            Key::Index(_) => match part_at(means, store, held, key) {
+                Ok(part) => Ok(Found::Made(part.value)),
+                Err(fault) => Err(fault),
+            },
+            Key::Name(name) => Ok(Found::Made(property(means, store, held, name)?)),
         },
     }
 }

@@ -1,36 +1,108 @@
-//! Functions on ints. None changes its int.
+//! Functions on ints.
 
-use crate::argument_values::{Arguments, int};
-use crate::faults::FaultKind;
+use crate::argument_values::{Arguments, boolean, int};
+use crate::bit_functions::{
+    bits_from, bits_in, bits_of_all, bits_replaced, is_bit_set, with_bit, with_bits,
+};
+use crate::faults::{FaultKind, check_size};
 use crate::resources::Means;
 use rhai_packs::{blobs, ints};
-use rhai_value::{Dynamic, INT, Store};
+use rhai_text::SizeKind;
+use rhai_value::{Dynamic, ExclusiveRange, INT, Store};
 
 /// A function on an int.
 #[derive(Clone, Copy)]
 pub enum IntFunction {
+    /// It leaves the int as it is.
+    Ask(IntQuestion),
+    /// It may put another int in its place.
+    Change(IntChange),
+}
+
+/// A function that leaves an int as it is.
+#[derive(Clone, Copy)]
+pub enum IntQuestion {
     /// `abs()`
     Abs,
+    /// `sign()`
+    Sign,
     /// `min(other)`
     Min,
     /// `max(other)`
     Max,
+    /// `is_zero()`
+    IsZero,
+    /// `is_odd()`
+    IsOdd,
+    /// `is_even()`
+    IsEven,
+    /// `to_hex()`
+    ToHex,
+    /// `to_octal()`
+    ToOctal,
+    /// `to_binary()`
+    ToBinary,
     /// `blob(byte)`
     Blob,
+    /// `range(end)`
+    Range,
+    /// `bits()`
+    Bits,
+    /// `get_bit(bit)`
+    GetBit,
+    /// `get_bits(range)`
+    GetBits,
+    /// `get_bits(bit, count)`
+    GetBitsSome,
+}
+
+/// A function that may put another int in the place of one.
+#[derive(Clone, Copy)]
+pub enum IntChange {
+    /// `set_bit(bit, boolean)`
+    SetBit,
+    /// `set_bits(range, int)`
+    SetBits,
+    /// `set_bits(bit, count, int)`
+    SetBitsSome,
 }
 
 /// The function of this name for so many arguments behind the int.
 pub(crate) fn int_function(name: &str, count: usize) -> Option<IntFunction> {
+    if let Some(question) = question_of(name, count) {
+        return Some(IntFunction::Ask(question));
+    }
     match (count, name) {
-        (0, "abs") => Some(IntFunction::Abs),
-        (1, "min") => Some(IntFunction::Min),
-        (1, "max") => Some(IntFunction::Max),
-        (1, "blob") => Some(IntFunction::Blob),
+        (2, "set_bit") => Some(IntFunction::Change(IntChange::SetBit)),
+        (2, "set_bits") => Some(IntFunction::Change(IntChange::SetBits)),
+        (3, "set_bits") => Some(IntFunction::Change(IntChange::SetBitsSome)),
         _ => None,
     }
 }
 
-/// Calls a function on an int, if there is one.
+fn question_of(name: &str, count: usize) -> Option<IntQuestion> {
+    match (count, name) {
+        (0, "abs") => Some(IntQuestion::Abs),
+        (0, "sign") => Some(IntQuestion::Sign),
+        (1, "min") => Some(IntQuestion::Min),
+        (1, "max") => Some(IntQuestion::Max),
+        (0, "is_zero") => Some(IntQuestion::IsZero),
+        (0, "is_odd") => Some(IntQuestion::IsOdd),
+        (0, "is_even") => Some(IntQuestion::IsEven),
+        (0, "to_hex") => Some(IntQuestion::ToHex),
+        (0, "to_octal") => Some(IntQuestion::ToOctal),
+        (0, "to_binary") => Some(IntQuestion::ToBinary),
+        (1, "blob") => Some(IntQuestion::Blob),
+        (1, "range") => Some(IntQuestion::Range),
+        (0, "bits") => Some(IntQuestion::Bits),
+        (1, "get_bit") => Some(IntQuestion::GetBit),
+        (1, "get_bits") => Some(IntQuestion::GetBits),
+        (2, "get_bits") => Some(IntQuestion::GetBitsSome),
+        _ => None,
+    }
+}
+
+/// Calls a function on an int that leaves it as it is, if it is one.
 pub(crate) fn ask_int(
     function: Option<IntFunction>,
     means: &Means,
@@ -39,28 +111,78 @@ pub(crate) fn ask_int(
     arguments: &Arguments,
 ) -> Result<Option<Dynamic>, FaultKind> {
     match function {
-        Some(function) => Ok(Some(int_answer(function, means, store, number, arguments)?)),
-        None => Ok(None),
+        Some(IntFunction::Ask(question)) => {
+            Ok(Some(int_answer(question, means, store, number, arguments)?))
+        }
+        Some(IntFunction::Change(_)) | None => Ok(None),
     }
 }
 
 fn int_answer(
-    function: IntFunction,
+    question: IntQuestion,
     means: &Means,
     store: &Store,
     number: INT,
     arguments: &Arguments,
 ) -> Result<Dynamic, FaultKind> {
     let first = &arguments.first;
-    match function {
-        IntFunction::Abs => Ok(Dynamic::from_int(ints::abs(number)?)),
-        IntFunction::Min => Ok(Dynamic::from_int(ints::min(number, int(first, store)?))),
-        IntFunction::Max => Ok(Dynamic::from_int(ints::max(number, int(first, store)?))),
-        IntFunction::Blob => Ok(Dynamic::from_blob(blobs::blob(
-            means.alloc,
+    let alloc = means.alloc;
+    match question {
+        IntQuestion::Abs => Ok(Dynamic::from_int(ints::abs(number)?)),
+        IntQuestion::Sign => Ok(Dynamic::from_int(number.signum())),
+        IntQuestion::Min => Ok(Dynamic::from_int(ints::min(number, int(first, store)?))),
+        IntQuestion::Max => Ok(Dynamic::from_int(ints::max(number, int(first, store)?))),
+        IntQuestion::IsZero => Ok(Dynamic::from_bool(number == 0)),
+        IntQuestion::IsOdd => Ok(Dynamic::from_bool(number & 1 == 1)),
+        IntQuestion::IsEven => Ok(Dynamic::from_bool(number & 1 == 0)),
+        IntQuestion::ToHex => from_string(means, format!(in alloc; "{number:x}")?),
+        IntQuestion::ToOctal => from_string(means, format!(in alloc; "{number:o}")?),
+        IntQuestion::ToBinary => from_string(means, format!(in alloc; "{number:b}")?),
+        IntQuestion::Blob => Ok(Dynamic::from_blob(blobs::blob(
+            alloc,
             &means.limits,
             number,
             int(first, store)?,
         )?)),
+        IntQuestion::Range => {
+            let end = int(first, store)?;
+            Ok(Dynamic::from(ExclusiveRange { start: number, end }))
+        }
+        IntQuestion::Bits => {
+            check_size(means.limits.items, 64, SizeKind::Items)?;
+            Ok(Dynamic::from_array(bits_of_all(alloc, number)?))
+        }
+        IntQuestion::GetBit => Ok(Dynamic::from_bool(is_bit_set(number, int(first, store)?)?)),
+        IntQuestion::GetBits => Ok(Dynamic::from_int(bits_from(number, first, store)?)),
+        IntQuestion::GetBitsSome => {
+            let (bit, count) = (int(first, store)?, int(&arguments.second, store)?);
+            Ok(Dynamic::from_int(bits_in(number, bit, count)?))
+        }
     }
+}
+
+/// A text as a value.
+fn from_string(means: &Means, text: String) -> Result<Dynamic, FaultKind> {
+    check_size(means.limits.text, text.len(), SizeKind::Text)?;
+    Ok(Dynamic::from_text(means.alloc, text.as_str())?)
+}
+
+/// Changes an int.
+pub(crate) fn change_int_by(
+    change: IntChange,
+    store: &Store,
+    number: &mut INT,
+    arguments: &Arguments,
+) -> Result<Dynamic, FaultKind> {
+    let first = &arguments.first;
+    let second = &arguments.second;
+    *number = match change {
+        IntChange::SetBit => with_bit(*number, int(first, store)?, boolean(second, store)?)?,
+        IntChange::SetBits => with_bits(*number, first, int(second, store)?, store)?,
+        IntChange::SetBitsSome => {
+            let (bit, count) = (int(first, store)?, int(second, store)?);
+            bits_replaced(*number, bit, count, int(&arguments.third, store)?)?
+        }
+    };
+    Ok(Dynamic::UNIT)
 }

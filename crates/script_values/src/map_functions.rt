@@ -2,6 +2,7 @@
 
 use crate::argument_values::{Arguments, count, map, or_unit, text};
 use crate::faults::{FaultKind, check_size};
+use crate::json::to_json;
 use crate::resources::Means;
 use rhai_packs::maps;
 use rhai_text::SizeKind;
@@ -31,6 +32,8 @@ pub enum MapQuestion {
     Keys,
     /// `values()`
     Values,
+    /// `to_json()`
+    ToJson,
 }
 
 /// A function that may change a map.
@@ -57,6 +60,7 @@ pub(crate) fn map_function(name: &str, count: usize) -> Option<MapFunction> {
         (1, "get") => Some(MapFunction::Ask(MapQuestion::Get)),
         (0, "keys") => Some(MapFunction::Ask(MapQuestion::Keys)),
         (0, "values") => Some(MapFunction::Ask(MapQuestion::Values)),
+        (0, "to_json") => Some(MapFunction::Ask(MapQuestion::ToJson)),
         (2, "set") => Some(MapFunction::Change(MapChange::Set)),
         (1, "remove") => Some(MapFunction::Change(MapChange::Remove)),
         (0, "clear") => Some(MapFunction::Change(MapChange::Clear)),
@@ -71,10 +75,12 @@ pub(crate) fn ask_map(
     function: Option<MapFunction>,
     means: &Means,
     store: &Store,
+    held: &Dynamic,
     entries: &Map,
     arguments: &Arguments,
 ) -> Result<Option<Dynamic>, FaultKind> {
     match function {
+        Some(MapFunction::Ask(MapQuestion::ToJson)) => Ok(Some(to_json(means, store, held)?)),
         Some(MapFunction::Ask(question)) => {
             Ok(Some(map_answer(question, means, store, entries, arguments)?))
         }
@@ -104,7 +110,7 @@ fn map_answer(
             check_size(means.limits.items, entries.len(), SizeKind::Items)?;
             Ok(Dynamic::from_array(maps::keys(means.alloc, entries)?))
         }
-        MapQuestion::Values => {
+        MapQuestion::Values | MapQuestion::ToJson => {
             check_size(means.limits.items, entries.len(), SizeKind::Items)?;
             Ok(Dynamic::from_array(maps::values(means.alloc, entries)?))
         }

@@ -4,11 +4,16 @@ use crate::any_functions::{AnyFunction, any_function, ask_any};
 use crate::argument_values::Arguments;
 use crate::array_functions::{ArrayFunction, array_function, ask_array, change_array};
 use crate::blob_functions::{BlobFunction, ask_blob, blob_function, change_blob};
+use crate::char_functions::{CharFunction, ask_char, change_char, char_function};
 use crate::faults::FaultKind;
-use crate::int_functions::{IntFunction, ask_int, int_function};
+use crate::int_functions::{IntFunction, ask_int, change_int_by, int_function};
 use crate::map_functions::{MapFunction, ask_map, change_map, map_function};
+use crate::range_functions::{
+    PointerFunction, RangeFunction, ask_pointer, ask_range, pointer_function, range_function,
+};
 use crate::resources::Means;
-use crate::text_functions::{TextFunction, ask_text, change_text, text_function};
+use crate::text_functions::{TextFunction, ask_text, text_function};
+use crate::text_parts::change_text;
 use rhai_value::{Dynamic, Part, Store, Union};
 
 /// The functions of one name and number of arguments, one for each type of the receiver that has it.
@@ -19,6 +24,9 @@ pub struct Native {
     pub text: Option<TextFunction>,
     pub blob: Option<BlobFunction>,
     pub int: Option<IntFunction>,
+    pub character: Option<CharFunction>,
+    pub range: Option<RangeFunction>,
+    pub pointer: Option<PointerFunction>,
     pub any: Option<AnyFunction>,
 }
 
@@ -31,11 +39,41 @@ pub fn native_of(name: &str, arguments: usize) -> Native {
         text: text_function(name, arguments),
         blob: blob_function(name, arguments),
         int: int_function(name, arguments),
+        character: char_function(name, arguments),
+        range: range_function(name, arguments),
+        pointer: pointer_function(name, arguments),
         any: any_function(name, arguments),
     }
 }
 
 impl Native {
+    /// Finds the function of this name without arguments that values of the type of this one have.
+    pub(crate) fn without_arguments(held: &Dynamic, name: &str) -> Native {
+        let mut native = Native {
+            array: None,
+            map: None,
+            text: None,
+            blob: None,
+            int: None,
+            character: None,
+            range: None,
+            pointer: None,
+            any: None,
+        };
+        match held.parts() {
+            Union::Array(_, _, _) => native.array = array_function(name, 0),
+            Union::Map(_, _, _) => native.map = map_function(name, 0),
+            Union::Str(_, _, _) => native.text = text_function(name, 0),
+            Union::Blob(_, _, _) => native.blob = blob_function(name, 0),
+            Union::Int(_, _, _) => native.int = int_function(name, 0),
+            Union::Char(_, _, _) => native.character = char_function(name, 0),
+            Union::Variant(_, _, _) => native.range = range_function(name, 0),
+            Union::FnPtr(_, _, _) => native.pointer = pointer_function(name, 0),
+            Union::Unit(_, _, _) | Union::Bool(_, _, _) | Union::Shared(_, _, _) => {}
+        }
+        native
+    }
+
     /// Tells whether it may change a receiver that holds what this value does.
     /// Cost: that of `Dynamic::held`; no memory.
     pub fn changes(&self, receiver: &Dynamic, store: &Store) -> bool {
@@ -47,10 +85,10 @@ impl Native {
             Union::Map(_, _, _) => matches!(self.map, Some(MapFunction::Change(_))),
             Union::Str(_, _, _) => matches!(self.text, Some(TextFunction::Change(_))),
             Union::Blob(_, _, _) => matches!(self.blob, Some(BlobFunction::Change(_))),
-            Union::Int(_, _, _)
-            | Union::Unit(_, _, _)
+            Union::Int(_, _, _) => matches!(self.int, Some(IntFunction::Change(_))),
+            Union::Char(_, _, _) => matches!(self.character, Some(CharFunction::Change(_))),
+            Union::Unit(_, _, _)
             | Union::Bool(_, _, _)
-            | Union::Char(_, _, _)
             | Union::FnPtr(_, _, _)
             | Union::Variant(_, _, _)
             | Union::Shared(_, _, _) => false,
@@ -76,7 +114,7 @@ impl Native {
         }
     }
 
-    fn ask_held(
+    pub(crate) fn ask_held(
         &self,
         means: &Means,
         store: &Store,
@@ -88,16 +126,14 @@ impl Native {
         };
         match held.parts() {
             Union::Array(_, _, items) => ask_array(self.array, means, store, items, arguments),
-            Union::Map(_, _, map) => ask_map(self.map, means, store, map, arguments),
+            Union::Map(_, _, map) => ask_map(self.map, means, store, held, map, arguments),
             Union::Str(_, _, text) => ask_text(self.text, means, store, text, arguments),
             Union::Blob(_, _, bytes) => ask_blob(self.blob, means, store, bytes, arguments),
             Union::Int(_, _, number) => ask_int(self.int, means, store, *number, arguments),
-            Union::Unit(_, _, _)
-            | Union::Bool(_, _, _)
-            | Union::Char(_, _, _)
-            | Union::FnPtr(_, _, _)
-            | Union::Variant(_, _, _)
-            | Union::Shared(_, _, _) => Ok(None),
+            Union::Char(_, _, character) => ask_char(self.character, means, *character),
+            Union::Variant(_, _, _) => ask_range(self.range, store, held, arguments),
+            Union::FnPtr(_, _, pointer) => ask_pointer(self.pointer, means, pointer),
+            Union::Unit(_, _, _) | Union::Bool(_, _, _) | Union::Shared(_, _, _) => Ok(None),
         }
     }
 
@@ -136,10 +172,20 @@ impl Native {
                 };
                 Ok(Some(change_blob(change, means, store, bytes, arguments)?))
             }
-            Union::Int(_, _, _)
-            | Union::Unit(_, _, _)
+            Union::Int(_, _, number) => {
+                let Some(IntFunction::Change(change)) = self.int else {
+                    return Ok(None);
+                };
+                Ok(Some(change_int_by(change, store, number, arguments)?))
+            }
+            Union::Char(_, _, character) => {
+                let Some(CharFunction::Change(change)) = self.character else {
+                    return Ok(None);
+                };
+                Ok(Some(change_char(change, means, character)?))
+            }
+            Union::Unit(_, _, _)
             | Union::Bool(_, _, _)
-            | Union::Char(_, _, _)
             | Union::FnPtr(_, _, _)
             | Union::Variant(_, _, _)
             | Union::Shared(_, _, _) => Ok(None),

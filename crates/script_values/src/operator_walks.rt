@@ -1,10 +1,10 @@
 //! What operators go through, in operations.
 
 use crate::assigning::Assignment;
-use crate::cost::{bytes_cost, copy_cost, has_parts, values_cost};
+use crate::cost::{bytes_cost, copy_cost, entries_cost, has_parts, values_cost};
 use crate::faults::FaultKind;
 use crate::resources::Means;
-use crate::ways::walk_cost;
+use crate::ways::{print_cost, walk_cost};
 use rhai_text::Token;
 use rhai_value::{Dynamic, Store, Union};
 
@@ -84,7 +84,9 @@ pub fn assign_cost(
         | (Union::Blob(_, _, _), _) => Ok(own_bytes(value)),
         (Union::Array(_, _, _), Union::Array(_, _, more)) => Ok(values_cost(more.len())),
         (Union::Array(_, _, _), _) => Ok(0),
-        (Union::Map(_, _, _), Union::Map(_, _, _)) => Ok(copy_cost(means.alloc, value, most)?),
+        (Union::Map(_, _, _), Union::Map(_, _, more)) => {
+            Ok(copy_cost(means.alloc, value, most)?.saturating_add(entries_cost(more.len())))
+        }
         (
             Union::Str(_, _, _)
             | Union::Map(_, _, _)
@@ -128,6 +130,11 @@ fn walks_of_both(
     Ok(first.saturating_add(walk_cost(means, store, y, most)?))
 }
 
+fn copies_of_both(means: &Means, x: &Dynamic, y: &Dynamic, most: u64) -> Result<u64, FaultKind> {
+    let first = copy_cost(means.alloc, x, most)?;
+    Ok(first.saturating_add(copy_cost(means.alloc, y, most)?))
+}
+
 /// What a sum of two values goes through.
 fn plus_cost(
     means: &Means,
@@ -138,12 +145,13 @@ fn plus_cost(
 ) -> Result<u64, FaultKind> {
     match (x.parts(), y.parts()) {
         (Union::Str(_, _, _), _) | (_, Union::Str(_, _, _)) => {
-            walks_of_both(means, store, x, y, most)
+            let first = print_cost(means, store, x, most)?;
+            Ok(first.saturating_add(print_cost(means, store, y, most)?))
         }
-        (Union::Array(_, _, _), Union::Array(_, _, _))
-        | (Union::Map(_, _, _), Union::Map(_, _, _)) => {
-            let first = copy_cost(means.alloc, x, most)?;
-            Ok(first.saturating_add(copy_cost(means.alloc, y, most)?))
+        (Union::Array(_, _, _), Union::Array(_, _, _)) => copies_of_both(means, x, y, most),
+        (Union::Map(_, _, map), Union::Map(_, _, more)) => {
+            let count = map.len().saturating_add(more.len());
+            Ok(copies_of_both(means, x, y, most)?.saturating_add(entries_cost(count)))
         }
         (
             Union::Array(_, _, _)

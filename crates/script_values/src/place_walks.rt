@@ -1,10 +1,11 @@
 //! What reads and writes at places inside values go through, in operations.
 
-use crate::cost::{bytes_cost, copy_cost};
+use crate::cost::{characters_cost, copy_cost};
 use crate::faults::FaultKind;
 use crate::find::{Found, find};
 use crate::keys::Key;
 use crate::operator_walks::assign_cost;
+use crate::properties::property_cost;
 use crate::resources::Means;
 use crate::walks::key_cost;
 use crate::ways::walk_cost;
@@ -102,6 +103,11 @@ fn reach<'s>(
         let Some(held) = place.held(store) else {
             return nowhere(cost);
         };
+        if let Key::Name(name) = key {
+            if !held.is_map(store) {
+                cost = cost.saturating_add(property_cost(means, store, held, name));
+            }
+        }
         if !is_listing(held) {
             return Reached {
                 held: Some(held),
@@ -142,7 +148,7 @@ fn is_listing(value: &Dynamic) -> bool {
 /// What goes through the bytes of a value that is a text.
 fn text_cost(value: &Dynamic) -> u64 {
     match value.parts() {
-        Union::Str(_, _, text) => bytes_cost(text.len()),
+        Union::Str(_, _, text) => characters_cost(text),
         Union::Array(_, _, _)
         | Union::Map(_, _, _)
         | Union::Blob(_, _, _)

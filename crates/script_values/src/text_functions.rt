@@ -1,13 +1,14 @@
 //! Functions on texts.
 
-use crate::argument_values::{Arguments, count, int, place_or_none, text};
+use crate::argument_values::{Arguments, count, int, place_or_none, text, text_or_character};
 use crate::faults::{FaultKind, check_size};
 use crate::resources::Means;
-use crate::text_walks::occurrences;
+use crate::text_parts::{place_from, sub_string, sub_string_from};
+use crate::text_splits::{split, split_at_most, split_back, split_back_at_most, split_words};
 use rhai_packs::ints::ParseRadixError;
 use rhai_packs::{ints, texts};
 use rhai_text::{ImmutableString, SizeKind};
-use rhai_value::{Dynamic, FnPtr, INT, Store};
+use rhai_value::{Blob, Dynamic, FnPtr, INT, Store};
 
 /// A function on a text.
 #[derive(Clone, Copy)]
@@ -33,7 +34,9 @@ pub enum TextQuestion {
     EndsWith,
     /// `index_of(part)`
     IndexOf,
-    /// `sub_string(index)`
+    /// `index_of(part, index)`
+    IndexOfFrom,
+    /// `sub_string(index)`, `sub_string(range)`
     SubString,
     /// `sub_string(index, count)`
     SubStringSome,
@@ -41,14 +44,26 @@ pub enum TextQuestion {
     ToUpper,
     /// `to_lower()`
     ToLower,
-    /// `chars()`
+    /// `chars()`, `to_chars()`
     Chars,
+    /// `bytes()`
+    Bytes,
+    /// `to_blob()`
+    ToBlob,
     /// `parse_int()`
     ParseInt,
     /// `parse_int(radix)`
     ParseIntRadix,
     /// `split(index)`, `split(separator)`
     Split,
+    /// `split()`
+    SplitWords,
+    /// `split(separator, count)`
+    SplitSome,
+    /// `split_rev(separator)`
+    SplitBack,
+    /// `split_rev(separator, count)`
+    SplitBackSome,
     /// `Fn()`
     Function,
 }
@@ -56,7 +71,7 @@ pub enum TextQuestion {
 /// A function that may put another text in the place of one.
 #[derive(Clone, Copy)]
 pub enum TextChange {
-    /// `crop(index)`
+    /// `crop(index)`, `crop(range)`
     Crop,
     /// `crop(index, count)`
     CropSome,
@@ -68,6 +83,14 @@ pub enum TextChange {
     Replace,
     /// `pad(count, character)`, `pad(count, text)`
     Pad,
+    /// `remove(part)`
+    Remove,
+    /// `clear()`
+    Clear,
+    /// `make_upper()`
+    MakeUpper,
+    /// `make_lower()`
+    MakeLower,
 }
 
 /// The function of this name for so many arguments behind the text.
@@ -86,14 +109,21 @@ fn question_of(name: &str, count: usize) -> Option<TextQuestion> {
         (1, "starts_with") => Some(TextQuestion::StartsWith),
         (1, "ends_with") => Some(TextQuestion::EndsWith),
         (1, "index_of") => Some(TextQuestion::IndexOf),
+        (2, "index_of") => Some(TextQuestion::IndexOfFrom),
         (1, "sub_string") => Some(TextQuestion::SubString),
         (2, "sub_string") => Some(TextQuestion::SubStringSome),
         (0, "to_upper") => Some(TextQuestion::ToUpper),
         (0, "to_lower") => Some(TextQuestion::ToLower),
-        (0, "chars") => Some(TextQuestion::Chars),
+        (0, "chars") | (0, "to_chars") => Some(TextQuestion::Chars),
+        (0, "bytes") => Some(TextQuestion::Bytes),
+        (0, "to_blob") => Some(TextQuestion::ToBlob),
         (0, "parse_int") => Some(TextQuestion::ParseInt),
         (1, "parse_int") => Some(TextQuestion::ParseIntRadix),
         (1, "split") => Some(TextQuestion::Split),
+        (0, "split") => Some(TextQuestion::SplitWords),
+        (2, "split") => Some(TextQuestion::SplitSome),
+        (1, "split_rev") => Some(TextQuestion::SplitBack),
+        (2, "split_rev") => Some(TextQuestion::SplitBackSome),
         (0, "Fn") => Some(TextQuestion::Function),
         _ => None,
     }
@@ -107,6 +137,10 @@ fn change_of(name: &str, count: usize) -> Option<TextChange> {
         (0, "trim") => Some(TextChange::Trim),
         (2, "replace") => Some(TextChange::Replace),
         (2, "pad") => Some(TextChange::Pad),
+        (1, "remove") => Some(TextChange::Remove),
+        (0, "clear") => Some(TextChange::Clear),
+        (0, "make_upper") => Some(TextChange::MakeUpper),
+        (0, "make_lower") => Some(TextChange::MakeLower),
         _ => None,
     }
 }
@@ -135,30 +169,32 @@ fn text_answer(
     arguments: &Arguments,
 ) -> Result<Dynamic, FaultKind> {
     let first = &arguments.first;
+    let second = &arguments.second;
     match question {
         TextQuestion::Len => Ok(count(texts::len(held))),
         TextQuestion::IsEmpty => Ok(Dynamic::from_bool(texts::is_empty(held))),
-        TextQuestion::Contains => Ok(Dynamic::from_bool(texts::contains(
-            held,
-            text(first, store)?,
-        ))),
+        TextQuestion::Bytes => Ok(count(held.len())),
+        TextQuestion::Contains => has_part(store, held, first),
         TextQuestion::StartsWith => {
             Ok(Dynamic::from_bool(texts::starts_with(held, text(first, store)?)))
         }
-        TextQuestion::EndsWith => Ok(Dynamic::from_bool(texts::ends_with(
-            held,
-            text(first, store)?,
-        ))),
-        TextQuestion::IndexOf => Ok(place_or_none(texts::index_of(held, text(first, store)?))),
-        TextQuestion::SubString => sub_string(means, held, int(first, store)?, INT::MAX),
-        TextQuestion::SubStringSome => {
-            sub_string(
-                means,
-                held,
-                int(first, store)?,
-                int(&arguments.second, store)?,
-            )
+        TextQuestion::EndsWith => {
+            Ok(Dynamic::from_bool(texts::ends_with(held, text(first, store)?)))
         }
+        TextQuestion::IndexOf => place_of_part(store, held, first),
+        TextQuestion::IndexOfFrom => place_of_part_from(means, store, held, first, second),
+        TextQuestion::SubString => sub_string_from(means, store, held, first),
+        TextQuestion::SubStringSome => {
+            let (index, length) = (int(first, store)?, int(second, store)?);
+            Ok(Dynamic::from(sub_string(means, held, index, length)?))
+        }
+        TextQuestion::ParseInt => parse_int(held, 10),
+        TextQuestion::ParseIntRadix => parse_int(held, int(first, store)?),
+        TextQuestion::Split => split(means, store, held, first),
+        TextQuestion::SplitWords => split_words(means, held),
+        TextQuestion::SplitSome => split_at_most(means, store, held, first, second),
+        TextQuestion::SplitBack => split_back(means, store, held, first),
+        TextQuestion::SplitBackSome => split_back_at_most(means, store, held, first, second),
         TextQuestion::ToUpper => {
             Ok(Dynamic::from(texts::to_upper(means.alloc, &means.limits, held)?))
         }
@@ -169,14 +205,52 @@ fn text_answer(
             check_size(means.limits.items, held.char_count(), SizeKind::Items)?;
             Ok(Dynamic::from_array(texts::chars(means.alloc, held)?))
         }
-        TextQuestion::ParseInt => parse_int(held, 10),
-        TextQuestion::ParseIntRadix => parse_int(held, int(first, store)?),
-        TextQuestion::Split => split(means, store, held, first),
+        TextQuestion::ToBlob => to_blob(means, held),
         TextQuestion::Function => {
             let name = held.copy(means.alloc)?;
             Ok(Dynamic::from(FnPtr::new(name, Vec::new(means.alloc))))
         }
     }
+}
+
+/// Whether a text has a part: a text or a character.
+fn has_part(store: &Store, held: &ImmutableString, part: &Dynamic) -> Result<Dynamic, FaultKind> {
+    let mut buffer = [0; 4];
+    let part = text_or_character(part, store, &mut buffer)?;
+    Ok(Dynamic::from_bool(texts::contains(held, part)))
+}
+
+/// Where a text has a part first.
+fn place_of_part(
+    store: &Store,
+    held: &ImmutableString,
+    part: &Dynamic,
+) -> Result<Dynamic, FaultKind> {
+    let mut buffer = [0; 4];
+    let part = text_or_character(part, store, &mut buffer)?;
+    Ok(place_or_none(texts::index_of(held, part)))
+}
+
+/// Where a text has a part first from a character on.
+fn place_of_part_from(
+    means: &Means,
+    store: &Store,
+    held: &ImmutableString,
+    part: &Dynamic,
+    start: &Dynamic,
+) -> Result<Dynamic, FaultKind> {
+    let mut buffer = [0; 4];
+    let part = text_or_character(part, store, &mut buffer)?;
+    Ok(place_or_none(place_from(means, held, part, int(start, store)?)?))
+}
+
+/// The bytes of a text.
+fn to_blob(means: &Means, held: &ImmutableString) -> Result<Dynamic, FaultKind> {
+    check_size(means.limits.items, held.len(), SizeKind::Items)?;
+    let mut bytes: Blob = Vec::new(means.alloc);
+    bytes.reserve(held.len())?;
+    bytes.extend_from_slice(held.as_str().as_bytes())?;
+    Ok(Dynamic::from_blob(bytes))
 }
 
 fn parse_int(held: &ImmutableString, radix: INT) -> Result<Dynamic, FaultKind> {
@@ -185,110 +259,4 @@ fn parse_int(held: &ImmutableString, radix: INT) -> Result<Dynamic, FaultKind> {
         Err(ParseRadixError::InvalidRadix) => Err(FaultKind::NoRadix),
         Err(ParseRadixError::InvalidText(_)) => Err(FaultKind::NoNumber),
     }
-}
-
-/// The parts of a text before and from an index on, or between the occurrences of a character or of a text.
-fn split(
-    means: &Means,
-    store: &Store,
-    held: &ImmutableString,
-    at: &Dynamic,
-) -> Result<Dynamic, FaultKind> {
-    let parts = if let Ok(index) = at.as_int(store) {
-        texts::split_at(means.alloc, held, index)?
-    } else if let Ok(separator) = at.as_char(store) {
-        let mut buffer = [0; 4];
-        check_parts(means, held, separator.encode_utf8(&mut buffer))?;
-        texts::split_char(means.alloc, held, separator)?
-    } else {
-        let separator = text(at, store)?;
-        check_parts(means, held, separator)?;
-        texts::split(means.alloc, held, separator)?
-    };
-    Ok(Dynamic::from_array(parts))
-}
-
-/// Refuses a separator that splits a text into more parts than an array may have items.
-fn check_parts(means: &Means, held: &ImmutableString, separator: &str) -> Result<(), FaultKind> {
-    if means.limits.items == 0 || held.len().saturating_add(2) <= means.limits.items {
-        return Ok(());
-    }
-    let count = occurrences(held.as_str(), separator).saturating_add(1);
-    check_size(means.limits.items, count as usize, SizeKind::Items)
-}
-
-fn sub_string(
-    means: &Means,
-    held: &ImmutableString,
-    start: INT,
-    length: INT,
-) -> Result<Dynamic, FaultKind> {
-    Ok(Dynamic::from(texts::sub_string(means.alloc, held, start, length)?))
-}
-
-/// Changes a text.
-pub(crate) fn change_text(
-    change: TextChange,
-    means: &Means,
-    store: &Store,
-    held: &mut ImmutableString,
-    arguments: &Arguments,
-) -> Result<Dynamic, FaultKind> {
-    let first = &arguments.first;
-    match change {
-        TextChange::Crop => texts::crop(means.alloc, held, int(first, store)?, INT::MAX)?,
-        TextChange::CropSome => {
-            texts::crop(
-                means.alloc,
-                held,
-                int(first, store)?,
-                int(&arguments.second, store)?,
-            )?;
-        }
-        TextChange::Truncate => texts::truncate(means.alloc, held, int(first, store)?)?,
-        TextChange::Trim => texts::trim(means.alloc, held)?,
-        TextChange::Replace => {
-            let (part, with) = (text(first, store)?, text(&arguments.second, store)?);
-            check_replaced(means, held, part, with)?;
-            texts::replace(means.alloc, &means.limits, held, part, with)?;
-        }
-        TextChange::Pad => pad(means, store, held, int(first, store)?, &arguments.second)?,
-    }
-    Ok(Dynamic::UNIT)
-}
-
-/// Refuses a text in the place of each occurrence of a part, if what comes out would be too long and longer than before.
-fn check_replaced(
-    means: &Means,
-    held: &ImmutableString,
-    part: &str,
-    with: &str,
-) -> Result<(), FaultKind> {
-    if means.limits.text == 0 || with.len() <= part.len() {
-        return Ok(());
-    }
-    let count = occurrences(held.as_str(), part);
-    let more = count.saturating_mul(with.len().saturating_sub(part.len()) as u64);
-    let length = more.saturating_add(held.len() as u64);
-    let length = usize::try_from(length).unwrap_or(usize::MAX);
-    if length > held.len() {
-        check_size(means.limits.text, length, SizeKind::Text)?;
-    }
-    Ok(())
-}
-
-/// Puts a character or a text behind a text, over and over, until it has so many characters.
-fn pad(
-    means: &Means,
-    store: &Store,
-    held: &mut ImmutableString,
-    length: INT,
-    padding: &Dynamic,
-) -> Result<(), FaultKind> {
-    let (alloc, limits) = (means.alloc, &means.limits);
-    match padding.as_char(store) {
-        Ok(character) => texts::pad(alloc, limits, held, length, character)?,
-        Err(_) => texts::pad_with_string(alloc, limits, held, length, text(padding, store)?)?,
-    }
-    Ok(())
 }

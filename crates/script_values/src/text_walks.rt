@@ -1,7 +1,7 @@
 //! What the functions on texts go through, in operations.
 
-use crate::argument_values::Arguments;
-use crate::cost::{bytes_cost, operations_of_bytes};
+use crate::argument_values::{Arguments, text_or_character};
+use crate::cost::{bytes_cost, characters_cost, operations_of_bytes, values_cost};
 use crate::faults::FaultKind;
 use crate::text_functions::{TextChange, TextFunction, TextQuestion};
 use crate::walks::{Counting, key_cost, missing};
@@ -30,22 +30,60 @@ fn question_cost(
     text: &ImmutableString,
     arguments: &Arguments,
 ) -> u64 {
-    let own = bytes_cost(text.len());
-    let part = key_cost(&arguments.first, store);
+    let first = &arguments.first;
     match question {
-        TextQuestion::IsEmpty | TextQuestion::Function => 0,
-        TextQuestion::StartsWith | TextQuestion::EndsWith => part,
-        TextQuestion::Contains | TextQuestion::IndexOf | TextQuestion::Split => {
-            own.saturating_add(part)
+        TextQuestion::IsEmpty | TextQuestion::Bytes | TextQuestion::Function => 0,
+        TextQuestion::StartsWith | TextQuestion::EndsWith => key_cost(first, store),
+        TextQuestion::Contains | TextQuestion::IndexOf => {
+            characters_cost(text).saturating_add(key_cost(first, store))
+        }
+        TextQuestion::IndexOfFrom => {
+            characters_cost(text)
+                .saturating_mul(3)
+                .saturating_add(key_cost(first, store))
+        }
+        TextQuestion::Split | TextQuestion::SplitBack => {
+            // the separators are counted first, and then sought
+            characters_cost(text)
+                .saturating_mul(2)
+                .saturating_add(separated_cost(text, first, store))
+        }
+        TextQuestion::SplitSome | TextQuestion::SplitBackSome => {
+            let most = arguments.second.as_int(store).unwrap_or(1).max(1);
+            let parts = separated_cost(text, first, store).min(most.unsigned_abs());
+            characters_cost(text)
+                .saturating_mul(6)
+                .saturating_add(parts)
+        }
+        TextQuestion::SplitWords => values_cost(text.len()).saturating_add(words_cost(text)),
+        TextQuestion::ToUpper | TextQuestion::ToLower => {
+            characters_cost(text).saturating_add(values_cost(text.len()))
         }
         TextQuestion::Len
         | TextQuestion::SubString
         | TextQuestion::SubStringSome
-        | TextQuestion::ToUpper
-        | TextQuestion::ToLower
         | TextQuestion::Chars
+        | TextQuestion::ToBlob
         | TextQuestion::ParseInt
-        | TextQuestion::ParseIntRadix => own,
+        | TextQuestion::ParseIntRadix => characters_cost(text),
+    }
+}
+
+/// What the parts of a text go through that are made: an operation each.
+fn words_cost(text: &ImmutableString) -> u64 {
+    let mut count = 0u64;
+    for _ in text.as_str().split_whitespace() {
+        count = count.saturating_add(1);
+    }
+    count
+}
+
+/// The same of the parts between the occurrences of a separator, and what the separator goes through.
+fn separated_cost(text: &ImmutableString, separator: &Dynamic, store: &Store) -> u64 {
+    let mut buffer = [0; 4];
+    match text_or_character(separator, store, &mut buffer) {
+        Ok(part) => bytes_cost(part.len()).saturating_add(occurrences(text.as_str(), part)),
+        Err(_) => 0,
     }
 }
 
@@ -55,13 +93,19 @@ fn change_cost(
     text: &ImmutableString,
     arguments: &Arguments,
 ) -> u64 {
-    let own = bytes_cost(text.len());
+    if let TextChange::Clear = change {
+        return 0;
+    }
+    let own = characters_cost(text);
     match change {
+        TextChange::Clear => 0,
+        TextChange::MakeUpper | TextChange::MakeLower => {
+            own.saturating_add(values_cost(text.len()))
+        }
         TextChange::Crop | TextChange::CropSome | TextChange::Truncate | TextChange::Trim => own,
-        TextChange::Replace => {
-            let part = key_cost(&arguments.first, store);
-            own.saturating_add(part)
-                .saturating_add(replaced_cost(text, arguments, store))
+        TextChange::Replace | TextChange::Remove => {
+            own.saturating_mul(2)
+                .saturating_add(replaced_cost(change, text, arguments, store))
         }
         TextChange::Pad => {
             let more = missing(text.char_count(), &arguments.first, store);
@@ -84,16 +128,42 @@ fn padding_cost(more: u64, padding: &Dynamic, store: &Store) -> u64 {
     }
 }
 
-/// What a text goes through that gets another one in the place of each occurrence of a part.
-fn replaced_cost(text: &ImmutableString, arguments: &Arguments, store: &Store) -> u64 {
-    let (Ok(part), Ok(with)) = (
-        arguments.first.as_immutable_string_ref(store),
-        arguments.second.as_immutable_string_ref(store),
-    ) else {
+/// What a text goes through that gets another one in the place of each occurrence of a part: an operation for each, and the bytes.
+fn replaced_cost(
+    change: TextChange,
+    text: &ImmutableString,
+    arguments: &Arguments,
+    store: &Store,
+) -> u64 {
+    let mut buffer = [0; 4];
+    let Ok(part) = text_or_character(&arguments.first, store, &mut buffer) else {
         return 0;
     };
-    let count = occurrences(text.as_str(), part.as_str());
-    operations_of_bytes(count.saturating_mul(with.len() as u64))
+    let count = occurrences(text.as_str(), part);
+    let length = match change {
+        TextChange::Replace => length_of(&arguments.second, store),
+        TextChange::Crop
+        | TextChange::CropSome
+        | TextChange::Truncate
+        | TextChange::Trim
+        | TextChange::Pad
+        | TextChange::Remove
+        | TextChange::Clear
+        | TextChange::MakeUpper
+        | TextChange::MakeLower => 0,
+    };
+    operations_of_bytes(count.saturating_mul(length))
+        .saturating_add(count)
+        .saturating_add(bytes_cost(part.len()))
+}
+
+/// How many bytes a text or a character has.
+fn length_of(value: &Dynamic, store: &Store) -> u64 {
+    let mut buffer = [0; 4];
+    match text_or_character(value, store, &mut buffer) {
+        Ok(text) => text.len() as u64,
+        Err(_) => 0,
+    }
 }
 
 /// How often a part occurs in a text, without overlaps; an empty part before each character and at the end.

@@ -3,17 +3,16 @@
 use crate::any_functions::AnyFunction;
 use crate::argument_values::Arguments;
 use crate::array_functions::{ArrayChange, ArrayFunction, ArrayQuestion};
-use crate::blob_functions::{BlobChange, BlobFunction, BlobQuestion};
-use crate::bounds::{bounds_of, span_of};
-use crate::cost::{bytes_cost, copies_cost, copy_cost, operations_of, values_cost};
+use crate::bounds::{bounds_of, piece_of, span_of};
+use crate::cost::{bytes_cost, copies_cost, copy_cost, entries_cost, operations_of, values_cost};
 use crate::faults::FaultKind;
-use crate::int_functions::IntFunction;
 use crate::map_functions::{MapChange, MapFunction, MapQuestion};
 use crate::natives::Native;
 use crate::resources::Means;
+use crate::small_walks::{blob_cost, char_cost, int_cost, pointer_cost};
 use crate::text_walks::text_cost;
-use crate::ways::{walk_cost, walks_cost};
-use rhai_value::{Array, Blob, Dynamic, INT, Map, Store, Union};
+use crate::ways::{print_cost, walk_cost, walks_cost};
+use rhai_value::{Array, Dynamic, INT, Map, Store, Union};
 
 /// What a count of operations needs besides values.
 #[derive(Clone, Copy)]
@@ -49,10 +48,10 @@ impl Native {
             Union::Str(_, _, text) => text_cost(self.text, &counting, text, arguments)?,
             Union::Blob(_, _, bytes) => blob_cost(self.blob, &counting, bytes, arguments),
             Union::Int(_, _, number) => int_cost(self.int, *number),
+            Union::Char(_, _, _) => char_cost(self.character),
+            Union::FnPtr(_, _, pointer) => pointer_cost(self.pointer, pointer),
             Union::Unit(_, _, _)
             | Union::Bool(_, _, _)
-            | Union::Char(_, _, _)
-            | Union::FnPtr(_, _, _)
             | Union::Variant(_, _, _)
             | Union::Shared(_, _, _) => None,
         };
@@ -70,16 +69,9 @@ fn any_cost(
 ) -> Result<u64, FaultKind> {
     match function {
         Some(AnyFunction::ToString | AnyFunction::ToDebug) => {
-            walk_cost(counting.means, counting.store, held, counting.most)
+            print_cost(counting.means, counting.store, held, counting.most)
         }
         Some(AnyFunction::TypeOf) | None => Ok(0),
-    }
-}
-
-fn int_cost(function: Option<IntFunction>, number: INT) -> Option<u64> {
-    match function? {
-        IntFunction::Abs | IntFunction::Min | IntFunction::Max => Some(0),
-        IntFunction::Blob => Some(bytes_cost(usize::try_from(number).unwrap_or(0))),
     }
 }
 
@@ -163,7 +155,7 @@ fn array_question_cost(
     items: &Array,
     arguments: &Arguments,
 ) -> Result<u64, FaultKind> {
-    let (means, store, most) = (counting.means, counting.store, counting.most);
+    let store = counting.store;
     let first = &arguments.first;
     match question {
         ArrayQuestion::Len | ArrayQuestion::IsEmpty => Ok(0),
@@ -178,12 +170,20 @@ fn array_question_cost(
         ArrayQuestion::ExtractSome => {
             span_cost(counting, items, span_between(items.len(), arguments, store))
         }
-        ArrayQuestion::Contains | ArrayQuestion::IndexOf => {
-            let wanted = walk_cost(means, store, first, most)?;
-            let sought = walks_cost(means, store, items.as_slice(), most)?;
-            Ok(wanted.saturating_add(sought))
+        ArrayQuestion::Contains | ArrayQuestion::IndexOf => sought_cost(counting, items, first),
+        ArrayQuestion::IndexOfFrom => {
+            let span = span_from(items.len(), &arguments.second, store);
+            let copied = span_cost(counting, items, span)?;
+            Ok(sought_cost(counting, items, first)?.saturating_add(copied))
         }
     }
+}
+
+/// What a search for a value among items goes through.
+fn sought_cost(counting: &Counting<'_>, items: &Array, value: &Dynamic) -> Result<u64, FaultKind> {
+    let (means, store, most) = (counting.means, counting.store, counting.most);
+    let wanted = walk_cost(means, store, value, most)?;
+    Ok(wanted.saturating_add(walks_cost(means, store, items.as_slice(), most)?))
 }
 
 /// What a copy of what a value holds goes through.
@@ -238,11 +238,31 @@ fn array_change_cost(
         ArrayChange::Splice => {
             Ok(own.saturating_add(copy_cost(means.alloc, &arguments.third, most)?))
         }
+        ArrayChange::Drain | ArrayChange::DrainSome => {
+            let span = part_span(items.len(), arguments, store);
+            Ok(own.saturating_add(span_cost(counting, items, span)?))
+        }
+        ArrayChange::Retain | ArrayChange::RetainSome => {
+            let whole = span_at(items.len(), 0, INT::MAX);
+            let copied = span_cost(counting, items, whole)?;
+            Ok(copied.saturating_mul(2).saturating_add(own))
+        }
         ArrayChange::Dedup => walks_cost(means, store, items.as_slice(), most),
         ArrayChange::Sort => {
             let once = walks_cost(means, store, items.as_slice(), most)?;
             Ok(once.saturating_mul(rounds_of(items.len())))
         }
+    }
+}
+
+/// The items of a range, or so many from an index on, as the arguments say.
+fn part_span(count: usize, arguments: &Arguments, store: &Store) -> Span {
+    match bounds_of(&arguments.first, store) {
+        Some(bounds) => {
+            let (start, length) = piece_of(bounds);
+            span_at(count, start, length)
+        }
+        None => span_between(count, arguments, store),
     }
 }
 
@@ -274,14 +294,22 @@ fn map_cost(
             found.saturating_add(key_cost(first, counting.store))
         }
         Some(MapFunction::Ask(MapQuestion::Keys | MapQuestion::Values)) => {
-            copy_cost(alloc, held, counting.most)?
+            copy_cost(alloc, held, counting.most)?.saturating_add(map.len() as u64)
+        }
+        Some(MapFunction::Ask(MapQuestion::ToJson)) => {
+            let walked = walk_cost(counting.means, counting.store, held, counting.most)?;
+            walked.saturating_mul(4)
         }
         Some(MapFunction::Change(MapChange::Set | MapChange::Remove)) => {
             key_cost(first, counting.store)
         }
         Some(MapFunction::Change(MapChange::Clear)) => 0,
         Some(MapFunction::Change(MapChange::MixIn | MapChange::FillWith)) => {
-            copy_cost(alloc, first, counting.most)?
+            let count = match first.as_map_ref(counting.store) {
+                Ok(more) => more.len(),
+                Err(_) => 0,
+            };
+            copy_cost(alloc, first, counting.most)?.saturating_add(entries_cost(count))
         }
         None => return Ok(None),
     };
@@ -294,32 +322,4 @@ pub(crate) fn key_cost(key: &Dynamic, store: &Store) -> u64 {
         Ok(key) => bytes_cost(key.len()),
         Err(_) => 0,
     }
-}
-
-fn blob_cost(
-    function: Option<BlobFunction>,
-    counting: &Counting<'_>,
-    bytes: &Blob,
-    arguments: &Arguments,
-) -> Option<u64> {
-    let store = counting.store;
-    let first = &arguments.first;
-    let own = bytes.len();
-    let cost = match function? {
-        BlobFunction::Ask(BlobQuestion::Len | BlobQuestion::Get) => 0,
-        BlobFunction::Ask(BlobQuestion::Extract) => {
-            bytes_cost(span_from(own, first, store).length)
-        }
-        BlobFunction::Ask(BlobQuestion::ExtractSome) => {
-            bytes_cost(span_between(own, arguments, store).length)
-        }
-        BlobFunction::Ask(BlobQuestion::ToArray) => values_cost(own),
-        BlobFunction::Change(BlobChange::Set | BlobChange::Push | BlobChange::Pop) => 0,
-        BlobFunction::Change(BlobChange::Append) => match first.as_blob_ref(store) {
-            Ok(more) => bytes_cost(more.len()),
-            Err(_) => 0,
-        },
-        BlobFunction::Change(BlobChange::Remove | BlobChange::Reverse) => bytes_cost(own),
-    };
-    Some(cost)
 }

@@ -2,7 +2,7 @@
 ghost use Rattle.std.specs.Prelude.{◌≡◌, ◌+◌, ◌<◌, true, length, is_some, IfOk, IfSome, IfNone};
 ghost use Rattle.rhai_value.specs.Tree.{cell_of};
 
-use crate::cost::{has_parts, operations_of, own_cost, own_weight, push_parts, values_within};
+use crate::cost::{has_parts, operations_of, own_cost, push_parts, values_within, walk_weight};
 use crate::faults::FaultKind;
 use crate::resources::Means;
 use rhai_text::{EvalAltResult, Position, SizeKind};
@@ -34,7 +34,24 @@ pub fn walk_cost(
         first.push(value)?;
         return Ok(operations_of(go_through(means, store, first, 0, most)?));
     }
-    Ok(operations_of(own_weight(value)))
+    Ok(operations_of(walk_weight(value)))
+}
+
+/// Counts the operations that it takes to print what a value holds, as `walk_cost` counts; what is no text is written item by item, of which
+/// each counts three times.
+/// Errors: as `check_ways`, as far as it is counted.
+/// Cost: that of `check_ways`.
+pub fn print_cost(
+    means: &Means,
+    store: &Store,
+    value: &Dynamic,
+    most: u64,
+) -> Result<u64, FaultKind> {
+    let cost = walk_cost(means, store, value, most)?;
+    if value.is_string(store) {
+        return Ok(cost);
+    }
+    Ok(cost.saturating_mul(3))
 }
 
 /// Refuses values that are gone through together, as `check_ways` does one.
@@ -64,7 +81,7 @@ pub(crate) fn walks_cost(
         if leads_on(value) {
             first.push(value)?;
         } else {
-            small = small.saturating_add(own_weight(value));
+            small = small.saturating_add(walk_weight(value));
         }
     }
     Ok(operations_of(go_through(means, store, first, small, most)?))
@@ -100,7 +117,7 @@ fn go_through<'v>(
             level = up;
             continue;
         };
-        weight = weight.saturating_add(own_weight(value));
+        weight = weight.saturating_add(walk_weight(value));
         if !value.is_shared() {
             push_parts(value, &mut level)?;
         } else if let Some(content) = open(&mut path, store, value)? {

@@ -88,7 +88,11 @@ fn goes_on(rt: &impl Eprint, alloc: Global, text: &str, printed: &str) -> Result
             Outcome::Memory => return Err(AllocError),
             Outcome::Paused => {}
             Outcome::Done(_) => return Ok(run.take_output().as_str() == printed),
-            Outcome::Statement | Outcome::Calls(_) | Outcome::Fault(_) => return Ok(false),
+            Outcome::Statement
+            | Outcome::Calls(_)
+            | Outcome::Fault(_)
+            | Outcome::Answered(_)
+            | Outcome::Refused(_) => return Ok(false),
         }
     }
     Ok(false)

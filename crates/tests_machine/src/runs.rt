@@ -25,7 +25,12 @@ pub(crate) fn compiled(alloc: Global, text: &str) -> Option<Program> {
     let script = parse(alloc, text).ok()?;
     let mut host = Vec::new(alloc);
     let name = String::from_str(alloc, "ask").ok()?;
-    host.push(HostName { name, arguments: 1 }).ok()?;
+    host.push(HostName {
+        name,
+        arguments: 1,
+        changes: false,
+    })
+    .ok()?;
     compile(alloc, &script, host.as_slice()).ok()
 }
 
@@ -53,7 +58,9 @@ pub(crate) fn value_of(run: &Run, outcome: &Outcome) -> Option<INT> {
         | Outcome::Statement
         | Outcome::Calls(_)
         | Outcome::Memory
-        | Outcome::Fault(_) => None,
+        | Outcome::Fault(_)
+        | Outcome::Answered(_)
+        | Outcome::Refused(_) => None,
     }
 }
 
@@ -68,7 +75,9 @@ pub(crate) fn is_told(alloc: Global, run: &Run, outcome: &Outcome, wanted: &str)
         | Outcome::Paused
         | Outcome::Statement
         | Outcome::Calls(_)
-        | Outcome::Memory => false,
+        | Outcome::Memory
+        | Outcome::Answered(_)
+        | Outcome::Refused(_) => false,
     }
 }
 

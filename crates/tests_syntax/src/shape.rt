@@ -16,7 +16,12 @@ pub(crate) fn add_program(out: &mut String, program: &Program) -> Result<(), All
             function.parameters,
             function.slots,
         );
-        write!(out, " | {captured} {parameters} {slots}:")?;
+        write!(out, " | {captured} {parameters} {slots}")?;
+        if let Some(this_type) = &function.this_type {
+            let this_type = this_type.as_str();
+            write!(out, " of {this_type}")?;
+        }
+        out.push_str(":")?;
         add_all(out, &function.body.statements)?;
     }
     Ok(())
@@ -71,8 +76,15 @@ fn add(out: &mut String, part: &Expr) -> Result<(), AllocError> {
         Expr::Closure {
             function,
             captured,
+            missing,
             ..
-        } => add_closure(out, *function, captured),
+        } => match missing {
+            Some(missing) => {
+                let name = missing.name.as_str();
+                write!(out, "no {name}")
+            }
+            None => add_closure(out, *function, captured),
+        },
         Expr::Block(block) => add_block(out, "block", block),
         Expr::If { arms, otherwise } => {
             add_arms(out, arms)?;
@@ -137,6 +149,7 @@ fn add_variable(out: &mut String, variable: &Variable) -> Result<(), AllocError>
     match variable {
         Variable::Known(Slot::Own(slot)) => write!(out, "#{slot}"),
         Variable::Known(Slot::Captured(number)) => write!(out, "^{number}"),
+        Variable::Known(Slot::This) => out.push_str("this"),
         Variable::Unknown(name) => out.push_str(name.as_str()),
     }
 }
@@ -285,6 +298,7 @@ fn add_steps(out: &mut String, steps: &[Step]) -> Result<(), AllocError> {
                 let key = key.as_str();
                 write!(out, ".{key}")?;
             }
+            Step::Optional { .. } => out.push_str("?")?,
             Step::Method {
                 callee,
                 arguments,
@@ -304,6 +318,7 @@ fn add_closure(out: &mut String, function: usize, captured: &[Slot]) -> Result<(
         match slot {
             Slot::Own(slot) => write!(out, "#{slot} ")?,
             Slot::Captured(number) => write!(out, "^{number} ")?,
+            Slot::This => out.push_str("this ")?,
         }
     }
     out.push_str(")")

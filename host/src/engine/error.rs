@@ -84,6 +84,8 @@ pub enum EvalError {
         /// The number of arguments.
         arguments: usize,
     },
+    /// The [`Function`](crate::Function) is another scope's.
+    OtherScope,
     /// Memory was refused.
     OutOfMemory {
         /// The line where it stood.
@@ -115,6 +117,7 @@ impl EvalError {
             EvalError::Mismatch(_)
             | EvalError::NoInt(_)
             | EvalError::NoFunction { .. }
+            | EvalError::OtherScope
             | EvalError::Ended
             | EvalError::OtherLibrary
             | EvalError::Unexpected => None,
@@ -167,6 +170,7 @@ impl fmt::Display for EvalError {
             EvalError::Mismatch(error) => error.fmt(f)?,
             EvalError::NoInt(error) => error.fmt(f)?,
             EvalError::NoFunction { name, arguments } => write!(f, "no function {name} of {arguments} arguments")?,
+            EvalError::OtherScope => f.write_str("a function of another scope")?,
             EvalError::OutOfMemory { .. } => f.write_str("out of memory")?,
             EvalError::Ended => f.write_str("the run has ended")?,
             EvalError::OtherLibrary => f.write_str("another library than this crate was built for")?,

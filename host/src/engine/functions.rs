@@ -1,18 +1,26 @@
 //! Functions of the program that scripts call.
-use super::EvalError;
+use super::function::Found;
+use super::{Call, EvalError, Function};
 use crate::value::{TryFromValueError, Value};
+use std::any::Any;
 use std::fmt::Display;
+use std::marker::PhantomData;
 use std::panic::{catch_unwind, AssertUnwindSafe};
 
-/// What a function that panics is refused with.
-const PANICKED: &str = "a function of the host panicked";
-
-/// A type of Rust's that a [`Value`] is taken as: each with a `TryFrom<Value>` whose error is a [`TryFromValueError`], and `Value` itself.
+/// A type of Rust's that a [`Value`] is taken as: each with a `TryFrom<Value>` whose error is a [`TryFromValueError`], and `Value` itself. A
+/// [`Function`] is one too, which is taken where it stands in a scope alone.
 pub trait Wanted: Sized {
     /// Takes a value.
     ///
     /// Errors: the value is of another type, or is a number that the type doesn't have.
     fn wanted(value: Value) -> Result<Self, TryFromValueError>;
+
+    /// Takes a value that stands in a scope.
+    ///
+    /// Errors: those of `wanted`, and want of memory.
+    fn found(found: &Found<'_>) -> Result<Self, EvalError> {
+        Ok(Self::wanted(found.value()?)?)
+    }
 }
 
 impl<T: TryFrom<Value, Error: Into<TryFromValueError>>> Wanted for T {
@@ -21,66 +29,138 @@ impl<T: TryFrom<Value, Error: Into<TryFromValueError>>> Wanted for T {
     }
 }
 
+/// A value that isn't wanted, and isn't read.
+pub(super) struct Unread;
+
+impl Wanted for Unread {
+    fn wanted(_value: Value) -> Result<Unread, TryFromValueError> {
+        Ok(Unread)
+    }
+
+    fn found(_found: &Found<'_>) -> Result<Unread, EvalError> {
+        Ok(Unread)
+    }
+}
+
+/// What a function of the program answers with.
+#[derive(Debug)]
+pub enum Given {
+    /// A value.
+    Value(Value),
+    /// A function of the script.
+    Function(Function),
+}
+
+/// Why a function of the program has no answer.
+#[derive(Debug)]
+pub enum Refused {
+    /// This is thrown where the script calls.
+    Thrown(String),
+    /// This ends the run.
+    Ends(EvalError),
+}
+
+/// What a function of the program may answer: what becomes a [`Value`], a [`Function`], or a `Result` of either and an error that is shown. `K` tells these
+/// apart.
+pub trait Answers<K> {
+    /// Makes an answer of it.
+    ///
+    /// Errors: what it fails with; a number is no int.
+    fn given(self) -> Result<Given, Refused>;
+}
+
+/// The mark of answers that become values.
+#[derive(Debug)]
+pub struct Plain;
+
+/// The mark of answers that may be errors.
+#[derive(Debug)]
+pub struct Fallible<K>(PhantomData<K>);
+
+/// The mark of functions of scripts as answers.
+#[derive(Debug)]
+pub struct Kept;
+
+impl<R: TryInto<Value, Error: Display>> Answers<Plain> for R {
+    fn given(self) -> Result<Given, Refused> {
+        self.try_into().map(Given::Value).map_err(|error| Refused::Thrown(error.to_string()))
+    }
+}
+
+impl Answers<Kept> for Function {
+    fn given(self) -> Result<Given, Refused> {
+        Ok(Given::Function(self))
+    }
+}
+
+impl<K, R: Answers<K>, E: Display> Answers<Fallible<K>> for Result<R, E> {
+    fn given(self) -> Result<Given, Refused> {
+        match self {
+            Ok(answer) => answer.given(),
+            Err(error) => Err(Refused::Thrown(error.to_string())),
+        }
+    }
+}
+
 /// A function of Rust's that scripts may call: up to six parameters, each of a type that a [`Value`] is taken as, and an answer that becomes
-/// a [`Value`], or a `Result` of one and an error that is shown. A number that is no int is thrown as such an error. `A` is the list of its
-/// parameters' types, and `K` tells both kinds of answers apart.
+/// a [`Value`], or a `Result` of one and an error that is shown. A number that is no int is thrown as such an error. Before the parameters it may take a
+/// `&mut` [`Call`], and the first one may be taken as `&mut`. `A` is the list of its parameters' types, and `K` tells the kinds of answers apart.
 pub trait HostFn<A, K>: Send + Sync + 'static {
     /// How many parameters it has.
     const PARAMETERS: usize;
 
-    /// Calls it.
-    fn call(&self, arguments: Vec<Value>) -> Result<Value, String>;
+    /// Whether it may change the first argument.
+    const CHANGES: bool;
+
+    /// Calls it with the arguments of the script's call.
+    ///
+    /// Errors: what it fails with; an argument that isn't of its parameter's type.
+    fn call(&self, call: &mut Call<'_>) -> Result<Given, Refused>;
 }
 
-/// The mark of functions that answer.
-pub struct Plain;
+/// The list of the parameters of a function that takes a [`Call`] before these.
+#[derive(Debug)]
+pub struct WithCall<A>(PhantomData<A>);
 
-/// The mark of functions that may fail.
-pub struct Fallible;
+/// The list of the parameters of a function whose first one is changed.
+#[derive(Debug)]
+pub struct Changing<A>(PhantomData<A>);
 
-/// An argument as the type of a parameter.
-fn taken<T: Wanted>(arguments: &mut std::vec::IntoIter<Value>, number: usize) -> Result<T, String> {
-    let value = arguments.next().unwrap_or(Value::Unit);
-    T::wanted(value).map_err(|error| error.said(&format!("argument {number}"), "is"))
-}
-
-/// An answer as a value.
-fn answered<R: TryInto<Value, Error: Display>>(answer: R) -> Result<Value, String> {
-    answer.try_into().map_err(|error| error.to_string())
+/// Gives the first argument back, which was changed.
+fn put_back<M: TryInto<Value, Error: Display>>(call: &mut Call<'_>, changed: M) -> Result<(), Refused> {
+    match changed.try_into() {
+        Ok(value) => call.change(&value),
+        Err(error) => Err(Refused::Thrown(error.to_string())),
+    }
 }
 
 macro_rules! functions {
     ($($count:literal: $($type:ident $number:literal),*;)*) => {
         $(
-            impl<F, R, $($type: Wanted,)*> HostFn<($($type,)*), Plain> for F
+            impl<F, K, R: Answers<K>, $($type: Wanted,)*> HostFn<($($type,)*), K> for F
             where
                 F: Fn($($type),*) -> R + Send + Sync + 'static,
-                R: TryInto<Value, Error: Display>,
             {
                 const PARAMETERS: usize = $count;
+                const CHANGES: bool = false;
 
-                #[allow(unused_mut, unused_variables)]
-                fn call(&self, arguments: Vec<Value>) -> Result<Value, String> {
-                    let mut arguments = arguments.into_iter();
-                    answered(self($(taken::<$type>(&mut arguments, $number)?),*))
+                #[allow(unused_variables)]
+                fn call(&self, call: &mut Call<'_>) -> Result<Given, Refused> {
+                    self($(call.argument::<$type>($number)?),*).given()
                 }
             }
 
-            impl<F, R, E, $($type: Wanted,)*> HostFn<($($type,)*), Fallible> for F
+            impl<F, K, R: Answers<K>, $($type: Wanted,)*> HostFn<WithCall<($($type,)*)>, K> for F
             where
-                F: Fn($($type),*) -> Result<R, E> + Send + Sync + 'static,
-                R: TryInto<Value, Error: Display>,
-                E: Display,
+                F: Fn(&mut Call<'_>, $($type),*) -> R + Send + Sync + 'static,
             {
                 const PARAMETERS: usize = $count;
+                const CHANGES: bool = false;
 
-                #[allow(unused_mut, unused_variables)]
-                fn call(&self, arguments: Vec<Value>) -> Result<Value, String> {
-                    let mut arguments = arguments.into_iter();
-                    match self($(taken::<$type>(&mut arguments, $number)?),*) {
-                        Ok(answer) => answered(answer),
-                        Err(error) => Err(error.to_string()),
-                    }
+                #[allow(non_snake_case)]
+                fn call(&self, call: &mut Call<'_>) -> Result<Given, Refused> {
+                    $(let $type = call.argument::<$type>($number)?;)*
+                    self(call, $($type),*).given()
                 }
             }
 
@@ -89,6 +169,44 @@ macro_rules! functions {
                 fn into_values(self) -> Result<Vec<Value>, EvalError> {
                     let ($($type,)*) = self;
                     Ok(vec![$($type.try_into().map_err(Into::into)?),*])
+                }
+            }
+        )*
+    };
+}
+
+macro_rules! changing {
+    ($($count:literal: $($type:ident $number:literal),*;)*) => {
+        $(
+            impl<F, K, R: Answers<K>, M: Wanted + TryInto<Value, Error: Display>, $($type: Wanted,)*> HostFn<Changing<(M, $($type,)*)>, K> for F
+            where
+                F: Fn(&mut M, $($type),*) -> R + Send + Sync + 'static,
+            {
+                const PARAMETERS: usize = $count;
+                const CHANGES: bool = true;
+
+                fn call(&self, call: &mut Call<'_>) -> Result<Given, Refused> {
+                    let mut first = call.argument::<M>(0)?;
+                    let given = self(&mut first, $(call.argument::<$type>($number)?),*).given();
+                    put_back(call, first)?;
+                    given
+                }
+            }
+
+            impl<F, K, R: Answers<K>, M: Wanted + TryInto<Value, Error: Display>, $($type: Wanted,)*> HostFn<WithCall<Changing<(M, $($type,)*)>>, K> for F
+            where
+                F: Fn(&mut Call<'_>, &mut M, $($type),*) -> R + Send + Sync + 'static,
+            {
+                const PARAMETERS: usize = $count;
+                const CHANGES: bool = true;
+
+                #[allow(non_snake_case)]
+                fn call(&self, call: &mut Call<'_>) -> Result<Given, Refused> {
+                    let mut first = call.argument::<M>(0)?;
+                    $(let $type = call.argument::<$type>($number)?;)*
+                    let given = self(call, &mut first, $($type),*).given();
+                    put_back(call, first)?;
+                    given
                 }
             }
         )*
@@ -111,24 +229,42 @@ impl Arguments for Vec<Value> {
 
 functions! {
     0: ;
-    1: A 1;
-    2: A 1, B 2;
-    3: A 1, B 2, C 3;
-    4: A 1, B 2, C 3, D 4;
-    5: A 1, B 2, C 3, D 4, G 5;
-    6: A 1, B 2, C 3, D 4, G 5, H 6;
+    1: A 0;
+    2: A 0, B 1;
+    3: A 0, B 1, C 2;
+    4: A 0, B 1, C 2, D 3;
+    5: A 0, B 1, C 2, D 3, G 4;
+    6: A 0, B 1, C 2, D 3, G 4, H 5;
 }
+
+changing! {
+    1: ;
+    2: B 1;
+    3: B 1, C 2;
+    4: B 1, C 2, D 3;
+    5: B 1, C 2, D 3, G 4;
+    6: B 1, C 2, D 3, G 4, H 5;
+}
+
+/// What is called for a function of the program.
+type Called = Box<dyn Fn(&mut Call<'_>) -> Result<Given, Refused> + Send + Sync>;
 
 /// A function that an engine knows.
 pub(crate) struct Registered {
     name: String,
     parameters: usize,
-    call: Box<dyn Fn(Vec<Value>) -> Result<Value, String> + Send + Sync>,
+    changes: bool,
+    call: Called,
 }
 
 impl Registered {
     pub(crate) fn new<A, K, F: HostFn<A, K>>(name: &str, function: F) -> Registered {
-        Registered { name: name.to_owned(), parameters: F::PARAMETERS, call: Box::new(move |arguments| function.call(arguments)) }
+        Registered {
+            name: name.to_owned(),
+            parameters: F::PARAMETERS,
+            changes: F::CHANGES,
+            call: Box::new(move |call| function.call(call)),
+        }
     }
 
     /// Whether scripts would call either by the same call.
@@ -138,11 +274,11 @@ impl Registered {
 
     /// How it is named for the library.
     pub(crate) fn line(&self) -> String {
-        format!("{} {}\n", self.name, self.parameters)
+        format!("{} {}{}\n", self.name, self.parameters, if self.changes { " mut" } else { "" })
     }
 
-    /// Calls it; no panic passes.
-    pub(crate) fn call(&self, arguments: Vec<Value>) -> Result<Value, String> {
-        catch_unwind(AssertUnwindSafe(|| (self.call)(arguments))).unwrap_or_else(|_| Err(PANICKED.to_owned()))
+    /// Calls it; gives its panic where it panics.
+    pub(crate) fn call(&self, call: &mut Call<'_>) -> Result<Result<Given, Refused>, Box<dyn Any + Send>> {
+        catch_unwind(AssertUnwindSafe(|| (self.call)(call)))
     }
 }

@@ -1,7 +1,8 @@
 //! Runs that stand, and go on by pieces.
-use super::scope::{Stop, Went};
+use super::function::{Found, Standing};
+use super::scope::Stop;
 use super::watch::Used;
-use super::{Ast, Engine, EvalError, Scope};
+use super::{Ast, Call, Engine, EvalError, Function, Scope, Wanted};
 use crate::memory::Memory;
 use crate::value::Value;
 use std::fmt;
@@ -21,6 +22,13 @@ pub enum Progress {
         /// The place on that line.
         column: u32,
     },
+}
+
+/// How far a run came, with its value as a type of Rust's.
+enum Came<T> {
+    Done(T),
+    Paused,
+    Statement { line: u32, column: u32 },
 }
 
 /// A run of a script, which goes on by as many operations as it is told. Functions of the program are answered meanwhile.
@@ -50,7 +58,7 @@ pub struct Run<'a> {
     engine: &'a Engine,
     scope: &'a mut Scope,
     /// The function that is called once the statements outside of functions are done.
-    call: Option<(String, Vec<Value>)>,
+    function: Option<(String, Vec<Value>)>,
     /// How many variables stay at the end, where not all do.
     stay: Option<usize>,
     stands: bool,
@@ -61,8 +69,24 @@ pub struct Run<'a> {
 impl<'a> Run<'a> {
     pub(super) fn begin(engine: &'a Engine, scope: &'a mut Scope, ast: &Ast) -> Result<Run<'a>, EvalError> {
         let used = Used::new(&engine.watch);
-        let run = Run { engine, scope, call: None, stay: None, stands: true, stops: false, used };
-        run.scope.begin(ast, engine)?;
+        let run = Run { engine, scope, function: None, stay: None, stands: true, stops: false, used };
+        run.scope.begin(ast, engine, true)?;
+        Ok(run)
+    }
+
+    /// Begins a run that calls a function of the scope, and nothing else of the script.
+    pub(super) fn begin_function(
+        engine: &'a Engine,
+        scope: &'a mut Scope,
+        ast: &Ast,
+        function: &Function,
+        arguments: Vec<Value>,
+    ) -> Result<Run<'a>, EvalError> {
+        scope.owns(function)?;
+        let used = Used::new(&engine.watch);
+        let run = Run { engine, scope, function: None, stay: None, stands: true, stops: false, used };
+        run.scope.begin(ast, engine, false)?;
+        run.scope.call_function(function, arguments)?;
         Ok(run)
     }
 
@@ -76,7 +100,7 @@ impl<'a> Run<'a> {
     ) -> Result<Run<'a>, EvalError> {
         let before = scope.len();
         let mut run = Run::begin(engine, scope, ast)?;
-        run.call = Some((name.to_owned(), arguments));
+        run.function = Some((name.to_owned(), arguments));
         run.stay = Some(before);
         Ok(run)
     }
@@ -86,6 +110,15 @@ impl<'a> Run<'a> {
     ///
     /// Errors: what ended the run, which goes on no more; `EvalError::Ended` where it had ended before.
     pub fn go(&mut self, operations: u64) -> Result<Progress, EvalError> {
+        Ok(match self.piece(operations)? {
+            Came::Done(value) => Progress::Done(value),
+            Came::Paused => Progress::Paused,
+            Came::Statement { line, column } => Progress::Statement { line, column },
+        })
+    }
+
+    /// Goes on by a piece, and takes the value where it is done.
+    fn piece<T: Wanted>(&mut self, operations: u64) -> Result<Came<T>, EvalError> {
         if !self.stands {
             return Err(EvalError::Ended);
         }
@@ -93,16 +126,16 @@ impl<'a> Run<'a> {
         let gone = self.advance(self.used.operations.saturating_add(operations));
         self.used.end_piece();
         match gone {
-            Ok(Progress::Paused | Progress::Statement { .. }) => {}
-            Ok(Progress::Done(_)) | Err(_) => self.end()?,
+            Ok(Came::Paused | Came::Statement { .. }) => {}
+            Ok(Came::Done(_)) | Err(_) => self.end()?,
         }
         gone
     }
 
     /// Goes on to its end.
-    pub(super) fn finish(mut self) -> Result<Value, EvalError> {
+    pub(super) fn finish<T: Wanted>(mut self) -> Result<T, EvalError> {
         loop {
-            if let Progress::Done(value) = self.go(u64::MAX)? {
+            if let Came::Done(value) = self.piece(u64::MAX)? {
                 return Ok(value);
             }
         }
@@ -138,19 +171,25 @@ impl<'a> Run<'a> {
 /// How it goes on.
 impl Run<'_> {
     /// Goes on until it took so many operations, is done, or is to stop.
-    fn advance(&mut self, until: u64) -> Result<Progress, EvalError> {
+    fn advance<T: Wanted>(&mut self, until: u64) -> Result<Came<T>, EvalError> {
         loop {
             self.used.check(&self.engine.watch)?;
             if self.used.operations >= until {
-                return Ok(Progress::Paused);
+                return Ok(Came::Paused);
             }
             let went = self.scope.go(self.used.granted(&self.engine.watch, until))?;
-            let stop = self.see(went)?;
+            let mut stop = self.call().see(went)?;
+            if let Stop::Calls { function } = stop {
+                match self.call().answer(function)? {
+                    Some(refused) => stop = refused,
+                    None => continue,
+                }
+            }
             let (line, column) = (self.used.line, self.used.column);
             match stop {
                 Stop::Done => {
-                    let Some((name, arguments)) = self.call.take() else {
-                        return Ok(Progress::Done(self.scope.last_value()?));
+                    let Some((name, arguments)) = self.function.take() else {
+                        return Ok(Came::Done(T::found(&Found::new(self.scope, Standing::Value))?));
                     };
                     self.scope.call(&name, arguments)?;
                 }
@@ -158,42 +197,19 @@ impl Run<'_> {
                 Stop::Statement => {
                     self.engine.at_statement(line, column);
                     if self.stops {
-                        return Ok(Progress::Statement { line, column });
+                        return Ok(Came::Statement { line, column });
                     }
                 }
-                Stop::Calls { function, arguments } => self.answer(function, arguments)?,
                 Stop::Memory => return Err(EvalError::OutOfMemory { line, column }),
                 Stop::Fault { message } => return Err(EvalError::Runtime { message, line, column }),
+                Stop::Calls { .. } | Stop::Answered | Stop::Refused { .. } => return Err(EvalError::Unexpected),
             }
         }
     }
 
-    /// Notes how it went on, and hands on what it printed.
-    fn see(&mut self, went: Went) -> Result<Stop, EvalError> {
-        let Went { printed, operations, line, column, stop } = went;
-        (self.used.operations, self.used.line, self.used.column) = (operations, line, column);
-        for text in printed.split_inclusive('\n') {
-            self.used.print(&self.engine.watch, text)?;
-            let printed = self.engine.print(text.strip_suffix('\n').unwrap_or(text));
-            printed.map_err(|error| EvalError::NotPrinted { why: error.to_string(), line, column })?;
-        }
-        Ok(stop)
-    }
-
-    /// Calls a function of the program.
-    fn answer(&mut self, function: usize, count: usize) -> Result<(), EvalError> {
-        let arguments = (0..count).map(|number| self.scope.argument(number)).collect::<Result<_, _>>()?;
-        let why = match self.engine.call(function, arguments)? {
-            Ok(value) => return self.scope.answer(&value),
-            Err(why) => why,
-        };
-        let Went { stop, line, column, .. } = self.scope.refuse(&why)?;
-        match stop {
-            Stop::Paused => Ok(()),
-            Stop::Memory => Err(EvalError::OutOfMemory { line, column }),
-            Stop::Fault { message } => Err(EvalError::Runtime { message, line, column }),
-            Stop::Done | Stop::Statement | Stop::Calls { .. } => Err(EvalError::Unexpected),
-        }
+    /// What answers calls of the program's functions.
+    fn call(&mut self) -> Call<'_> {
+        Call::new(self.engine, self.scope, &mut self.used)
     }
 
     /// Gives the variables back.

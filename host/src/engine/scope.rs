@@ -1,4 +1,5 @@
 //! The variables of scripts, and runs over them.
+use super::function::{Found, Ledger, Standing};
 use super::{Ast, Engine, EvalError, Wanted};
 use crate::error::{done, Error};
 use crate::limits::Limits;
@@ -7,6 +8,7 @@ use crate::sys::{self, ScriptStop, Told};
 use crate::value::Value;
 use crate::world::World;
 use std::fmt;
+use std::sync::Arc;
 
 /// Variables that live on between runs, with all that closures share. A later one hides an earlier one of its name.
 ///
@@ -25,9 +27,11 @@ use std::fmt;
 /// # Ok::<(), EvalError>(())
 /// ```
 pub struct Scope {
-    world: World,
+    pub(super) world: World,
     /// The script and the engine that the code is of that the library has.
     compiled: Option<(u64, u64)>,
+    /// The functions that it keeps for the program.
+    pub(super) ledger: Arc<Ledger>,
 }
 
 /// How a run went on.
@@ -47,15 +51,25 @@ pub(crate) enum Stop {
     Done,
     Paused,
     Statement,
-    Calls { function: usize, arguments: usize },
+    Calls {
+        function: usize,
+    },
     Memory,
-    Fault { message: String },
+    Fault {
+        message: String,
+    },
+    /// A function that one of the program called is done, and that one still waits.
+    Answered,
+    /// It went wrong, and that one still waits.
+    Refused {
+        message: String,
+    },
 }
 
 impl Scope {
     /// Makes a scope of no variables.
     pub fn new() -> Result<Scope, EvalError> {
-        Ok(Scope { world: World::new(Limits::default())?, compiled: None })
+        Ok(Scope { world: World::new(Limits::default())?, compiled: None, ledger: Arc::default() })
     }
 
     /// Declares a variable.
@@ -84,12 +98,22 @@ impl Scope {
         self.try_get(name).ok().flatten()
     }
 
-    /// The value of the newest variable of a name as a type of Rust's, if there is one.
+    /// The value of the newest variable of a name as a type of Rust's: `Ok(None)` where there is no such variable.
     ///
-    /// Errors: want of memory; the value isn't of that type.
+    /// Errors: `EvalError::Mismatch`, where the value isn't of that type; want of memory.
+    ///
+    /// ```
+    /// use rhai_world::{EvalError, Scope};
+    ///
+    /// let scope = Scope::of([("x", 40)])?;
+    /// assert_eq!(scope.try_get::<i64>("y")?, None);
+    /// let wrong = scope.try_get::<String>("x").unwrap_err();
+    /// assert_eq!(wrong.to_string(), "the value is an int, and String was wanted");
+    /// # Ok::<(), EvalError>(())
+    /// ```
     pub fn try_get<T: Wanted>(&self, name: &str) -> Result<Option<T>, EvalError> {
-        match self.value(name)? {
-            Some(value) => Ok(Some(T::wanted(value)?)),
+        match self.find(name)? {
+            Some(number) => T::found(&Found::new(self, Standing::Variable(number))).map(Some),
             None => Ok(None),
         }
     }
@@ -131,6 +155,7 @@ impl Scope {
 
     /// Tells how much memory the scope holds: its variables, the script that was run last, and what that answered.
     pub fn memory(&self) -> Memory {
+        self.let_go();
         self.world.memory()
     }
 
@@ -174,13 +199,14 @@ impl Scope {
     }
 
     /// Begins a run of a script, which `end` ends, also where it fails. Until then the scope may hold as much memory as the engine allows.
-    pub(crate) fn begin(&mut self, ast: &Ast, engine: &Engine) -> Result<(), EvalError> {
+    pub(crate) fn begin(&mut self, ast: &Ast, engine: &Engine, with_body: bool) -> Result<(), EvalError> {
+        self.let_go();
         self.world.set_max_memory(engine.limits().memory);
-        if self.compiled == Some((ast.serial(), engine.serial())) && self.begins(engine)? {
+        if self.compiled == Some((ast.serial(), engine.serial())) && self.begins(engine, with_body)? {
             return Ok(());
         }
         self.compile_within(ast, engine)?;
-        if self.begins(engine)? {
+        if self.begins(engine, with_body)? {
             Ok(())
         } else {
             Err(EvalError::Unexpected)
@@ -188,9 +214,9 @@ impl Scope {
     }
 
     /// Begins a run of the script that was read last, if it was read for these variables.
-    fn begins(&mut self, engine: &Engine) -> Result<bool, EvalError> {
+    fn begins(&mut self, engine: &Engine, with_body: bool) -> Result<bool, EvalError> {
         let (text, items) = engine.limits().numbers();
-        match done(sys::script_begin(&self.world.handle, text, items, engine.entries(), engine.calls(), true)) {
+        match done(sys::script_begin(&self.world.handle, text, items, engine.entries(), engine.calls(), with_body)) {
             Ok(()) => {
                 if engine.stops_at_statements() {
                     self.stop_at_statements(true)?;
@@ -227,14 +253,16 @@ impl Scope {
 
     fn went(&self, stop: &ScriptStop) -> Result<Went, EvalError> {
         let (printed, message) = self.texts(stop)?;
-        let ScriptStop { kind, function, arguments, line, column, operations, .. } = *stop;
+        let ScriptStop { kind, function, line, column, operations, .. } = *stop;
         let stop = match kind {
             0 => Stop::Done,
             1 => Stop::Paused,
-            2 => Stop::Calls { function: function as usize, arguments },
+            2 => Stop::Calls { function: function as usize },
             3 => Stop::Statement,
             4 => Stop::Memory,
             5 => Stop::Fault { message },
+            7 => Stop::Answered,
+            8 => Stop::Refused { message },
             _ => return Err(EvalError::Unexpected),
         };
         Ok(Went { printed, operations, line, column, stop })
@@ -266,8 +294,21 @@ impl Scope {
         self.went(&stop)
     }
 
+    /// Refuses it with a value, as if the script threw that.
+    pub(crate) fn throw(&mut self, value: &Value) -> Result<Went, EvalError> {
+        let mut stop = ScriptStop::default();
+        done(sys::script_throw(&self.world.handle, &value.to_bytes()?, &mut stop))?;
+        self.went(&stop)
+    }
+
+    /// Changes the first argument that a registered function is called with.
+    pub(crate) fn change(&mut self, value: &Value) -> Result<(), EvalError> {
+        Ok(done(sys::script_change(&self.world.handle, &value.to_bytes()?))?)
+    }
+
     /// Ends the run, if one stands: the variables are here again, and may be read and written without a cap on memory.
     pub(crate) fn end(&mut self) -> Result<(), EvalError> {
+        self.let_go();
         self.world.set_max_memory(None);
         Ok(done(sys::script_end(&self.world.handle))?)
     }

@@ -175,13 +175,31 @@ pub(super) struct Used {
     pulls: u64,
     /// How many operations were told last.
     told: u64,
+    /// How many calls of functions of scripts stand within each other.
+    pub(super) within: usize,
+    /// What went wrong last in such a call, as it is shown and as a script sees it.
+    pub(super) refused: Option<(String, Value)>,
+    /// What ended the run in such a call.
+    pub(super) ended: Option<EvalError>,
 }
 
 impl Used {
     /// Nothing yet, of a run that begins.
     pub(super) fn new(watch: &Watch) -> Used {
         let pulls = watch.interrupt.pulls();
-        Used { operations: 0, line: 0, column: 0, time: Duration::ZERO, since: None, output: 0, pulls, told: 0 }
+        Used {
+            operations: 0,
+            line: 0,
+            column: 0,
+            time: Duration::ZERO,
+            since: None,
+            output: 0,
+            pulls,
+            told: 0,
+            within: 0,
+            refused: None,
+            ended: None,
+        }
     }
 
     /// Begins a piece.

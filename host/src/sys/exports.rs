@@ -1,7 +1,9 @@
 //! The calls, by the modules that export them: written by `tools/host_declarations` from the lines of `crates/rhai_host`.
 
+mod answering;
 mod asks;
 mod engine;
+mod functions;
 mod hand;
 mod lines;
 mod lists;
@@ -19,8 +21,10 @@ mod told;
 mod typed;
 mod variables;
 
+pub use answering::*;
 pub use asks::*;
 pub use engine::*;
+pub use functions::*;
 pub use hand::*;
 pub use lines::*;
 pub use lists::*;

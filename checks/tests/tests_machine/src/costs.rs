@@ -62,23 +62,23 @@ fn rows_of_arrays() -> [Row; 20] {
         to_count(ITEMS, "400", "let c = a.extract(0, 2);", 0),
         // 200 items are copied, and made
         to_count(ITEMS, "400", "let c = a.extract(0, 200);", 100),
-        // "[1, 1, .. 1]" has 600 bytes
-        to_count(ITEMS, "200", "let t = a.to_string();", 59),
+        // what is printed counts three times, and "[1, 1, .. 1]" has 600 bytes
+        to_count(ITEMS, "200", "let t = a.to_string();", 159),
         // and with the end of the line 601
-        to_count(ITEMS, "200", "print(a);", 59),
+        to_count(ITEMS, "200", "print(a);", 159),
         to_count(ITEMS, "200", "try { throw a; } catch { }", 100),
     ]
 }
 
 /// 640 bytes are 10 operations, 320 bytes are 5.
-fn rows_of_texts() -> [Row; 17] {
+fn rows_of_texts() -> [Row; 18] {
     [
         to_count(BYTES, "640", "s.len();", 10),
         to_count(BYTES, "640", "s.is_empty();", 0),
         to_count(BYTES, "640", "s.contains(\"y\");", 10),
         to_count(BYTES, "640", "s.starts_with(\"y\");", 0),
-        // what is made counts, too
-        to_count(BYTES, "640", "s.to_upper();", 20),
+        // what is made counts, too, and four characters are an operation
+        to_count(BYTES, "640", "s.to_upper();", 180),
         // so do 640 characters
         to_count(BYTES, "640", "s.chars();", 170),
         to_count(BYTES, "640", "let t = s; t.is_empty(); s.is_empty();", 10),
@@ -88,8 +88,10 @@ fn rows_of_texts() -> [Row; 17] {
         to_count(BYTES, "640", "s[0..1] = \"yy\";", 10),
         // what is copied, and put behind
         to_count(BYTES, "320", "s += s;", 10),
-        // 640 bytes are made
-        to_count(BYTES, "320", "s.replace(\"x\", \"yy\");", 15),
+        // it is gone through twice, and 640 bytes are made for 320 parts
+        to_count(BYTES, "320", "s.replace(\"x\", \"yy\");", 340),
+        // it is gone through twice, each part is an operation, and 321 values are made
+        to_count(BYTES, "320", "let p = s.split('x');", 410),
         to_count(BYTES, "640", "print(s);", 20),
         to_count(BLOB, "640", "b.reverse();", 10),
         to_count(BLOB, "640", "let c = b.to_array();", 320),
@@ -101,10 +103,12 @@ fn rows_of_texts() -> [Row; 17] {
 fn rows_of_maps() -> [Row; 6] {
     [
         to_count(ENTRIES, "80", "m.len();", 0),
-        to_count(ENTRIES, "80", "let k = m.keys();", 40),
+        // copies, what is made, and an operation for each key
+        to_count(ENTRIES, "80", "let k = m.keys();", 120),
         to_count(ENTRIES, "80", "let n = m; n.len(); m.len();", 20),
-        to_count(ENTRIES, "80", "m.mixin(m);", 40),
-        to_count(ENTRIES, "80", "m += m;", 40),
+        // the argument is copied twice, and each entry is three operations
+        to_count(ENTRIES, "80", "m.mixin(m);", 280),
+        to_count(ENTRIES, "80", "m += m;", 280),
         to_count(ENTRIES, "80", "let n = m == m;", 40),
     ]
 }
@@ -121,7 +125,9 @@ fn taken(alloc: Global, row: &Row, length: &str, statement: &str) -> Option<u64>
         | Outcome::Statement
         | Outcome::Calls(_)
         | Outcome::Memory
-        | Outcome::Fault(_) => None,
+        | Outcome::Fault(_)
+        | Outcome::Answered(_)
+        | Outcome::Refused(_) => None,
     }
 }
 

@@ -10,7 +10,12 @@ use std::alloc::Global;
 fn asked(alloc: Global) -> Option<Vec<HostName>> {
     let mut host = Vec::new(alloc);
     let name = String::from_str(alloc, "ask").ok()?;
-    host.push(HostName { name, arguments: 1 }).ok()?;
+    host.push(HostName {
+        name,
+        arguments: 1,
+        changes: false,
+    })
+    .ok()?;
     Some(host)
 }
 
@@ -26,7 +31,7 @@ fn driven(engine: &mut Engine) -> Option<INT> {
                     .answer(Dynamic::from_int(given.saturating_mul(2)))
                     .ok()?;
             }
-            Step::Memory | Step::Fault(_) => return None,
+            Step::Memory | Step::Fault(_) | Step::Answered | Step::Refused(_) => return None,
         }
     }
     None

@@ -17,7 +17,7 @@ fn answered(run: &mut Run, program: &Program) -> Outcome {
             Some(given) => given.as_int(run.store()).unwrap_or(0),
             None => 0,
         };
-        let _taken = run.answer(Dynamic::from_int(given.saturating_mul(2)));
+        let _taken = run.answer(program, Dynamic::from_int(given.saturating_mul(2)));
     }
     Outcome::Paused
 }
@@ -78,8 +78,8 @@ fn waits(alloc: Global) -> Option<bool> {
     let mut run = begun(alloc, &program)?;
     let _called = driven(&mut run, &program, 100);
     let again = run.go(&program, 100);
-    let is_taken = run.answer(Dynamic::from_int(9)).ok()?;
-    let is_taken_twice = run.answer(Dynamic::from_int(8)).ok()?;
+    let is_taken = run.answer(&program, Dynamic::from_int(9)).ok()?;
+    let is_taken_twice = run.answer(&program, Dynamic::from_int(8)).ok()?;
     let outcome = driven(&mut run, &program, 100);
     let is_right = is_taken && !is_taken_twice && value_of(&run, &outcome) == Some(9);
     Some(matches!(&again, Outcome::Calls(0)) && is_right)

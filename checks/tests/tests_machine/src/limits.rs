@@ -183,7 +183,9 @@ fn has_too_many_entries(alloc: Global, text: &str) -> Option<bool> {
         | Outcome::Paused
         | Outcome::Statement
         | Outcome::Calls(_)
-        | Outcome::Memory => Some(false),
+        | Outcome::Memory
+        | Outcome::Answered(_)
+        | Outcome::Refused(_) => Some(false),
     }
 }
 

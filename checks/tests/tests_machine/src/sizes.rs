@@ -44,7 +44,12 @@ fn limit_passed(alloc: Global, text: &str) -> Option<Past> {
     match run.go(&program, 100_000) {
         Outcome::Done(_) => Some(Past::None),
         Outcome::Fault(fault) => past_of(&fault.kind),
-        Outcome::Paused | Outcome::Statement | Outcome::Calls(_) | Outcome::Memory => None,
+        Outcome::Paused
+        | Outcome::Statement
+        | Outcome::Calls(_)
+        | Outcome::Memory
+        | Outcome::Answered(_)
+        | Outcome::Refused(_) => None,
     }
 }
 
@@ -60,6 +65,12 @@ fn texts_keep_their_size(rt: HostRuntime) {
         ("s.replace(\"0\", \"a\");", Past::None),
         ("s.replace(\"01\", \"ab\");", Past::None),
         ("s.pad(11, ' ');", Past::Text),
+        ("s.replace('0', \"ab\");", Past::Text),
+        ("s.replace('0', 'a');", Past::None),
+        ("s.remove('0'); s += 'a';", Past::None),
+        ("let t = #{ a: \"12345\" }.to_json();", Past::Text),
+        ("let t = (-1).to_hex();", Past::Text),
+        ("let t = blob(4, 255).as_string();", Past::Text),
         ("s += \"a\";", Past::Text),
         ("let t = s + \"a\";", Past::Text),
         ("let t = [s].to_string();", Past::Text),
@@ -86,6 +97,12 @@ fn arrays_keep_their_size(rt: HostRuntime) {
         ("let a = \"a,b,c,d,e\".split(\",\");", Past::None),
         ("let a = \"a,b,c,d,,e\".split(\",\");", Past::Items),
         ("let a = \"a,b,c,d,,e\".split(',');", Past::Items),
+        ("let a = \"a b c d e\".split();", Past::None),
+        ("let a = \"a b c d e f\".split();", Past::Items),
+        ("let a = \"a,b,c,d,,e\".split_rev(',');", Past::Items),
+        ("let a = \"a,b,c,d,,e\".split(',', 5);", Past::None),
+        ("let b = \"abcdef\".to_blob();", Past::Items),
+        ("let a = (5).bits;", Past::Items),
         // an empty text stands before and behind the characters
         ("let a = \"abc\".split(\"\");", Past::None),
         ("let a = \"abcd\".split(\"\");", Past::Items),

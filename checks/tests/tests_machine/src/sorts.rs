@@ -14,7 +14,9 @@ fn printed(alloc: Global, text: &str, at_once: u64) -> Option<String> {
         | Outcome::Statement
         | Outcome::Calls(_)
         | Outcome::Memory
-        | Outcome::Fault(_) => None,
+        | Outcome::Fault(_)
+        | Outcome::Answered(_)
+        | Outcome::Refused(_) => None,
     }
 }
 

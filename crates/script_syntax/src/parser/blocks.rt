@@ -105,6 +105,8 @@ impl Parser {
             | Symbol::Semicolon
             | Symbol::Colon
             | Symbol::Dot
+            | Symbol::OptionalDot
+            | Symbol::OptionalBracket
             | Symbol::Arrow
             | Symbol::Not
             | Symbol::And

@@ -24,6 +24,10 @@ impl Parser {
             if !self.is_step_next() {
                 break;
             }
+            if self.is_optional_next() {
+                let position = self.position;
+                steps.push(Step::Optional { position })?;
+            }
             steps.push(self.step(below)?)?;
         }
         Ok(Expr::Chain {
@@ -33,18 +37,26 @@ impl Parser {
     }
 
     fn is_step_next(&self) -> bool {
-        self.is_next(Symbol::OpenBracket) || self.is_next(Symbol::Dot)
+        self.is_next(Symbol::OpenBracket) || self.is_next(Symbol::Dot) || self.is_optional_next()
+    }
+
+    fn is_optional_next(&self) -> bool {
+        self.is_next(Symbol::OptionalBracket) || self.is_next(Symbol::OptionalDot)
     }
 
     #[cycle(parse)]
     fn step(&mut self, levels: usize) -> Result<Step, SyntaxError> {
-        if self.takes(Symbol::OpenBracket)? {
+        let is_index = self.is_next(Symbol::OpenBracket) || self.is_next(Symbol::OptionalBracket);
+        if is_index {
+            self.advance()?;
             let position = self.position;
             let index = self.expression(levels, LOOSEST)?;
             self.expect(Symbol::CloseBracket)?;
             return Ok(Step::Index { index, position });
         }
-        self.expect(Symbol::Dot)?;
+        if !self.takes(Symbol::OptionalDot)? {
+            self.expect(Symbol::Dot)?;
+        }
         let position = self.position;
         let word = self.word()?;
         if self.is_next(Symbol::OpenParenthesis) {

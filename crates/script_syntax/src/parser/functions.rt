@@ -4,6 +4,7 @@ ghost use Rattle.std.specs.Prelude.{◌≡◌};
 use super::Parser;
 use crate::MOST_LEVELS;
 use crate::error::{SyntaxError, SyntaxFault};
+use crate::lexeme::Lexeme;
 use crate::names::Names;
 use crate::symbol::Symbol;
 use crate::tree::{Block, Expr, Function};
@@ -15,28 +16,74 @@ impl Parser {
     pub(super) fn function(&mut self) -> Result<(), SyntaxError> {
         self.advance()?;
         let position = self.position;
-        let name = self.name()?;
+        let (this_type, name) = self.function_name()?;
         let outside = mem::replace(&mut self.names, Names::new(self.alloc));
         self.expect(Symbol::OpenParenthesis)?;
         let parameters = self.parameters(Symbol::CloseParenthesis)?;
+        self.is_function = true;
         let body = self.block(MOST_LEVELS)?;
+        self.is_function = false;
         let mut names = mem::replace(&mut self.names, outside);
         let known = names.leave();
         let given = known.given(parameters)?;
+        let uses_this = known.uses_this();
         let (slots, _captured) = known.into_parts();
-        let function = self.functions.len();
-        if !self.callees.define(name.as_str(), parameters, function)? {
+        if !self.define(&this_type, name.as_str(), parameters)? {
             return Err(SyntaxError::Fault(SyntaxFault::FunctionTwice, position));
         }
+        let name = self.kept(name.as_str())?;
         self.functions.push(Function {
-            name: ImmutableString::from_str(self.alloc, name.as_str())?,
+            name,
             captured: 0,
             parameters,
             slots,
             body,
+            uses_this,
+            this_type,
             names: given,
         })?;
         Ok(())
+    }
+
+    /// Names the function that comes next in the table; `false` where one has this name, number of parameters and type already.
+    fn define(
+        &mut self,
+        this_type: &Option<ImmutableString>,
+        name: &str,
+        parameters: usize,
+    ) -> Result<bool, SyntaxError> {
+        let function = self.functions.len();
+        let is_new = match this_type {
+            Some(this_type) => self
+                .callees
+                .define_method(this_type.as_str(), name, parameters)?,
+            None => self.callees.define(name, parameters, function)?,
+        };
+        Ok(is_new)
+    }
+
+    /// Reads the name of a function, with the type of what a method is called on before it.
+    fn function_name(&mut self) -> Result<(Option<ImmutableString>, String), SyntaxError> {
+        if let Lexeme::Text(_) = &self.lexeme {
+            let text = self.take_lexeme();
+            self.advance()?;
+            self.expect(Symbol::Dot)?;
+            let this_type = match text {
+                Lexeme::Text(text) => Some(self.kept(type_named(text.as_str()))?),
+                Lexeme::Int(_)
+                | Lexeme::Char(_)
+                | Lexeme::TextBefore(_)
+                | Lexeme::Name(_)
+                | Lexeme::Symbol(_) => None,
+            };
+            return Ok((this_type, self.name()?));
+        }
+        let word = self.name()?;
+        if self.takes(Symbol::Dot)? {
+            let this_type = self.kept(type_named(word.as_str()))?;
+            return Ok((Some(this_type), self.name()?));
+        }
+        Ok((None, word))
     }
 
     /// Reads the parameters of a function up to this symbol, declares them, and says how many they are.
@@ -94,8 +141,10 @@ impl Parser {
                 end_slot,
             },
         };
-        let known = self.names.leave();
+        let mut known = self.names.leave();
         let given = known.given(parameters)?;
+        let missing = known.take_missing();
+        let uses_this = known.uses_this();
         let (slots, captured) = known.into_parts();
         let function = self.functions.len();
         let stamp = self.stamp;
@@ -106,12 +155,20 @@ impl Parser {
             parameters,
             slots,
             body,
+            uses_this,
+            this_type: None,
             names: given,
         })?;
         Ok(Expr::Closure {
             function,
             captured,
+            missing,
             position,
         })
     }
+}
+
+/// The type that a word before the name of a function names.
+fn type_named(word: &str) -> &str {
+    if word == "int" { "i64" } else { word }
 }

@@ -6,7 +6,7 @@ use crate::error::{SyntaxError, SyntaxFault};
 use crate::lexeme::Lexeme;
 use crate::operators::LOOSEST;
 use crate::symbol::Symbol;
-use crate::tree::{Expr, Field, Variable};
+use crate::tree::{Expr, Field, Missing, Slot, Variable};
 use crate::words::{no_function, no_name};
 use rhai_text::{ImmutableString, Position, Token};
 use std::collections::BTreeSet;
@@ -79,17 +79,38 @@ impl Parser {
     }
 
     fn variable(&mut self, word: String, position: Position) -> Result<Expr, SyntaxError> {
+        if word.as_str() == "this" {
+            return self.this(position);
+        }
         if let Some(fault) = no_name(word.as_str()) {
             return Err(SyntaxError::Fault(fault, position));
         }
         let variable = match self.names.resolve(word.as_str())? {
             Some(slot) => Variable::Known(slot),
-            None if self.names.is_inside() => {
-                return Err(SyntaxError::Fault(SyntaxFault::UnknownVariable, position));
-            }
-            None => Variable::Unknown(ImmutableString::from_str(self.alloc, word.as_str())?),
+            None => self.unknown(word, position)?,
         };
         Ok(Expr::Variable { variable, position })
+    }
+
+    /// What the function that is read is called on.
+    fn this(&mut self, position: Position) -> Result<Expr, SyntaxError> {
+        if !self.is_function && !self.names.is_inside() {
+            return Err(SyntaxError::Fault(SyntaxFault::ThisOutside, position));
+        }
+        self.names.note_this();
+        Ok(Expr::Variable {
+            variable: Variable::Known(Slot::This),
+            position,
+        })
+    }
+
+    /// A name that nothing has: an anonymous function around it can't be made.
+    fn unknown(&mut self, word: String, position: Position) -> Result<Variable, SyntaxError> {
+        if self.names.is_inside() {
+            let name = self.kept(word.as_str())?;
+            self.names.note_missing(Missing { name, position });
+        }
+        Ok(Variable::Unknown(self.kept(word.as_str())?))
     }
 
     #[cycle(parse)]

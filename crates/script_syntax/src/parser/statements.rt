@@ -127,8 +127,8 @@ impl Parser {
     fn place(&self, read: Expr) -> Result<Place, SyntaxError> {
         match read {
             Expr::Chain { root, steps } => {
-                if steps.iter().any(is_method_step) {
-                    return Err(self.fault(SyntaxFault::NoPlace));
+                if let Some(fault) = steps.iter().find_map(no_place) {
+                    return Err(self.fault(fault));
                 }
                 self.rooted(Box::into_inner(root), steps)
             }
@@ -149,9 +149,11 @@ impl Parser {
     }
 }
 
-fn is_method_step(step: &Step) -> bool {
+/// Why nothing is assigned to behind a step.
+fn no_place(step: &Step) -> Option<SyntaxFault> {
     match step {
-        Step::Method { .. } => true,
-        Step::Index { .. } | Step::Property { .. } => false,
+        Step::Method { .. } => Some(SyntaxFault::NoPlace),
+        Step::Optional { .. } => Some(SyntaxFault::OptionalPlace),
+        Step::Index { .. } | Step::Property { .. } => None,
     }
 }

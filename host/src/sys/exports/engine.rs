@@ -1,14 +1,13 @@
 //! Of the module `engine`: written by `tools/host_declarations` from the lines of `crates/rhai_host`.
 
 use crate::sys::Handle;
-use crate::sys::Told;
 
 /// Why a script stopped. The answer is what it printed, and behind that what went wrong.
 #[repr(C)]
 #[derive(Clone, Copy, Debug, Default)]
 pub struct ScriptStop {
     /// 0 it is done, 1 it did as many operations as it might, 2 it calls the host, 3 a statement is done next, 4 memory was refused, 5 it
-    /// went wrong, 6 the text is no script.
+    /// went wrong, 6 the text is no script, 7 a function that the host called while it is called itself is done, 8 it went wrong.
     pub kind: u32,
     /// The number of the host's function that is called; else 0.
     pub function: u32,
@@ -45,10 +44,6 @@ unsafe extern "C" {
     ) -> u32;
     fn rhai_host_script_stop_at_statements(handle: *mut Handle, stops: bool) -> u32;
     fn rhai_host_script_go(handle: *mut Handle, operations: u64, stop: &mut ScriptStop) -> u32;
-    fn rhai_host_script_argument(handle: *mut Handle, number: usize, told: &mut Told) -> u32;
-    fn rhai_host_script_value(handle: *mut Handle, told: &mut Told) -> u32;
-    fn rhai_host_script_answer(handle: *mut Handle, value: *const u8, value_len: usize) -> u32;
-    fn rhai_host_script_refuse(handle: *mut Handle, why: *const u8, why_len: usize, stop: &mut ScriptStop) -> u32;
     fn rhai_host_script_call(
         handle: *mut Handle,
         name: *const u8,
@@ -60,7 +55,8 @@ unsafe extern "C" {
 }
 
 /// Compiles a script for the variables that are there. The functions of the host are a line each: the name, a space and the number of
-/// arguments; the first one has number 0. A run that stands ends. What is wrong with the text is told as a stop of kind 6.
+/// arguments, with ` mut` behind that where it may change the first one; the first function has number 0. A run that stands ends. What is wrong
+/// with the text is told as a stop of kind 6.
 #[inline]
 pub fn script_compile(handle: &Handle, text: &[u8], names: &[u8], stop: &mut ScriptStop) -> u32 {
     // SAFETY: `handle` is zeros or what a call left, and this call's alone: it is no `Sync`, and the library comes back by
@@ -92,39 +88,6 @@ pub fn script_go(handle: &Handle, operations: u64, stop: &mut ScriptStop) -> u32
     // SAFETY: `handle` is zeros or what a call left, and this call's alone: it is no `Sync`, and the library comes back by
     // the doors only. `stop` is a whole `ScriptStop` that nobody else has. Any `operations` will do.
     unsafe { rhai_host_script_go(handle.lent().at(), operations, stop) }
-}
-
-/// Answers the hash bytes of an argument that the host's function is called with.
-#[inline]
-pub fn script_argument(handle: &Handle, number: usize, told: &mut Told) -> u32 {
-    // SAFETY: `handle` is zeros or what a call left, and this call's alone: it is no `Sync`, and the library comes back by
-    // the doors only. `told` is a whole `Told` that nobody else has. Any `number` will do.
-    unsafe { rhai_host_script_argument(handle.lent().at(), number, told) }
-}
-
-/// Answers the hash bytes of the value that the run came to.
-#[inline]
-pub fn script_value(handle: &Handle, told: &mut Told) -> u32 {
-    // SAFETY: `handle` is zeros or what a call left, and this call's alone: it is no `Sync`, and the library comes back by
-    // the doors only. `told` is a whole `Told` that nobody else has.
-    unsafe { rhai_host_script_value(handle.lent().at(), told) }
-}
-
-/// Answers the call of the host's function with the value of these hash bytes.
-#[inline]
-pub fn script_answer(handle: &Handle, value: &[u8]) -> u32 {
-    // SAFETY: `handle` is zeros or what a call left, and this call's alone: it is no `Sync`, and the library comes back by
-    // the doors only. `value` is a slice with its own length, and is read.
-    unsafe { rhai_host_script_answer(handle.lent().at(), value.as_ptr(), value.len()) }
-}
-
-/// Refuses the call of the host's function with a text, which the script may catch: it goes on then, and the stop is of kind 1.
-#[inline]
-pub fn script_refuse(handle: &Handle, why: &[u8], stop: &mut ScriptStop) -> u32 {
-    // SAFETY: `handle` is zeros or what a call left, and this call's alone: it is no `Sync`, and the library comes back by
-    // the doors only. `why` is a slice with its own length, and is read. `stop` is a whole `ScriptStop` that nobody else
-    // has.
-    unsafe { rhai_host_script_refuse(handle.lent().at(), why.as_ptr(), why.len(), stop) }
 }
 
 /// Begins a call of a function of the script with these arguments: the hash bytes of an array of them. The script's body is done, and no

@@ -1,0 +1,146 @@
+//! What a run that waits for a function of the host asks, and what the host answers.
+ghost use Rattle.std.specs.Prelude.{◌≡◌};
+ghost use Rattle.rhai_host.specs.Content.{content};
+ghost use Rattle.rhai_host.specs.Engines.{AnswersBytes, AreAnswered, KeepsWorld, OnScripts};
+
+use crate::engine::{ScriptStop, tell_step, tell_stop};
+use crate::handle::Handle;
+use crate::handle::kept::Kept;
+use crate::perform::{CLOSED, DONE, NO_COMMAND, OUT_OF_MEMORY};
+use crate::texts::text_in;
+use crate::told::{Told, told_of};
+use rhai_run::{Answer, Bytes};
+use rhai_show::hashed;
+use rhai_text::Position;
+use rhai_value::{Dynamic, Store};
+use script_engine::{Engine, Unread, read_value};
+use std::alloc::{AllocError, Global};
+
+/// The hash bytes of a value, where there is one that has some.
+pub(crate) fn value_bytes(
+    alloc: Global,
+    value: Option<&Dynamic>,
+    store: &Store,
+) -> Result<Option<Bytes>, AllocError> {
+    let Some(value) = value else {
+        return Ok(None);
+    };
+    match hashed(alloc, value, store)? {
+        Some(hashed) => Ok(Some(Bytes::new(hashed.into_bytes(alloc)?))),
+        None => Ok(None),
+    }
+}
+
+/// Keeps bytes as the answer.
+pub(crate) fn tell_bytes(
+    kept: &mut Kept,
+    bytes: Result<Option<Bytes>, AllocError>,
+    told: &mut Told,
+) -> u32
+    ensures { AreAnswered result kept.old kept.new told.old told.new }
+{
+    match bytes {
+        Ok(Some(bytes)) => {
+            let answer = Answer::Bytes(bytes);
+            *told = told_of(&answer);
+            kept.answer = answer;
+            DONE
+        }
+        Ok(None) => NO_COMMAND,
+        Err(_) => OUT_OF_MEMORY,
+    }
+}
+
+/// Answers the hash bytes of an argument that the host's function is called with.
+#[unsafe(no_mangle)]
+pub extern "C" fn rhai_host_script_argument(
+    alloc: Global,
+    handle: &mut Handle,
+    number: usize,
+    told: &mut Told,
+) -> u32
+    ensures { AnswersBytes result (content handle.old) (content handle.new) told.old told.new }
+{
+    let Some(mut kept) = handle.take(alloc) else {
+        return CLOSED;
+    };
+    let argument = match kept.engine.run() {
+        Some(run) => run.argument(number),
+        None => None,
+    };
+    let bytes = value_bytes(alloc, argument, kept.engine.store());
+    let status = tell_bytes(&mut kept, bytes, told);
+    handle.put(kept);
+    status
+}
+
+/// Answers the hash bytes of the value that the run came to.
+#[unsafe(no_mangle)]
+pub extern "C" fn rhai_host_script_value(alloc: Global, handle: &mut Handle, told: &mut Told) -> u32
+    ensures { AnswersBytes result (content handle.old) (content handle.new) told.old told.new }
+{
+    let Some(mut kept) = handle.take(alloc) else {
+        return CLOSED;
+    };
+    let bytes = value_bytes(alloc, Some(kept.engine.value()), kept.engine.store());
+    let status = tell_bytes(&mut kept, bytes, told);
+    handle.put(kept);
+    status
+}
+
+fn answer(alloc: Global, engine: &mut Engine, bytes: &[u8]) -> u32 {
+    let value = match read_value(alloc, bytes) {
+        Ok(value) => value,
+        Err(Unread::Form) => return NO_COMMAND,
+        Err(Unread::Memory) => return OUT_OF_MEMORY,
+    };
+    match engine.answer(value) {
+        Ok(true) => DONE,
+        Ok(false) => NO_COMMAND,
+        Err(_) => OUT_OF_MEMORY,
+    }
+}
+
+/// Answers the call of the host's function with the value of these hash bytes.
+#[unsafe(no_mangle)]
+pub extern "C" fn rhai_host_script_answer(alloc: Global, handle: &mut Handle, value: &[u8]) -> u32
+    ensures { OnScripts result (content handle.old) (content handle.new) }
+{
+    let Some(mut kept) = handle.take(alloc) else {
+        return CLOSED;
+    };
+    let status = answer(alloc, &mut kept.engine, value);
+    handle.put(kept);
+    status
+}
+
+fn refuse(alloc: Global, kept: &mut Kept, why: &[u8], stop: &mut ScriptStop) -> u32
+    ensures { KeepsWorld kept.old kept.new }
+{
+    let Some(why) = text_in(why) else {
+        return NO_COMMAND;
+    };
+    match kept.engine.refuse(why) {
+        Some(step) => tell_step(alloc, kept, stop, step),
+        None => tell_stop(kept, stop, 1, Position::NONE, ""),
+    }
+    DONE
+}
+
+/// Refuses the call of the host's function with a text, which the script may catch: it goes on then, and the stop is of kind 1.
+#[unsafe(no_mangle)]
+pub extern "C" fn rhai_host_script_refuse(
+    alloc: Global,
+    handle: &mut Handle,
+    why: &[u8],
+    stop: &mut ScriptStop,
+) -> u32
+    ensures { OnScripts result (content handle.old) (content handle.new) }
+{
+    let Some(mut kept) = handle.take(alloc) else {
+        return CLOSED;
+    };
+    let status = refuse(alloc, &mut kept, why, stop);
+    handle.put(kept);
+    status
+}

@@ -1,0 +1,242 @@
+//! Functions of scripts that the host keeps, each by a number: they are called while a function of the host is called, or once a script's body is done.
+ghost use Rattle.rhai_host.specs.Content.{content};
+ghost use Rattle.rhai_host.specs.Engines.{AnswersBytes, KeepsWorld, OnScripts};
+
+use crate::answering::{tell_bytes, value_bytes};
+use crate::engine::{ScriptStop, tell_step, tell_stop};
+use crate::handle::Handle;
+use crate::handle::kept::Kept;
+use crate::perform::{CLOSED, DONE, NO_COMMAND, OUT_OF_MEMORY};
+use crate::texts::text_in;
+use crate::told::Told;
+use rhai_text::Position;
+use script_engine::{Engine, Unread, read_value};
+use std::alloc::{AllocError, Global};
+
+fn keep(engine: &mut Engine, source: u32, at: usize, number: &mut usize) -> u32 {
+    let kept = match source {
+        0 => engine.keep_argument(at),
+        1 => engine.keep_value(),
+        2 => engine.keep_variable(at),
+        3.. => return NO_COMMAND,
+    };
+    tell_kept(kept, number)
+}
+
+fn keep_named(engine: &mut Engine, name: &[u8], number: &mut usize) -> u32 {
+    match text_in(name) {
+        Some(name) => tell_kept(engine.keep_named(name), number),
+        None => NO_COMMAND,
+    }
+}
+
+/// Tells the number of a function that is kept.
+fn tell_kept(kept: Result<Option<usize>, AllocError>, number: &mut usize) -> u32 {
+    match kept {
+        Ok(Some(found)) => {
+            *number = found;
+            DONE
+        }
+        Ok(None) => NO_COMMAND,
+        Err(_) => OUT_OF_MEMORY,
+    }
+}
+
+/// Keeps a function of a script, with the cells that it captured, and tells its number: that at a place among the arguments of the host's
+/// function that is called (source 0), that which the run or a call within it has just come to (source 1), or that of a variable (source 2).
+/// NO_COMMAND says that no function is there.
+#[unsafe(no_mangle)]
+pub extern "C" fn rhai_host_function_keep(
+    alloc: Global,
+    handle: &mut Handle,
+    source: u32,
+    at: usize,
+    number: &mut usize,
+) -> u32
+    ensures { OnScripts result (content handle.old) (content handle.new) }
+{
+    let Some(mut kept) = handle.take(alloc) else {
+        return CLOSED;
+    };
+    let status = keep(&mut kept.engine, source, at, number);
+    handle.put(kept);
+    status
+}
+
+/// Keeps a pointer to the function of this name, whether a script has one or not, and tells its number. NO_COMMAND says that the bytes are no text.
+#[unsafe(no_mangle)]
+pub extern "C" fn rhai_host_function_of(
+    alloc: Global,
+    handle: &mut Handle,
+    name: &[u8],
+    number: &mut usize,
+) -> u32
+    ensures { OnScripts result (content handle.old) (content handle.new) }
+{
+    let Some(mut kept) = handle.take(alloc) else {
+        return CLOSED;
+    };
+    let status = keep_named(&mut kept.engine, name, number);
+    handle.put(kept);
+    status
+}
+
+/// Keeps the function of this number no more, which another one may have then. NO_COMMAND says that there is none.
+#[unsafe(no_mangle)]
+pub extern "C" fn rhai_host_function_let_go(
+    alloc: Global,
+    handle: &mut Handle,
+    number: usize,
+) -> u32
+    ensures { OnScripts result (content handle.old) (content handle.new) }
+{
+    let Some(mut kept) = handle.take(alloc) else {
+        return CLOSED;
+    };
+    let status = if kept.engine.let_go(number) {
+        DONE
+    } else {
+        NO_COMMAND
+    };
+    handle.put(kept);
+    status
+}
+
+/// Answers the hash bytes of the kept function of this number: its name, and what it was given ahead.
+#[unsafe(no_mangle)]
+pub extern "C" fn rhai_host_function_value(
+    alloc: Global,
+    handle: &mut Handle,
+    number: usize,
+    told: &mut Told,
+) -> u32
+    ensures { AnswersBytes result (content handle.old) (content handle.new) told.old told.new }
+{
+    let Some(mut kept) = handle.take(alloc) else {
+        return CLOSED;
+    };
+    let bytes = value_bytes(alloc, kept.engine.kept(number), kept.engine.store());
+    let status = tell_bytes(&mut kept, bytes, told);
+    handle.put(kept);
+    status
+}
+
+/// Answers the call of the host's function with the kept function of this number. NO_COMMAND says that none is called, or that there is no such
+/// function.
+#[unsafe(no_mangle)]
+pub extern "C" fn rhai_host_function_answer(
+    alloc: Global,
+    handle: &mut Handle,
+    number: usize,
+) -> u32
+    ensures { OnScripts result (content handle.old) (content handle.new) }
+{
+    let Some(mut kept) = handle.take(alloc) else {
+        return CLOSED;
+    };
+    let status = match kept.engine.answer_kept(number) {
+        Ok(true) => DONE,
+        Ok(false) => NO_COMMAND,
+        Err(_) => OUT_OF_MEMORY,
+    };
+    handle.put(kept);
+    status
+}
+
+fn change(alloc: Global, engine: &mut Engine, value: &[u8]) -> u32 {
+    match read_value(alloc, value) {
+        Ok(value) => {
+            if engine.change(value) {
+                DONE
+            } else {
+                NO_COMMAND
+            }
+        }
+        Err(Unread::Form) => NO_COMMAND,
+        Err(Unread::Memory) => OUT_OF_MEMORY,
+    }
+}
+
+/// Changes the first argument of the host's function that is called to the value of these hash bytes: where the function was compiled with
+/// ` mut`, the place that it came from has it once the call is answered. NO_COMMAND says that none is called, or that it takes no argument.
+#[unsafe(no_mangle)]
+pub extern "C" fn rhai_host_script_change(alloc: Global, handle: &mut Handle, value: &[u8]) -> u32
+    ensures { OnScripts result (content handle.old) (content handle.new) }
+{
+    let Some(mut kept) = handle.take(alloc) else {
+        return CLOSED;
+    };
+    let status = change(alloc, &mut kept.engine, value);
+    handle.put(kept);
+    status
+}
+
+fn call(alloc: Global, engine: &mut Engine, number: usize, arguments: &[u8]) -> u32 {
+    let arguments = match read_value(alloc, arguments) {
+        Ok(arguments) => arguments,
+        Err(Unread::Form) => return NO_COMMAND,
+        Err(Unread::Memory) => return OUT_OF_MEMORY,
+    };
+    let Ok(arguments) = arguments.into_array(alloc, engine.store()) else {
+        return NO_COMMAND;
+    };
+    match engine.call_kept(number, arguments.as_slice()) {
+        Ok(true) => DONE,
+        Ok(false) => NO_COMMAND,
+        Err(_) => OUT_OF_MEMORY,
+    }
+}
+
+/// Begins a call of a kept function with these arguments: the hash bytes of an array of them. Either a function of the host is called: then the
+/// run goes on to a stop of kind 7 or 8, behind which that call stands as before. Or the script's body is done, and no call stands.
+/// NO_COMMAND says that neither is so, or that there is no such function of so many arguments.
+#[unsafe(no_mangle)]
+pub extern "C" fn rhai_host_function_call(
+    alloc: Global,
+    handle: &mut Handle,
+    number: usize,
+    arguments: &[u8],
+) -> u32
+    ensures { OnScripts result (content handle.old) (content handle.new) }
+{
+    let Some(mut kept) = handle.take(alloc) else {
+        return CLOSED;
+    };
+    let status = call(alloc, &mut kept.engine, number, arguments);
+    handle.put(kept);
+    status
+}
+
+fn throw(alloc: Global, kept: &mut Kept, value: &[u8], stop: &mut ScriptStop) -> u32
+    ensures { KeepsWorld kept.old kept.new }
+{
+    let value = match read_value(alloc, value) {
+        Ok(value) => value,
+        Err(Unread::Form) => return NO_COMMAND,
+        Err(Unread::Memory) => return OUT_OF_MEMORY,
+    };
+    match kept.engine.throw(value) {
+        Some(step) => tell_step(alloc, kept, stop, step),
+        None => tell_stop(kept, stop, 1, Position::NONE, ""),
+    }
+    DONE
+}
+
+/// Refuses the call of the host's function with the value of these hash bytes, as if the script threw it: the script may catch it and goes on
+/// then, and the stop is of kind 1.
+#[unsafe(no_mangle)]
+pub extern "C" fn rhai_host_script_throw(
+    alloc: Global,
+    handle: &mut Handle,
+    value: &[u8],
+    stop: &mut ScriptStop,
+) -> u32
+    ensures { OnScripts result (content handle.old) (content handle.new) }
+{
+    let Some(mut kept) = handle.take(alloc) else {
+        return CLOSED;
+    };
+    let status = throw(alloc, &mut kept, value, stop);
+    handle.put(kept);
+    status
+}

@@ -1,0 +1,147 @@
+//! Parts of texts, and texts with another one in the place of a part.
+
+use crate::argument_values::{Arguments, int, text, text_or_character};
+use crate::bounds::{bounds_of, piece_of};
+use crate::faults::{FaultKind, check_size};
+use crate::resources::Means;
+use crate::text_functions::TextChange;
+use crate::text_walks::occurrences;
+use rhai_packs::texts;
+use rhai_text::{ImmutableString, SizeKind};
+use rhai_value::{Dynamic, INT, Store};
+
+/// So many characters from an index on.
+pub(crate) fn sub_string(
+    means: &Means,
+    held: &ImmutableString,
+    start: INT,
+    length: INT,
+) -> Result<ImmutableString, FaultKind> {
+    Ok(texts::sub_string(means.alloc, held, start, length)?)
+}
+
+/// The characters from an index on, or those of a range.
+pub(crate) fn sub_string_from(
+    means: &Means,
+    store: &Store,
+    held: &ImmutableString,
+    from: &Dynamic,
+) -> Result<Dynamic, FaultKind> {
+    let (start, length) = part_from(from, store)?;
+    Ok(Dynamic::from(sub_string(means, held, start, length)?))
+}
+
+/// Where a part starts, and how many characters it has at most: from an index on, or those of a range.
+fn part_from(from: &Dynamic, store: &Store) -> Result<(INT, INT), FaultKind> {
+    match bounds_of(from, store) {
+        Some(bounds) => Ok(piece_of(bounds)),
+        None => Ok((int(from, store)?, INT::MAX)),
+    }
+}
+
+/// Where a part stands in a text from an index on, counted from the front of the text.
+pub(crate) fn place_from(
+    means: &Means,
+    held: &ImmutableString,
+    part: &str,
+    index: INT,
+) -> Result<Option<usize>, FaultKind> {
+    let length = held.char_count();
+    let distance = usize::try_from(index.unsigned_abs()).unwrap_or(usize::MAX);
+    let start = if index < 0 {
+        length.saturating_sub(distance)
+    } else {
+        distance
+    };
+    if start >= length {
+        return Ok(None);
+    }
+    let rest = sub_string(
+        means,
+        held,
+        INT::try_from(start).unwrap_or(INT::MAX),
+        INT::MAX,
+    )?;
+    match texts::index_of(&rest, part) {
+        Some(place) => Ok(Some(start.saturating_add(place))),
+        None => Ok(None),
+    }
+}
+
+/// Changes a text.
+pub(crate) fn change_text(
+    change: TextChange,
+    means: &Means,
+    store: &Store,
+    held: &mut ImmutableString,
+    arguments: &Arguments,
+) -> Result<Dynamic, FaultKind> {
+    let first = &arguments.first;
+    let second = &arguments.second;
+    let alloc = means.alloc;
+    match change {
+        TextChange::Crop => {
+            let (start, length) = part_from(first, store)?;
+            texts::crop(alloc, held, start, length)?;
+        }
+        TextChange::CropSome => {
+            texts::crop(alloc, held, int(first, store)?, int(second, store)?)?;
+        }
+        TextChange::Truncate => texts::truncate(alloc, held, int(first, store)?)?,
+        TextChange::Trim => texts::trim(alloc, held)?,
+        TextChange::Replace => {
+            let mut buffer = [0; 4];
+            let mut other_buffer = [0; 4];
+            let part = text_or_character(first, store, &mut buffer)?;
+            let with = text_or_character(second, store, &mut other_buffer)?;
+            check_replaced(means, held, part, with)?;
+            texts::replace(alloc, &means.limits, held, part, with)?;
+        }
+        TextChange::Pad => pad(means, store, held, int(first, store)?, second)?,
+        TextChange::Remove => {
+            let mut buffer = [0; 4];
+            let part = text_or_character(first, store, &mut buffer)?;
+            texts::replace(alloc, &means.limits, held, part, "")?;
+        }
+        TextChange::Clear => *held = ImmutableString::from_str(alloc, "")?,
+        TextChange::MakeUpper => *held = texts::to_upper(alloc, &means.limits, held)?,
+        TextChange::MakeLower => *held = texts::to_lower(alloc, &means.limits, held)?,
+    }
+    Ok(Dynamic::UNIT)
+}
+
+/// Refuses a text in the place of each occurrence of a part, if what comes out would be too long and longer than before.
+fn check_replaced(
+    means: &Means,
+    held: &ImmutableString,
+    part: &str,
+    with: &str,
+) -> Result<(), FaultKind> {
+    if means.limits.text == 0 || with.len() <= part.len() {
+        return Ok(());
+    }
+    let count = occurrences(held.as_str(), part);
+    let more = count.saturating_mul(with.len().saturating_sub(part.len()) as u64);
+    let length = more.saturating_add(held.len() as u64);
+    let length = usize::try_from(length).unwrap_or(usize::MAX);
+    if length > held.len() {
+        check_size(means.limits.text, length, SizeKind::Text)?;
+    }
+    Ok(())
+}
+
+/// Puts a character or a text behind a text, over and over, until it has so many characters.
+fn pad(
+    means: &Means,
+    store: &Store,
+    held: &mut ImmutableString,
+    length: INT,
+    padding: &Dynamic,
+) -> Result<(), FaultKind> {
+    let (alloc, limits) = (means.alloc, &means.limits);
+    match padding.as_char(store) {
+        Ok(character) => texts::pad(alloc, limits, held, length, character)?,
+        Err(_) => texts::pad_with_string(alloc, limits, held, length, text(padding, store)?)?,
+    }
+    Ok(())
+}

@@ -1,0 +1,190 @@
+//! Calls of functions of the program, while the script waits.
+use super::function::{Found, Standing};
+use super::functions::{Given, Refused};
+use super::scope::{Stop, Went};
+use super::watch::Used;
+use super::{Arguments, Engine, EvalError, Function, Scope, Wanted};
+use crate::value::Value;
+use std::fmt;
+
+/// A call of a function of the program by a script. As the first parameter of a function that is registered it lets that call functions of the script.
+///
+/// What is called counts for the run: in operations, time, memory and output, and in calls within each other, of which it takes two.
+/// Sixty-four functions of the program may wait for each other. Where one of these limits ends the run, each call in it ends with that, and so does the
+/// run, whatever the functions of the program answer.
+///
+/// ```
+/// use rhai_world::{Call, Engine, EvalError, Function};
+///
+/// let mut engine = Engine::new();
+/// engine.register_fn("twice", |call: &mut Call, f: Function, x: i64| -> Result<i64, EvalError> {
+///     let once: i64 = call.call(&f, (x,))?;
+///     call.call(&f, (once,))
+/// });
+/// assert_eq!(engine.eval::<i64>("let step = 3; twice(|x| x + step, 4)")?, 10);
+/// # Ok::<(), EvalError>(())
+/// ```
+pub struct Call<'a> {
+    engine: &'a Engine,
+    scope: &'a mut Scope,
+    used: &'a mut Used,
+}
+
+impl<'a> Call<'a> {
+    pub(super) fn new(engine: &'a Engine, scope: &'a mut Scope, used: &'a mut Used) -> Call<'a> {
+        Call { engine, scope, used }
+    }
+}
+
+impl Call<'_> {
+    /// Calls a function of the script, and takes its value.
+    ///
+    /// Errors: what nothing in the function caught; where the program's function fails with just that, the script may catch it as if it were called there.
+    /// Besides `EvalError::OtherScope`, `EvalError::NoFunction`, and what ends the run.
+    pub fn call<T: Wanted>(&mut self, function: &Function, arguments: impl Arguments) -> Result<T, EvalError> {
+        let arguments = arguments.into_values()?;
+        if let Some(ended) = &self.used.ended {
+            return Err(ended.clone());
+        }
+        match self.scope.call_function(function, arguments) {
+            Err(error @ (EvalError::OtherScope | EvalError::NoFunction { .. })) => return Err(error),
+            called => called.map_err(|error| self.ends(error))?,
+        }
+        self.used.within += 1;
+        let done = self.go_within();
+        self.used.within -= 1;
+        self.used.refused = None;
+        match done {
+            Ok(None) => match T::found(&Found::new(self.scope, Standing::Value)) {
+                Err(error @ EvalError::Mismatch(_)) => Err(error),
+                found => found.map_err(|error| self.ends(error)),
+            },
+            Ok(Some(error)) => {
+                self.used.refused = self.scope.last_value().ok().map(|value| (error.to_string(), value));
+                Err(error)
+            }
+            Err(error) => Err(self.ends(error)),
+        }
+    }
+
+    /// Notes an error that ends the run, whatever the function of the program makes of it.
+    fn ends(&mut self, error: EvalError) -> EvalError {
+        self.used.ended = Some(error.clone());
+        error
+    }
+
+    /// Calls the function of the script that has a name, and takes its value.
+    ///
+    /// Errors: those of `call`.
+    pub fn call_fn<T: Wanted>(&mut self, name: &str, arguments: impl Arguments) -> Result<T, EvalError> {
+        let function = self.scope.function(name)?;
+        self.call(&function, arguments)
+    }
+
+    /// The engine that runs the script.
+    pub fn engine(&self) -> &Engine {
+        self.engine
+    }
+
+    /// Tells the line and the column where the script calls; `None` where that isn't known.
+    pub fn line_column(&self) -> Option<(u32, u32)> {
+        (self.used.line > 0).then_some((self.used.line, self.used.column))
+    }
+
+    /// Tells how many operations the run took so far.
+    pub fn operations(&self) -> u64 {
+        self.used.operations
+    }
+
+    /// Takes the argument of a number, the first being 0.
+    pub(super) fn argument<T: Wanted>(&self, number: usize) -> Result<T, Refused> {
+        match T::found(&Found::new(self.scope, Standing::Argument(number))) {
+            Ok(argument) => Ok(argument),
+            Err(EvalError::Mismatch(error)) => Err(Refused::Thrown(error.said(&format!("argument {}", number + 1), "is"))),
+            Err(error) => Err(Refused::Ends(error)),
+        }
+    }
+
+    /// Changes the first argument.
+    pub(super) fn change(&mut self, value: &Value) -> Result<(), Refused> {
+        self.scope.change(value).map_err(Refused::Ends)
+    }
+
+    /// Goes on with the function that was called until it is done; gives what went wrong in it.
+    ///
+    /// Errors: what ends the run.
+    fn go_within(&mut self) -> Result<Option<EvalError>, EvalError> {
+        loop {
+            self.used.check(&self.engine.watch)?;
+            let went = self.scope.go(self.used.granted(&self.engine.watch, u64::MAX))?;
+            let mut stop = self.see(went)?;
+            if let Stop::Calls { function } = stop {
+                match self.answer(function)? {
+                    Some(refused) => stop = refused,
+                    None => continue,
+                }
+            }
+            let (line, column) = (self.used.line, self.used.column);
+            match stop {
+                Stop::Answered => return Ok(None),
+                Stop::Refused { message } => return Ok(Some(EvalError::Runtime { message, line, column })),
+                Stop::Paused => {}
+                Stop::Statement => self.engine.at_statement(line, column),
+                Stop::Memory => return Err(EvalError::OutOfMemory { line, column }),
+                Stop::Fault { message } => return Err(EvalError::Runtime { message, line, column }),
+                Stop::Done | Stop::Calls { .. } => return Err(EvalError::Unexpected),
+            }
+        }
+    }
+
+    /// Notes how the run went on, and hands on what it printed.
+    pub(super) fn see(&mut self, went: Went) -> Result<Stop, EvalError> {
+        let Went { printed, operations, line, column, stop } = went;
+        (self.used.operations, self.used.line, self.used.column) = (operations, line, column);
+        for text in printed.split_inclusive('\n') {
+            self.used.print(&self.engine.watch, text)?;
+            let printed = self.engine.print(text.strip_suffix('\n').unwrap_or(text));
+            printed.map_err(|error| EvalError::NotPrinted { why: error.to_string(), line, column })?;
+        }
+        Ok(stop)
+    }
+
+    /// Calls a function of the program; gives how the run stops where the call was refused, and nothing caught that.
+    pub(super) fn answer(&mut self, function: usize) -> Result<Option<Stop>, EvalError> {
+        self.used.refused = None;
+        let (within, engine) = (self.used.within, self.engine);
+        let answered = engine.call(function, self);
+        if let Some(ended) = self.used.ended.take() {
+            return Err(ended);
+        }
+        let answered = match answered {
+            Ok(answered) => answered,
+            // (what panicked was called by a run within, which doesn't stand any more where it would go on)
+            Err(panic) if self.used.within != within => std::panic::resume_unwind(panic),
+            Err(_) => Err(Refused::Thrown(PANICKED.to_owned())),
+        };
+        let why = match answered {
+            Ok(Given::Value(value)) => return self.scope.answer(&value).map(|()| None),
+            Ok(Given::Function(function)) => return self.scope.answer_function(&function).map(|()| None),
+            Err(Refused::Ends(error)) => return Err(error),
+            Err(Refused::Thrown(why)) => why,
+        };
+        let went = match self.used.refused.take() {
+            Some((said, value)) if said == why => self.scope.throw(&value)?,
+            Some(_) | None => self.scope.refuse(&why)?,
+        };
+        match self.see(went)? {
+            Stop::Paused => Ok(None),
+            stop => Ok(Some(stop)),
+        }
+    }
+}
+
+/// What a function that panics is refused with.
+const PANICKED: &str = "a function of the host panicked";
+
+impl fmt::Debug for Call<'_> {
+    fn fmt(&self, f: &mut fmt::Formatter<'_>) -> fmt::Result {
+        f.debug_struct("Call").field("used", &self.used).finish_non_exhaustive()
+    }
+}

@@ -1,0 +1,83 @@
+//! What a scope does with functions that it keeps for the program.
+use super::function::Ledger;
+use super::{EvalError, Function, Scope};
+use crate::error::{done, Error};
+use crate::sys::{self, Told};
+use crate::value::Value;
+
+/// Functions that are kept for the program.
+impl Scope {
+    /// Keeps the function that stands at a place, if it is one: at source 0 an argument of this number, at 1 what a run came to, at 2 a variable.
+    pub(super) fn keep(&self, source: u32, at: usize) -> Result<Option<Function>, EvalError> {
+        self.let_go();
+        self.ledger.reserve()?;
+        let mut number = 0;
+        match done(sys::function_keep(&self.world.handle, source, at, &mut number)) {
+            Ok(()) => Ok(Some(Ledger::function(&self.ledger, number))),
+            Err(Error::NoCommand) => Ok(None),
+            Err(error) => Err(error.into()),
+        }
+    }
+
+    /// Makes a pointer to the function of a name, as `Fn(name)` does in a script. Whether a script has such a function shows where it is called.
+    ///
+    /// Errors: want of memory.
+    ///
+    /// ```
+    /// use rhai_world::{Engine, EvalError, Scope};
+    ///
+    /// let engine = Engine::new();
+    /// let ast = engine.compile("fn double(x) { x * 2 }")?;
+    /// let mut scope = Scope::new()?;
+    /// let double = scope.function("double")?;
+    /// assert_eq!(double.call::<i64>(&engine, &mut scope, &ast, (21,))?, 42);
+    /// # Ok::<(), EvalError>(())
+    /// ```
+    pub fn function(&self, name: &str) -> Result<Function, EvalError> {
+        self.let_go();
+        self.ledger.reserve()?;
+        let mut number = 0;
+        done(sys::function_of(&self.world.handle, name.as_bytes(), &mut number))?;
+        Ok(Ledger::function(&self.ledger, number))
+    }
+
+    /// Lets go of the functions that the program has dropped.
+    pub(super) fn let_go(&self) {
+        while let Some(number) = self.ledger.take() {
+            // (a kept function is let go once; there is nothing to say where there is none)
+            let _status = sys::function_let_go(&self.world.handle, number);
+        }
+    }
+
+    /// Refuses a function of another scope.
+    pub(super) fn owns(&self, function: &Function) -> Result<(), EvalError> {
+        function.number(&self.ledger).map(drop)
+    }
+
+    /// Begins a call of a function of this scope.
+    pub(super) fn call_function(&mut self, function: &Function, arguments: Vec<Value>) -> Result<(), EvalError> {
+        let number = function.number(&self.ledger)?;
+        let count = arguments.len();
+        let arguments = Value::from(arguments).to_bytes()?;
+        match done(sys::function_call(&self.world.handle, number, &arguments)) {
+            Ok(()) => Ok(()),
+            Err(Error::NoCommand) => Err(EvalError::NoFunction { name: self.function_name(number)?, arguments: count }),
+            Err(error) => Err(error.into()),
+        }
+    }
+
+    /// Answers the call of a registered function with one of the scope's.
+    pub(super) fn answer_function(&mut self, function: &Function) -> Result<(), EvalError> {
+        let number = function.number(&self.ledger)?;
+        Ok(done(sys::function_answer(&self.world.handle, number))?)
+    }
+
+    fn function_name(&self, number: usize) -> Result<String, EvalError> {
+        let mut told = Told::default();
+        let status = sys::function_value(&self.world.handle, number, &mut told);
+        match Value::from_bytes(&self.world.bytes(status, &told)?)? {
+            Value::FnPtr(name, _) => Ok(name),
+            _ => Err(EvalError::Unexpected),
+        }
+    }
+}

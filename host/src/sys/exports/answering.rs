@@ -1,0 +1,45 @@
+//! Of the module `answering`: written by `tools/host_declarations` from the lines of `crates/rhai_host`.
+
+use crate::sys::Handle;
+use crate::sys::ScriptStop;
+use crate::sys::Told;
+
+unsafe extern "C" {
+    fn rhai_host_script_argument(handle: *mut Handle, number: usize, told: &mut Told) -> u32;
+    fn rhai_host_script_value(handle: *mut Handle, told: &mut Told) -> u32;
+    fn rhai_host_script_answer(handle: *mut Handle, value: *const u8, value_len: usize) -> u32;
+    fn rhai_host_script_refuse(handle: *mut Handle, why: *const u8, why_len: usize, stop: &mut ScriptStop) -> u32;
+}
+
+/// Answers the hash bytes of an argument that the host's function is called with.
+#[inline]
+pub fn script_argument(handle: &Handle, number: usize, told: &mut Told) -> u32 {
+    // SAFETY: `handle` is zeros or what a call left, and this call's alone: it is no `Sync`, and the library comes back by
+    // the doors only. `told` is a whole `Told` that nobody else has. Any `number` will do.
+    unsafe { rhai_host_script_argument(handle.lent().at(), number, told) }
+}
+
+/// Answers the hash bytes of the value that the run came to.
+#[inline]
+pub fn script_value(handle: &Handle, told: &mut Told) -> u32 {
+    // SAFETY: `handle` is zeros or what a call left, and this call's alone: it is no `Sync`, and the library comes back by
+    // the doors only. `told` is a whole `Told` that nobody else has.
+    unsafe { rhai_host_script_value(handle.lent().at(), told) }
+}
+
+/// Answers the call of the host's function with the value of these hash bytes.
+#[inline]
+pub fn script_answer(handle: &Handle, value: &[u8]) -> u32 {
+    // SAFETY: `handle` is zeros or what a call left, and this call's alone: it is no `Sync`, and the library comes back by
+    // the doors only. `value` is a slice with its own length, and is read.
+    unsafe { rhai_host_script_answer(handle.lent().at(), value.as_ptr(), value.len()) }
+}
+
+/// Refuses the call of the host's function with a text, which the script may catch: it goes on then, and the stop is of kind 1.
+#[inline]
+pub fn script_refuse(handle: &Handle, why: &[u8], stop: &mut ScriptStop) -> u32 {
+    // SAFETY: `handle` is zeros or what a call left, and this call's alone: it is no `Sync`, and the library comes back by
+    // the doors only. `why` is a slice with its own length, and is read. `stop` is a whole `ScriptStop` that nobody else
+    // has.
+    unsafe { rhai_host_script_refuse(handle.lent().at(), why.as_ptr(), why.len(), stop) }
+}

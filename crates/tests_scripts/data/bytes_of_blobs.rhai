@@ -1,0 +1,22 @@
+// ints and texts in the bytes of a blob
+let b = blob(8, 0);
+b.write_le(0..8, 1);
+print(b.parse_le_int(0..8));
+print(b.parse_be_int(0, 8));
+b.write_be(0, 8, 258);
+print(b[6]);
+print(b[7]);
+print(b.parse_be_int(0..8));
+print(b.parse_le_int(6..8));
+b.write_utf8(0..3, "héx");
+print(b[1]);
+b.write_ascii(0, 3, "héx");
+print(b[0]);
+print(b[1]);
+print(b[2]);
+print(b.contains(169));
+print(b.contains(170));
+let c = blob(2, 104);
+print(c.as_string());
+c.clear();
+print(c.is_empty);

@@ -3,11 +3,12 @@
 NAMES = ["a", "b", "c", "d", "e"]
 KEYS = ["x", "y", "z"]
 TEXTS = ['"s"', '"tu"', '""', '"vwx"']
-BINARY = ["+", "-", "*", "/", "%", "==", "!=", "<", "<=", ">", ">=", "&", "|", "^", "..", "..=", "<<", ">>", "**"]
+BINARY = ["+", "-", "*", "/", "%", "==", "!=", "<", "<=", ">", ">=", "&", "|", "^", "..", "..=", "<<", ">>", "**", "??", "in", "!in"]
 ASSIGNING = ["=", "=", "=", "+=", "+=", "-=", "*=", "/=", "%=", "|=", "**="]
-ASKS = ["len()", "type_of()", "is_empty()", "to_string()", "abs()", "keys()", "values()", "is_shared()", "contains(1)", "index_of(2)", "get(0)"]
-CHANGES = ["push({})", "pop()", "shift()", "reverse()", "insert(0, {})", "clear()", "truncate(2)", "set(0, {})", "remove(0)", "append([{}])", "pad(3, {})", "make_upper()", "trim()", "sort()", "dedup()", "splice(0, 1, [{}])"]
-EACH = ["map", "filter", "all", "some"]
+ASKS = ["len()", "type_of()", "is_empty()", "to_string()", "abs()", "keys()", "values()", "is_shared()", "contains(1)", "index_of(2)", "get(0)", "chars()", "bytes()", "bytes", "is_odd", "to_hex()", "to_binary()", "split()", "split(1)", "split_rev(\"s\")", "to_chars()", "to_json()", "start", "end()", "is_exclusive", "bits(0..4)", "get_bits(1, 3)", "get_bit(2)", "sub_string(1..2)", "index_of('s')", "sign()", "blob(3)", "parse_int()", "to_blob()", "as_string()", "parse_le_int(0, 2)", "name", "extract(0..=1)"]
+CHANGES = ["push({})", "pop()", "shift()", "reverse()", "insert(0, {})", "clear()", "truncate(2)", "set(0, {})", "remove(0)", "append([{}])", "pad(3, {})", "make_upper()", "trim()", "sort()", "dedup()", "splice(0, 1, [{}])", "crop(0..2)", "drain(0..1)", "retain(0..2)", "make_lower()", "replace('s', \"z\")", "remove('s')", "set_bit(1, true)", "set_bits(0..2, {})", "write_be(0, 2, {})", "write_utf8(0, 3, \"xyz\")", "mixin(#{{ x: {} }})", "fill_with(#{{ z: {} }})", "zip([{}], |p, q| p)"]
+EACH = ["map", "filter", "all", "some", "find", "find_map", "index_of", "for_each", "drain", "retain", "dedup", "reduce_rev"]
+THIS = ["this", "this.x", "this += 1", "this.push(1)", "this[0]", "this.f0()", "print(this)", "this.x = [this]", "this = 3"]
 
 
 class Maker:
@@ -16,6 +17,10 @@ class Maker:
 
     def pick(self, words):
         return self.chance.choice(words)
+
+    def one_of(self, *ways):
+        """What one of these makes; the others aren't asked."""
+        return self.chance.choice(ways)()
 
     def known(self):
         names = [it for scope in self.declared for it in scope]
@@ -39,6 +44,8 @@ class Maker:
         return self.name() + steps
 
     def closure(self, depth):
+        if self.chance.random() < 0.12:
+            return f"|{self.pick(['', 'p'])}| {self.pick(THIS)}"
         names = self.pick([[], ["p"], ["p"], ["p", "q"]])
         self.declared.append(list(names))
         loops, self.loops = self.loops, 0
@@ -49,6 +56,13 @@ class Maker:
 
     def method(self, depth):
         kind = self.chance.random()
+        if self.functions and kind < 0.06:
+            name, count = self.pick(self.functions)
+            return f"{name}({', '.join(self.value(1) for _ in range(self.pick([count, max(count - 1, 0)])))})"
+        if kind < 0.09:
+            return f"{self.pick(['f', 'x'])}({self.pick(['', self.value(1)])})"
+        if kind < 0.11:
+            return f"call({self.one_of(self.name, lambda: self.closure(depth))}{self.pick(['', ', 1'])})"
         if kind < 0.4:
             return self.pick(ASKS)
         if kind < 0.75:
@@ -63,17 +77,21 @@ class Maker:
             return f"sort({self.pick(['|p, q| p - q', '|p, q| q - p', self.closure(depth)])})"
         return f"{self.pick(EACH)}({self.pick(['|p| p == 1', self.closure(depth)])})"
 
+    def step(self, depth):
+        call, index = (lambda: f".{self.method(depth)}"), (lambda: f"[{self.value(1)}]")
+        return self.one_of(call, call, index, index, lambda: f"?{call()}", lambda: f"?{index()}", lambda: f"?.{self.pick(KEYS)}")
+
     def chain(self, depth):
-        root = self.place() if self.chance.random() < 0.7 else self.pick([f"({self.value(depth - 1)})", f"[{self.value(depth - 1)}]", self.call(depth)])
-        more = "".join(self.pick([f".{self.method(depth - 1)}", f"[{self.value(1)}]"]) for _ in range(self.pick([1, 1, 1, 2, 3])))
+        root = self.place() if self.chance.random() < 0.7 else self.one_of(lambda: f"({self.value(depth - 1)})", lambda: f"[{self.value(depth - 1)}]", lambda: self.call(depth))
+        more = "".join(self.step(depth - 1) for _ in range(self.pick([1, 1, 1, 2, 3])))
         return root + more
 
     def call(self, depth):
         if self.functions and self.chance.random() < 0.6:
             name, count = self.pick(self.functions)
             return f"{name}({', '.join(self.value(depth - 1) for _ in range(count))})"
-        name = self.pick(["print", "debug", "type_of", "is_shared", "len", "push", "abs", "sort", "map", "pop", "missing", "curry", "to_string"])
-        count = {"push": 2, "sort": self.pick([1, 2]), "map": 2, "curry": 2}.get(name, 1)
+        name = self.pick(["print", "debug", "type_of", "is_shared", "len", "push", "abs", "sort", "map", "pop", "missing", "curry", "to_string", "range", "is_def_var", "is_def_fn", "Fn"])
+        count = {"push": 2, "sort": self.pick([1, 2]), "map": 2, "curry": 2, "range": 2, "is_def_fn": 2}.get(name, 1)
         arguments = [self.value(depth - 1) if self.chance.random() < 0.5 else self.name() for _ in range(count)]
         if name in ("map", "sort") and count == 2:
             arguments[1] = self.closure(depth - 1) if self.chance.random() < 0.6 else "|p, q| p - q"
@@ -100,8 +118,14 @@ class Maker:
             return f"[{', '.join(self.value(depth - 1) for _ in range(self.pick([1, 2, 3])))}]"
         if kind < 0.87:
             return "#{ " + ", ".join(f"{key}: {self.value(depth - 1)}" for key in KEYS[: self.pick([1, 2, 3])]) + " }"
+        if kind < 0.88:
+            return f"#{{ x: {self.leaf()}, f: {self.closure(depth)} }}"
         if kind < 0.9:
             return f"({self.closure(depth)})"
+        if kind < 0.915:
+            return self.switch(depth)
+        if kind < 0.925:
+            return f"`s${{{self.value(depth - 1)}}}t`"
         if kind < 0.94:
             return f"if {self.condition(depth)} {self.block(depth - 1)} else {self.block(depth - 1)}"
         if kind < 0.97:
@@ -110,6 +134,10 @@ class Maker:
 
     def condition(self, depth):
         return self.pick([f"{self.name()} {self.pick(['<', '<=', '>', '>=', '==', '!='])} {self.value(depth - 1)}", f"({self.value(depth - 1)}) == ({self.value(depth - 1)})", "true", "false", f"!({self.value(depth - 1)})", f"{self.name()} == 1 {self.pick(['&&', '||'])} {self.name()} != 2"])
+
+    def switch(self, depth):
+        arms = [f"{self.pick(['0', '1 | 2', '3..7', '8..=9', chr(39) + 'c' + chr(39), *TEXTS, 'true'])}{self.pick(['', '', ' if a == 1'])} => {self.value(depth - 1)}" for _ in range(self.pick([0, 1, 2, 3]))]
+        return f"switch {self.value(1)} {{ {', '.join([*arms, *self.pick([[], ['_ => ' + self.value(1)]])])} }}"
 
     def block(self, depth):
         self.declared.append([])
@@ -186,9 +214,12 @@ class Maker:
             count = self.pick([0, 1, 2, 3])
             outer, self.declared = self.declared, [NAMES[:count] or ["a"]]
             first = "" if count else "let a = 1; "
+            first += self.pick(["", "", f"{self.pick(THIS)}; "])
             made += f"fn f{number}({', '.join(NAMES[:count])}) {{ {first}{self.block(2)} }}\n"
             self.declared = outer
             self.functions.append((f"f{number}", count))
+        if self.chance.random() < 0.3:
+            made += f"fn {self.pick(['int', 'array', 'map', 'string', 'bool'])}.f0() {{ {self.pick(THIS)} }}\n"
         for name in NAMES[: self.pick([2, 3, 5])]:
             made += f"let {name} = {self.leaf() if self.declared[0] else 1};\n"
             self.declared[0].append(name)

@@ -8,10 +8,10 @@ use crate::program::Place;
 use crate::quiet::known_variable;
 use crate::tables::to_number;
 use rhai_text::Position;
-use script_syntax::Expr;
+use script_tree::Expr;
 
 /// The variable that is the only argument, if it is one.
-fn only_variable(arguments: &[Expr]) -> Option<script_syntax::Slot> {
+fn only_variable(arguments: &[Expr]) -> Option<script_tree::Slot> {
     if let [argument] = arguments {
         known_variable(argument)
     } else {
@@ -201,7 +201,7 @@ impl<'p> Compiler<'p> {
     fn native_on(
         &mut self,
         number: u32,
-        slot: script_syntax::Slot,
+        slot: script_tree::Slot,
         others: &[Expr],
         position: Position,
         to: Slot,

@@ -7,7 +7,7 @@ use crate::operations::{Op, Slot};
 use crate::program::{PathStep, Place};
 use crate::quiet::known_variable;
 use rhai_text::Position;
-use script_syntax::{Expr, Step, Variable};
+use script_tree::{Expr, Step, Variable};
 
 /// A method of a chain whose operands are there, with the steps before it.
 #[derive(Drop)]

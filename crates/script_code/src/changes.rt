@@ -10,7 +10,7 @@ use crate::program::Place;
 use crate::quiet::known_variable;
 use crate::tables::to_number;
 use rhai_text::Position;
-use script_syntax::Expr;
+use script_tree::Expr;
 
 /// So far behind an array stands what comes out.
 const MADE: Slot = 2;

@@ -7,7 +7,7 @@ use crate::operations::{Op, Slot};
 use crate::operators::{Comparison, Kind, kind_of};
 use crate::program::Place;
 use rhai_text::{Position, Token};
-use script_syntax::{Expr, Operator, Term, UnaryOperator};
+use script_tree::{Expr, Operator, Term, UnaryOperator};
 
 /// The jump where a comparison of two slots holds.
 fn comparing(comparison: Comparison, x: Slot, y: Slot) -> Op {

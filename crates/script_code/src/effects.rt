@@ -5,7 +5,7 @@ use crate::error::CodeError;
 use crate::operations::{Op, Slot};
 use crate::variables::LoopNames;
 use rhai_text::{ImmutableString, Position};
-use script_syntax::{Arm, Block, Expr};
+use script_tree::{Arm, Block, Expr};
 
 /// Blocks.
 impl<'p> Compiler<'p> {

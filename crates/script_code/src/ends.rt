@@ -4,7 +4,7 @@ use crate::compiler::{Compiler, to_slot};
 use crate::error::CodeError;
 use crate::operations::{Op, Slot};
 use crate::program::Kept;
-use script_syntax::{Block, Expr};
+use script_tree::{Block, Expr};
 
 /// Ends.
 impl<'p> Compiler<'p> {

@@ -8,7 +8,7 @@ use crate::operations::{Op, Slot};
 use crate::program::{PathStep, Place};
 use crate::quiet::known_variable;
 use rhai_text::Position;
-use script_syntax::Expr;
+use script_tree::Expr;
 
 /// Whether a function of the host changes its first argument.
 pub(crate) fn host_changes(host: &[HostName], number: u32) -> bool {

@@ -5,7 +5,7 @@ use crate::error::CodeError;
 use crate::operations::{Op, Slot};
 use crate::tables::number_in;
 use rhai_value::INT;
-use script_syntax::{Expr, Field};
+use script_tree::{Expr, Field};
 
 /// So many items of a literal are evaluated before they are put together.
 const ITEMS_AT_ONCE: usize = 32;

@@ -6,7 +6,7 @@ use crate::operations::{Op, Slot, Target};
 use crate::program::Place;
 use crate::variables::LoopNames;
 use rhai_text::{Position, Token};
-use script_syntax::{Arm, Block, Expr, Operator};
+use script_tree::{Arm, Block, Expr, Operator};
 use std::mem;
 
 impl<'p> Compiler<'p> {
@@ -227,7 +227,7 @@ impl<'p> Compiler<'p> {
         position: Position,
     ) -> Result<Slot, CodeError> {
         let variable = self.own(item)?;
-        let given = if self.is_plain(script_syntax::Slot::Own(item)) {
+        let given = if self.is_plain(script_tree::Slot::Own(item)) {
             variable
         } else {
             let given = self.take_slot()?;

@@ -5,7 +5,7 @@ use crate::error::CodeError;
 use crate::operations::Slot;
 use crate::program::PathStep;
 use crate::quiet::{is_variable, known_variable};
-use script_syntax::{Expr, Step};
+use script_tree::{Expr, Step};
 
 impl<'p> Compiler<'p> {
     /// Evaluates the indices of steps, and gives the steps with the slots of these. A variable that is an index is copied where it may

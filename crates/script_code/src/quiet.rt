@@ -2,7 +2,7 @@
 
 use crate::host_calls::host_changes;
 use crate::meaning::{HostName, Meaning, meaning_of};
-use script_syntax::{Expr, Field, Program, Slot, Step, Term, Variable};
+use script_tree::{Expr, Field, Program, Slot, Step, Term, Variable};
 use script_values::{
     ArrayFunction, BlobFunction, CharFunction, IntFunction, MapFunction, Native, TextFunction,
 };

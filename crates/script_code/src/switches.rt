@@ -8,7 +8,7 @@ use crate::program::Place;
 use crate::tables::to_number;
 use rhai_text::{Position, Token};
 use rhai_value::INT;
-use script_syntax::{Case, Expr, Pattern, Switch};
+use script_tree::{Case, Expr, Pattern, Switch};
 
 /// What the tests of a `switch` look at.
 #[derive(Clone, Copy)]

@@ -105,7 +105,7 @@ impl<'p> Compiler<'p> {
 /// The functions of the script by their names.
 pub(crate) fn names_of(
     alloc: Global,
-    script: &script_syntax::Program,
+    script: &script_tree::Program,
 ) -> Result<BTreeMap<String, Vec<u32>>, CodeError> {
     let mut names = BTreeMap::new(alloc);
     for (number, function) in script.functions.iter().enumerate() {
@@ -139,7 +139,7 @@ fn add_name(
 /// What the script calls by name, by the parser's numbers.
 pub(crate) fn callees_of(
     alloc: Global,
-    script: &script_syntax::Program,
+    script: &script_tree::Program,
 ) -> Result<Vec<Callee>, CodeError>
     ensures { IfOk result (λ callees. vec_len callees ≡ vec_len script.now.callees) }
 {

@@ -4,7 +4,7 @@ use crate::compiler::{Compiler, to_slot};
 use crate::error::CodeError;
 use crate::operations::{Op, Slot};
 use rhai_text::Position;
-use script_syntax::{Expr, Variable};
+use script_tree::{Expr, Variable};
 
 /// Where a variable stands in the script that an expression is.
 pub(crate) fn position_of(expr: &Expr, otherwise: Position) -> Position {
@@ -29,16 +29,16 @@ impl<'p> Compiler<'p> {
     /// Refuses a variable that is `this` where the function was called on nothing.
     pub(crate) fn check_this(
         &mut self,
-        slot: script_syntax::Slot,
+        slot: script_tree::Slot,
         position: Position,
     ) -> Result<(), CodeError> {
         match (slot, self.this) {
-            (script_syntax::Slot::This, Some(this)) => {
+            (script_tree::Slot::This, Some(this)) => {
                 self.emit_at(Op::This(this), position)?;
                 Ok(())
             }
-            (script_syntax::Slot::This, None)
-            | (script_syntax::Slot::Own(_) | script_syntax::Slot::Captured(_), _) => Ok(()),
+            (script_tree::Slot::This, None)
+            | (script_tree::Slot::Own(_) | script_tree::Slot::Captured(_), _) => Ok(()),
         }
     }
 

@@ -5,7 +5,7 @@ use crate::error::CodeError;
 use crate::operations::{Slot, Target};
 use crate::program::Variable;
 use rhai_text::{ImmutableString, Position};
-use script_syntax::Block;
+use script_tree::Block;
 
 /// The names of the variables of a `for`.
 #[derive(Clone, Copy)]

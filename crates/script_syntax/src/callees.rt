@@ -1,7 +1,7 @@
 // What calls name, and the functions that have the names.
 
-use crate::tree::Callee;
 use rhai_text::ImmutableString;
+use script_tree::Callee;
 use std::alloc::{AllocError, Global};
 use std::collections::btree_map::Entry;
 use std::collections::{BTreeMap, BTreeSet};

@@ -1,8 +1,8 @@
 // The names of variables, and where the frames of functions have them.
 ghost use Rattle.std.specs.Prelude.{◌≡◌, ◌≤◌, IfOk, vec_len};
 
-use crate::tree::{Missing, Slot};
 use rhai_text::{ImmutableString, Position};
+use script_tree::{Missing, Slot};
 use std::alloc::{AllocError, Global};
 use std::collections::BTreeMap;
 use std::mem;

@@ -1,8 +1,8 @@
 // The operators between operands, from loose to tight, and those that assign.
 
 use crate::symbol::Symbol;
-use crate::tree::{Assignment, Operator};
 use rhai_text::Token;
+use script_tree::{Assignment, Operator};
 
 /// The loosest level of operators.
 pub const LOOSEST: u8 = 1;

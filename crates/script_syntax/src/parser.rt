@@ -1,16 +1,15 @@
 // Lexemes to trees. Each function that reads a part of a tree is told how many levels of it are left.
 ghost use Rattle.std.specs.Prelude.{◌≡◌, ◌+◌, ◌≤◌, length, IfOk};
 
-use crate::MOST_LEVELS;
 use crate::callees::Callees;
 use crate::cursor::Cursor;
 use crate::error::{SyntaxError, SyntaxFault};
 use crate::lexeme::{Lexeme, read_lexeme};
 use crate::names::Names;
 use crate::symbol::Symbol;
-use crate::tree::{Block, Expr, Function, Program};
 use crate::words::no_name;
 use rhai_text::{ImmutableString, Position};
+use script_tree::{Block, Expr, Function, MOST_LEVELS, Program};
 use std::alloc::Global;
 use std::hash::{FoldHasher, Hash, Hasher};
 use std::mem;

@@ -1,8 +1,9 @@
 //! The shape of a tree, as a text.
 
 use rhai_text::Token;
-use script_syntax::{
-    Arm, Block, Case, Expr, Field, Operator, Pattern, Program, Slot, Step, Switch, Symbol, Term,
+use script_syntax::Symbol;
+use script_tree::{
+    Arm, Block, Case, Expr, Field, Operator, Pattern, Program, Slot, Step, Switch, Term,
     UnaryOperator, Variable,
 };
 use std::alloc::AllocError;

@@ -4,8 +4,8 @@ use super::Parser;
 use crate::error::{SyntaxError, SyntaxFault};
 use crate::operators::LOOSEST;
 use crate::symbol::Symbol;
-use crate::tree::{Arm, Block, Expr};
 use rhai_text::{ImmutableString, Position};
+use script_tree::{Arm, Block, Expr};
 
 impl Parser {
     /// Reads a block; its statements stand on this level.

@@ -5,9 +5,9 @@ use super::Parser;
 use crate::error::SyntaxError;
 use crate::operators::LOOSEST;
 use crate::symbol::Symbol;
-use crate::tree::{Expr, Step};
 use crate::words::{no_method, no_name};
 use rhai_text::{ImmutableString, Position};
+use script_tree::{Expr, Step};
 
 impl Parser {
     /// Reads an operand with the steps behind it.

@@ -4,8 +4,8 @@ use super::Parser;
 use crate::error::SyntaxError;
 use crate::operators::{LOOSEST, MEMBERSHIP, POWER, operator_of};
 use crate::symbol::Symbol;
-use crate::tree::{Expr, Operator, Term, UnaryOperator};
 use rhai_text::{Position, Token};
+use script_tree::{Expr, Operator, Term, UnaryOperator};
 use std::mem;
 
 impl Parser {

@@ -2,13 +2,12 @@
 ghost use Rattle.std.specs.Prelude.{◌≡◌};
 
 use super::Parser;
-use crate::MOST_LEVELS;
 use crate::error::{SyntaxError, SyntaxFault};
 use crate::lexeme::Lexeme;
 use crate::names::Names;
 use crate::symbol::Symbol;
-use crate::tree::{Block, Expr, Function};
 use rhai_text::{ImmutableString, Position, Token};
+use script_tree::{Block, Expr, Function, MOST_LEVELS};
 use std::mem;
 
 impl Parser {

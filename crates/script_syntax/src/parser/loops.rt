@@ -4,7 +4,7 @@ use super::Parser;
 use crate::error::{SyntaxError, SyntaxFault};
 use crate::operators::LOOSEST;
 use crate::symbol::Symbol;
-use crate::tree::{Arm, Block, Expr};
+use script_tree::{Arm, Block, Expr};
 
 impl Parser {
     /// Reads the block of a loop.

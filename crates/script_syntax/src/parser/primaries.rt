@@ -6,9 +6,9 @@ use crate::error::{SyntaxError, SyntaxFault};
 use crate::lexeme::Lexeme;
 use crate::operators::LOOSEST;
 use crate::symbol::Symbol;
-use crate::tree::{Expr, Field, Missing, Slot, Variable};
 use crate::words::{no_function, no_name};
 use rhai_text::{ImmutableString, Position, Token};
+use script_tree::{Expr, Field, Missing, Slot, Variable};
 use std::collections::BTreeSet;
 
 impl Parser {

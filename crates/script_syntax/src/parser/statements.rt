@@ -5,8 +5,8 @@ use super::Parser;
 use crate::error::{SyntaxError, SyntaxFault};
 use crate::operators::{Assigning, LOOSEST, assigning_of};
 use crate::symbol::Symbol;
-use crate::tree::{Assignment, Expr, Step, Variable};
 use rhai_text::{Position, Token};
+use script_tree::{Assignment, Expr, Step, Variable};
 
 /// What is assigned to.
 #[derive(Drop)]

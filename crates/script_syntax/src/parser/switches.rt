@@ -6,9 +6,9 @@ use crate::error::{SyntaxError, SyntaxFault};
 use crate::lexeme::Lexeme;
 use crate::operators::LOOSEST;
 use crate::symbol::Symbol;
-use crate::tree::{Block, Case, Expr, Pattern, Switch};
 use rhai_text::{ImmutableString, Token};
 use rhai_value::INT;
+use script_tree::{Block, Case, Expr, Pattern, Switch};
 
 impl Parser {
     #[cycle(parse)]

@@ -6,8 +6,8 @@ use crate::error::{SyntaxError, SyntaxFault};
 use crate::lexeme::Lexeme;
 use crate::literals::template_part;
 use crate::symbol::Symbol;
-use crate::tree::{Block, Expr, Operator, Term};
 use rhai_text::{ImmutableString, Position, Token};
+use script_tree::{Block, Expr, Operator, Term};
 
 impl Parser {
     /// Reads a text in back-ticks from behind its first `${` on: a sum of texts and of the blocks in it, each of which is printed into it.

@@ -728,6 +728,34 @@ uint32_t rhai_host_run_script(
     size_t calls,
     RhaiHostScriptEnd *end);
 
+/* Answers the name of a function under way, and tells where it stands: number 0 runs, or failed, and each is
+ * called by the next. The name is empty for the statements outside of functions, and begins with `anon$` for a
+ * closure. NO_COMMAND says that no such function is under way. */
+uint32_t rhai_host_script_function(
+    RhaiHostHandle *handle,
+    size_t number,
+    size_t *line,
+    size_t *column,
+    RhaiHostTold *told);
+
+/* Answers the name of the newest variable in sight of a function under way that came before the one of this
+ * number, and tells its own number: from the largest number on, each leads to the next. NO_COMMAND says that
+ * there is none. */
+uint32_t rhai_host_script_variable(
+    RhaiHostHandle *handle,
+    size_t function,
+    size_t before,
+    size_t *number,
+    RhaiHostTold *told);
+
+/* Answers the hash bytes of the value of that variable. NO_COMMAND says that there is none, or that its value
+ * has none. */
+uint32_t rhai_host_script_variable_value(
+    RhaiHostHandle *handle,
+    size_t function,
+    size_t before,
+    RhaiHostTold *told);
+
 /* Appends a `u128` of the host's, told by its lower and its upper 64 bits. */
 uint32_t rhai_host_put_u128(RhaiHostHandle *handle, uint64_t low, uint64_t high, RhaiHostTold *told);
 
@@ -809,9 +837,9 @@ uint32_t rhai_host_variable_name(RhaiHostHandle *handle, size_t number, RhaiHost
 uint32_t rhai_host_variable_value(RhaiHostHandle *handle, size_t number, RhaiHostTold *told);
 
 /* Does nothing: its name is a sum of all that is exported, so that a host of other declarations doesn't link. */
-void rhai_host_stamp_c29f0ca37030a2b8(void);
+void rhai_host_stamp_2d95b8ef93560ad5(void);
 
-#define RHAI_HOST_STAMP rhai_host_stamp_c29f0ca37030a2b8
+#define RHAI_HOST_STAMP rhai_host_stamp_2d95b8ef93560ad5
 
 #undef RHAI_HOST_ASSERT
 #undef RHAI_HOST_ALIGN

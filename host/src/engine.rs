@@ -7,12 +7,13 @@ mod functions;
 mod keeping;
 mod run;
 mod scope;
+mod standing;
 mod variables;
 mod watch;
 
 pub use ast::Ast;
 pub use call::Call;
-pub use error::EvalError;
+pub use error::{CallPlace, EvalError};
 pub use function::{Found, Function};
 pub use functions::{Answers, Arguments, HostFn, Wanted};
 pub use run::{Progress, Run};

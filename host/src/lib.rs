@@ -171,7 +171,8 @@ mod world;
 pub use answer::{Answer, ArithmeticFault, Refusal, SizeKind};
 pub use commands::Command;
 pub use engine::{
-    Answers, Arguments, Ast, Call, Engine, EvalError, Found, Function, HostFn, Interrupt, Progress, Run, Scope, Variables, Wanted,
+    Answers, Arguments, Ast, Call, CallPlace, Engine, EvalError, Found, Function, HostFn, Interrupt, Progress, Run, Scope,
+    Variables, Wanted,
 };
 pub use error::Error;
 pub use journal::Journal;

@@ -60,7 +60,7 @@ fn functions_that_fail_or_panic_are_caught() -> Result<(), EvalError> {
     assert_eq!(engine.eval::<String>("try { panics(0) } catch (e) { e }")?, "a function of the host panicked");
     assert_eq!(engine.eval::<String>("try { panics(\"x\") } catch (e) { e }")?, "argument 1 is a text, and i64 is wanted");
     let fault = engine.run("let x = 1;\nfail(\"it\")").unwrap_err();
-    assert_eq!(fault, EvalError::Runtime { message: "it".to_owned(), line: 2, column: 1 });
+    assert!(matches!(&fault, EvalError::Runtime { message, line: 2, column: 1, .. } if message == "it"), "{fault:?}");
     Ok(())
 }
 

@@ -2,7 +2,7 @@
 use rhai_world::{EvalError, ScriptError, Value};
 
 fn at(line: u32, column: u32) -> EvalError {
-    EvalError::Runtime { message: "no".to_owned(), line, column }
+    EvalError::Runtime { message: "no".to_owned(), line, column, calls: Vec::new() }
 }
 
 #[test]
@@ -36,14 +36,17 @@ fn each_error_that_ends_a_run_has_its_place() {
     let errors = [
         (at(line, column), "no"),
         (EvalError::Syntax { message: "no script".to_owned(), line, column }, "no script"),
-        (EvalError::TooManyOperations { line, column }, "too many operations"),
-        (EvalError::TooMuchTime { line, column }, "too much time"),
-        (EvalError::TooMuchOutput { line, column }, "too much output"),
-        (EvalError::NotPrinted { why: "it is full".to_owned(), line, column }, "what was printed can't be written: it is full"),
-        (EvalError::Interrupted { line, column }, "interrupted"),
-        (EvalError::Terminated { reason: Value::from("enough"), line, column }, "terminated: enough"),
-        (EvalError::Terminated { reason: Value::Unit, line, column }, "terminated: Unit"),
-        (EvalError::OutOfMemory { line, column }, "out of memory"),
+        (EvalError::TooManyOperations { line, column, calls: Vec::new() }, "too many operations"),
+        (EvalError::TooMuchTime { line, column, calls: Vec::new() }, "too much time"),
+        (EvalError::TooMuchOutput { line, column, calls: Vec::new() }, "too much output"),
+        (
+            EvalError::NotPrinted { why: "it is full".to_owned(), line, column, calls: Vec::new() },
+            "what was printed can't be written: it is full",
+        ),
+        (EvalError::Interrupted { line, column, calls: Vec::new() }, "interrupted"),
+        (EvalError::Terminated { reason: Value::from("enough"), line, column, calls: Vec::new() }, "terminated: enough"),
+        (EvalError::Terminated { reason: Value::Unit, line, column, calls: Vec::new() }, "terminated: Unit"),
+        (EvalError::OutOfMemory { line, column, calls: Vec::new() }, "out of memory"),
     ];
     for (error, message) in errors {
         assert_eq!((error.line(), error.column(), error.position()), (Some(3), Some(4), Some((3, 4))));

@@ -112,8 +112,8 @@ fn an_error_ends_a_run() -> Result<(), EvalError> {
     let ast = engine.compile("let x = 7;\nx + nowhere")?;
     let mut scope = Scope::new()?;
     let mut run = engine.start(&mut scope, &ast)?;
-    let message = "variable not found: nowhere".to_owned();
-    assert_eq!(run.go(1_000), Err(EvalError::Runtime { message, line: 2, column: 5 }));
+    let ended = run.go(1_000).unwrap_err();
+    assert_eq!((ended.to_string().as_str(), ended.position()), ("variable not found: nowhere (line 2, column 5)", Some((2, 5))));
     assert_eq!((run.go(1_000), run.line_column()), (Err(EvalError::Ended), Some((2, 5))));
     drop(run);
     assert_eq!(scope.get::<i64>("x"), Some(7));
@@ -153,5 +153,44 @@ fn a_panic_of_what_is_called_leaves_the_variables() -> Result<(), EvalError> {
     assert_eq!(scope.get::<i64>("x"), Some(7));
     engine.on_print(|_| {});
     assert_eq!(engine.eval_with_scope::<i64>(&mut scope, "x + 1")?, 8);
+    Ok(())
+}
+
+#[test]
+fn an_error_tells_the_functions_under_way() {
+    let mut engine = Engine::new();
+    engine.set_max_operations(10_000);
+    let text = "fn f(n) {\n    if n == 0 { loop {} }\n    let m = f(n - 1);\n    m\n}\nlet g = |n| f(n) + 1;\nlet x = g.call(1);";
+    let error = engine.run(text).unwrap_err();
+    assert!(matches!(error, EvalError::TooManyOperations { line: 2, .. }), "{error:?}");
+    let calls: Vec<_> = error.calls().iter().map(|call| (call.function.get(..5).unwrap_or(&call.function), call.line)).collect();
+    assert_eq!(calls, [("f", 2), ("f", 3), ("anon$", 6), ("", 7)]);
+    let deep = engine.run("fn f(n) { 1 + f(n + 1) }\nf(0)").unwrap_err();
+    assert_eq!(deep.calls().len(), 64);
+    assert!(deep.calls().iter().all(|call| call.function == "f" && call.line == 1), "{deep:?}");
+    assert!(engine.compile("let").unwrap_err().calls().is_empty());
+}
+
+#[test]
+fn a_run_that_stands_shows_its_functions_and_their_variables() -> Result<(), EvalError> {
+    let engine = Engine::new();
+    let ast = engine.compile("let a = 1;\nlet f = |b| {\n    let a = [a, b];\n    a\n};\nlet c = f.call(2);\nc")?;
+    let mut scope = Scope::new()?;
+    let mut run = engine.start(&mut scope, &ast)?;
+    run.stop_at_statements(true)?;
+    while !matches!(run.go(1_000)?, Progress::Statement { line: 4, .. }) {}
+    let inner = run.variables(0)?;
+    let (own, captured) = (Value::from(vec![1, 2]), Value::Int(1));
+    assert_eq!((&inner[0].0[..], &inner[0].1), ("a", &own));
+    assert!(inner.contains(&("b".to_owned(), Value::Int(2))) && inner.contains(&("a".to_owned(), captured.clone())));
+    let outer: Vec<_> = run.variables(1)?.into_iter().map(|(name, _)| name).collect();
+    assert_eq!(
+        (outer, run.variables(1)?[1].1 == captured, run.variables(2)?.len()),
+        (vec!["f".to_owned(), "a".to_owned()], true, 0)
+    );
+    let calls: Vec<_> = run.calls().iter().map(|call| (call.line, call.function.is_empty())).collect();
+    assert_eq!(calls, [(4, false), (6, true)]);
+    while !matches!(run.go(1_000)?, Progress::Done(_)) {}
+    assert_eq!((run.calls().len(), run.variables(0)?.len()), (0, 0));
     Ok(())
 }

@@ -20,7 +20,7 @@ IsEndOf (Ok x) end = (end.kind ≡ 0) × (end.line ≡ 0) × (end.column ≡ 0)
 IsEndOf (Err (script.Syntax (syntax.Fault why place))) end = IsAt end 1 place
 IsEndOf (Err (script.Syntax syntax.OutOfMemory)) end = ⊥
 IsEndOf (Err (script.TooLarge place)) end = IsAt end 1 place
-IsEndOf (Err (script.Fault why place)) end = IsAt end 2 place
+IsEndOf (Err (script.Fault why place calls)) end = IsAt end 2 place
 IsEndOf (Err (script.OutOfMemory place)) end = ⊥
 
 -- the bytes are what was printed, and what is said of what went wrong: nothing where nothing did

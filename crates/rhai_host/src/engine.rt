@@ -165,7 +165,7 @@ fn tell_error(alloc: Global, kept: &mut Kept, stop: &mut ScriptStop, error: Scri
             tell_stop(kept, stop, 6, place, "the script is too large");
             true
         }
-        ScriptError::Fault(why, place) => {
+        ScriptError::Fault(why, place, _) => {
             tell_stop(kept, stop, 6, place, why.as_str());
             true
         }

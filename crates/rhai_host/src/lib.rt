@@ -21,6 +21,7 @@ pub mod placed;
 pub mod scope;
 pub mod scripts;
 pub mod stamp;
+pub mod standing;
 pub mod texts;
 pub mod told;
 pub mod typed;

@@ -72,7 +72,7 @@ fn told_end(
             end_at(1, place, printed, why.as_str())
         }
         Err(ScriptError::TooLarge(place)) => end_at(1, place, printed, TOO_LARGE),
-        Err(ScriptError::Fault(why, place)) => end_at(2, place, printed, why.as_str()),
+        Err(ScriptError::Fault(why, place, _)) => end_at(2, place, printed, why.as_str()),
         Err(ScriptError::Syntax(SyntaxError::OutOfMemory) | ScriptError::OutOfMemory(_)) => Err(
             AllocError,
         ),

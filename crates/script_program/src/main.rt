@@ -72,7 +72,7 @@ fn task_of(rt: &(impl Env + AllocGlobal)) -> io::Result<Option<Task>> {
 fn status_of(error: &ScriptError) -> u8 {
     match error {
         ScriptError::Syntax(_) | ScriptError::TooLarge(_) => UNREAD,
-        ScriptError::Fault(_, _) | ScriptError::OutOfMemory(_) => FAILED,
+        ScriptError::Fault(_, _, _) | ScriptError::OutOfMemory(_) => FAILED,
     }
 }
 
@@ -96,10 +96,23 @@ fn run_one(
     match done {
         Ok(()) => Ok(0),
         Err(error) => {
-            eprintln!(rt; "error: {error}")?;
+            tell(rt, &error)?;
             Ok(status_of(&error))
         }
     }
+}
+
+/// Writes why a script ended, and the calls under way, if it called functions.
+fn tell(rt: &(impl Eprint + AllocGlobal), error: &ScriptError) -> io::Result<()> {
+    eprintln!(rt; "error: {error}")?;
+    if let ScriptError::Fault(_, _, calls) = error {
+        if calls.len() > 1 {
+            for call in calls.iter() {
+                eprintln!(rt; "  {call}")?;
+            }
+        }
+    }
+    Ok(())
 }
 
 /// Does what the arguments ask for, and gives the exit status.

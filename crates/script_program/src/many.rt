@@ -26,7 +26,7 @@ fn outcome(rt: &impl AllocGlobal, text: &str, limits: &ScriptLimits) -> &'static
     match run_script(rt.alloc(), text, &mut out, limits, &mut operations) {
         Ok(()) => "ran",
         Err(ScriptError::Syntax(_) | ScriptError::TooLarge(_)) => "no script",
-        Err(ScriptError::Fault(_, _)) => "fault",
+        Err(ScriptError::Fault(_, _, _)) => "fault",
         Err(ScriptError::OutOfMemory(_)) => "out of memory",
     }
 }

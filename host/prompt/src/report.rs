@@ -9,10 +9,27 @@ pub fn report(error: EvalError, earlier: &str, script: &str) -> String {
     let before = u32::try_from(earlier.lines().count()).unwrap_or(u32::MAX);
     let rendered = match error.line() {
         Some(line) if line <= before => format!("in an earlier function: {}", around(&error.render(earlier))),
-        Some(_) => around(&moved(error, before).render(script)),
+        Some(_) => around(&moved(error.clone(), before).render(script)),
         None => error.to_string(),
     };
-    shown(&rendered)
+    let calls = calls(&error, before);
+    shown(&format!("{rendered}{calls}"))
+}
+
+/// The functions under way, a line each, where the script called some; so many lines are those of functions from earlier scripts.
+fn calls(error: &EvalError, before: u32) -> String {
+    let mut lines = String::new();
+    if let calls @ [_, _, ..] = error.calls() {
+        for call in calls {
+            let mut call = call.clone();
+            let earlier = if call.line <= before { ", defined earlier" } else { "" };
+            if call.line > before {
+                call.line -= before;
+            }
+            lines += &format!("\n  {call}{earlier}");
+        }
+    }
+    lines
 }
 
 /// The error so many lines further up.
@@ -62,7 +79,7 @@ mod tests {
     use super::*;
 
     fn runtime(line: u32, column: u32) -> EvalError {
-        EvalError::Runtime { message: "it went wrong".to_owned(), line, column }
+        EvalError::Runtime { message: "it went wrong".to_owned(), line, column, calls: Vec::new() }
     }
 
     #[test]

@@ -127,11 +127,11 @@ impl Call<'_> {
             let (line, column) = (self.used.line, self.used.column);
             match stop {
                 Stop::Answered => return Ok(None),
-                Stop::Refused { message } => return Ok(Some(EvalError::Runtime { message, line, column })),
+                Stop::Refused { message } => return Ok(Some(EvalError::Runtime { message, line, column, calls: Vec::new() })),
                 Stop::Paused => {}
                 Stop::Statement => self.engine.at_statement(line, column),
-                Stop::Memory => return Err(EvalError::OutOfMemory { line, column }),
-                Stop::Fault { message } => return Err(EvalError::Runtime { message, line, column }),
+                Stop::Memory => return Err(EvalError::OutOfMemory { line, column, calls: Vec::new() }),
+                Stop::Fault { message } => return Err(EvalError::Runtime { message, line, column, calls: Vec::new() }),
                 Stop::Done | Stop::Calls { .. } => return Err(EvalError::Unexpected),
             }
         }
@@ -144,7 +144,7 @@ impl Call<'_> {
         for text in printed.split_inclusive('\n') {
             self.used.print(&self.engine.watch, text)?;
             let printed = self.engine.print(text.strip_suffix('\n').unwrap_or(text));
-            printed.map_err(|error| EvalError::NotPrinted { why: error.to_string(), line, column })?;
+            printed.map_err(|error| EvalError::NotPrinted { why: error.to_string(), line, column, calls: Vec::new() })?;
         }
         Ok(stop)
     }

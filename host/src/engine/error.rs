@@ -5,6 +5,35 @@ use crate::value::{NoIntError, TryFromValueError, Value};
 use std::convert::Infallible;
 use std::fmt;
 
+/// How many of the functions under way an error tells at most: the innermost.
+pub(super) const MOST_CALLS: usize = 64;
+
+/// A function of a script that was under way when a run ended, or is under way where one stands.
+#[derive(Clone, Debug, PartialEq, Eq, Hash)]
+#[non_exhaustive]
+pub struct CallPlace {
+    /// Its name; that of the statements outside of functions is empty, and that of a closure begins with `anon$`.
+    pub function: String,
+    /// The line where it stands: where the run stands or went wrong, or where the next inner function is called; 0 where there is no place.
+    pub line: u32,
+    /// The place on that line.
+    pub column: u32,
+}
+
+impl fmt::Display for CallPlace {
+    fn fmt(&self, f: &mut fmt::Formatter<'_>) -> fmt::Result {
+        match self.function.as_str() {
+            "" => f.write_str("in the script")?,
+            name if name.starts_with("anon$") => f.write_str("in a closure")?,
+            name => write!(f, "in {name}")?,
+        }
+        if self.line > 0 {
+            write!(f, " (line {}, column {})", self.line, self.column)?;
+        }
+        Ok(())
+    }
+}
+
 /// Why a script gives no value. Lines and columns count from 1; both are 0 where there is no place.
 #[derive(Clone, Debug, PartialEq, Eq, Hash)]
 #[non_exhaustive]
@@ -26,6 +55,8 @@ pub enum EvalError {
         line: u32,
         /// The place on that line.
         column: u32,
+        /// The functions under way, the innermost first.
+        calls: Vec<CallPlace>,
     },
     /// It took as many operations as it may.
     TooManyOperations {
@@ -33,6 +64,8 @@ pub enum EvalError {
         line: u32,
         /// The place on that line.
         column: u32,
+        /// The functions under way, the innermost first.
+        calls: Vec<CallPlace>,
     },
     /// It took as long as it may.
     TooMuchTime {
@@ -40,6 +73,8 @@ pub enum EvalError {
         line: u32,
         /// The place on that line.
         column: u32,
+        /// The functions under way, the innermost first.
+        calls: Vec<CallPlace>,
     },
     /// It printed more than it may.
     TooMuchOutput {
@@ -47,6 +82,8 @@ pub enum EvalError {
         line: u32,
         /// The place on that line.
         column: u32,
+        /// The functions under way, the innermost first.
+        calls: Vec<CallPlace>,
     },
     /// What it printed couldn't be written to standard output.
     NotPrinted {
@@ -56,6 +93,8 @@ pub enum EvalError {
         line: u32,
         /// The place on that line.
         column: u32,
+        /// The functions under way, the innermost first.
+        calls: Vec<CallPlace>,
     },
     /// An [`Interrupt`](crate::Interrupt) was pulled.
     Interrupted {
@@ -63,6 +102,8 @@ pub enum EvalError {
         line: u32,
         /// The place on that line.
         column: u32,
+        /// The functions under way, the innermost first.
+        calls: Vec<CallPlace>,
     },
     /// The program ended it, when it was asked by [`Engine::on_progress`](crate::Engine::on_progress).
     Terminated {
@@ -72,6 +113,8 @@ pub enum EvalError {
         line: u32,
         /// The place on that line.
         column: u32,
+        /// The functions under way, the innermost first.
+        calls: Vec<CallPlace>,
     },
     /// The value isn't taken as the type that was wanted.
     Mismatch(TryFromValueError),
@@ -92,6 +135,8 @@ pub enum EvalError {
         line: u32,
         /// The place on that line.
         column: u32,
+        /// The functions under way, the innermost first.
+        calls: Vec<CallPlace>,
     },
     /// The run has ended before.
     Ended,
@@ -107,13 +152,13 @@ impl EvalError {
         match self {
             EvalError::Syntax { line, column, .. }
             | EvalError::Runtime { line, column, .. }
-            | EvalError::TooManyOperations { line, column }
-            | EvalError::TooMuchTime { line, column }
-            | EvalError::TooMuchOutput { line, column }
+            | EvalError::TooManyOperations { line, column, .. }
+            | EvalError::TooMuchTime { line, column, .. }
+            | EvalError::TooMuchOutput { line, column, .. }
             | EvalError::NotPrinted { line, column, .. }
-            | EvalError::Interrupted { line, column }
+            | EvalError::Interrupted { line, column, .. }
             | EvalError::Terminated { line, column, .. }
-            | EvalError::OutOfMemory { line, column } => (*line > 0).then_some((*line, *column)),
+            | EvalError::OutOfMemory { line, column, .. } => (*line > 0).then_some((*line, *column)),
             EvalError::Mismatch(_)
             | EvalError::NoInt(_)
             | EvalError::NoFunction { .. }
@@ -121,6 +166,67 @@ impl EvalError {
             | EvalError::Ended
             | EvalError::OtherLibrary
             | EvalError::Unexpected => None,
+        }
+    }
+}
+
+/// The functions under way.
+impl EvalError {
+    /// The functions of the script that were under way when the run ended, the innermost first, 64 of them at most. There are none where no
+    /// run ended, or memory was refused for them.
+    ///
+    /// ```
+    /// use rhai_world::Engine;
+    ///
+    /// let text = "fn inner(x) { x.nowhere() }\nfn outer(x) { inner(x) + 1 }\nouter(1);";
+    /// let error = Engine::new().run(text).unwrap_err();
+    /// let calls: Vec<String> = error.calls().iter().map(ToString::to_string).collect();
+    /// assert_eq!(calls[1..], ["in outer (line 2, column 15)", "in the script (line 3, column 1)"]);
+    /// ```
+    pub fn calls(&self) -> &[CallPlace] {
+        match self {
+            EvalError::Runtime { calls, .. }
+            | EvalError::TooManyOperations { calls, .. }
+            | EvalError::TooMuchTime { calls, .. }
+            | EvalError::TooMuchOutput { calls, .. }
+            | EvalError::NotPrinted { calls, .. }
+            | EvalError::Interrupted { calls, .. }
+            | EvalError::Terminated { calls, .. }
+            | EvalError::OutOfMemory { calls, .. } => calls,
+            EvalError::Syntax { .. }
+            | EvalError::Mismatch(_)
+            | EvalError::NoInt(_)
+            | EvalError::NoFunction { .. }
+            | EvalError::OtherScope
+            | EvalError::Ended
+            | EvalError::OtherLibrary
+            | EvalError::Unexpected => &[],
+        }
+    }
+
+    /// Notes the functions that are under way, where the error tells none yet.
+    pub(super) fn note_calls(&mut self, under_way: impl FnOnce() -> Vec<CallPlace>) {
+        match self {
+            EvalError::Runtime { calls, .. }
+            | EvalError::TooManyOperations { calls, .. }
+            | EvalError::TooMuchTime { calls, .. }
+            | EvalError::TooMuchOutput { calls, .. }
+            | EvalError::NotPrinted { calls, .. }
+            | EvalError::Interrupted { calls, .. }
+            | EvalError::Terminated { calls, .. }
+            | EvalError::OutOfMemory { calls, .. } => {
+                if calls.is_empty() {
+                    *calls = under_way();
+                }
+            }
+            EvalError::Syntax { .. }
+            | EvalError::Mismatch(_)
+            | EvalError::NoInt(_)
+            | EvalError::NoFunction { .. }
+            | EvalError::OtherScope
+            | EvalError::Ended
+            | EvalError::OtherLibrary
+            | EvalError::Unexpected => {}
         }
     }
 }
@@ -138,7 +244,8 @@ impl EvalError {
     }
 
     /// Renders the error for who wrote the script, of which this is the text: the message, the line behind its number, and a caret beneath
-    /// the column. Columns count characters, however wide these are. Without a place, or such a line, it is the message alone.
+    /// the column. Columns count characters, however wide these are. Without a place, or such a line, it is the message alone. The
+    /// functions under way are told by [`calls`](EvalError::calls).
     ///
     /// ```
     /// use rhai_world::Engine;
@@ -207,7 +314,7 @@ impl From<Infallible> for EvalError {
 impl From<Error> for EvalError {
     fn from(error: Error) -> EvalError {
         match error {
-            Error::OutOfMemory => EvalError::OutOfMemory { line: 0, column: 0 },
+            Error::OutOfMemory => EvalError::OutOfMemory { line: 0, column: 0, calls: Vec::new() },
             Error::OtherLibrary => EvalError::OtherLibrary,
             Error::Refused(_) | Error::Closed | Error::NoCommand | Error::NoName | Error::Unexpected => EvalError::Unexpected,
         }

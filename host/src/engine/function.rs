@@ -66,7 +66,7 @@ impl Ledger {
     pub(super) fn reserve(&self) -> Result<(), EvalError> {
         let mut entries = self.entries();
         let more = entries.live.saturating_add(1);
-        entries.dropped.try_reserve(more).map_err(|_| EvalError::OutOfMemory { line: 0, column: 0 })
+        entries.dropped.try_reserve(more).map_err(|_| EvalError::OutOfMemory { line: 0, column: 0, calls: Vec::new() })
     }
 
     /// The function of a number, which the library keeps.

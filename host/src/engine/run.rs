@@ -1,8 +1,9 @@
 //! Runs that stand, and go on by pieces.
+use super::error::MOST_CALLS;
 use super::function::{Found, Standing};
 use super::scope::Stop;
 use super::watch::Used;
-use super::{Ast, Call, Engine, EvalError, Function, Scope, Wanted};
+use super::{Ast, Call, CallPlace, Engine, EvalError, Function, Scope, Wanted};
 use crate::memory::Memory;
 use crate::value::Value;
 use std::fmt;
@@ -123,8 +124,11 @@ impl<'a> Run<'a> {
             return Err(EvalError::Ended);
         }
         self.used.begin_piece(&self.engine.watch);
-        let gone = self.advance(self.used.operations.saturating_add(operations));
+        let mut gone = self.advance(self.used.operations.saturating_add(operations));
         self.used.end_piece();
+        if let Err(error) = &mut gone {
+            error.note_calls(|| self.scope.calls_under_way(MOST_CALLS));
+        }
         match gone {
             Ok(Came::Paused | Came::Statement { .. }) => {}
             Ok(Came::Done(_)) | Err(_) => self.end()?,
@@ -166,6 +170,35 @@ impl<'a> Run<'a> {
     pub fn memory(&self) -> Memory {
         self.scope.memory()
     }
+
+    /// Looks at the functions of the script that are under way, the innermost first: the last one is the script itself.
+    ///
+    /// ```
+    /// use rhai_world::{Engine, EvalError, Progress, Scope, Value};
+    ///
+    /// let engine = Engine::new();
+    /// let ast = engine.compile("fn twice(x) {\n    let y = x + x;\n    y\n}\nlet a = 20;\ntwice(a + 1)")?;
+    /// let mut scope = Scope::new()?;
+    /// let mut run = engine.start(&mut scope, &ast)?;
+    /// run.stop_at_statements(true)?;
+    /// while !matches!(run.go(1_000)?, Progress::Statement { line: 3, .. } | Progress::Done(_)) {}
+    ///
+    /// let calls: Vec<String> = run.calls().iter().map(ToString::to_string).collect();
+    /// assert_eq!(calls, ["in twice (line 3, column 5)", "in the script (line 6, column 1)"]);
+    /// assert_eq!(run.variables(0)?, [("y".to_owned(), Value::Int(42)), ("x".to_owned(), Value::Int(21))]);
+    /// # Ok::<(), EvalError>(())
+    /// ```
+    pub fn calls(&self) -> Vec<CallPlace> {
+        self.scope.calls_under_way(usize::MAX)
+    }
+
+    /// Looks at the variables in sight of a function under way, by its number in [`calls`](Run::calls), with their values: from the newest to
+    /// the oldest, so that a hidden one comes behind the one that hides it. There are none where no such function is under way.
+    ///
+    /// Errors: want of memory; `EvalError::Unexpected` where a value holds itself.
+    pub fn variables(&self, call: usize) -> Result<Vec<(String, Value)>, EvalError> {
+        self.scope.variables_in_sight(call)
+    }
 }
 
 /// How it goes on.
@@ -200,8 +233,8 @@ impl Run<'_> {
                         return Ok(Came::Statement { line, column });
                     }
                 }
-                Stop::Memory => return Err(EvalError::OutOfMemory { line, column }),
-                Stop::Fault { message } => return Err(EvalError::Runtime { message, line, column }),
+                Stop::Memory => return Err(EvalError::OutOfMemory { line, column, calls: Vec::new() }),
+                Stop::Fault { message } => return Err(EvalError::Runtime { message, line, column, calls: Vec::new() }),
                 Stop::Calls { .. } | Stop::Answered | Stop::Refused { .. } => return Err(EvalError::Unexpected),
             }
         }

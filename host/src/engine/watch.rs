@@ -228,16 +228,16 @@ impl Used {
     pub(super) fn check(&mut self, watch: &Watch) -> Result<(), EvalError> {
         let (line, column) = (self.line, self.column);
         if watch.interrupt.pulls() != self.pulls {
-            return Err(EvalError::Interrupted { line, column });
+            return Err(EvalError::Interrupted { line, column, calls: Vec::new() });
         }
         if watch.operations != 0 && self.operations >= watch.operations {
-            return Err(EvalError::TooManyOperations { line, column });
+            return Err(EvalError::TooManyOperations { line, column, calls: Vec::new() });
         }
         if watch.has_time() && self.time() >= watch.time {
-            return Err(EvalError::TooMuchTime { line, column });
+            return Err(EvalError::TooMuchTime { line, column, calls: Vec::new() });
         }
         match self.asked(watch) {
-            Some(reason) => Err(EvalError::Terminated { reason, line, column }),
+            Some(reason) => Err(EvalError::Terminated { reason, line, column, calls: Vec::new() }),
             None => Ok(()),
         }
     }
@@ -255,7 +255,7 @@ impl Used {
     pub(super) fn print(&mut self, watch: &Watch, line: &str) -> Result<(), EvalError> {
         self.output = self.output.saturating_add(line.len() as u64);
         if watch.output != 0 && self.output > watch.output {
-            return Err(EvalError::TooMuchOutput { line: self.line, column: self.column });
+            return Err(EvalError::TooMuchOutput { line: self.line, column: self.column, calls: Vec::new() });
         }
         Ok(())
     }

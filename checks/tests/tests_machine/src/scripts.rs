@@ -25,7 +25,7 @@ fn goes_on(alloc: Global) -> Option<bool> {
     let text = "print(2);\nprint([1][2]);";
     let failed = run_script(alloc, text, &mut out, &LIMITS, &mut operations);
     let is_placed = match failed {
-        Err(ScriptError::Fault(message, place)) => {
+        Err(ScriptError::Fault(message, place, _)) => {
             message.as_str() == "index 2 out of range of 1" && place == Position::new(2, 11)
         }
         Ok(()) | Err(_) => false,
@@ -46,7 +46,7 @@ fn is_limited(alloc: Global) -> bool {
     let mut operations = 100;
     let ended = run_script(alloc, "print(1);", &mut out, &LIMITS, &mut operations);
     let is_told = match ended {
-        Err(ScriptError::Fault(message, place)) => {
+        Err(ScriptError::Fault(message, place, _)) => {
             message.as_str() == "too many operations" && place == Position::new(1, 1)
         }
         Ok(()) | Err(_) => false,
@@ -100,7 +100,7 @@ fn is_text_counted(alloc: Global) -> Option<bool> {
     let mut operations = 1;
     let ended = run_script(alloc, text.as_str(), &mut out, &LIMITS, &mut operations);
     let is_told = match ended {
-        Err(ScriptError::Fault(message, place)) => {
+        Err(ScriptError::Fault(message, place, _)) => {
             message.as_str() == "too many operations" && place == Position::new(1, 1)
         }
         Ok(()) | Err(_) => false,

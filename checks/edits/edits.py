@@ -1,4 +1,4 @@
-"""What `run` and `check` share: the edits, and the sum of what a crate promises."""
+"""What `run` and `check` share: the edits, and the checksum of a crate's contracts and definitions."""
 import glob
 import hashlib
 import os
@@ -8,15 +8,16 @@ TOP = os.path.dirname(os.path.dirname(os.path.dirname(os.path.abspath(__file__))
 HERE = os.path.join(TOP, "checks", "edits")
 SUMS = os.path.join(HERE, "sums")
 CLAUSE = re.compile(r"^ *(requires|ensures|ghost)\b")
+COMMENT = re.compile(r"^ *--.*\n", re.M)
 
 
 def in_gate():
-    """The edits that the gate tries, by crate."""
+    """Returns the edits that the gate tries, by crate."""
     return by_crate(os.path.join(TOP, "crates", "*", "must-fail", "*.edit"), 3)
 
 
 def beside_gate():
-    """The edits that `run` tries, by crate."""
+    """Returns the edits that `run` tries, by crate."""
     return by_crate(os.path.join(HERE, "*", "*.edit"), 2)
 
 
@@ -28,7 +29,7 @@ def by_crate(pattern, above):
 
 
 def misfit(file, crate):
-    """Why an edit no longer applies to the crate, or None."""
+    """Returns why an edit no longer applies to the crate, or None."""
     texts, path, old = {}, None, None
     with open(file, encoding="utf-8") as lines:
         for line in lines.read().splitlines():
@@ -51,7 +52,7 @@ def misfit(file, crate):
 
 
 def clauses(text):
-    """The clauses and ghost items of a source, each up to the brace that closes it."""
+    """Returns the clauses and ghost items of a source, each up to its closing brace."""
     found, lines, at = [], text.splitlines(), 0
     while at < len(lines):
         if CLAUSE.match(lines[at]):
@@ -68,12 +69,12 @@ def clauses(text):
 
 
 def promise(crate):
-    """The sum of the definitions and clauses of a crate."""
+    """Returns the checksum of the definitions and clauses of a crate, without comments."""
     said = hashlib.sha256()
     folder = os.path.join(TOP, "crates", crate)
     for file in sorted(glob.glob(os.path.join(folder, "specs", "**", "*.antt"), recursive=True)):
-        with open(file, "rb") as text:
-            said.update(text.read())
+        with open(file, encoding="utf-8") as text:
+            said.update(COMMENT.sub("", text.read()).encode())
     for file in sorted(glob.glob(os.path.join(folder, "src", "**", "*.rt"), recursive=True)):
         with open(file, encoding="utf-8") as text:
             said.update(clauses(text.read()).encode())
@@ -81,7 +82,7 @@ def promise(crate):
 
 
 def sums():
-    """The sum of each crate when its edits were last refused."""
+    """Returns the checksum of each crate when its edits were last refused."""
     if not os.path.isfile(SUMS):
         return {}
     with open(SUMS, encoding="utf-8") as lines:

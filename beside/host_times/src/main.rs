@@ -2,9 +2,11 @@
 //!
 //! Usage: host_times time SIDE KIND ROUNDS prints the nanoseconds of so many rounds, less those of none, and their checksum;
 //! host_times one SIDE KIND ROUNDS does them once, for valgrind. SIDE is `methods`, or `commands` for `Command` and `Answer`.
+//! host_times embedding ROUNDS measures what a script engine costs its host, as `embedding/lua.c` does.
 
 #[path = "../../times/src/clock.rs"]
 mod clock;
+mod embedding;
 
 use rhai_world::{Answer, Command, Error, Limits, Name, Operator, Place, World};
 
@@ -144,6 +146,10 @@ fn by_commands(kind: u32, rounds: usize) -> Result<u64, Error> {
 
 fn main() {
     let words: Vec<String> = std::env::args().collect();
+    if let [_, what, rounds] = words.as_slice() {
+        assert_eq!(what, "embedding", "host_times embedding ROUNDS");
+        return embedding::embedding(rounds.parse().expect("a number")).expect("no run fails");
+    }
     let [_, what, side, kind, rounds] = words.as_slice() else {
         panic!("host_times time|one methods|commands KIND ROUNDS");
     };

@@ -1,5 +1,5 @@
-//! Finds `librhai_host.a`: in the folder that `RHAI_HOST_LIB` names, else where a release has it, else where `rt lib` leaves it. It must have the
-//! stamp that the declarations of this crate were written for.
+//! Finds `librhai_host.a`: in the folder that `RHAI_HOST_LIB` names, or where a release has it, or
+//! where `rt lib` writes it. It must have the stamp for which this crate's declarations were written.
 use std::path::{Path, PathBuf};
 
 const HOW: &str =
@@ -23,7 +23,8 @@ fn main() {
     println!("cargo:rustc-link-lib=static=rhai_host");
 }
 
-/// The folder of the library beside this crate: `lib` in a release, else that of the crate that it is built of.
+/// Returns the folder of the library next to this crate: `lib` in a release, or the output folder of
+/// the library's crate.
 fn beside() -> PathBuf {
     let crate_folder = PathBuf::from(std::env::var_os("CARGO_MANIFEST_DIR").expect("cargo sets it"));
     let released = crate_folder.join("../lib");
@@ -34,7 +35,7 @@ fn beside() -> PathBuf {
     }
 }
 
-/// Whether the library is there, and exports what this crate declares.
+/// Checks that the library exists, and exports what this crate declares.
 fn suits(library: &Path) -> Result<(), String> {
     let bytes = std::fs::read(library).map_err(|error| format!("no {}: {error}\n{HOW}", library.display()))?;
     let source = std::fs::read_to_string(STAMPED).map_err(|error| format!("{STAMPED}: {error}"))?;

@@ -1,4 +1,4 @@
-"""The header for C that tools/host_declarations writes: host/include/rhai_host.h, from the same exports as Rust's declarations."""
+"""The C header host/include/rhai_host.h, which tools/host_declarations writes from the same exports as Rust's declarations."""
 import re
 import textwrap
 
@@ -65,17 +65,17 @@ BOTTOM = """
 
 
 def upper(name):
-    """The name of a variant as one of C's constants."""
+    """Returns the name of a variant as a C constant."""
     return re.sub(r"(?<=[a-z0-9])(?=[A-Z])", "_", name).upper()
 
 
 def struct_name(name):
-    """The name of a struct as one of C's: no function has it."""
+    """Returns the name of a struct in C: no function has it."""
     return f"RhaiHost{name}"
 
 
 def comment(docs, indent=""):
-    """The comment of Rust's docs."""
+    """Returns a C comment from Rust's docs."""
     text = " ".join(filter(None, (it.strip().removeprefix("///").strip() for it in docs.strip().split("\n"))))
     if "*/" in text:
         raise ValueError(f"a comment ends in {text}")
@@ -84,7 +84,7 @@ def comment(docs, indent=""):
 
 
 def parameter(name, kind):
-    """A parameter as C declares it; nothing where C has no form for it. A word of C++ gets a line behind it."""
+    """Returns a parameter's C declaration, or None if C has no form for it. A keyword of C++ gets an underscore after it."""
     name += "_" * (name in WORDS)
     if kind in SLICES:
         return [f"const {SLICES[kind]} *{name}", f"size_t {name}_len"]
@@ -101,7 +101,7 @@ def parameter(name, kind):
 
 
 def declared(docs, name, params, arrow):
-    """The declaration of an export."""
+    """Returns the declaration of an export."""
     parts = [parameter(*it) for it in params]
     if None in parts:
         raise ValueError(f"no form in C for the parameters of {name}")
@@ -114,7 +114,7 @@ def declared(docs, name, params, arrow):
 
 
 def struct(docs, name, fields):
-    """A struct with its fields."""
+    """Returns a struct with its fields."""
     inner = ""
     for said, field, kind in re.findall(r"((?:\s*///[^\n]*\n)+)\s*pub (\w+): (\w+),", fields):
         inner += comment(said, "    ") + f"    {NUMBERS[kind]} {field};\n"
@@ -122,7 +122,7 @@ def struct(docs, name, fields):
 
 
 def enum(docs, name, variants):
-    """The constants of an enum."""
+    """Returns the constants of an enum."""
     inner = "".join(
         (comment(said, "    ") if said else "") + f"    RHAI_HOST_{upper(name)}_{upper(it)} = {number},\n" for said, it, number in variants
     )
@@ -130,7 +130,7 @@ def enum(docs, name, variants):
 
 
 def handle(docs, size, align):
-    """The handle, which C gives room."""
+    """Returns the handle, whose memory C provides."""
     said = docs + "/// Its fields are the library's alone."
     return (
         f"#define RHAI_HOST_HANDLE_SIZE {size}\n#define RHAI_HOST_HANDLE_ALIGN {align}\n\n{comment(said)}"
@@ -142,7 +142,7 @@ def handle(docs, size, align):
 
 
 def hash_bytes(page):
-    """The table of hash bytes, from the page that has it, as lines of a comment."""
+    """Returns the table of hash bytes, from its page, as lines of a comment."""
     rows = re.search(r"^\| value \| bytes \|\n\|---\|---\|\n((?:\|.*\n)+)", page, re.M)[1]
     found = ""
     for row in rows.strip().split("\n"):
@@ -153,7 +153,7 @@ def hash_bytes(page):
 
 
 def header(found_handle, structs, enums, exports, stamp, page):
-    """The whole file."""
+    """Returns the whole file."""
     parts = [TOP.replace("@BYTES@", hash_bytes(page)), handle(*found_handle)]
     parts += [struct(*it) for it in structs] + [enum(*it) for it in enums] + [declared(*it) for it in exports]
     parts.append(f"#define RHAI_HOST_STAMP {stamp}\n")

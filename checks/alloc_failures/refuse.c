@@ -1,5 +1,5 @@
-/* A library to preload: counts a program's requests for memory, and refuses those from REFUSE_FIRST to REFUSE_LAST (none where they are not set).
-   How many were made and how many refused is left in the file REFUSE_COUNTS, two numbers of eight bytes, which must be there and as long. */
+/* A library to preload: counts a program's allocations, and makes those from REFUSE_FIRST to REFUSE_LAST fail (none if these are not set).
+   It writes how many were made and how many failed to the file REFUSE_COUNTS, as two numbers of eight bytes; the file must exist with that size. */
 #include <errno.h>
 #include <fcntl.h>
 #include <stddef.h>

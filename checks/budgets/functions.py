@@ -1,4 +1,4 @@
-"""What each function of the packages and each operator is called on, as large as limits of a million let it be within a second."""
+"""Calls of each function of the packages and each operator, with values as large as limits of a million allow within a second."""
 
 ARRAY = "let a = []; a.pad(100000, 1);"
 TEXT = 'let t = "x"; t.pad(100000, "xy");'
@@ -8,7 +8,7 @@ BLOB = "let b = blob(100000, 7);"
 NESTED = "let n = []; for i in 0..300 { let row = []; row.pad(300, i); n.push(row); }"
 HELD = "let h = []; h.pad(10000, 1); let f = || h; let w = []; w.pad(50, f);"
 
-# what stands before the endless loop, and what is done in it
+# the setup before the endless loop, and the loop's body
 CALLS = [
     *((ARRAY, f"a.{it}") for it in (
         "len()", "is_empty()", "get(99999)", "extract(0)", "extract(1, 99998)", "extract(1..99999)", "contains(2)", "index_of(2)",

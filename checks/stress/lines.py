@@ -1,7 +1,7 @@
 #!/usr/bin/env python3
-"""Random lines for rhai_world, the same for the same seed: lines.py SEED COUNT prints so many.
+"""Random lines for rhai_world, the same for the same seed: lines.py SEED COUNT prints COUNT lines.
 
-Most positions lie in the hand, as far as its length is known from the lines alone; a few don't, and one line in thirty is no line at all."""
+Most positions are in the hand, as far as the lines alone determine its length; a few aren't, and one line in thirty is not a valid line."""
 import random
 import sys
 
@@ -14,7 +14,7 @@ NAMES = "x y z p q".split()
 TEXTS = ["", "a", "hello", "é1", "a  b", "'\"\\", "\t~", "aaa"]
 BAD = ["", "int", "int +1", "int  1", " unit", "show", "show -1", "copy a", "op 0 0", "push é 0", "Unit", "int 9223372036854775808", "char ab", "blob 0"]
 
-# each form of line, with what it surely adds to the hand's length
+# each form of line, with what it certainly adds to the hand's length
 FORMS = """unit +1|bool B +1|int N +1|int N +1|char C +1|text T +1|text T +1|blob H +1|host V +1|range N N +1|rangeeq N N +1
 array K +1|array K +1|map M +1|fn NAME K +1|copy I +1|copy I +1|flatclone I +1|cast I KIND 0|op I BIN I 0|op I BIN I 0|op I ASG I 0
 take I 0|drop -1|share I 0|share I 0|write I N 0|flatten I 0|tag I TAG 0|readonly I 0|store I I 0|store I I 0
@@ -30,7 +30,7 @@ FORMS = [it.rsplit(" ", 1) for it in FORMS.replace("\n", "|").split("|")]
 
 
 def lines(seed, count):
-    """Gives so many lines."""
+    """Yields this many lines."""
     rng = random.Random(seed)
     hand = 0
 
@@ -68,7 +68,7 @@ def lines(seed, count):
         if form.startswith(("array", "fn")):
             hand -= min(int(line.rsplit(" ", 1)[1]), hand)
         hand = max(hand + int(adds), 0)
-        # (a verb alone has no space behind it)
+        # (no space follows a verb alone)
         yield line if form.startswith(("char", "text")) else line.rstrip(" ")
 
 

@@ -1,4 +1,4 @@
-"""Random scripts of the language: each is well formed, and most run for a while. The same for the same dice."""
+"""Random scripts of the language: each is well formed, and most run for a while. The same dice give the same script."""
 
 NAMES = ["a", "b", "c", "d", "e"]
 KEYS = ["x", "y", "z"]
@@ -19,7 +19,7 @@ class Maker:
         return self.chance.choice(words)
 
     def one_of(self, *ways):
-        """What one of these makes; the others aren't asked."""
+        """Returns what one of these generates; the others aren't called."""
         return self.chance.choice(ways)()
 
     def known(self):

@@ -1,12 +1,12 @@
-//! Does random commands in a world, sends the lines that say them to the program of lines, and compares the answers:
-//! `beside_lines PROGRAM COUNT SEED`.
+//! Executes random commands in a world, sends their lines to the program for lines, and compares
+//! the answers: `beside_lines PROGRAM COUNT SEED`.
 use rhai_world::{Answer, ArithmeticFault, Command, Error, Limits, Name, Operator, Place, Refusal, SizeKind, Type, World};
 use std::io::{Read, Write};
 use std::process::{Command as Program, Stdio};
 
 const NAMES: [&str; 5] = ["a", "b", "count", "x_1", "name_of_more_than_twenty_four_letters"];
 
-/// Numbers that look random, from a seed.
+/// Pseudo-random numbers from a seed.
 struct Random(u64);
 
 impl Random {
@@ -278,7 +278,7 @@ impl Session {
         }
     }
 
-    /// Lines that leave hand, scope and marks empty, with their answers.
+    /// Returns lines that empty hand, scope and marks, with their answers.
     fn reset(&mut self) -> Vec<Said> {
         let mut said = vec![self.does(Command::Clear {})];
         for _ in 0..self.world.hand_len() {
@@ -322,7 +322,7 @@ fn printed(answer: &Result<Answer, Error>) -> String {
     }
 }
 
-/// What the program prints on these lines.
+/// Returns what the program prints for these lines.
 fn program(path: &str, lines: &str) -> std::io::Result<Vec<u8>> {
     let mut child = Program::new(path).stdin(Stdio::piped()).stdout(Stdio::piped()).spawn()?;
     let mut input = child.stdin.take().expect("it is piped");
@@ -335,7 +335,8 @@ fn program(path: &str, lines: &str) -> std::io::Result<Vec<u8>> {
     Ok(found)
 }
 
-/// One world of some commands: the first line that is answered otherwise, if there is one.
+/// Runs one world of some commands: returns the first line with a different answer, if there is
+/// one.
 fn round(path: &str, count: usize, seed: u64) -> Result<Option<String>, Box<dyn std::error::Error>> {
     let mut session = Session::new(seed)?;
     let mut said = Vec::new();

@@ -1,4 +1,5 @@
-//! Functions of a script in the program's hands: the script hands them over, the program calls them when something happens.
+//! Functions of a script that the program holds: the script passes them, and the program calls them
+//! when something happens.
 //!
 //! ```text
 //! Ada was told of 3 events
@@ -32,7 +33,7 @@ fn main() -> Result<(), EvalError> {
     engine.register_fn("each", |call: &mut Call, items: Vec<String>, f: Function| -> Result<(), EvalError> {
         items.into_iter().try_for_each(|item| call.call(&f, (item,)))
     });
-    // changes what it is called on
+    // changes its receiver
     engine.register_fn("order", |prices: &mut Vec<i64>| prices.sort_unstable());
 
     let ast = engine.compile(SCRIPT)?;

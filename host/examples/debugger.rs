@@ -1,4 +1,4 @@
-//! A debugger in a terminal: reads lines, does them, and shows hand and scope after each.
+//! A debugger in a terminal: reads lines, executes them, and shows hand and scope after each.
 use rhai_world::{Error, Limits, World};
 use std::io::{stdin, BufRead};
 

@@ -1,4 +1,4 @@
-//! A script that calls a function of the program, over a variable that the program has.
+//! A script that calls a function of the program, with a variable of the program.
 use rhai_world::{Engine, EvalError, Scope};
 
 fn main() -> Result<(), EvalError> {

@@ -1,4 +1,5 @@
-//! A game whose creatures are scripts that never end: each goes on by 10,000 operations a frame, whatever it does. It prints:
+//! A game whose creatures are scripts that never end: each executes 10,000 operations a frame,
+//! whatever it does. It prints:
 //!
 //! ```text
 //! the crab is out: it sees no sea (line 2, column 24)
@@ -15,7 +16,7 @@ const A_FRAME: u64 = 10_000;
 /// Where the goal is.
 const GOAL: i64 = 500;
 
-/// Thinks so long before each step.
+/// Thinks this long before each step.
 const RUNNER: &str = "
 loop {
     for n in 0..thought { n * n; }
@@ -34,7 +35,7 @@ struct Creature<'a> {
 }
 
 impl Creature<'_> {
-    /// Goes on by a frame; one that ends is out.
+    /// Executes one frame; a creature whose run ends is out.
     fn goes_on(&mut self) {
         let Some(run) = &mut self.run else { return };
         match run.go(A_FRAME) {
@@ -48,7 +49,7 @@ impl Creature<'_> {
     }
 }
 
-/// Plays frames until one is at the goal, or too many are over; tells where all are.
+/// Plays frames until one creature is at the goal, or too many are over; returns where all are.
 fn play(creatures: &mut [Creature<'_>], steps: &Receiver<(String, i64)>) -> BTreeMap<String, i64> {
     let mut places = BTreeMap::new();
     for _ in 0..100_000 {

@@ -1,4 +1,5 @@
-//! Two scripts that run in turns, each within limits of its own: what a program does that has other work, or many scripts.
+//! Two scripts that run in turns, each with its own limits: for a program that has other work, or
+//! many scripts.
 use rhai_world::{Engine, EvalError, Progress, Scope};
 use std::time::Duration;
 

@@ -1,5 +1,5 @@
-//! Rules over orders, which are maps as JSON has them: a rule has a script that tells whether it holds, and one that changes the order.
-//! It prints:
+//! Rules over orders, which are maps as in JSON: a rule has a script that says whether it applies,
+//! and one that changes the order. It prints:
 //!
 //! ```text
 //! a tenth off for members
@@ -13,7 +13,7 @@
 //! ```
 use rhai_world::{Ast, Engine, Error, EvalError, Limits, Map, Scope, Value, World};
 
-/// When a rule holds, and what it does then.
+/// When a rule applies, and what it does then.
 struct Rule {
     name: &'static str,
     when: Ast,
@@ -25,7 +25,8 @@ impl Rule {
         Ok(Rule { name, when: engine.compile(when)?, then: engine.compile(then)? })
     }
 
-    /// Applies the rule to the order in the scope, if it holds, and tells whether it did.
+    /// Applies the rule to the order in the scope if its condition holds, and returns whether it
+    /// did.
     fn applies(&self, engine: &Engine, scope: &mut Scope) -> Result<bool, String> {
         let told = |ast: &Ast, error: EvalError| format!("no rule `{}`: {}", self.name, error.render(ast.text()));
         let before = scope.len();
@@ -38,7 +39,8 @@ impl Rule {
     }
 }
 
-/// Applies rules until none holds, each at most once, so that they come to an end; tells the names of those that held, in order.
+/// Applies rules until no condition holds, each at most once, so that this ends; returns the names
+/// of those applied, in order.
 fn apply<'a>(engine: &Engine, rules: &'a [Rule], scope: &mut Scope) -> Result<Vec<&'a str>, String> {
     let mut left: Vec<&Rule> = rules.iter().collect();
     let mut held = Vec::new();
@@ -65,7 +67,7 @@ fn order(total: i64, member: bool, lines: &[&str]) -> Map {
     fields.into_iter().map(|(key, value)| (key.to_owned(), value)).collect()
 }
 
-/// The value as a script's `print` has it.
+/// Formats the value as a script's `print` does.
 fn shown(value: &Value) -> Result<String, Error> {
     let mut world = World::new(Limits::default())?;
     world.put(value)?;
@@ -75,7 +77,7 @@ fn shown(value: &Value) -> Result<String, Error> {
 fn main() -> Result<(), Box<dyn std::error::Error>> {
     let mut engine = Engine::new();
     engine.set_max_operations(100_000).set_max_memory(1 << 20);
-    // (a field that isn't there reads as unit, which is `None`)
+    // (a missing field reads as unit, which is `None`)
     engine.register_fn("or_zero", |field: Option<i64>| field.unwrap_or(0));
     let rules = [
         Rule::new(

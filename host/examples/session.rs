@@ -1,4 +1,4 @@
-//! A session that keeps a journal: a new world answers the same to all of it.
+//! A session with a journal: a new world answers the same to all of it.
 use rhai_world::{Command, Error, Journal, Limits, World};
 
 fn main() -> Result<(), Error> {

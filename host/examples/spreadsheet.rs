@@ -1,4 +1,4 @@
-//! A spreadsheet whose cells are scripts, which use other cells by their names. It prints:
+//! A spreadsheet whose cells are scripts, which refer to other cells by name. It prints:
 //!
 //! ```text
 //! A1 = 120
@@ -28,17 +28,17 @@ const CELLS: [(&str, &str); 10] = [
     ("F1", "loop {}"),
 ];
 
-/// What a cell comes to, or why it doesn't.
+/// The value of a cell, or its error.
 type Found = Result<Value, String>;
 
-/// Cells by their names.
+/// Cells by name.
 struct Sheet<'a> {
     cells: BTreeMap<&'a str, &'a str>,
     engine: Engine,
 }
 
 impl<'a> Sheet<'a> {
-    /// A sheet of these cells, none of which takes long or much.
+    /// Makes a sheet of these cells, with small limits on time and memory.
     fn new(cells: impl IntoIterator<Item = (&'a str, &'a str)>) -> Sheet<'a> {
         let mut engine = Engine::new();
         engine.set_max_operations(10_000).set_max_memory(1 << 20);
@@ -49,13 +49,13 @@ impl<'a> Sheet<'a> {
         Sheet { cells: cells.into_iter().collect(), engine }
     }
 
-    /// The cells that a script names.
+    /// Returns the cells that a script names.
     fn used_by(&self, script: &str) -> BTreeSet<&'a str> {
         let words = script.split(|character: char| !character.is_ascii_alphanumeric());
         words.filter_map(|word| self.cells.get_key_value(word)).map(|(name, _)| *name).collect()
     }
 
-    /// Finds all cells, each behind those that it uses.
+    /// Evaluates all cells, each after those that it uses.
     fn found(&self) -> BTreeMap<&'a str, Found> {
         let mut left: BTreeMap<_, _> = self.cells.iter().map(|(name, script)| (*name, self.used_by(script))).collect();
         let mut found = BTreeMap::new();
@@ -89,7 +89,7 @@ impl<'a> Sheet<'a> {
     }
 }
 
-/// The value as a script's `debug` has it.
+/// Formats the value as a script's `debug` does.
 fn shown(value: &Value) -> Result<String, Error> {
     let mut world = World::new(Limits::default())?;
     world.put(value)?;

@@ -6,7 +6,7 @@ use std::fmt;
 #[non_exhaustive]
 #[repr(u8)]
 pub enum Answer {
-    /// It is done.
+    /// The command is done, and there is no result.
     Done,
     /// Yes or no.
     Bool(bool),
@@ -18,11 +18,11 @@ pub enum Answer {
     Bytes(Vec<u8>),
     /// Two numbers.
     Pair(usize, usize),
-    /// There is nothing to answer.
+    /// The call has no result, as a search that finds nothing.
     Nothing,
 }
 
-/// Why an arithmetic operation has no answer.
+/// Why an arithmetic operation has no result.
 #[derive(Clone, Copy, Debug, PartialEq, Eq, Hash)]
 #[non_exhaustive]
 pub enum ArithmeticFault {
@@ -50,37 +50,38 @@ pub enum SizeKind {
 #[derive(Clone, Debug, PartialEq, Eq, Hash)]
 #[non_exhaustive]
 pub enum Refusal {
-    /// No value stands at a hand position, or too few stand in the hand.
+    /// The hand has no value at this position, or fewer values than the command takes.
     NoValue,
     /// Two hand positions that must differ are the same.
     SameValue,
-    /// The scope has no entry of the name.
+    /// The scope has no entry with the name.
     NoEntry,
-    /// The scope has no entry at all.
+    /// The scope has no entries.
     EmptyScope,
-    /// The last entry of the name is a constant.
+    /// The newest entry with the name is a constant.
     ConstantEntry,
-    /// The last entry of the name is a holder.
+    /// The newest entry with the name is a holder.
     SharedEntry,
-    /// The list of marks has no such position.
+    /// The list of marks has no mark at this position.
     NoMark,
-    /// The value at the place is no holder, or holds another type than the command writes to.
+    /// The value at the place is not a holder, or holds a type other than the one the command
+    /// writes to.
     WrongSource,
-    /// No int has this bit.
+    /// An int has no bit at this index.
     BitPlace,
-    /// The blob has no such byte.
+    /// The blob has no byte at this index.
     BytePlace,
-    /// The operator isn't built in for the two values.
+    /// The operator isn't built in for these two values.
     NoBuiltin,
-    /// The value has no hash bytes.
+    /// The value can't be hashed.
     NotHashable,
-    /// Another type is held; this is its name.
+    /// The held value has another type; this is its name.
     Mismatch(String),
-    /// A value has the wrong type: the name of the type that is wanted, and of the one that is there.
+    /// A value has the wrong type: the name of the expected type, and the name of the actual one.
     WrongType(String, String),
     /// A shared value is in use.
     DataRace,
-    /// An arithmetic operation has no answer.
+    /// An arithmetic operation has no result.
     Arithmetic(ArithmeticFault),
     /// A value would grow past its limit.
     TooLarge(SizeKind),

@@ -1,11 +1,11 @@
-//! What is told of an answer, as a value of Rust's.
+//! Results of calls as Rust values.
 use crate::answer::{Answer, ArithmeticFault, Refusal, SizeKind};
 use crate::error::{done, Error};
 use crate::sys::numbers::{Arithmetic, Kind, Reason, Size, Status};
 use crate::sys::{self, Told};
 use crate::world::World;
 
-/// Whether the call is done, and its answer is of this kind.
+/// Whether the call is done and its result is of this kind.
 #[inline]
 fn is(kind: Kind, status: u32, told: &Told) -> bool {
     status == Status::Done as u32 && told.kind == kind as u32
@@ -27,7 +27,7 @@ impl World {
         })
     }
 
-    /// That the answer is of this kind.
+    /// Fails unless the result is of this kind.
     #[inline]
     fn expect(&self, kind: Kind, status: u32, told: &Told) -> Result<(), Error> {
         if is(kind, status, told) {
@@ -78,7 +78,7 @@ impl World {
         self.bytes_of(false, told.low)
     }
 
-    /// The one character of a text.
+    /// Returns the only character of a text.
     pub(crate) fn character(&self, status: u32, told: &Told) -> Result<char, Error> {
         self.expect(Kind::Text, status, told)?;
         let mut room = [0; 4];
@@ -112,16 +112,16 @@ impl World {
         self.done(status, told).map(|()| true)
     }
 
-    /// Puts the text of the value at the hand position, as it is displayed, into a text, in place of what that has. Its room is used again;
-    /// after an error it is empty.
+    /// Replaces the contents of `text` with the value at the hand position, formatted as by `show`.
+    /// It reuses the capacity of `text`, and leaves it empty after an error.
     pub fn show_into(&self, i: usize, text: &mut String) -> Result<(), Error> {
         let mut told = Told::default();
         let status = sys::show(&self.handle, i, &mut told);
         self.text_into(status, &told, text)
     }
 
-    /// Puts the text of the value at the hand position, as it is debugged, into a text, in place of what that has. Its room is used again;
-    /// after an error it is empty.
+    /// Replaces the contents of `text` with the value at the hand position, formatted as by
+    /// `debug`. It reuses the capacity of `text`, and leaves it empty after an error.
     pub fn debug_into(&self, i: usize, text: &mut String) -> Result<(), Error> {
         let mut told = Told::default();
         let status = sys::debug(&self.handle, i, &mut told);
@@ -139,7 +139,8 @@ impl World {
         filled
     }
 
-    /// Puts the bytes of the last answer, of which there are so many, in the place of what is there; nothing where that fails.
+    /// Replaces the contents of `room` with the bytes of the last result, whose length is given.
+    /// Leaves `room` empty on failure.
     fn fill(&self, second: bool, length: u64, room: &mut Vec<u8>) -> Result<(), Error> {
         let length = size(length)?;
         if room.len() < length {
@@ -167,7 +168,7 @@ impl World {
         String::from_utf8(self.bytes_of(second, length)?).map_err(|_| Error::Unexpected)
     }
 
-    /// Why a call isn't answered as it promises where it is done.
+    /// Why a call didn't return what it promises for a done call.
     #[cold]
     fn failure(&self, status: u32, told: &Told) -> Error {
         if let Err(error) = done(status) {
@@ -224,7 +225,7 @@ fn size_kind(number: u64) -> Result<SizeKind, Error> {
     })
 }
 
-/// The number whose two's complement has these two words.
+/// Returns the number whose two's complement is these two words.
 #[inline]
 fn wide(told: &Told) -> i128 {
     match narrow(told) {
@@ -233,7 +234,7 @@ fn wide(told: &Told) -> i128 {
     }
 }
 
-/// The same, where 64 bits suffice.
+/// As `wide`, for results that fit 64 bits.
 #[inline]
 fn narrow(told: &Told) -> Option<i64> {
     let low = told.low as i64;

@@ -1,4 +1,4 @@
-//! Scripts that a program embeds: functions of its own, variables that live on, and budgets.
+//! Embedded scripts: host functions, variables that outlive a run, and budgets.
 mod ast;
 mod call;
 mod error;
@@ -30,24 +30,24 @@ use std::num::NonZeroUsize;
 use std::sync::atomic::{AtomicU64, Ordering};
 use watch::Watch;
 
-/// How many calls of a script may stand within each other, where nothing else is said.
+/// The default limit on nested calls of a script.
 const CALLS: usize = 500;
 
-/// What is called for each line that a script prints.
+/// The callback for each line that a script prints.
 type Print = Box<dyn Fn(&str) + Send + Sync>;
 
-/// What is called before each statement, with its line and column.
+/// The callback before each statement, with its line and column.
 type AtStatement = Box<dyn Fn(u32, u32) + Send + Sync>;
 
-/// The numbers of engines and scripts so far.
+/// Counts the engines and scripts made so far.
 static SERIAL: AtomicU64 = AtomicU64::new(0);
 
-/// A number that no other engine or script of this process has.
+/// Returns a number that no other engine or script of this process has.
 fn serial() -> u64 {
     SERIAL.fetch_add(1, Ordering::Relaxed)
 }
 
-/// Compiles and runs scripts, which may call the functions that are registered.
+/// Compiles and runs scripts. Scripts may call the functions registered with it.
 ///
 /// ```
 /// use rhai_world::{Engine, EvalError, Scope};
@@ -70,9 +70,9 @@ fn serial() -> u64 {
 /// ```
 pub struct Engine {
     functions: Vec<Registered>,
-    /// The names of these for the library, a line each.
+    /// Their names as the library takes them, one a line.
     names: String,
-    /// Which engine this is, with these functions.
+    /// Identifies this engine with its present functions.
     serial: u64,
     limits: Limits,
     entries: usize,
@@ -83,7 +83,7 @@ pub struct Engine {
 }
 
 impl Engine {
-    /// Makes an engine without limits but for 500 calls within each other, whose scripts print to standard output.
+    /// Makes an engine with no limit except 500 nested calls. Its scripts print to standard output.
     pub fn new() -> Engine {
         Engine {
             functions: Vec::new(),
@@ -98,18 +98,24 @@ impl Engine {
         }
     }
 
-    /// Gives scripts a function of this name, of up to six parameters. Functions of one name differ in the number of these; of the same
-    /// number the last one counts. Those of a script come first, then these, then the packages'.
+    /// Registers a function with this name and up to six parameters. Functions of one name are told
+    /// apart by their number of parameters; a later one with the same number replaces an earlier
+    /// one. A call finds functions of the script first, then these, then those of the packages.
     ///
-    /// Parameters and answers may be integers of any type, `bool`, `char`, `String`, `()`, `Option` with unit as `None`, vectors and arrays,
-    /// maps by `String`, ranges, and [`Value`](crate::Value); answers `&'static str` too, and a `Result` of one of these and an error. Where an argument or an
-    /// answer doesn't fit, as a number may not, the script is told so as by an error: it is thrown where the script calls, and may be
-    /// caught there. A panic is such an error too.
+    /// Parameters and results may be integers of any type, `bool`, `char`, `String`, `()`, `Option`
+    /// with unit as `None`, vectors and arrays, maps by `String`, ranges, and
+    /// [`Value`](crate::Value). A result may also be a `&'static str`, or a `Result` of any of
+    /// these and an error. An argument or result that doesn't fit, such as a number out of range,
+    /// is an error. Errors and panics are thrown where the script calls, and the script may catch
+    /// them.
     ///
-    /// A [`Function`] may be a parameter or the answer. A `&mut` [`Call`] before the parameters lets the function call those of the script.
+    /// A [`Function`] may be a parameter or the result. With a `&mut` [`Call`] before the
+    /// parameters the function can call functions of the script.
     ///
-    /// The first parameter may be a `&mut` of such a type: what it is left as is written where it came from, as `x` and `x.a[0]` in `x.f()` and
-    /// `x.a[0].f()`, unless the function fails. In `f(x)` that is so of a variable which no closure shares and which is no constant.
+    /// The first parameter may be a `&mut` of such a type. Unless the function fails, its final
+    /// value is written back to where the argument came from, such as `x` and `x.a[0]` in `x.f()`
+    /// and `x.a[0].f()`. In `f(x)` this happens for a variable that no closure shares and that
+    /// isn't a constant.
     ///
     /// ```
     /// use rhai_world::{Engine, EvalError};
@@ -138,46 +144,49 @@ impl Engine {
         self
     }
 
-    /// Has what scripts print go to a function, a line at a time.
+    /// Sets the callback for what scripts print; it is called once a line.
     pub fn on_print(&mut self, print: impl Fn(&str) + Send + Sync + 'static) -> &mut Engine {
         self.print = Some(Box::new(print));
         self
     }
 
-    /// Has a function be called before each statement of a script, with its line and column. Scripts take longer then.
+    /// Sets a callback that runs before each statement of a script, with its line and column.
+    /// Scripts run slower with it.
     pub fn on_statement(&mut self, call: impl Fn(u32, u32) + Send + Sync + 'static) -> &mut Engine {
         self.at_statement = Some(Box::new(call));
         self
     }
 
-    /// Limits how many calls may stand within each other.
+    /// Limits how deep calls may nest.
     pub fn set_max_call_levels(&mut self, calls: usize) -> &mut Engine {
         self.calls = calls;
         self
     }
 
-    /// Limits how many bytes a text of a script may have; 0 is no limit.
+    /// Limits the bytes of a script's texts; 0 means no limit.
     pub fn set_max_string_size(&mut self, bytes: usize) -> &mut Engine {
         self.limits = self.limits.with_text(NonZeroUsize::new(bytes));
         self
     }
 
-    /// Limits how many items an array of a script may have, and how many bytes a blob; 0 is no limit.
+    /// Limits the items of a script's arrays and the bytes of its blobs; 0 means no limit.
     pub fn set_max_array_size(&mut self, items: usize) -> &mut Engine {
         self.limits = self.limits.with_items(NonZeroUsize::new(items));
         self
     }
 
-    /// Limits how many entries a map of a script may have; 0 is no limit.
+    /// Limits the entries of a script's maps; 0 means no limit.
     pub fn set_max_map_size(&mut self, entries: usize) -> &mut Engine {
         self.entries = entries;
         self
     }
 
-    /// Limits how many bytes of memory a scope may hold while a script is read or runs over it; 0 is no limit. A run that wants more ends with
-    /// [`EvalError::OutOfMemory`], which no script catches. The variables stay, and may be read and written without that limit. Room that a
-    /// run made for its stack stays with the scope.
-    /// [`World::set_max_memory`](crate::World::set_max_memory) tells how bytes are counted; what functions of the program hold isn't.
+    /// Limits the bytes of memory that a scope may hold while a script is compiled or runs over it;
+    /// 0 means no limit. A run that needs more ends with [`EvalError::OutOfMemory`], which no
+    /// script can catch. The variables keep their values, and the program may read and write them
+    /// without that limit. The scope keeps the stack that a run allocated.
+    /// [`World::set_max_memory`](crate::World::set_max_memory) says how bytes are counted; memory
+    /// of the program's own functions isn't.
     ///
     /// ```
     /// use rhai_world::{Engine, EvalError, Scope};
@@ -195,15 +204,17 @@ impl Engine {
         self
     }
 
-    /// Reads a script, and tells what is wrong with it. That a variable isn't there is an error when the script is run.
+    /// Compiles a script, or says what is wrong with it. An unknown variable is an error only when
+    /// the script runs.
     pub fn compile(&self, text: &str) -> Result<Ast, EvalError> {
         let ast = Ast::of(text);
         Scope::new()?.compile(&ast, self)?;
         Ok(ast)
     }
 
-    /// Reads a script for the variables of a scope, and tells what is wrong with it. What `compile` reads may be run over a scope, too: a run reads a
-    /// script again for the variables that it runs over.
+    /// Compiles a script for the variables of a scope, or says what is wrong with it. What
+    /// `compile` returns can run over a scope, too: a run compiles a script again for the variables
+    /// that it runs over.
     ///
     /// ```
     /// use rhai_world::{Engine, EvalError, Scope};
@@ -228,48 +239,51 @@ impl Engine {
         Ok(ast)
     }
 
-    /// Runs a script of no variables, and gives the value of its last statement.
+    /// Runs a script without variables, and returns the value of its last statement.
     pub fn eval<T: Wanted>(&self, text: &str) -> Result<T, EvalError> {
         self.eval_with_scope(&mut Scope::new()?, text)
     }
 
-    /// Runs a script over the variables of a scope, in which its own stay.
+    /// Runs a script over the variables of a scope. Variables that the script declares are left in
+    /// the scope.
     pub fn eval_with_scope<T: Wanted>(&self, scope: &mut Scope, text: &str) -> Result<T, EvalError> {
         self.eval_ast_with_scope(scope, &Ast::of(text))
     }
 
-    /// Runs a compiled script of no variables.
+    /// Runs a compiled script without variables.
     pub fn eval_ast<T: Wanted>(&self, ast: &Ast) -> Result<T, EvalError> {
         self.eval_ast_with_scope(&mut Scope::new()?, ast)
     }
 
-    /// Runs a compiled script over the variables of a scope, in which its own stay, also after an error.
+    /// Runs a compiled script over the variables of a scope. Variables that the script declares are
+    /// left in the scope, also after an error.
     pub fn eval_ast_with_scope<T: Wanted>(&self, scope: &mut Scope, ast: &Ast) -> Result<T, EvalError> {
         self.start(scope, ast)?.finish()
     }
 
-    /// Runs a script of no variables, whose value isn't wanted.
+    /// Runs a script without variables, and ignores its value.
     pub fn run(&self, text: &str) -> Result<(), EvalError> {
         self.run_with_scope(&mut Scope::new()?, text)
     }
 
-    /// Runs a script over the variables of a scope; its value isn't wanted.
+    /// Runs a script over the variables of a scope, and ignores its value.
     pub fn run_with_scope(&self, scope: &mut Scope, text: &str) -> Result<(), EvalError> {
         self.run_ast_with_scope(scope, &Ast::of(text))
     }
 
-    /// Runs a compiled script of no variables, whose value isn't wanted.
+    /// Runs a compiled script without variables, and ignores its value.
     pub fn run_ast(&self, ast: &Ast) -> Result<(), EvalError> {
         self.run_ast_with_scope(&mut Scope::new()?, ast)
     }
 
-    /// Runs a compiled script over the variables of a scope; its value isn't wanted.
+    /// Runs a compiled script over the variables of a scope, and ignores its value.
     pub fn run_ast_with_scope(&self, scope: &mut Scope, ast: &Ast) -> Result<(), EvalError> {
         self.start(scope, ast)?.finish::<Unread>().map(drop)
     }
 
-    /// Runs the statements of a script outside of its functions, and then calls one of these. The variables of the script are gone
-    /// afterwards; those of the scope are what it made of them.
+    /// Runs the statements of a script outside its functions, and then calls one of these
+    /// functions. Afterwards the script's variables are gone, and those of the scope have the
+    /// values that the script left in them.
     ///
     /// ```
     /// use rhai_world::{Engine, EvalError, Scope};
@@ -289,12 +303,14 @@ impl Engine {
         Run::begin_call(self, scope, ast, name, arguments.into_values()?)?.finish()
     }
 
-    /// Begins a run of a compiled script over the variables of a scope, which goes on by pieces: [`Run`] tells how.
+    /// Starts a run of a compiled script over the variables of a scope, for execution in pieces:
+    /// see [`Run`].
     pub fn start<'a>(&'a self, scope: &'a mut Scope, ast: &Ast) -> Result<Run<'a>, EvalError> {
         Run::begin(self, scope, ast)
     }
 
-    /// Begins a run that calls a function of a script at its end, as `call_fn` does, and goes on by pieces.
+    /// Starts a run that calls a function of a script at its end, as `call_fn` does, for execution
+    /// in pieces.
     pub fn start_fn<'a>(
         &'a self,
         scope: &'a mut Scope,
@@ -306,7 +322,7 @@ impl Engine {
     }
 }
 
-/// What runs ask of it.
+/// What runs ask of the engine.
 impl Engine {
     fn at_statement(&self, line: u32, column: u32) {
         if let Some(call) = &self.at_statement {
@@ -314,7 +330,7 @@ impl Engine {
         }
     }
 
-    /// Calls a registered function, which answers, refuses or panics.
+    /// Calls a registered function. It returns, fails or panics.
     fn call(&self, function: usize, call: &mut Call<'_>) -> Result<Result<Given, Refused>, Box<dyn Any + Send>> {
         match self.functions.get(function) {
             Some(registered) => registered.call(call),
@@ -322,7 +338,7 @@ impl Engine {
         }
     }
 
-    /// Hands on a line that was printed.
+    /// Passes a printed line on.
     fn print(&self, line: &str) -> std::io::Result<()> {
         match &self.print {
             Some(print) => print(line),

@@ -1,25 +1,25 @@
-//! Why a call has no answer.
+//! Why a call failed.
 use crate::answer::Refusal;
 use crate::sys::numbers::Status;
 use std::fmt;
 
-/// Why a call has no answer. The world is as it was before.
+/// Why a call failed. The world is unchanged.
 #[derive(Clone, Debug, PartialEq, Eq, Hash)]
 #[non_exhaustive]
 pub enum Error {
     /// The command was refused.
     Refused(Refusal),
-    /// Memory was wanted and refused.
+    /// An allocation failed.
     OutOfMemory,
     /// No world is open.
     Closed,
-    /// What was handed over says no command: a line that says none, or a text that is none.
+    /// The input is not a command: a line that says none, or a text that is not valid.
     NoCommand,
-    /// The name is another world's, or it was forgotten.
+    /// The name belongs to another world, or was forgotten.
     NoName,
-    /// The library has another handle than this crate was built for.
+    /// The library's handle has another layout than the one this crate was built for.
     OtherLibrary,
-    /// The library answered what it doesn't promise.
+    /// The library returned something that its contract excludes.
     Unexpected,
 }
 
@@ -54,7 +54,7 @@ impl From<std::collections::TryReserveError> for Error {
     }
 }
 
-/// That a call is done, or why not.
+/// Maps a status to done, or to its error.
 #[inline]
 pub(crate) fn done(status: u32) -> Result<(), Error> {
     if status == Status::Done as u32 {

@@ -7,8 +7,8 @@ use crate::sys::{self, Told};
 use crate::world::World;
 use std::fmt;
 
-/// The commands that were done by it, as the lines that say them: `docs/LINES.md` has these. The library writes them, by a call that is proved:
-/// a run over them answers what the commands answered.
+/// The commands that were applied through it, as their lines in `docs/LINES.md`. The library writes
+/// the lines, by a proved call: running them returns what the commands returned.
 ///
 /// ```
 /// use rhai_world::{Command, Journal, Limits, World};
@@ -28,18 +28,18 @@ pub struct Journal {
 }
 
 impl Journal {
-    /// Makes a journal of no command.
+    /// Makes an empty journal.
     pub const fn new() -> Journal {
         Journal { lines: String::new() }
     }
 
-    /// Does a command by its line, and keeps it, as `line` does.
+    /// Applies a command as its line, and records it, as `line` does.
     pub fn apply(&mut self, world: &mut World, command: &Command) -> Result<Answer, Error> {
         let line = world.line_of(command)?;
         self.line(world, &line)
     }
 
-    /// Does the command that a line says, and keeps it where it was done or refused.
+    /// Applies the command of a line, and records it if it was done or refused.
     pub fn line(&mut self, world: &mut World, line: &str) -> Result<Answer, Error> {
         let kept = world.journal(line)?;
         self.lines.try_reserve(kept.len())?;
@@ -50,13 +50,13 @@ impl Journal {
         answer
     }
 
-    /// The lines, each with a line feed.
+    /// Returns the lines, each with a line feed.
     pub fn lines(&self) -> &str {
         &self.lines
     }
 
-    /// What a new world without limits answers to all of it, as the program of lines prints it. A world that began so, and did nothing
-    /// else, answered the same.
+    /// Returns what a new world without limits answers to the whole journal, as the program for
+    /// lines prints it. A world that began so, and did nothing else, answered the same.
     pub fn replayed(&self) -> Result<Vec<u8>, Error> {
         World::new(Limits::default())?.run_lines(self.lines.as_bytes())
     }
@@ -69,15 +69,15 @@ impl fmt::Display for Journal {
 }
 
 impl World {
-    /// Writes the line that says a command, one of `docs/LINES.md`; `Error::NoCommand` where a name in it is no word of a line, or a text or a
-    /// character in it has a line feed.
+    /// Writes the line of a command, as in `docs/LINES.md`; fails with `Error::NoCommand` if a name
+    /// in it is not a word of a line, or a text or character in it contains a line feed.
     pub fn line_of(&self, command: &Command) -> Result<String, Error> {
         let mut line = self.journal(&self.asked(command)?)?;
         line.pop();
         Ok(line)
     }
 
-    /// The journal of the command that a line says.
+    /// Returns the journal entry for the command of a line.
     fn journal(&self, line: &str) -> Result<String, Error> {
         if line.contains('\n') {
             return Err(Error::NoCommand);

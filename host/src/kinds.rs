@@ -2,7 +2,7 @@
 use crate::sys::numbers;
 use std::fmt;
 
-/// An enum of numbers, those of the library's, each with its word in a line.
+/// An enum of numbers, those of the library, each with its word in a line.
 macro_rules! words {
     ($(#[$outer:meta])* $name:ident { $($(#[$doc:meta])* $variant:ident = $word:literal,)* }) => {
         $(#[$outer])*
@@ -14,7 +14,7 @@ macro_rules! words {
         const _: () = assert!($name::ALL.len() == numbers::$name::COUNT);
 
         impl $name {
-            /// All of them, in their order.
+            /// All of them, in order.
             pub const ALL: &'static [$name] = &[$($name::$variant,)*];
         }
 
@@ -27,7 +27,7 @@ macro_rules! words {
 }
 
 words! {
-    /// A type that a value may be of. It displays as lines say it.
+    /// A type of values. It displays as lines write it.
     Type {
         /// `()`.
         Unit = "()",
@@ -67,19 +67,19 @@ words! {
         Map = "map",
         /// A function pointer.
         FnPtr = "Fn",
-        /// A range without its end.
+        /// A range, end excluded.
         ExclusiveRange = "range",
-        /// A range with its end.
+        /// A range, end included.
         InclusiveRange = "rangeeq",
         /// Any value.
         Dynamic = "Dynamic",
-        /// A holder whose chain is stuck or closed.
+        /// A holder whose chain is stuck or closed in a loop.
         Shared = "<shared>",
     }
 }
 
 words! {
-    /// An operator: the twenty between two operands, and then the eleven that assign. It displays as its sign.
+    /// An operator: twenty binary ones, then eleven that assign. It displays as its symbol.
     #[allow(missing_docs)]
     Operator {
         Plus = "+",

@@ -1,8 +1,9 @@
-//! Scripts of a subset of rhai in a Rust program, and the script values beneath them, over a library whose every call is proved.
+//! Embeds scripts of a subset of rhai in a Rust program. Every call of the library below is proved;
+//! the script values of that library can also be used alone.
 //!
 //! # The first ten minutes
 //!
-//! An [`Engine`] runs a script, and gives its value as a type of Rust's:
+//! An [`Engine`] runs a script, and returns its value as a Rust type:
 //!
 //! ```
 //! use rhai_world::{Engine, EvalError};
@@ -13,7 +14,7 @@
 //! # Ok::<(), EvalError>(())
 //! ```
 //!
-//! Scripts call functions of the program. An error is thrown where they call:
+//! Scripts call functions of the program. An error is thrown at the call:
 //!
 //! ```
 //! use rhai_world::{Engine, EvalError};
@@ -28,7 +29,8 @@
 //! # Ok::<(), EvalError>(())
 //! ```
 //!
-//! Functions of a script come as [`Function`], to be kept, and to be called while the script waits or later:
+//! Functions of a script come as [`Function`]. The program can keep them, and call them while the
+//! script waits or later:
 //!
 //! ```
 //! use rhai_world::{Call, Engine, EvalError, Function, Scope};
@@ -44,7 +46,7 @@
 //! # Ok::<(), EvalError>(())
 //! ```
 //!
-//! The variables of a [`Scope`] live on between runs, and an [`Ast`] is a script that was read, for many:
+//! The variables of a [`Scope`] outlive a run, and an [`Ast`] is a compiled script, for many runs:
 //!
 //! ```
 //! use rhai_world::{Engine, EvalError, Scope};
@@ -59,7 +61,8 @@
 //! # Ok::<(), EvalError>(())
 //! ```
 //!
-//! What is wrong with a script has a name and a place, for the program and for who wrote it:
+//! An error has a name, a position and the active functions, for the program and for the author of the
+//! script:
 //!
 //! ```
 //! use rhai_world::{Engine, EvalError};
@@ -70,7 +73,8 @@
 //! println!("{}", error.render(text));
 //! ```
 //!
-//! A script that someone else wrote gets limits, none of which it catches. Its variables stay after each of them:
+//! An untrusted script gets limits, which it can't catch. Its variables keep their values after
+//! each of these errors:
 //!
 //! ```
 //! use rhai_world::{Engine, EvalError};
@@ -88,7 +92,8 @@
 //! # Ok::<(), EvalError>(())
 //! ```
 //!
-//! A program that has other work goes on with a [`Run`] by pieces:
+//! A program that has other work executes a [`Run`] in pieces. Between these, [`Run::calls`] and
+//! [`Run::variables`] look inside:
 //!
 //! ```
 //! use rhai_world::{Engine, EvalError, Progress, Scope, Value};
@@ -105,12 +110,12 @@
 //! # Ok::<(), EvalError>(())
 //! ```
 //!
-//! [`from_rhai_and_mlua`] has the names for who comes from there.
+//! [`from_rhai_and_mlua`] maps the names of rhai and mlua to those here.
 //!
 //! # Below scripts
 //!
-//! A [`World`] is a store of shared cells, named values, and a hand of values that commands name by position. A [`Journal`] keeps
-//! commands as lines, and [`Script`] runs a script alone.
+//! A [`World`] is a store of shared cells, named values, and a hand: a list of values that commands
+//! name by position. A [`Journal`] records commands as lines, and [`Script`] runs a script alone.
 //!
 //! ```
 //! use rhai_world::{Limits, World};
@@ -125,7 +130,7 @@
 //! # Ok::<(), rhai_world::Error>(())
 //! ```
 //!
-//! What is refused is an error and changes nothing:
+//! A refused command is an error and changes nothing:
 //!
 //! ```
 //! use rhai_world::{Error, Limits, Refusal, World};
@@ -137,9 +142,10 @@
 //!
 //! # What to expect
 //!
-//! Nothing here panics but what the program's own functions for lines, statements and progress do. Want of memory is an error, but where a
-//! [`Value`] is cloned or compared, or made of or taken as a type of Rust's: there it ends the program, as in [`Vec`]. A thread that calls
-//! wants [`STACK`] bytes of stack, one that runs scripts [`Script::STACK`].
+//! Nothing here panics, except the program's own callbacks for lines, statements and progress. A
+//! failed allocation is an error, except where a [`Value`] is cloned, compared, or converted from
+//! or to a Rust type: there it aborts the program, as in [`Vec`]. A calling thread needs [`STACK`]
+//! bytes of stack, and [`Script::STACK`] if it runs scripts.
 #![deny(
     missing_docs,
     unsafe_code,
@@ -187,6 +193,7 @@ pub use sys::refuse;
 pub use value::{Array, Fields, FromItem, IntoItem, Map, Misfit, NoIntError, TryFromValueError, Value};
 pub use world::World;
 
-/// How many bytes of stack a call of a [`World`] wants, however deep values are nested, while memory is there; a run of a [`Script`] wants
-/// [`Script::STACK`]. `SAFETY.md` says how both are tried.
+/// How many bytes of stack a call of a [`World`] needs, however deep values are nested, as long as
+/// allocations succeed; a run of a [`Script`] needs [`Script::STACK`]. `SAFETY.md` says how both
+/// are tested.
 pub const STACK: usize = 512 * 1024;

@@ -1,7 +1,8 @@
 //! Limits on sizes.
 use std::num::NonZeroUsize;
 
-/// The largest sizes that an operator may make, and how much memory a world may hold; `None` is no limit.
+/// The largest sizes that an operator may create, and how much memory a world may hold; `None`
+/// means no limit.
 ///
 /// ```
 /// use rhai_world::{Error, Limits, Operator, Refusal, SizeKind, World};
@@ -17,16 +18,17 @@ use std::num::NonZeroUsize;
 #[derive(Clone, Copy, Debug, Default, PartialEq, Eq, Hash)]
 #[non_exhaustive]
 pub struct Limits {
-    /// The bytes of a text.
+    /// The most bytes of a text.
     pub text: Option<NonZeroUsize>,
-    /// The items of an array, or the bytes of a blob.
+    /// The most items of an array, or bytes of a blob.
     pub items: Option<NonZeroUsize>,
-    /// The bytes of memory that a world holds: [`World::set_max_memory`](crate::World::set_max_memory) tells how they are counted.
+    /// The most bytes of memory that a world holds:
+    /// [`World::set_max_memory`](crate::World::set_max_memory) says how they are counted.
     pub memory: Option<NonZeroUsize>,
 }
 
 impl Limits {
-    /// Limits nothing.
+    /// Makes limits without any limit set.
     pub const fn new() -> Limits {
         Limits { text: None, items: None, memory: None }
     }
@@ -46,7 +48,7 @@ impl Limits {
         Limits { memory: most, ..self }
     }
 
-    /// The sizes of texts and of items as the library has them, where 0 is none.
+    /// The limits on texts and on items as the library takes them, where 0 means none.
     pub(crate) fn numbers(self) -> (usize, usize) {
         let number = |most: Option<NonZeroUsize>| most.map_or(0, NonZeroUsize::get);
         (number(self.text), number(self.items))

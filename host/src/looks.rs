@@ -1,4 +1,4 @@
-//! Looks at a whole hand and a whole scope.
+//! Views of a whole hand and a whole scope.
 use crate::error::{done, Error};
 use crate::sys::{self, Told};
 use crate::value::Value;
@@ -44,15 +44,15 @@ impl ExactSizeIterator for Hand<'_> {}
 
 impl FusedIterator for Hand<'_> {}
 
-/// An entry of a scope, with its value as `World::value` has it.
+/// An entry of a scope, with its value as `World::value` returns it.
 #[derive(Clone, Debug, PartialEq, Eq, Hash)]
 #[non_exhaustive]
 pub struct Entry {
     /// Its name.
     pub name: String,
-    /// Whether it is a constant; a holder is where what it holds is.
+    /// Whether it is a constant; a holder is one if the held value is.
     pub is_constant: bool,
-    /// Its value without its holders; `None` where it holds itself.
+    /// Its value without its holders; `None` if it contains itself.
     pub value: Option<Value>,
 }
 
@@ -85,12 +85,12 @@ impl ExactSizeIterator for Entries {}
 impl FusedIterator for Entries {}
 
 impl World {
-    /// The values of the hand, each as `value` has it.
+    /// Returns the values of the hand, each as by `value`.
     pub fn hand(&self) -> Hand<'_> {
         Hand { world: self, next: 0, end: self.hand_len() }
     }
 
-    /// The entries of the scope, from the oldest to the newest.
+    /// Returns the entries of the scope, oldest first.
     ///
     /// ```
     /// use rhai_world::{Limits, Value, World};
@@ -116,7 +116,7 @@ impl World {
         Ok(Entries { left: entries?.into_iter() })
     }
 
-    /// The entries, whose values stand in the hand from this position on.
+    /// Returns the entries, whose values are in the hand from this position on.
     fn entries_from(&self, first: usize) -> Result<Vec<Entry>, Error> {
         let count = self.hand_len() - first;
         let mut entries = Vec::new();

@@ -3,14 +3,14 @@ use crate::sys::Handle;
 use crate::world::World;
 use std::num::NonZeroUsize;
 
-/// How many bytes of memory a world holds. What the program holds itself, as each [`Value`](crate::Value) and each text that was answered,
-/// isn't among them.
+/// How many bytes of memory a world holds. Memory of the program itself, as each
+/// [`Value`](crate::Value) and each returned text, doesn't count.
 #[derive(Clone, Copy, Debug, Default, PartialEq, Eq, Hash)]
 #[non_exhaustive]
 pub struct Memory {
-    /// The bytes that are held: its values, names and scripts, and the last answer.
+    /// The bytes held now, for its values, names, scripts and last result.
     pub held: usize,
-    /// The most that were held at a time.
+    /// The most bytes that were held at any time.
     pub most: usize,
 }
 
@@ -22,16 +22,18 @@ impl Memory {
 }
 
 impl World {
-    /// Tells how much memory this world holds.
+    /// Returns how much memory this world holds.
     pub fn memory(&self) -> Memory {
         Memory::of(&self.handle)
     }
 
-    /// Caps how much memory this world may hold; `None` is no cap. What would pass the cap is refused as [`Error::OutOfMemory`], and nothing
-    /// changes. What is held already stays, also where that is more. Other worlds aren't touched.
+    /// Limits how much memory this world may hold; `None` means no limit. A call that would exceed
+    /// the limit fails with [`Error::OutOfMemory`], and nothing changes. What is already held is
+    /// kept, even if it is more. Other worlds are not affected.
     ///
-    /// A block counts as the bytes that C's `malloc` gave for it, which the cap is passed by in the last block at most. Where the C library
-    /// doesn't tell that, it counts as the bytes that were asked for, and 16.
+    /// A block counts as the size that C's `malloc` gave it, so the last block may pass the limit
+    /// by the rounding. If the C library doesn't report sizes, it counts as the requested bytes
+    /// plus 16.
     ///
     /// ```
     /// use rhai_world::{Error, Limits, World};

@@ -4,8 +4,8 @@ use crate::sys::{self, Told};
 use crate::world::World;
 use std::sync::atomic::{AtomicU64, Ordering};
 
-/// A name that was handed to a world. Another world refuses it, and so does its own once it is forgotten, also where its number is another
-/// name's by then.
+/// A name that was passed to a world. Another world refuses it, and so does its own once it is
+/// forgotten, even if its number then belongs to another name.
 #[derive(Clone, Copy, Debug, PartialEq, Eq, PartialOrd, Ord, Hash)]
 pub struct Name {
     number: usize,
@@ -18,21 +18,23 @@ pub struct Name {
 pub enum Place {
     /// The value at a hand position.
     Hand(usize),
-    /// The value of the last entry of a name. A constant is refused.
+    /// The value of the newest entry with a name. A constant is refused.
     Entry(Name),
 }
 
-/// Which name has each number: its serial, which no other name of this process has or had; 0 is none.
+/// The name behind each number: its serial, which no other name of this process has or had; 0 means
+/// none.
 #[derive(Default)]
 pub(crate) struct Serials(Vec<u64>);
 
 impl Serials {
-    /// Makes room for one more name.
+    /// Reserves capacity for one more name.
     fn reserve(&mut self) -> Result<(), Error> {
         Ok(self.0.try_reserve(1)?)
     }
 
-    /// Gives the number to a new name. There is room for it, and each smaller number was given out before.
+    /// Assigns the number to a new name. Its capacity is reserved, and all smaller numbers were
+    /// assigned before.
     fn give(&mut self, number: usize) -> Result<Name, Error> {
         static LAST: AtomicU64 = AtomicU64::new(0);
         let serial = LAST.fetch_add(1, Ordering::Relaxed) + 1;
@@ -50,7 +52,7 @@ impl Serials {
         }
     }
 
-    /// The number of a name, where it is one of these.
+    /// Returns the number of a name, if it is one of these.
     #[inline]
     pub(crate) fn number(&self, name: Name) -> Result<usize, Error> {
         match self.0.get(name.number) {
@@ -59,7 +61,7 @@ impl Serials {
         }
     }
 
-    /// Whether a place is an entry, and its number.
+    /// Returns whether a place is an entry, and its number.
     #[inline]
     pub(crate) fn place(&self, place: Place) -> Result<(bool, usize), Error> {
         match place {
@@ -79,7 +81,7 @@ impl Serials {
 }
 
 impl World {
-    /// Hands a name over, by which commands of this world name it.
+    /// Passes a name to this world, for use in its commands.
     ///
     /// ```
     /// use rhai_world::{Error, Limits, World};
@@ -99,7 +101,7 @@ impl World {
         self.names.give(number)
     }
 
-    /// The text of a name.
+    /// Returns the text of a name.
     pub fn name_text(&self, name: Name) -> Result<String, Error> {
         let number = self.names.number(name)?;
         let mut told = Told::default();
@@ -107,7 +109,7 @@ impl World {
         self.text(status, &told)
     }
 
-    /// Takes a name back: this world refuses it from now on.
+    /// Forgets a name: this world refuses it from now on.
     pub fn forget_name(&mut self, name: Name) -> Result<(), Error> {
         let number = self.names.number(name)?;
         done(sys::forget_name(&self.handle, number))?;

@@ -1,7 +1,8 @@
-//! Errors with the line of a script that they speak of.
+//! Errors shown with the line of the script.
 use std::fmt::Display;
 
-/// The message, and where there is a place the line of the text behind its number, with a caret beneath the column.
+/// Renders the message and, if there is a position, the numbered line of the text with a caret
+/// below the column.
 pub(crate) fn rendered(message: impl Display, place: Option<(u32, u32)>, text: &str) -> String {
     let message = message.to_string();
     let Some((number, column)) = place else {
@@ -16,7 +17,8 @@ pub(crate) fn rendered(message: impl Display, place: Option<(u32, u32)>, text: &
     format!("{message}\n{number} | {line}\n{margin} | {}^", before_caret(line, column))
 }
 
-/// A space for each character before the column, and a tab for each tab, so that what follows stands beneath it.
+/// Returns a space for each character before the column, and a tab for each tab, so that the caret
+/// is below the column.
 fn before_caret(line: &str, column: u32) -> String {
     let before = line.chars().take((column as usize).saturating_sub(1));
     before.map(|character| if character == '\t' { '\t' } else { ' ' }).collect()

@@ -7,10 +7,10 @@ use crate::sys::ScriptEnd;
 use crate::world::World;
 use std::fmt;
 
-/// How many calls of a script may stand within each other.
+/// The limit on nested calls of a script.
 const CALLS: usize = 500;
 
-/// Scripts of a small language, a subset of rhai's: `crates/script_run` has a page of it.
+/// Runs scripts of a small language, a subset of rhai: see the page of `crates/script_run`.
 ///
 /// ```
 /// use rhai_world::{Limits, Script, ScriptError};
@@ -26,11 +26,13 @@ const CALLS: usize = 500;
 pub struct Script;
 
 impl Script {
-    /// How many bytes of stack a run wants, whatever its text is, while memory is there: as many as a thread has that is told no number.
+    /// How many bytes of stack a run needs, whatever its text, as long as allocations succeed: the
+    /// default of a thread.
     pub const STACK: usize = 2 * 1024 * 1024;
 
-    /// Runs a script on values of its own, and answers what it prints. It may take so many operations, its values and all its memory may
-    /// grow up to the limits, and 500 calls may stand within each other.
+    /// Runs a script on values of its own, and returns what it prints. It may use this many
+    /// operations, its values and its memory may grow up to the limits, and calls may nest 500
+    /// deep.
     pub fn run(text: &str, operations: u64, limits: Limits) -> Result<String, ScriptError> {
         let world = World::new(Limits::default().with_memory(limits.memory))?;
         let (end, printed, message) = world.run_script(text, operations, limits, CALLS)?;
@@ -44,40 +46,41 @@ impl Script {
     }
 }
 
-/// Why a script ended early. Lines and columns count from 1; both are 0 where there is no place.
+/// Why a script ended early. Lines and columns count from 1; both are 0 if there is no position.
 #[derive(Clone, Debug, PartialEq, Eq, Hash)]
 #[non_exhaustive]
 pub enum ScriptError {
-    /// The text is no script.
+    /// The text is not a valid script.
     Syntax {
         /// What is wrong with it.
         message: String,
-        /// The line on which it is wrong.
+        /// The line of the mistake.
         line: u32,
-        /// The place on that line.
+        /// The column of the mistake.
         column: u32,
     },
-    /// Something went wrong when it ran, or a limit was reached.
+    /// The script failed while running, or reached a limit.
     Fault {
         /// What went wrong.
         message: String,
         /// The line where it went wrong.
         line: u32,
-        /// The place on that line.
+        /// The column where it went wrong.
         column: u32,
         /// What the script printed before.
         printed: String,
     },
-    /// Memory was refused before the script ran, or for what is told of it. While it ran, a fault says so at its place.
+    /// An allocation failed before the script ran, or while its result was returned. If one fails
+    /// during the run, a `Fault` says so with its position.
     OutOfMemory,
-    /// The library has another handle than this crate was built for.
+    /// The library's handle has another layout than the one this crate was built for.
     OtherLibrary,
-    /// The library answered what it doesn't promise.
+    /// The library returned something that its contract excludes.
     Unexpected,
 }
 
 impl ScriptError {
-    /// The line and the column, where there is a place.
+    /// Returns the line and the column, if there is a position.
     pub fn position(&self) -> Option<(u32, u32)> {
         match self {
             ScriptError::Syntax { line, column, .. } | ScriptError::Fault { line, column, .. } if *line > 0 => {
@@ -92,19 +95,20 @@ impl ScriptError {
     }
 }
 
-/// What is told of an error.
+/// How library results become errors.
 impl ScriptError {
-    /// The line, where there is a place.
+    /// Returns the line, if there is a position.
     pub fn line(&self) -> Option<u32> {
         self.position().map(|(line, _)| line)
     }
 
-    /// The place on the line, where there is one.
+    /// Returns the column, if there is a position.
     pub fn column(&self) -> Option<u32> {
         self.position().map(|(_, column)| column)
     }
 
-    /// Renders the error for who wrote the script, as [`EvalError::render`](crate::EvalError::render) does.
+    /// Renders the error for the author of the script, as
+    /// [`EvalError::render`](crate::EvalError::render) does.
     pub fn render(&self, text: &str) -> String {
         rendered(self, self.position(), text)
     }

@@ -5,7 +5,7 @@ use crate::names::{Name, Place};
 use crate::world::World;
 use std::fmt::{self, Write};
 
-/// What a line says in a word, or in words with a space before each.
+/// What a line writes as one word, or as words with a space before each.
 pub(crate) trait Word {
     type Said: fmt::Display;
 
@@ -84,7 +84,7 @@ impl<'a> Word for &'a String {
     }
 }
 
-/// What stands behind a space, if anything does.
+/// A space and the text, unless that is empty.
 pub(crate) struct Rest<'a>(&'a str);
 
 impl fmt::Display for Rest<'_> {
@@ -102,7 +102,7 @@ impl<'a> Word for &'a Vec<u8> {
     }
 }
 
-/// Bytes behind a space, if there are any.
+/// A space and the bytes, unless there are none.
 pub(crate) struct Digits<'a>(&'a [u8]);
 
 impl fmt::Display for Digits<'_> {
@@ -139,7 +139,7 @@ fn words<'a>(names: impl Iterator<Item = (&'a Name, &'static str)>, world: &Worl
     Ok(text.0)
 }
 
-/// A text that may be refused memory.
+/// A text that grows with fallible allocations.
 struct Text(String);
 
 impl Write for Text {
@@ -150,7 +150,7 @@ impl Write for Text {
     }
 }
 
-/// The text, where there is memory.
+/// Formats a text; fails if an allocation fails.
 pub(crate) fn written(arguments: fmt::Arguments<'_>) -> Result<String, Error> {
     let mut text = Text(String::new());
     text.write_fmt(arguments).map_err(|_| Error::OutOfMemory)?;

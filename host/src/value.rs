@@ -1,4 +1,4 @@
-//! Whole values of Rust's, out of a world and into it.
+//! Rust values that are copied out of a world and into it.
 mod array;
 mod builder;
 mod convert;
@@ -26,13 +26,13 @@ use std::fmt;
 use std::hash::{Hash, Hasher};
 use walk::Walk;
 
-/// How many levels are shown of a value that is debugged.
+/// How many levels of a value the debug format shows.
 const SHOWN: usize = 64;
 
-/// A value without its holders, tags and modes.
+/// A value without holders, tags and modes.
 ///
-/// It may be nested as deep as memory reaches: it is put, read, cloned, compared and dropped on a bounded piece of the stack. The text by which
-/// it is debugged has 64 levels.
+/// It may nest as deep as memory allows: to pass, read, clone, compare and drop it takes a bounded
+/// part of the stack. Its debug format shows 64 levels.
 ///
 /// ```
 /// use rhai_world::{Array, Limits, Value, World};
@@ -62,35 +62,35 @@ pub enum Value {
     Array(Array),
     /// Values by keys.
     Map(Map),
-    /// A function's name, and the values that are curried.
+    /// A function's name, and its curried values.
     FnPtr(String, Array),
-    /// A `u8` of the host's.
+    /// A `u8` of the host.
     U8(u8),
-    /// A `u16` of the host's.
+    /// A `u16` of the host.
     U16(u16),
-    /// A `u32` of the host's.
+    /// A `u32` of the host.
     U32(u32),
-    /// A `u64` of the host's.
+    /// A `u64` of the host.
     U64(u64),
-    /// A `u128` of the host's.
+    /// A `u128` of the host.
     U128(u128),
-    /// An `i8` of the host's.
+    /// An `i8` of the host.
     I8(i8),
-    /// An `i16` of the host's.
+    /// An `i16` of the host.
     I16(i16),
-    /// An `i32` of the host's.
+    /// An `i32` of the host.
     I32(i32),
-    /// An `i128` of the host's.
+    /// An `i128` of the host.
     I128(i128),
-    /// The ints from one to another, without the end.
+    /// The ints from one to another, end excluded.
     Range(i64, i64),
-    /// The ints from one to another, with the end.
+    /// The ints from one to another, end included.
     RangeWithEnd(i64, i64),
 }
 
 impl PartialEq for Value {
     fn eq(&self, other: &Value) -> bool {
-        // (heads count what is inside, so that walks that are alike so far end together)
+        // (each head counts its children, so two walks that are equal so far end together)
         Walk::of(self).eq(Walk::of(other))
     }
 }
@@ -121,7 +121,7 @@ impl fmt::Debug for Value {
     }
 }
 
-/// So many levels of a value.
+/// The first levels of a value, as many as this says.
 struct Shown<'a> {
     value: &'a Value,
     levels: usize,

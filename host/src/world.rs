@@ -1,4 +1,4 @@
-//! A world: how it is opened and closed, and its calls on lists, lines and cells.
+//! A world: opening and closing, and its calls on lists, lines and cells.
 use crate::answer::Answer;
 use crate::error::{done, Error};
 use crate::limits::Limits;
@@ -6,11 +6,14 @@ use crate::names::{Name, Serials};
 use crate::sys::{self, Handle, ScriptEnd, Told};
 use std::fmt;
 
-/// A store of shared cells, named values, and a hand of values that commands name by position. It is closed when it is dropped.
+/// A store of shared cells, named values, and a hand: a list of values that commands name by
+/// position. It is closed when it is dropped.
 ///
-/// A method does one command, and its error says why that has no answer: the world is as it was before then. One that only looks takes `&self`.
+/// Each method executes one command. Its error says why the command failed, and leaves the world
+/// unchanged. A method that only reads takes `&self`.
 ///
-/// A world stays on the thread that made it. What goes to another thread is a [`Value`](crate::Value):
+/// A world stays on the thread that made it. To pass data to another thread, use a
+/// [`Value`](crate::Value):
 ///
 /// ```
 /// use rhai_world::{Limits, Value, World};
@@ -65,7 +68,8 @@ impl World {
         self.done(status, &told)
     }
 
-    /// Gives the last entry of the name the alias, if it hasn't got it; an empty alias means the name.
+    /// Gives the newest entry with the name this alias, unless it has it; an empty alias means the
+    /// name itself.
     pub fn set_alias(&mut self, name: Name, alias: &str) -> Result<(), Error> {
         let number = self.names.number(name)?;
         let mut told = Told::default();
@@ -73,8 +77,8 @@ impl World {
         self.done(status, &told)
     }
 
-    /// Takes as many values off the end of the hand as there are keys, and appends the map of these to those in order; of equal keys
-    /// the last value stands.
+    /// Removes as many values from the end of the hand as there are keys, and appends the map from
+    /// the keys to these values, in order; for duplicate keys the last value counts.
     pub fn make_map(&mut self, keys: &[Name]) -> Result<(), Error> {
         let keys = self.names.numbers(keys.iter().copied())?;
         let mut told = Told::default();
@@ -82,8 +86,8 @@ impl World {
         self.done(status, &told)
     }
 
-    /// Takes as many values off the end of the hand as there are names, and adds an entry of each name with its value, which may be
-    /// written.
+    /// Removes as many values from the end of the hand as there are names, and adds a writable
+    /// entry for each name and value.
     pub fn extend(&mut self, names: &[Name]) -> Result<(), Error> {
         let names = self.names.numbers(names.iter().copied())?;
         let mut told = Told::default();
@@ -91,8 +95,8 @@ impl World {
         self.done(status, &told)
     }
 
-    /// Takes as many values off the end of the hand as there are names, and adds an entry of each name with its value, which is a
-    /// constant where its flag says so.
+    /// Removes as many values from the end of the hand as there are names, and adds an entry for
+    /// each name and value; it is a constant if its flag is set.
     pub fn extend_flagged(&mut self, names: &[(Name, bool)]) -> Result<(), Error> {
         let mut constants = Vec::new();
         constants.try_reserve_exact(names.len())?;
@@ -103,31 +107,33 @@ impl World {
         self.done(status, &told)
     }
 
-    /// Does the command that a line says, one of `docs/LINES.md`. The program of the same name reads the same lines.
+    /// Executes the command of a line, as in `docs/LINES.md`. The program for lines reads the same
+    /// lines.
     pub fn line(&mut self, line: &str) -> Result<Answer, Error> {
         let mut told = Told::default();
         let status = sys::line(&self.handle, line.as_bytes(), &mut told);
         self.answer(status, &told)
     }
 
-    /// Runs lines on a world of their own, and answers what they print; this world stays.
+    /// Runs lines on a new world, and returns what they print; this world is unchanged.
     pub fn run_lines(&self, input: &[u8]) -> Result<Vec<u8>, Error> {
         let mut told = Told::default();
         let status = sys::run_lines(&self.handle, input, &mut told);
         self.bytes(status, &told)
     }
 
-    /// Gives back each cell that nothing reaches.
+    /// Frees each unreachable cell.
     pub fn collect(&mut self) -> Result<(), Error> {
         done(sys::collect(&self.handle))
     }
 
-    /// How many values are in the hand.
+    /// Returns the number of values in the hand.
     pub fn hand_len(&self) -> usize {
         sys::hand_len(&self.handle)
     }
 
-    /// Runs a script on values of its own, and answers how it ended, what it printed, and what went wrong; this world stays.
+    /// Runs a script on values of its own, and returns how it ended, what it printed, and its
+    /// error; this world is unchanged.
     pub(crate) fn run_script(
         &self,
         script: &str,
@@ -144,7 +150,8 @@ impl World {
         Ok((end, printed, why))
     }
 
-    /// The name of the entry at this position, counted from the oldest, and whether it is a constant.
+    /// Returns the name of the entry at this position, counted from the oldest, and whether it is a
+    /// constant.
     pub(crate) fn entry(&self, i: usize) -> Result<(String, bool), Error> {
         let mut is_constant = false;
         let mut told = Told::default();
@@ -153,7 +160,7 @@ impl World {
     }
 }
 
-/// The text again, where there is memory.
+/// Copies a text; fails if the allocation fails.
 pub(crate) fn copied(text: &str) -> Result<String, Error> {
     let mut copy = String::new();
     copy.try_reserve_exact(text.len())?;

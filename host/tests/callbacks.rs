@@ -1,4 +1,5 @@
-//! Functions of scripts in the program's hands, and functions of the program that call them or change what they are called on.
+//! Functions of scripts that the program holds, and host functions that call them or change their
+//! receiver.
 use rhai_world::{Array, Call, Engine, EvalError, Function, Scope, Value};
 use std::sync::{Arc, Mutex};
 
@@ -144,7 +145,7 @@ fn what_they_captured_outlives_collections() -> Result<(), EvalError> {
             call.call(&function, ())
         }
     });
-    // each of these makes a cell, so that they are collected again and again
+    // each of these makes a cell, so that there are many collections
     let text = "fn counter(from) { let n = from; || { n += 1; n } }
         keep(counter(10)); keep(counter(20));
         for i in 0..5000 { let x = i; let f = || x; if i % 1000 == 0 { keep(f); } }
@@ -164,7 +165,7 @@ fn dropping_one_frees_what_it_captured() -> Result<(), EvalError> {
     let ast = engine.compile("fn holder(n) { let items = []; for i in 0..n { items.push(i); } || items.len() } holder(100)")?;
     let mut scope = Scope::new()?;
     let first: Function = engine.eval_ast_with_scope(&mut scope, &ast)?;
-    // (cells are given back where there are more than a thousand, and twice as many as were left)
+    // (a collection runs when there are more than a thousand cells, and twice as many as were left)
     for _ in 0..10_000 {
         let next: Function = engine.eval_ast_with_scope(&mut scope, &ast)?;
         assert_eq!(next.call::<i64>(&engine, &mut scope, &ast, ())?, 100);

@@ -1,4 +1,4 @@
-//! Caps on memory.
+//! Limits on memory.
 use rhai_world::{Engine, Error, EvalError, Limits, Operator, Scope, Script, ScriptError, Value, World};
 use std::num::NonZeroUsize;
 
@@ -36,9 +36,9 @@ fn past_the_cap_memory_is_refused_and_the_world_goes_on() -> Result<(), Error> {
         }
     };
     assert_eq!(refused, Error::OutOfMemory);
-    // (a blob of 10,000 bytes takes as many at least)
+    // (a blob of 10,000 bytes takes at least as many)
     assert!(count > 10 && count < MEGABYTE / 10_000, "{count}");
-    // (the last block is rounded up to a page at most)
+    // (the last block is rounded up by at most a page)
     assert!(world.memory().most <= MEGABYTE + 4096, "{:?}", world.memory());
     for _ in 0..count {
         world.drop()?;
@@ -83,7 +83,7 @@ fn worlds_beside_it_are_not_touched() -> Result<(), Error> {
     Ok(())
 }
 
-/// Scripts that grow without end: an array, a text, maps within each other, calls within each other, and what is printed.
+/// Scripts that grow without end: an array, a text, nested maps, nested calls, and the output.
 const BOMBS: [&str; 5] = [
     "let a = []; loop { a.push(1); }",
     "let t = \"ab\"; loop { t += t; }",

@@ -1,4 +1,4 @@
-//! Values of and as types of Rust's.
+//! Conversions of values from and to Rust types.
 use rhai_world::{Array, Engine, EvalError, Map, Misfit, NoIntError, Scope, TryFromValueError, Value};
 use std::collections::{BTreeMap, HashMap};
 use std::fmt::Debug;

@@ -1,4 +1,4 @@
-//! Values of a million levels, on the stack that a process has: 8 MB.
+//! Values of a million levels, on the main thread's stack: 8 MB.
 mod common;
 
 use common::{levels, on_stack};
@@ -23,7 +23,7 @@ fn function(inside: Value) -> Value {
     Value::FnPtr("f".into(), vec![inside].into())
 }
 
-/// With leaves on both sides.
+/// Makes a level with leaves on both sides.
 fn sides(inside: Value) -> Value {
     Value::Array(vec![Value::Unit, inside, Value::from("right")].into())
 }
@@ -55,7 +55,7 @@ fn values_go_and_come_back() {
     }
 }
 
-/// All kinds of levels, and at each further values that have some inside.
+/// All kinds of levels, each with further nested values.
 #[test]
 fn mixed_values_are_dropped() {
     on_stack(STACK, || {
@@ -76,7 +76,7 @@ fn mixed_values_are_dropped() {
     });
 }
 
-/// A value that is cut off by a refused request for memory leaves the hand as it was.
+/// If an allocation fails in the middle of a value, the hand is unchanged.
 #[test]
 #[cfg(feature = "faults")]
 fn what_is_refused_in_the_middle_leaves_the_hand() {

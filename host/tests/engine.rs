@@ -1,4 +1,4 @@
-//! Scripts that a program embeds.
+//! Embedded scripts.
 use rhai_world::{Array, Engine, EvalError, Scope, Value};
 use std::sync::atomic::{AtomicI64, Ordering};
 use std::sync::{Arc, Mutex};

@@ -1,4 +1,4 @@
-//! What is told of errors.
+//! The texts of errors.
 use rhai_world::{EvalError, ScriptError, Value};
 
 fn at(line: u32, column: u32) -> EvalError {
@@ -12,7 +12,8 @@ fn a_caret_stands_beneath_the_column() {
     assert_eq!(at(2, 5).render(text), "no (line 2, column 5)\n2 | x + nowhere\n  |     ^");
     assert_eq!(at(3, 6).render(text), "no (line 3, column 6)\n3 | \tx + y;\n  | \t    ^");
     assert_eq!(at(4, 6).render(text), "no (line 4, column 6)\n4 | \u{4e16}\u{754c} + z\n  |      ^");
-    // (the end of the text is on a line of its own, and what is past a line stands at its end)
+    // (the end of the text is on a line of its own, and a column past the end of a line counts as
+    // its end)
     assert_eq!(at(5, 1).render(text), "no (line 5, column 1)\n5 | \n  | ^");
     assert_eq!(at(5, 9).render(text), "no (line 5, column 9)\n5 | \n  | ^");
     let tenth = "\n".repeat(9) + "tenth";

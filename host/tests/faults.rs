@@ -1,4 +1,4 @@
-//! Each request for memory refused in turn, and all from one on.
+//! Each allocation failing in turn, and all from one on.
 #![cfg(feature = "faults")]
 use rhai_world::{
     refuse, Answer, Call, Command, Engine, Error, EvalError, Function, Journal, Limits, Name, Operator, Place, Scope, Script,
@@ -51,7 +51,8 @@ fn world() -> Result<(World, Name), Error> {
     Ok((world, x))
 }
 
-/// The answers, each asked for again in the same world where memory was refused, and how often that was.
+/// The answers, each requested again in the same world if an allocation failed, and how often that
+/// happened.
 fn answers(world: &mut World, x: Name) -> (Vec<Result<Answer, Error>>, usize) {
     let mut refused = 0;
     let answers = script(x)
@@ -134,7 +135,7 @@ fn scripts() {
         for lasts in [false, true] {
             match refuse(nth, lasts, run).0 {
                 Err(ScriptError::OutOfMemory) => stopped += 1,
-                // A few requests are for what can wait, as giving cells back can.
+                // A few allocations are for optional work, such as a collection.
                 found => assert_eq!(found, expected, "request {nth}"),
             }
             assert_eq!(run(), expected);
@@ -175,7 +176,7 @@ fn looks_and_journals() {
     }
 }
 
-/// A run over a scope: its functions, its variables, its errors and what it prints.
+/// A run over a scope: its functions, variables, errors and output.
 const EMBEDDED: &str = "
     let words = []; for i in 0..5 { words.push(`word` + i); } let add = |by| total += by; add.call(words.len());
     let told = 0; try { told = ask(total); } catch (why) { told = why; } print(told); fn twice(n) { n * 2 } twice(total)";
@@ -200,7 +201,7 @@ fn runs_over_scopes() {
             let (found, _) = refuse(nth, lasts, || engine.eval_ast_with_scope::<i64>(&mut scope, &ast));
             match found {
                 Err(EvalError::OutOfMemory { .. }) => stopped += 1,
-                // A few requests are for what can wait, as giving cells back can.
+                // A few allocations are for optional work, such as a collection.
                 found => assert_eq!(found, expected, "request {nth}"),
             }
             let total = scope.get::<i64>("total");
@@ -213,7 +214,8 @@ fn runs_over_scopes() {
     assert!(stopped > asked, "{stopped} of {}", 2 * asked);
 }
 
-/// Functions of a script that the program calls, keeps and is given, and a first argument that is changed.
+/// Functions of a script that the program calls, keeps and receives, and a first argument that is
+/// changed.
 const CALLED_BACK: &str = "
     let words = []; each([1, 2, 3], |n| { total += n; words.add(`word number ` + n); });
     try { each([4], |n| { throw n + words.len(); }); } catch (why) { total += why; }

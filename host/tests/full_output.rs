@@ -1,5 +1,5 @@
-//! Standard output that is full, as a device is that takes nothing: a run ends by an error, and no panic. It is a program of its own, since
-//! what runs tests writes there too.
+//! A full standard output, such as a device that accepts nothing: a run ends with an error, without
+//! a panic. It is a program of its own, since the test harness writes there too.
 use rhai_world::Engine;
 
 const CHILD: &str = "RHAI_WORLD_CHILD";

@@ -93,7 +93,7 @@ fn commands_without_lines() {
     assert_eq!((w.hand_len(), w.len()), (0, Ok(0)));
 }
 
-/// What is kept is what the library writes: a number without zeros before it.
+/// The journal contains what the library writes: a number without leading zeros.
 #[test]
 fn lines_are_the_librarys() {
     let (mut w, mut journal) = (world(), Journal::new());

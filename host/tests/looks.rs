@@ -1,4 +1,4 @@
-//! Looks at a whole hand and a whole scope, and texts into room that is there.
+//! Views of a whole hand and a whole scope, and formatting into an existing text.
 use rhai_world::{Entry, Error, Limits, Refusal, Value, World};
 
 fn world() -> World {
@@ -54,7 +54,7 @@ fn values_of_a_hand() {
     let mut hand = w.hand();
     assert_eq!((hand.len(), hand.next(), hand.next_back(), hand.size_hint()), (3, int(1), int(3), (1, Some(1))));
     assert_eq!((hand.next(), hand.next(), hand.next_back(), hand.len()), (int(2), None, None, 0));
-    // (looks lend the world, so that several stand at once)
+    // (views borrow the world, so several can exist at once)
     assert!(w.hand().eq(w.hand().clone()));
     assert!(format!("{:?}", w.hand()).contains("World"));
 }

@@ -1,5 +1,5 @@
-//! Copies of answers until memory is refused: each ends in an error, and none ends the program. A test does its work in a process of its own, which
-//! has little address space.
+//! Copies of answers until an allocation fails: each fails with an error, and none ends the
+//! program. A test does its work in a process of its own, with little address space.
 #![cfg(target_os = "linux")]
 use rhai_world::{Command, Error, Journal, Limits, Map, Script, ScriptError, Value, World};
 use std::process::Command as Program;
@@ -7,7 +7,7 @@ use std::process::Command as Program;
 const CHILD: &str = "RHAI_WORLD_CHILD";
 const KILOBYTES: &str = "120000";
 
-/// Does the work in a process of its own, in which this test runs again.
+/// Does the work in a process of its own, which runs this test again.
 fn in_little_room(test: &str, work: fn()) {
     if std::env::var_os(CHILD).is_some() {
         work();
@@ -26,7 +26,7 @@ fn in_little_room(test: &str, work: fn()) {
     assert!(printed.contains("refused as it should be"), "{printed}");
 }
 
-/// Takes all memory but about so many blocks of 64 KB.
+/// Allocates all memory except about this many blocks of 64 KB.
 fn all_but(blocks: usize) -> Vec<Vec<u8>> {
     let mut filler = Vec::with_capacity(10_000);
     loop {
@@ -40,7 +40,8 @@ fn all_but(blocks: usize) -> Vec<Vec<u8>> {
     filler
 }
 
-/// Makes copies and keeps them until one is refused, while there are so many blocks of memory, and tells how many there were.
+/// Makes copies and keeps them until one fails, with this many blocks of memory left, and returns
+/// how many there were.
 fn until_refused<T>(blocks: usize, mut copy: impl FnMut() -> Result<T, Error>) -> usize {
     let mut copies = Vec::with_capacity(200_000);
     let filler = all_but(blocks);
@@ -58,7 +59,7 @@ fn until_refused<T>(blocks: usize, mut copy: impl FnMut() -> Result<T, Error>) -
     panic!("nothing was refused");
 }
 
-/// Many small parts, so that what is refused is a small one.
+/// Many small parts, so that a small allocation is the one that fails.
 fn small() -> Value {
     let text = |i: i64| Value::from(format!("text {i} of some letters").as_str());
     let fields: Map = (0..40).map(|i| (format!("key {i}"), vec![text(i), Value::from(vec![7_u8; 30])].into())).collect();

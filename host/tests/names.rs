@@ -54,7 +54,7 @@ fn forgotten() {
     let (x, y) = (w.name("x").unwrap(), w.name("y").unwrap());
     w.forget_name(x).unwrap();
     is_refused(&mut w, y, x);
-    // (its number is given out again, and so is its text)
+    // (its number is reused, and so is its text)
     let again = w.name("x").unwrap();
     is_refused(&mut w, again, x);
     w.forget_name(again).unwrap();
@@ -67,7 +67,7 @@ fn forgotten() {
     assert_eq!(w.name_text(other).as_deref(), Ok("z"));
 }
 
-/// A name is two words; its first is the number, which a million names share with a few others.
+/// A name is two words; its first is the number, and a million names share a few numbers.
 #[test]
 fn a_million_take_little_room() {
     let mut w = world();

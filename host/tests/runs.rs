@@ -1,4 +1,4 @@
-//! Runs by pieces.
+//! Runs in pieces.
 use rhai_world::{Array, Engine, EvalError, Progress, Scope, Value};
 use std::panic::{catch_unwind, AssertUnwindSafe};
 use std::sync::{Arc, Mutex};
@@ -20,7 +20,7 @@ fn a_run_goes_on_by_as_many_operations_as_it_is_told() -> Result<(), EvalError> 
         assert_eq!(run.operations(), 100 * pieces);
         assert_eq!(run.line_column().map(|(line, _)| line), Some(1));
     };
-    // (the sum of the ints below 10,000; each turn of the loop takes an operation at least)
+    // (the sum of the ints below 10,000; each iteration takes at least one operation)
     assert_eq!(value, Value::Int(9_999 * 10_000 / 2));
     assert!(pieces >= 100, "{pieces}");
     assert!(run.memory().held > 0);
@@ -44,7 +44,7 @@ fn a_run_that_is_dropped_gives_the_variables_back() -> Result<(), EvalError> {
     let mut run = engine.start(&mut scope, &ast)?;
     assert_eq!(run.go(100_000)?, Progress::Paused);
     drop(run);
-    // (the second run stood in the function, whose parameter is its own)
+    // (the second run was in the function, which has its own parameter)
     assert_eq!(scope.get::<i64>("n"), Some(1_001));
     assert_eq!(scope.get::<String>("name"), Some("kept".to_owned()));
     assert_eq!(scope.get::<i64>("inside"), Some(7));

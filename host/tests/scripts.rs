@@ -1,4 +1,4 @@
-//! Scripts that end well, and in each other way.
+//! Scripts that end normally, and in every other way.
 use rhai_world::{Limits, Script, ScriptError};
 use std::num::NonZeroUsize;
 
@@ -14,7 +14,8 @@ fn what_is_printed() {
     assert_eq!(run("let a = [1, 2]; a.push(3); print(a); print(#{k: a}.k[2]);").as_deref(), Ok("[1, 2, 3]\n3\n"));
 }
 
-/// A body that runs no script, or the empty one, prints nothing; one that calls each end a good one tells of no error.
+/// A body that runs no script, or the empty one, prints nothing; one that calls each end a normal
+/// one reports no error.
 #[test]
 fn an_end_is_that_of_its_text() {
     assert_eq!(run("").as_deref(), Ok(""));

@@ -1,4 +1,5 @@
-//! The deepest that there is, on a thread of the stack that a call wants: values, chains of cells and lines of a million levels, and scripts.
+//! The deepest possible inputs, on a thread with the stack that a call needs: values, chains of
+//! cells and lines of a million levels, and scripts.
 mod common;
 
 use common::{levels, on_stack};
@@ -8,7 +9,7 @@ fn world() -> World {
     World::new(Limits::default()).unwrap()
 }
 
-/// Each call that walks a value, on the one at position 0, which is dropped then.
+/// Makes each call that walks a value, on the one at position 0, which is dropped then.
 fn walk(w: &mut World) -> Result<(), Error> {
     w.copy(0)?;
     assert!(!w.show(0)?.is_empty() && !w.debug(1)?.is_empty() && w.hash(0)?.len() > levels());
@@ -114,7 +115,8 @@ fn run(text: &str) -> Result<String, ScriptError> {
     Script::run(text, 10_000_000, Limits::default())
 }
 
-/// Texts that nest too deep, texts that nest as deep as they may, values that grow deep, and calls within each other.
+/// Texts that nest too deep, texts that nest as deep as allowed, values that grow deep, and nested
+/// calls.
 #[test]
 fn scripts() {
     on_stack(Script::STACK, || {

@@ -4,10 +4,10 @@ use std::sync::atomic::{AtomicU64, Ordering};
 use std::sync::{mpsc, Arc, Mutex};
 use std::time::Duration;
 
-/// A script that would go on for ever, and catches what it can.
+/// A script that would never end, and catches what it can.
 const ENDLESS: &str = "let n = 0; let caught = false;\nwhile true { try { loop { n += 1; } } catch { caught = true; } }";
 
-/// That such a script ended, and left its variables to further runs.
+/// Checks that such a script ended, and left its variables to further runs.
 fn is_whole(scope: &mut Scope) -> Result<(), EvalError> {
     assert_eq!(scope.names()?, ["n", "caught"]);
     assert_eq!(scope.get::<bool>("caught"), Some(false));
@@ -66,7 +66,7 @@ fn another_thread_may_end_it() -> Result<(), EvalError> {
     let error = engine.run_with_scope(&mut scope, &format!("begun(); {ENDLESS}")).unwrap_err();
     assert!(matches!(error, EvalError::Interrupted { line: 1 | 2, .. }), "{error:?}");
     thread.join().unwrap();
-    // (the interrupt may come before the first statement behind the call)
+    // (the interrupt may come before the first statement after the call)
     if scope.len() == 2 {
         is_whole(&mut scope)?;
     }

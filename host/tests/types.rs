@@ -1,4 +1,5 @@
-//! What the types promise beside their calls: which go to other threads, which are keys, and what they say.
+//! What the types promise besides their calls: which can go to other threads, which can be keys,
+//! and how they are formatted.
 use rhai_world::{
     Answer, ArithmeticFault, Array, Ast, Command, Engine, Entries, Entry, Error, EvalError, Interrupt, Journal, Limits, Map,
     Memory, Misfit, Name, NoIntError, Operator, Place, Progress, Refusal, Script, ScriptError, SizeKind, TryFromValueError, Type,

@@ -1,8 +1,8 @@
-//! Values of Rust's that come back as they went in.
+//! Rust values that come back unchanged.
 use rhai_world::{Array, Limits, Map, TryFromValueError, Value, World};
 use std::collections::{BTreeMap, HashSet};
 
-/// Numbers that look random, from a seed.
+/// Pseudo-random numbers from a seed.
 struct Random(u64);
 
 impl Random {

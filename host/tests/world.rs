@@ -1,4 +1,4 @@
-//! Each command once, refusals with their reasons, and worlds beside each other.
+//! Each command once, refusals with their reasons, and several worlds.
 use rhai_world::{Answer, ArithmeticFault, Command, Error, Limits, Operator, Place, Refusal, SizeKind, Type, World};
 use std::num::NonZeroUsize;
 

@@ -1,13 +1,13 @@
-//! What the program is asked for.
+//! The program's arguments.
 use std::ffi::OsString;
 use std::fmt;
 use std::path::PathBuf;
 use std::time::Duration;
 
-/// How much memory a scope may hold where nothing else is said.
+/// The default limit on the memory of a scope.
 const MEMORY: usize = 256 * 1024 * 1024;
 
-/// How the program is called.
+/// The usage text.
 pub const USAGE: &str = "\
 Usage: rhai-world [OPTIONS] [FILE]
        rhai-world [OPTIONS] -e TEXT
@@ -25,7 +25,7 @@ It ends with 0; with 1 where a script failed; with 2 where nothing could be run.
 It has colours where it writes to a terminal and NO_COLOR isn't set.
 ";
 
-/// What is run.
+/// What to run.
 #[derive(Debug, PartialEq, Eq)]
 pub enum Work {
     /// Scripts from standard input, line by line.
@@ -38,7 +38,7 @@ pub enum Work {
     Text(String),
 }
 
-/// What a run may take; 0 is no limit.
+/// The limits of a run; 0 means no limit.
 #[derive(Clone, Copy, Debug, PartialEq, Eq)]
 pub struct Budgets {
     pub operations: u64,
@@ -46,7 +46,7 @@ pub struct Budgets {
     pub time: Duration,
 }
 
-/// What the program is asked for.
+/// What the arguments request.
 #[derive(Debug, PartialEq, Eq)]
 pub enum Asked {
     Run(Work, Budgets),
@@ -54,7 +54,7 @@ pub enum Asked {
     Version,
 }
 
-/// Why the words of a call make no sense.
+/// Why the arguments are invalid.
 #[derive(Debug, PartialEq, Eq)]
 pub enum BadCall {
     Unknown(String),
@@ -76,7 +76,7 @@ impl fmt::Display for BadCall {
     }
 }
 
-/// The words that are left, and what was read of those before.
+/// The remaining arguments, and what was read from those before.
 struct Reader<I> {
     words: I,
     work: Option<Work>,
@@ -85,7 +85,7 @@ struct Reader<I> {
     time: Option<Duration>,
 }
 
-/// Reads the words of a call, without the program's own name.
+/// Reads the arguments, without the program's own name.
 pub fn parse(words: impl IntoIterator<Item = OsString>) -> Result<Asked, BadCall> {
     let mut reader = Reader { words: words.into_iter(), work: None, operations: None, memory: None, time: None };
     while let Some(word) = reader.words.next() {

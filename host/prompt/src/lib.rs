@@ -1,4 +1,5 @@
-//! The program `rhai-world`: runs a script of a file or of a word, or reads scripts line by line and shows what they come to.
+//! The program `rhai-world`: runs a script from a file or from an argument, or is a prompt for
+//! scripts.
 //!
 //! ```text
 //! rhai-world FILE
@@ -6,17 +7,20 @@
 //! rhai-world
 //! ```
 //!
-//! The last one is a prompt: it shows what each script comes to, as `debug` does, and variables and functions stay. `:help` has its commands,
-//! `--help` the limits. Operations and time have none unless one is said, memory has 256 MB.
+//! The prompt shows the value of each script, as `debug` does, and keeps variables and functions.
+//! `:help` lists its commands, `--help` the limits. Operations and time have no limit by default,
+//! memory has 256 MB.
 //!
-//! An error goes to standard error, with its line and a caret. The status is 1 where a script failed, 2 where nothing could be run. A prompt
-//! ends with 1 where a line failed and lines don't come from a terminal.
+//! An error goes to standard error, with its line and a caret. The exit status is 1 if a script
+//! failed, 2 if nothing could be run. A prompt ends with 1 if a line failed and lines don't come
+//! from a terminal.
 //!
-//! The program uses no other crate, and edits no lines: `rlwrap rhai-world` does. The crate in `host/prompt/editing` is the same program with
-//! history and completion by `rustyline`, of cargo's registry, or of Debian's package where `host/registry` has cargo find it.
+//! The program uses no other crate, and has no line editor: use `rlwrap rhai-world`. The crate in
+//! `host/prompt/editing` is the same program with history and completion by `rustyline`, from
+//! cargo's registry, or from Debian's package, which `host/registry` makes available to cargo.
 //!
-//! It is a library besides, so that a program with an editor of lines of its own has the same prompt: it has that as [`Lines`], and calls
-//! [`program`].
+//! It is also a library, so that a program with a line editor of its own can have the same prompt:
+//! it implements [`Lines`], and calls [`program`].
 #![forbid(unsafe_code)]
 #![deny(missing_docs)]
 

@@ -1,13 +1,13 @@
-//! Where lines come from.
+//! Sources of lines.
 use std::io::{self, BufRead, Write};
 
-/// Gives the lines of a prompt.
+/// The source of a prompt's lines.
 pub trait Lines {
-    /// Reads the next line without its end, or nothing at the end of all. The mark is what the reader sees before it; the words are those
-    /// that a line may be completed by.
+    /// Reads the next line without its end, or `None` at the end of the input. The mark is shown to
+    /// the user before the line; the words are the completions.
     ///
-    /// Errors: of kind `InvalidData` where the line is no text, and `Interrupted` where it was given up: the prompt goes on behind either. Any
-    /// other one ends it.
+    /// Errors: of kind `InvalidData` if the line is not a text, and `Interrupted` if the user gave
+    /// it up: the prompt continues after both. Any other error ends it.
     fn next(&mut self, mark: &str, words: &dyn Fn() -> Vec<String>) -> io::Result<Option<String>>;
 }
 
@@ -19,7 +19,7 @@ pub struct Plain<R> {
 }
 
 impl<R: BufRead> Plain<R> {
-    /// Reads lines from here, with marks on standard output or without.
+    /// Reads lines from this input, with or without marks on standard output.
     pub fn new(input: R, shows_marks: bool) -> Plain<R> {
         Plain { input, shows_marks }
     }

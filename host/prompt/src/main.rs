@@ -1,4 +1,4 @@
-//! The program `rhai-world`, without an editor of lines: `rlwrap rhai-world` has one.
+//! The program `rhai-world`, without a line editor: use `rlwrap rhai-world`.
 use rhai_world_prompt::{program, Plain};
 use std::io::IsTerminal;
 use std::process::ExitCode;

@@ -2,25 +2,25 @@
 use std::ffi::OsStr;
 use std::io::IsTerminal;
 
-/// What is painted.
+/// What is coloured.
 #[derive(Clone, Copy, Debug)]
 pub enum Colour {
-    /// What the reader is asked by.
+    /// The prompt's mark.
     Mark,
     /// A value.
     Value,
-    /// That something went wrong.
+    /// An error.
     Error,
 }
 
-/// Paints, or leaves texts as they are.
+/// Colours texts, or leaves them as they are.
 #[derive(Clone, Copy, Debug, PartialEq, Eq)]
 pub struct Paint {
     paints: bool,
 }
 
 impl Paint {
-    /// Paints where that is a terminal and `NO_COLOR` isn't set.
+    /// Colours texts if the stream is a terminal and `NO_COLOR` isn't set.
     pub fn of(stream: &impl IsTerminal) -> Paint {
         Paint::when(stream.is_terminal(), std::env::var_os("NO_COLOR").as_deref())
     }
@@ -29,7 +29,7 @@ impl Paint {
         Paint { paints: is_terminal && no_color.is_none_or(OsStr::is_empty) }
     }
 
-    /// The text in its colour.
+    /// Returns the text in its colour.
     pub fn paint(self, colour: Colour, text: &str) -> String {
         if !self.paints {
             return text.to_owned();

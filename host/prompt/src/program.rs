@@ -1,4 +1,4 @@
-//! The program: what it is asked for, and what it ends with.
+//! The program: its arguments, and its exit status.
 use crate::arguments::{parse, Asked, Budgets, Work, USAGE};
 use crate::lines::Lines;
 use crate::paint::{Colour, Paint};
@@ -10,36 +10,36 @@ use std::io::{self, ErrorKind, IsTerminal, Write};
 use std::path::Path;
 use std::process::ExitCode;
 
-/// Stack for the program itself, besides what a run of a script wants.
+/// Stack for the program itself, in addition to that of a script.
 const OWN_STACK: usize = 1024 * 1024;
 
-/// That a script failed.
+/// The exit status if a script failed.
 const FAILED: u8 = 1;
 
-/// That nothing could be run.
+/// The exit status if nothing could be run.
 const NOT_RUN: u8 = 2;
 
-/// Does what the words of the call ask for; lines of a prompt come from what is made.
+/// Does what the arguments request; the lines of a prompt come from the given source.
 pub fn program(make_lines: fn() -> Result<Box<dyn Lines>, String>) -> ExitCode {
     let thread = std::thread::Builder::new().stack_size(Script::STACK + OWN_STACK);
     let done = thread.spawn(move || asked(make_lines)).map(std::thread::JoinHandle::join);
     match done {
         Ok(Ok(Ok(status))) => ExitCode::from(status),
-        // (who reads what is written is gone)
+        // (the reader of the output is gone)
         Ok(Ok(Err(error))) if error.kind() == ErrorKind::BrokenPipe => ExitCode::from(NOT_RUN),
         Ok(Ok(Err(error))) | Err(error) => ExitCode::from(not_run(&error.to_string())),
         Ok(Err(_)) => ExitCode::from(not_run("the program went wrong")),
     }
 }
 
-/// What goes to standard output and to standard error.
+/// Where output and errors go.
 #[derive(Clone, Copy)]
 struct Told {
     out: Paint,
     errors: Paint,
 }
 
-/// Tells what went wrong on standard error. Where that can't be written, nobody is left to be told.
+/// Writes an error to standard error. If that fails, nobody is left to report it to.
 fn complain(paint: Paint, what: &str) {
     let _told = writeln!(io::stderr().lock(), "{} {what}", paint.paint(Colour::Error, "error:"));
 }
@@ -79,7 +79,7 @@ fn read(file: &Path) -> io::Result<String> {
     std::fs::read_to_string(file)
 }
 
-/// Runs a script that was read from somewhere.
+/// Runs a script that was read from a source.
 fn whole(session: &mut Session, told: Told, text: io::Result<String>, from: &str) -> io::Result<u8> {
     match text {
         Ok(text) => script(session, told, &text, false),
@@ -87,7 +87,7 @@ fn whole(session: &mut Session, told: Told, text: io::Result<String>, from: &str
     }
 }
 
-/// Runs a script, and shows its value where that is wanted.
+/// Runs a script, and shows its value if requested.
 fn script(session: &mut Session, told: Told, text: &str, shows: bool) -> io::Result<u8> {
     match session.run(text) {
         Ok(Some(value)) if shows => value_line(told, &value).map(|()| 0),
@@ -103,7 +103,7 @@ fn value_line(told: Told, value: &str) -> io::Result<()> {
     writeln!(io::stdout().lock(), "{}", told.out.paint(Colour::Value, value))
 }
 
-/// A prompt that goes on until its lines end.
+/// A prompt that runs until its lines end.
 struct Prompt {
     session: Session,
     told: Told,
@@ -112,7 +112,8 @@ struct Prompt {
 }
 
 impl Prompt {
-    /// Goes on to the end. Who types sees each error at once; where lines come from elsewhere, the status tells that there was one.
+    /// Runs to the end. A user sees each error at once; if lines come from elsewhere, the exit
+    /// status says that there was one.
     fn goes_on(mut self) -> io::Result<u8> {
         let (mut text, mut open) = (String::new(), Open::default());
         while let Some(line) = self.next_line(open.is_open())? {
@@ -140,7 +141,7 @@ impl Prompt {
         Ok(if self.failed && !io::stdin().is_terminal() { FAILED } else { 0 })
     }
 
-    /// The next line, behind those that were no text or given up.
+    /// Reads the next line, after skipping those that were not a text or given up.
     fn next_line(&mut self, goes_on: bool) -> io::Result<Option<String>> {
         let mark = self.told.out.paint(Colour::Mark, if goes_on { "| " } else { "> " });
         loop {
@@ -169,7 +170,7 @@ impl Prompt {
         }
     }
 
-    /// Does a command; false where it ends the prompt.
+    /// Does a command; returns `false` if it ends the prompt.
     fn does(&mut self, command: &Command<'_>) -> io::Result<bool> {
         match command {
             Command::Scope => match self.session.variables() {

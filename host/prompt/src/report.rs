@@ -1,10 +1,10 @@
-//! How errors are told.
+//! How errors are shown.
 use rhai_world::EvalError;
 
 /// How many characters of a line are shown.
 const WIDE: usize = 160;
 
-/// The error, rendered with its line, for a script that ran behind a text of functions from earlier ones.
+/// Renders the error with its line, for a script that ran after a text of earlier functions.
 pub fn report(error: EvalError, earlier: &str, script: &str) -> String {
     let before = u32::try_from(earlier.lines().count()).unwrap_or(u32::MAX);
     let rendered = match error.line() {
@@ -16,7 +16,7 @@ pub fn report(error: EvalError, earlier: &str, script: &str) -> String {
     shown(&format!("{rendered}{calls}"))
 }
 
-/// The functions under way, a line each, where the script called some; so many lines are those of functions from earlier scripts.
+/// Returns the active functions, one per line, if the script called any; the first `before` lines are functions of earlier scripts.
 fn calls(error: &EvalError, before: u32) -> String {
     let mut lines = String::new();
     if let calls @ [_, _, ..] = error.calls() {
@@ -32,7 +32,7 @@ fn calls(error: &EvalError, before: u32) -> String {
     lines
 }
 
-/// The error so many lines further up.
+/// Moves the error this many lines up.
 fn moved(mut error: EvalError, by: u32) -> EvalError {
     match &mut error {
         EvalError::Syntax { line, .. }
@@ -50,7 +50,7 @@ fn moved(mut error: EvalError, by: u32) -> EvalError {
     error
 }
 
-/// What was rendered, with what stands around the caret in the place of a very long line.
+/// Shortens a very long line to the part around the caret.
 fn around(rendered: &str) -> String {
     let mut parts = rendered.rsplitn(3, '\n');
     let (Some(caret), Some(line), Some(message)) = (parts.next(), parts.next(), parts.next()) else {
@@ -67,7 +67,7 @@ fn around(rendered: &str) -> String {
     format!("{message}\n{before}{shown}{after}\n{blank}{beneath}")
 }
 
-/// The text as it may go to a terminal.
+/// Replaces what must not go to a terminal.
 pub fn shown(text: &str) -> String {
     text.chars()
         .map(|character| if character.is_control() && !matches!(character, '\n' | '\t') { '\u{fffd}' } else { character })
@@ -105,7 +105,8 @@ mod tests {
     #[test]
     fn of_a_very_long_line_the_place_is_shown() {
         let script = format!("{}x + y;{}", " ".repeat(1000), " ".repeat(1000));
-        // (the caret stands behind four characters of margin, 1004 blanks and marks, of which 80 are left with itself)
+        // (the caret comes after a margin of four characters and 1004 blanks and marks; 80 of
+        // these, including the caret, are left)
         let expected =
             format!("it went wrong (line 1, column 1005)\n..{}x + y;{}..\n  {}^", " ".repeat(75), " ".repeat(79), " ".repeat(79));
         assert_eq!(report(runtime(1, 1005), "", &script), expected);

@@ -1,6 +1,6 @@
-//! What a text of a script has, as far as brackets, texts and comments go.
+//! A scan of a script's brackets, texts and comments.
 
-/// A function that a text has at its top.
+/// A function at the top level of a text.
 #[derive(Clone, Debug, PartialEq, Eq)]
 pub struct Function {
     pub name: String,
@@ -10,22 +10,23 @@ pub struct Function {
 }
 
 impl Function {
-    /// Whether a script can't have both.
+    /// Whether a script can't contain both.
     pub fn is_like(&self, other: &Function) -> bool {
         self.name == other.name && self.parameters == other.parameters
     }
 }
 
-/// A word, or a mark that is no word.
+/// A word, or any other mark.
 #[derive(Clone, Copy, Debug, PartialEq, Eq)]
 enum Token<'a> {
     Word(&'a str),
     Mark(char),
-    /// So many comments in each other that don't end.
+    /// This many nested comments without an end.
     OpenComment(usize),
 }
 
-/// The words and marks of a text, each with where it begins. Texts, characters and comments are left out.
+/// The words and marks of a text, each with its position. Texts, characters and comments are left
+/// out.
 struct Tokens<'a> {
     text: &'a str,
     at: usize,
@@ -40,7 +41,7 @@ impl<'a> Tokens<'a> {
         &self.text[self.at..]
     }
 
-    /// Goes behind the text or character that begins here. It ends with its line, if not before.
+    /// Skips the text or character that begins here. It ends with its line, if not before.
     fn pass_quoted(&mut self, quote: char) {
         let mut escaped = false;
         for (i, character) in self.rest().char_indices().skip(1) {
@@ -53,7 +54,7 @@ impl<'a> Tokens<'a> {
         self.at = self.text.len();
     }
 
-    /// Goes behind the comment that begins here, and tells how many in each other don't end.
+    /// Skips the comment that begins here, and returns how many nested ones don't end.
     fn pass_comment(&mut self) -> usize {
         let mut depth = 0;
         while let Some(character) = self.rest().chars().next() {
@@ -113,7 +114,7 @@ impl<'a> Iterator for Tokens<'a> {
     }
 }
 
-/// How many brackets are open behind this token, where so many were before it.
+/// Returns how many brackets are open after this token.
 fn depth_after(depth: usize, token: Token<'_>) -> usize {
     match token {
         Token::Mark('(' | '[' | '{') => depth + 1,
@@ -122,7 +123,7 @@ fn depth_after(depth: usize, token: Token<'_>) -> usize {
     }
 }
 
-/// What is open behind the lines so far.
+/// What is open after the lines so far.
 #[derive(Clone, Copy, Debug, Default)]
 pub struct Open {
     brackets: usize,
@@ -130,12 +131,12 @@ pub struct Open {
 }
 
 impl Open {
-    /// Whether the lines want more behind them.
+    /// Whether the lines need a continuation.
     pub fn is_open(self) -> bool {
         self.brackets > 0 || self.comments > 0
     }
 
-    /// What is open behind a further line.
+    /// Returns what is open after a further line.
     pub fn behind(self, line: &str) -> Open {
         let text = "/*".repeat(self.comments) + line;
         let mut open = Open { brackets: self.brackets, comments: 0 };
@@ -149,7 +150,7 @@ impl Open {
     }
 }
 
-/// The functions that the text has at its top. Of one that is none in full nothing is told.
+/// Returns the functions at the top level of the text. Incomplete ones are left out.
 pub fn functions(text: &str) -> Vec<Function> {
     let mut found = Vec::new();
     let mut tokens = Tokens::of(text);
@@ -164,7 +165,7 @@ pub fn functions(text: &str) -> Vec<Function> {
     found
 }
 
-/// The function whose first word was just passed.
+/// Reads the function whose first word was just read.
 fn function(tokens: &mut Tokens<'_>, begin: usize) -> Option<Function> {
     let Some((_, Token::Word(name))) = tokens.next() else { return None };
     let Some((_, Token::Mark('('))) = tokens.next() else { return None };

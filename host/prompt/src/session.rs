@@ -1,4 +1,4 @@
-//! An engine, the variables and functions of a prompt, and what is asked of them.
+//! A prompt's engine, variables and functions.
 use crate::arguments::Budgets;
 use crate::report::report;
 use crate::scan::{functions, Function};
@@ -6,18 +6,18 @@ use rhai_world::{Engine, Error, EvalError, Limits, Scope, Value, World};
 use std::num::NonZeroUsize;
 use std::path::Path;
 
-/// What a line of a prompt asks for, by its first word.
+/// What a line of a prompt requests, by its first word.
 #[derive(Debug, PartialEq, Eq)]
 pub enum Command<'a> {
     Scope,
     Load(&'a Path),
     Help,
     Quit,
-    /// A command that there is not.
+    /// An unknown command.
     Unknown(&'a str),
 }
 
-/// What the commands are.
+/// The help text of the commands.
 pub const HELP: &str = "\
 A line is a script; one with an open bracket or comment goes on with the next line, and `:drop` drops it.
 Variables and functions stay. A closure is called by the script that made it alone.
@@ -28,7 +28,7 @@ Variables and functions stay. A closure is called by the script that made it alo
 ";
 
 impl Command<'_> {
-    /// The command that the line is, if it is one.
+    /// Reads a line as a command, if it is one.
     pub fn of(line: &str) -> Option<Command<'_>> {
         let words = line.strip_prefix(':')?;
         let (name, rest) = words.split_once(' ').unwrap_or((words, ""));
@@ -42,17 +42,17 @@ impl Command<'_> {
     }
 }
 
-/// What lives on between the scripts of a prompt.
+/// What is kept between the scripts of a prompt.
 pub struct Session {
     engine: Engine,
     scope: Scope,
-    /// Where values are shown.
+    /// The world that formats values.
     shown: World,
     functions: Vec<Function>,
 }
 
 impl Session {
-    /// Begins without variables.
+    /// Makes a session without variables.
     pub fn new(budgets: Budgets) -> Result<Session, EvalError> {
         let mut engine = Engine::new();
         engine.set_max_operations(budgets.operations).set_max_memory(budgets.memory).set_max_time(budgets.time);
@@ -60,9 +60,10 @@ impl Session {
         Ok(Session { engine, scope: Scope::new()?, shown: World::new(limits)?, functions: Vec::new() })
     }
 
-    /// Runs a script, and gives its value as `debug` shows it; nothing where that is unit. Its functions stay, once it was read.
+    /// Runs a script, and returns its value as `debug` shows it; `None` for unit. Its functions are
+    /// kept, once it was compiled.
     ///
-    /// Errors: what is told of it.
+    /// Errors: the message to show.
     pub fn run(&mut self, text: &str) -> Result<Option<String>, String> {
         let own = functions(text);
         let is_kept = |known: &Function| !own.iter().any(|one| one.is_like(known));
@@ -80,9 +81,9 @@ impl Session {
         }
     }
 
-    /// The variables, the oldest first, a line each.
+    /// Lists the variables, oldest first, one a line.
     ///
-    /// Errors: what is told of it.
+    /// Errors: the message to show.
     pub fn variables(&mut self) -> Result<String, String> {
         let Session { scope, shown, .. } = self;
         let mut lines = String::new();
@@ -94,7 +95,7 @@ impl Session {
         Ok(lines)
     }
 
-    /// The names that a line may be completed by.
+    /// Returns the completions of a line.
     pub fn words(&self) -> Vec<String> {
         let mut words = self.scope.names().unwrap_or_default();
         words.extend(self.functions.iter().map(|known| known.name.clone()));
@@ -105,7 +106,7 @@ impl Session {
     }
 }
 
-/// The value as `debug` shows it, by way of a world that is empty before and after.
+/// Formats the value as `debug` does, in a world that is empty before and after.
 fn show(world: &mut World, value: &Value) -> Result<String, Error> {
     world.put(value)?;
     let text = world.debug(0);

@@ -1,16 +1,16 @@
-//! The program as it is called.
+//! Tests of the program as it is called.
 use std::io::Write;
 use std::path::{Path, PathBuf};
 use std::process::{Command, Stdio};
 
-/// What the program ended with and wrote.
+/// The exit status and the output of the program.
 struct Ended {
     status: Option<i32>,
     out: String,
     errors: String,
 }
 
-/// Calls the program with these words and this input.
+/// Calls the program with these arguments and this input.
 fn call(words: &[&str], input: &str) -> Ended {
     let mut program = Command::new(env!("CARGO_BIN_EXE_rhai-world"));
     program.args(words).stdin(Stdio::piped()).stdout(Stdio::piped()).stderr(Stdio::piped());
@@ -25,7 +25,7 @@ fn call(words: &[&str], input: &str) -> Ended {
     Ended { status: ended.status.code(), out: text(ended.stdout), errors: text(ended.stderr) }
 }
 
-/// A file with this text.
+/// Makes a file with this text.
 fn file(name: &str, text: &[u8]) -> PathBuf {
     let path = Path::new(env!("CARGO_TARGET_TMPDIR")).join(name);
     std::fs::write(&path, text).expect("the folder may be written");
@@ -97,7 +97,7 @@ fn budgets_hold() {
     assert!(ended.status == Some(1) && ended.errors.starts_with("error: too many operations (line 1"), "{}", ended.errors);
     let ended = call(&["--memory", "1000000", "-e", "let all = []; loop { all.push(1); }"], "");
     assert!(ended.status == Some(1) && ended.errors.starts_with("error: out of memory (line 1"), "{}", ended.errors);
-    // (the text of a blob has two digits a byte)
+    // (the text of a blob has two digits per byte)
     let ended = call(&["--memory", "300000", "-e", "blob(100000, 7)"], "");
     assert!(ended.status == Some(1) && ended.errors.starts_with("error: out of memory"), "{}", ended.errors);
     let ended = call(&["--time", "0.05", "-e", "loop {}"], "");
@@ -109,7 +109,8 @@ fn a_prompt_keeps_variables_and_functions() {
     let lines = "let x = 20;\nfn twice(n) {\n  n * 2\n}\nx += 1; twice(x)\n\n[1,\n 2]\n:scope\n";
     let ended = call(&[], lines);
     assert_eq!((ended.status, ended.out.as_str(), ended.errors.as_str()), (Some(0), "42\n[1, 2]\nx = 21\n", ""));
-    // (a function takes the place of one of its name and number of parameters, but not where it can't be read)
+    // (a function replaces one with the same name and number of parameters, but not if its text
+    // can't be compiled)
     let ended = call(&[], "fn f() { 1 }\nfn f(a) { a }\nf() + f(10)\nfn f() { 2 }\nf() + f(10)\nfn f() { +; }\nf()\n");
     assert_eq!((ended.status, ended.out.as_str()), (Some(1), "11\n12\n2\n"));
 }
@@ -140,7 +141,7 @@ fn commands_of_a_prompt() {
 fn a_prompt_goes_on_behind_what_fails() {
     let ended = call(&[], "1 +\n2\nlet y = 3; y / 0\ny\n");
     assert_eq!((ended.status, ended.out.as_str()), (Some(1), "2\n3\n"));
-    // (what is still open at the end is run, and told)
+    // (what is still open at the end is run, and reported)
     let ended = call(&[], "{ 1\n");
     assert_eq!((ended.status, ended.out.as_str()), (Some(1), ""));
     assert!(ended.errors.starts_with("error: "));

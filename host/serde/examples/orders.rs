@@ -1,4 +1,4 @@
-//! A struct into a script, and another one out of it.
+//! Passes a struct into a script, and gets another one out of it.
 use rhai_world::{Engine, Scope, Value};
 use rhai_world_serde::{from_value, to_value};
 use serde::{Deserialize, Serialize};

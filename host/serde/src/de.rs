@@ -1,4 +1,4 @@
-//! Types of Rust of values.
+//! Deserializes Rust types from values.
 mod access;
 mod key;
 
@@ -10,7 +10,7 @@ use serde::de::value::SeqDeserializer;
 use serde::de::{Error as _, Unexpected, Visitor};
 use serde::forward_to_deserialize_any;
 
-/// Takes a value apart, as far as levels go.
+/// Deserializes from a value, up to a number of levels.
 ///
 /// ```
 /// use rhai_world::Value;
@@ -28,23 +28,24 @@ pub struct Deserializer {
 }
 
 impl Deserializer {
-    /// Takes apart up to [`LEVELS`] levels.
+    /// Deserializes from up to [`LEVELS`] levels.
     pub const fn new(value: Value) -> Deserializer {
         Deserializer::within(value, LEVELS)
     }
 
-    /// Takes apart up to so many levels. A thread has room for [`LEVELS`] of most types.
+    /// Deserializes from up to this many levels. A thread has enough stack for [`LEVELS`] of most
+    /// types.
     pub const fn within(value: Value, levels: usize) -> Deserializer {
         Deserializer { value, levels }
     }
 
-    /// The same value as what is inside of a newtype.
+    /// Returns the same value for what is inside a newtype.
     fn inside(self) -> Result<Deserializer, Error> {
         let levels = below(self.levels)?;
         Ok(Deserializer { levels, ..self })
     }
 
-    /// A blob as a sequence of its bytes, which types like `Vec<u8>` ask for.
+    /// Reads a blob as a sequence of its bytes, which types like `Vec<u8>` ask for.
     fn sequence<'de, V: Visitor<'de>>(self, visitor: V) -> Result<V::Value, Error> {
         match self.value {
             Value::Blob(bytes) => {
@@ -59,12 +60,12 @@ impl Deserializer {
     }
 }
 
-/// One level less.
+/// Returns one level less.
 fn below(levels: usize) -> Result<usize, Error> {
     levels.checked_sub(1).ok_or(Error::TooDeep)
 }
 
-/// What a value is, for what is said of one that isn't wanted.
+/// Describes a value, for errors about unexpected ones.
 fn unexpected(value: &Value) -> Unexpected<'_> {
     match value {
         Value::Unit => Unexpected::Unit,
@@ -77,12 +78,12 @@ fn unexpected(value: &Value) -> Unexpected<'_> {
         Value::Map(_) => Unexpected::Map,
         Value::FnPtr(_, _) => Unexpected::Other("function pointer"),
         Value::Range(_, _) | Value::RangeWithEnd(_, _) => Unexpected::Other("range"),
-        // (what is left are numbers of the host's)
+        // (only numbers of the host are left)
         _ => Unexpected::Other("number of the host's"),
     }
 }
 
-/// Shows the visitor the value.
+/// Passes the value to the visitor.
 fn visited<'de, V: Visitor<'de>>(value: Value, levels: usize, visitor: V) -> Result<V::Value, Error> {
     match value {
         Value::Unit => visitor.visit_unit(),
@@ -108,7 +109,8 @@ fn visited<'de, V: Visitor<'de>>(value: Value, levels: usize, visitor: V) -> Res
     }
 }
 
-/// The number that a value is, or that it has no place in the type; nothing where it is no number.
+/// Converts a value to a number of a type, or fails if it is out of the type's range; `None` if it
+/// isn't a number.
 fn number<N: TryFrom<i128> + TryFrom<u128>>(value: &Value, wanted: &'static str) -> Option<Result<N, Error>> {
     let small = |n: i128| Some(N::try_from(n).map_err(|_| Error::Number { number: n.to_string(), wanted }));
     match value {
@@ -122,7 +124,7 @@ fn number<N: TryFrom<i128> + TryFrom<u128>>(value: &Value, wanted: &'static str)
         Value::I16(n) => small((*n).into()),
         Value::I32(n) => small((*n).into()),
         Value::I128(n) => small(*n),
-        // (no other kind has a number)
+        // (no other kind is a number)
         _ => None,
     }
 }

@@ -1,25 +1,25 @@
-//! Why there is no value.
+//! Why a conversion fails.
 use serde::{de, ser};
 use std::fmt;
 
-/// Why there is no value.
+/// Why a conversion fails.
 #[derive(Clone, Debug, PartialEq, Eq, Hash)]
 #[non_exhaustive]
 pub enum Error {
     /// Values have no floats.
     Float,
-    /// The number has no place in this type.
+    /// The number is out of the type's range.
     Number {
         /// Its digits.
         number: String,
         /// The type.
         wanted: &'static str,
     },
-    /// The key is no text, and nothing that is written as one.
+    /// The key is not a text, and can't be written as one.
     Key,
-    /// The key is there twice.
+    /// The key occurs twice.
     Twice(String),
-    /// The key isn't written as this type.
+    /// The key isn't written as a value of this type.
     KeyForm {
         /// The key.
         key: String,
@@ -28,9 +28,9 @@ pub enum Error {
     },
     /// It is nested too deep.
     TooDeep,
-    /// Such a value means something in its script alone.
+    /// Such a value only has a meaning in its script.
     NoForm(&'static str),
-    /// What a type says, or serde in its name.
+    /// A message from a type, or from serde on its behalf.
     Message(String),
 }
 

@@ -1,4 +1,4 @@
-//! Types of Rust as script values, and back, by [serde](https://serde.rs).
+//! Converts Rust types to script values, and back, with [serde](https://serde.rs).
 //!
 //! ```
 //! use rhai_world::{Error, Value};
@@ -18,28 +18,32 @@
 //! # Ok::<(), rhai_world_serde::Error>(())
 //! ```
 //!
-//! A value goes into a script by [`Scope::push`](rhai_world::Scope::push), and comes from one by
-//! [`Engine::eval`](rhai_world::Engine::eval). [`Wire`] is a value for other formats.
+//! [`Scope::push`](rhai_world::Scope::push) passes a value into a script, and
+//! [`Engine::eval`](rhai_world::Engine::eval) gets one out of it. [`Wire`] is a value for other
+//! formats.
 //!
 //! | Rust | value |
 //! |---|---|
 //! | `()`, `None`, a unit struct | unit |
 //! | `bool`, `char`, `&str`, bytes | bool, character, text, blob |
-//! | a whole number that an `i64` has | int |
+//! | an integer that fits an `i64` | int |
 //! | a sequence, a tuple | array |
 //! | a map, a struct | map |
-//! | a variant | its name as a text; with content, a map of the name to that |
+//! | a variant | its name as a text; with content, a map from the name to the content |
 //! | `Some(x)`, a newtype struct of `x` | `x` |
 //!
-//! Keys are texts. A character, a whole number, a `bool` and a variant without content become texts, as in `serde_json`.
+//! Keys are texts. A character, an integer, a `bool` and a variant without content become texts, as
+//! in `serde_json`.
 //!
-//! `examples/orders.rs` has a struct into a script, and another one out of it. The crate uses `serde`, from cargo's registry, or from Debian's
-//! packages where `host/registry` has cargo find these.
+//! `examples/orders.rs` passes a struct into a script, and gets another one out of it. The crate
+//! uses `serde`, from cargo's registry, or from Debian's packages, which `host/registry` makes
+//! available to cargo.
 //!
-//! What has no place is refused by a name in [`Error`]: a number that doesn't fit, a float both ways, a function pointer and a range of a
-//! script, a key twice, and what is nested deeper than [`LEVELS`], so that stack is bounded. Fields of untagged, internally tagged and
-//! flattened types are kept by serde in between, and there it makes a float of an int where one is wanted. Unknown fields are let go
-//! where the type doesn't deny them.
+//! What can't be converted is refused by a name in [`Error`]: a number out of range, a float in
+//! either direction, a script's function pointer or range, a duplicate key, and nesting deeper than
+//! [`LEVELS`], so that stack use is bounded. For untagged, internally tagged and flattened types
+//! serde buffers the fields, and then converts an int to a float if one is expected. Unknown fields
+//! are ignored unless the type denies them.
 #![forbid(unsafe_code)]
 #![deny(missing_docs)]
 
@@ -57,20 +61,21 @@ use rhai_world::Value;
 use serde::de::DeserializeOwned;
 use serde::Serialize;
 
-/// How deep arrays, maps, options and newtypes may be nested in each other.
+/// How deep arrays, maps, options and newtypes may nest.
 pub const LEVELS: usize = 128;
 
-/// Makes a value of one of Rust's.
+/// Converts a Rust value to a script value.
 ///
-/// Errors: a float, a number that no `i64` has, a key that is no text, a key twice, more than [`LEVELS`] levels, and what the type says.
+/// Errors: a float, a number that doesn't fit an `i64`, a key that can't be a text, a duplicate
+/// key, more than [`LEVELS`] levels, and the type's own errors.
 pub fn to_value<T: Serialize + ?Sized>(of: &T) -> Result<Value, Error> {
     of.serialize(Serializer::new())
 }
 
-/// Makes one of Rust's of a value.
+/// Converts a script value to a Rust value.
 ///
-/// Errors: a float is wanted, a number doesn't fit, a function pointer or a range is found, more than [`LEVELS`] levels, and what the
-/// type says.
+/// Errors: a float is expected, a number is out of range, a function pointer or a range is found,
+/// more than [`LEVELS`] levels, and the type's own errors.
 pub fn from_value<T: DeserializeOwned>(value: Value) -> Result<T, Error> {
     T::deserialize(Deserializer::new(value))
 }

@@ -1,4 +1,4 @@
-//! Values of what serde is told.
+//! Serializes Rust types to values.
 mod compound;
 mod key;
 
@@ -9,7 +9,7 @@ use rhai_world::{Array, Map, Value};
 use serde::Serialize;
 use std::fmt::Display;
 
-/// Makes values, as far as levels go.
+/// Serializes to values, up to a number of levels.
 ///
 /// ```
 /// use rhai_world_serde::{Error, Serializer};
@@ -24,17 +24,17 @@ pub struct Serializer {
 }
 
 impl Serializer {
-    /// Makes values of up to [`LEVELS`] levels.
+    /// Serializes up to [`LEVELS`] levels.
     pub const fn new() -> Serializer {
         Serializer::within(LEVELS)
     }
 
-    /// Makes values of up to so many levels. A thread has room for [`LEVELS`] of most types.
+    /// Serializes up to this many levels. A thread has enough stack for [`LEVELS`] of most types.
     pub const fn within(levels: usize) -> Serializer {
         Serializer { levels }
     }
 
-    /// That of what is inside.
+    /// Returns the serializer for what is inside.
     fn inside(self) -> Result<Serializer, Error> {
         self.levels.checked_sub(1).map(Serializer::within).ok_or(Error::TooDeep)
     }
@@ -46,7 +46,7 @@ impl Default for Serializer {
     }
 }
 
-/// The number as an int.
+/// Converts the number to an int.
 fn int<N: Copy + Display>(n: N) -> Result<Value, Error>
 where
     i64: TryFrom<N>,
@@ -54,7 +54,7 @@ where
     i64::try_from(n).map(Value::Int).map_err(|_| Error::Number { number: n.to_string(), wanted: "i64" })
 }
 
-/// What a variant has inside, by the variant's name.
+/// Wraps the content of a variant in a map from the variant's name.
 fn tagged(variant: &'static str, content: Value) -> Value {
     let mut map = Map::new();
     map.insert(variant, content);
@@ -172,7 +172,7 @@ impl serde::Serializer for Serializer {
     }
 }
 
-/// An array, or what a variant has of it.
+/// Makes an array, or a variant that contains it.
 fn array(variant: Option<&'static str>, items: Vec<Value>) -> Value {
     let items = Value::Array(Array::from(items));
     match variant {

@@ -1,6 +1,6 @@
-//! Values to other formats, and from these.
+//! Values for other formats, and from them.
 //!
-//! The functions are for fields of structs:
+//! The functions are for the fields of structs:
 //!
 //! ```
 //! use rhai_world::Value;
@@ -27,7 +27,7 @@ use std::collections::btree_map::Entry;
 use std::collections::BTreeMap;
 use std::fmt;
 
-/// A value that goes to other formats, as to JSON, and comes from them.
+/// A value that can be written in other formats, such as JSON, and read from them.
 ///
 /// ```
 /// use rhai_world_serde::Wire;
@@ -67,21 +67,23 @@ impl<'de> Deserialize<'de> for Wire {
     }
 }
 
-/// Tells a format the value.
+/// Serializes the value to a format.
 ///
-/// Errors: a function pointer or a range in it, more than [`LEVELS`] levels, and what the format says.
+/// Errors: a function pointer or a range in it, more than [`LEVELS`] levels, and the format's own
+/// errors.
 pub fn serialize<S: Serializer>(value: &Value, serializer: S) -> Result<S::Ok, S::Error> {
     Told { value, levels: LEVELS }.serialize(serializer)
 }
 
-/// Makes a value of what a format has. A number becomes an int.
+/// Deserializes a value from a format. A number becomes an int.
 ///
-/// Errors: a float, a number that no `i64` has, a key twice, more than [`LEVELS`] levels, and what the format says.
+/// Errors: a float, a number that doesn't fit an `i64`, a duplicate key, more than [`LEVELS`]
+/// levels, and the format's own errors.
 pub fn deserialize<'de, D: Deserializer<'de>>(deserializer: D) -> Result<Value, D::Error> {
     Wanted { levels: LEVELS }.deserialize(deserializer)
 }
 
-/// A value that is told, as far as levels go.
+/// A value to serialize, up to a number of levels.
 struct Told<'a> {
     value: &'a Value,
     levels: usize,
@@ -138,7 +140,7 @@ impl Serialize for Told<'_> {
     }
 }
 
-/// That a value is wanted, of so many levels.
+/// The seed of a value to deserialize, with its levels.
 #[derive(Clone, Copy)]
 struct Wanted {
     levels: usize,

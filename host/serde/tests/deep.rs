@@ -1,4 +1,4 @@
-//! What is nested deep.
+//! Deep nesting.
 use rhai_world::{Array, Map, Value};
 use rhai_world_serde::{from_value, to_value, Deserializer, Error, Serializer, Wire, LEVELS};
 use serde::de::IgnoredAny;

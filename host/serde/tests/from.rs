@@ -1,4 +1,4 @@
-//! Types of Rust's of values.
+//! Rust types from values.
 use rhai_world::{Array, Map, Value};
 use rhai_world_serde::{from_value, Error};
 use serde::de::IgnoredAny;
@@ -17,7 +17,7 @@ fn text(text: &str) -> Value {
     Value::from(text)
 }
 
-/// What is said of a value that isn't of the type.
+/// The message for a value that isn't of the type.
 fn refused<T: for<'de> Deserialize<'de> + std::fmt::Debug>(value: Value) -> String {
     from_value::<T>(value).unwrap_err().to_string()
 }

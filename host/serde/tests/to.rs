@@ -1,4 +1,4 @@
-//! Values of types of Rust's.
+//! Values from Rust types.
 use rhai_world::{Array, Map, Value};
 use rhai_world_serde::{to_value, Error};
 use serde::ser::SerializeMap;
@@ -113,7 +113,7 @@ fn keys_are_texts() -> Result<(), Error> {
     Ok(())
 }
 
-/// A map that tells these keys.
+/// A map that serializes these keys.
 struct Keys(&'static [&'static str]);
 
 impl Serialize for Keys {
@@ -133,7 +133,7 @@ fn no_key_is_there_twice() -> Result<(), Error> {
     Ok(())
 }
 
-/// A map that tells keys or values alone.
+/// A map that serializes only keys or only values.
 struct Half(bool);
 
 impl Serialize for Half {

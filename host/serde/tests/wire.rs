@@ -43,7 +43,7 @@ fn a_wire_is_its_value() -> Result<(), Error> {
     let value = Value::Array([Value::Blob(vec![7]), Value::Char('c'), Value::Unit].into_iter().collect());
     assert_eq!(to_value(&Wire(value.clone()))?, value);
     assert_eq!(from_value::<Wire>(value.clone())?, Wire(value));
-    // (a number of the host's becomes an int, or is refused)
+    // (a number of the host becomes an int, or is refused)
     assert_eq!(to_value(&Wire(Value::U8(7)))?, Value::Int(7));
     assert!(to_value(&Wire(Value::U64(u64::MAX))).is_err());
     assert_eq!(from_value::<Wire>(Value::I128(-7))?, Wire(Value::Int(-7)));

@@ -1,9 +1,10 @@
-//! Scripts that were read.
+//! Compiled scripts.
 use std::fmt;
 use std::sync::Arc;
 
-/// A script that an engine has read. It is a text and its number, so that it may go to other threads, and a copy costs nothing; a
-/// [`Scope`](crate::Scope) keeps the code of the one that it ran last.
+/// A script that an engine has compiled. It is a text and a number, so it can go to other threads,
+/// and a clone costs nothing. A [`Scope`](crate::Scope) keeps the code of the script that it ran
+/// last.
 #[derive(Clone)]
 pub struct Ast {
     text: Arc<str>,
@@ -15,7 +16,7 @@ impl Ast {
         Ast { text: text.into(), serial: super::serial() }
     }
 
-    /// The text of the script.
+    /// Returns the text of the script.
     pub fn text(&self) -> &str {
         &self.text
     }

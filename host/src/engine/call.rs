@@ -1,4 +1,4 @@
-//! Calls of functions of the program, while the script waits.
+//! Calls of host functions, while the script waits.
 use super::function::{Found, Standing};
 use super::functions::{Given, Refused};
 use super::scope::{Stop, Went};
@@ -7,11 +7,13 @@ use super::{Arguments, Engine, EvalError, Function, Scope, Wanted};
 use crate::value::Value;
 use std::fmt;
 
-/// A call of a function of the program by a script. As the first parameter of a function that is registered it lets that call functions of the script.
+/// A script's call of a host function. As the first parameter of a registered function it lets the
+/// function call functions of the script.
 ///
-/// What is called counts for the run: in operations, time, memory and output, and in calls within each other, of which it takes two.
-/// Sixty-four functions of the program may wait for each other. Where one of these limits ends the run, each call in it ends with that, and so does the
-/// run, whatever the functions of the program answer.
+/// Calls made through it count towards the run's limits on operations, time, memory, output and
+/// nested calls; each uses two levels of nesting. Up to sixty-four host functions may wait for each
+/// other. If one of these limits ends the run, each call in it ends with that error, and so does
+/// the run, whatever the host functions return.
 ///
 /// ```
 /// use rhai_world::{Call, Engine, EvalError, Function};
@@ -37,10 +39,11 @@ impl<'a> Call<'a> {
 }
 
 impl Call<'_> {
-    /// Calls a function of the script, and takes its value.
+    /// Calls a function of the script, and returns its value.
     ///
-    /// Errors: what nothing in the function caught; where the program's function fails with just that, the script may catch it as if it were called there.
-    /// Besides `EvalError::OtherScope`, `EvalError::NoFunction`, and what ends the run.
+    /// Errors: what nothing in the function caught; if the host function returns that same error,
+    /// the script may catch it as if it had been thrown at the call. Also `EvalError::OtherScope`,
+    /// `EvalError::NoFunction`, and whatever ends the run.
     pub fn call<T: Wanted>(&mut self, function: &Function, arguments: impl Arguments) -> Result<T, EvalError> {
         let arguments = arguments.into_values()?;
         if let Some(ended) = &self.used.ended {
@@ -67,13 +70,13 @@ impl Call<'_> {
         }
     }
 
-    /// Notes an error that ends the run, whatever the function of the program makes of it.
+    /// Records an error that ends the run, whatever the host function does with it.
     fn ends(&mut self, error: EvalError) -> EvalError {
         self.used.ended = Some(error.clone());
         error
     }
 
-    /// Calls the function of the script that has a name, and takes its value.
+    /// Calls the script's function with this name, and returns its value.
     ///
     /// Errors: those of `call`.
     pub fn call_fn<T: Wanted>(&mut self, name: &str, arguments: impl Arguments) -> Result<T, EvalError> {
@@ -81,22 +84,22 @@ impl Call<'_> {
         self.call(&function, arguments)
     }
 
-    /// The engine that runs the script.
+    /// Returns the engine that runs the script.
     pub fn engine(&self) -> &Engine {
         self.engine
     }
 
-    /// Tells the line and the column where the script calls; `None` where that isn't known.
+    /// Returns the line and the column of the script's call; `None` if it isn't known.
     pub fn line_column(&self) -> Option<(u32, u32)> {
         (self.used.line > 0).then_some((self.used.line, self.used.column))
     }
 
-    /// Tells how many operations the run took so far.
+    /// Returns the number of operations that the run has used so far.
     pub fn operations(&self) -> u64 {
         self.used.operations
     }
 
-    /// Takes the argument of a number, the first being 0.
+    /// Converts the argument of this number, counted from 0.
     pub(super) fn argument<T: Wanted>(&self, number: usize) -> Result<T, Refused> {
         match T::found(&Found::new(self.scope, Standing::Argument(number))) {
             Ok(argument) => Ok(argument),
@@ -105,14 +108,15 @@ impl Call<'_> {
         }
     }
 
-    /// Changes the first argument.
+    /// Replaces the first argument.
     pub(super) fn change(&mut self, value: &Value) -> Result<(), Refused> {
         self.scope.change(value).map_err(Refused::Ends)
     }
 
-    /// Goes on with the function that was called until it is done; gives what went wrong in it.
+    /// Continues with the called function until it is done; returns the error that it failed with,
+    /// if any.
     ///
-    /// Errors: what ends the run.
+    /// Errors: whatever ends the run.
     fn go_within(&mut self) -> Result<Option<EvalError>, EvalError> {
         loop {
             self.used.check(&self.engine.watch)?;
@@ -137,7 +141,7 @@ impl Call<'_> {
         }
     }
 
-    /// Notes how the run went on, and hands on what it printed.
+    /// Records how far the run went, and passes on what it printed.
     pub(super) fn see(&mut self, went: Went) -> Result<Stop, EvalError> {
         let Went { printed, operations, line, column, stop } = went;
         (self.used.operations, self.used.line, self.used.column) = (operations, line, column);
@@ -149,7 +153,8 @@ impl Call<'_> {
         Ok(stop)
     }
 
-    /// Calls a function of the program; gives how the run stops where the call was refused, and nothing caught that.
+    /// Calls a host function; returns how the run stopped if the call failed and nothing caught
+    /// that.
     pub(super) fn answer(&mut self, function: usize) -> Result<Option<Stop>, EvalError> {
         self.used.refused = None;
         let (within, engine) = (self.used.within, self.engine);
@@ -159,7 +164,7 @@ impl Call<'_> {
         }
         let answered = match answered {
             Ok(answered) => answered,
-            // (what panicked was called by a run within, which doesn't stand any more where it would go on)
+            // (the panic came through a nested call, which can no longer be continued)
             Err(panic) if self.used.within != within => std::panic::resume_unwind(panic),
             Err(_) => Err(Refused::Thrown(PANICKED.to_owned())),
         };
@@ -180,7 +185,7 @@ impl Call<'_> {
     }
 }
 
-/// What a function that panics is refused with.
+/// The error of a call whose function panicked.
 const PANICKED: &str = "a function of the host panicked";
 
 impl fmt::Debug for Call<'_> {

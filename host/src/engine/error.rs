@@ -1,22 +1,23 @@
-//! Why a script gives no value.
+//! Why a script returns no value.
 use crate::error::Error;
 use crate::render::rendered;
 use crate::value::{NoIntError, TryFromValueError, Value};
 use std::convert::Infallible;
 use std::fmt;
 
-/// How many of the functions under way an error tells at most: the innermost.
+/// The most active functions that an error lists: the innermost ones.
 pub(super) const MOST_CALLS: usize = 64;
 
-/// A function of a script that was under way when a run ended, or is under way where one stands.
+/// An active function of a script, where a run ended or is paused.
 #[derive(Clone, Debug, PartialEq, Eq, Hash)]
 #[non_exhaustive]
 pub struct CallPlace {
-    /// Its name; that of the statements outside of functions is empty, and that of a closure begins with `anon$`.
+    /// The name: empty for the statements outside functions; the name of a closure begins with `anon$`.
     pub function: String,
-    /// The line where it stands: where the run stands or went wrong, or where the next inner function is called; 0 where there is no place.
+    /// The line where the run is or failed, or where this function called the next inner one; 0 if
+    /// there is no position.
     pub line: u32,
-    /// The place on that line.
+    /// The column on that line.
     pub column: u32,
 }
 
@@ -34,120 +35,121 @@ impl fmt::Display for CallPlace {
     }
 }
 
-/// Why a script gives no value. Lines and columns count from 1; both are 0 where there is no place.
+/// Why a script returns no value. Lines and columns count from 1; both are 0 if there is no
+/// position.
 #[derive(Clone, Debug, PartialEq, Eq, Hash)]
 #[non_exhaustive]
 pub enum EvalError {
-    /// The text is no script.
+    /// The text is not a valid script.
     Syntax {
         /// What is wrong with it.
         message: String,
-        /// The line on which it is wrong.
+        /// The line of the mistake.
         line: u32,
-        /// The place on that line.
+        /// The column of the mistake.
         column: u32,
     },
-    /// Something went wrong when it ran, and nothing in the script caught it.
+    /// The script failed while running, and nothing in it caught the error.
     Runtime {
         /// What went wrong.
         message: String,
         /// The line where it went wrong.
         line: u32,
-        /// The place on that line.
+        /// The column where it went wrong.
         column: u32,
-        /// The functions under way, the innermost first.
+        /// The active functions, the innermost first.
         calls: Vec<CallPlace>,
     },
-    /// It took as many operations as it may.
+    /// The run used all operations of its limit.
     TooManyOperations {
-        /// The line where it stood.
+        /// The line where it was.
         line: u32,
-        /// The place on that line.
+        /// The column where it was.
         column: u32,
-        /// The functions under way, the innermost first.
+        /// The active functions, the innermost first.
         calls: Vec<CallPlace>,
     },
-    /// It took as long as it may.
+    /// The run used all time of its limit.
     TooMuchTime {
-        /// The line where it stood.
+        /// The line where it was.
         line: u32,
-        /// The place on that line.
+        /// The column where it was.
         column: u32,
-        /// The functions under way, the innermost first.
+        /// The active functions, the innermost first.
         calls: Vec<CallPlace>,
     },
-    /// It printed more than it may.
+    /// The run printed more than its limit.
     TooMuchOutput {
-        /// The line where it stood.
+        /// The line where it was.
         line: u32,
-        /// The place on that line.
+        /// The column where it was.
         column: u32,
-        /// The functions under way, the innermost first.
+        /// The active functions, the innermost first.
         calls: Vec<CallPlace>,
     },
-    /// What it printed couldn't be written to standard output.
+    /// Its output couldn't be written to standard output.
     NotPrinted {
-        /// Why.
+        /// The reason.
         why: String,
-        /// The line where it stood.
+        /// The line where it was.
         line: u32,
-        /// The place on that line.
+        /// The column where it was.
         column: u32,
-        /// The functions under way, the innermost first.
+        /// The active functions, the innermost first.
         calls: Vec<CallPlace>,
     },
     /// An [`Interrupt`](crate::Interrupt) was pulled.
     Interrupted {
-        /// The line where it stood.
+        /// The line where it was.
         line: u32,
-        /// The place on that line.
+        /// The column where it was.
         column: u32,
-        /// The functions under way, the innermost first.
+        /// The active functions, the innermost first.
         calls: Vec<CallPlace>,
     },
-    /// The program ended it, when it was asked by [`Engine::on_progress`](crate::Engine::on_progress).
+    /// The callback of [`Engine::on_progress`](crate::Engine::on_progress) ended the run.
     Terminated {
-        /// What the program gave for a reason.
+        /// The reason that the callback gave.
         reason: Value,
-        /// The line where it stood.
+        /// The line where it was.
         line: u32,
-        /// The place on that line.
+        /// The column where it was.
         column: u32,
-        /// The functions under way, the innermost first.
+        /// The active functions, the innermost first.
         calls: Vec<CallPlace>,
     },
-    /// The value isn't taken as the type that was wanted.
+    /// The value can't be converted to the requested type.
     Mismatch(TryFromValueError),
-    /// A number that was handed over is no int.
+    /// A number that the program passed doesn't fit an int.
     NoInt(NoIntError),
-    /// The script has no function of this name for so many arguments.
+    /// The script has no function with this name and number of arguments.
     NoFunction {
         /// The name.
         name: String,
         /// The number of arguments.
         arguments: usize,
     },
-    /// The [`Function`](crate::Function) is another scope's.
+    /// The [`Function`](crate::Function) belongs to another scope.
     OtherScope,
-    /// Memory was refused.
+    /// An allocation failed.
     OutOfMemory {
-        /// The line where it stood.
+        /// The line where the run was.
         line: u32,
-        /// The place on that line.
+        /// The column where the run was.
         column: u32,
-        /// The functions under way, the innermost first.
+        /// The active functions, the innermost first.
         calls: Vec<CallPlace>,
     },
-    /// The run has ended before.
+    /// The run had already ended.
     Ended,
-    /// The library has another handle than this crate was built for.
+    /// The library's handle has another layout than the one this crate was built for.
     OtherLibrary,
-    /// The library answered what it doesn't promise.
+    /// The library returned something that its contract excludes.
     Unexpected,
 }
 
 impl EvalError {
-    /// The line and the column, where there is a place.
+    /// Returns the line and the column, if there is a position.
     pub fn position(&self) -> Option<(u32, u32)> {
         match self {
             EvalError::Syntax { line, column, .. }
@@ -170,10 +172,10 @@ impl EvalError {
     }
 }
 
-/// The functions under way.
+/// The active functions.
 impl EvalError {
-    /// The functions of the script that were under way when the run ended, the innermost first, 64 of them at most. There are none where no
-    /// run ended, or memory was refused for them.
+    /// Returns the functions of the script that were active when the run ended, the innermost first,
+    /// at most 64. The list is empty if no run ended, or if an allocation for it failed.
     ///
     /// ```
     /// use rhai_world::Engine;
@@ -204,7 +206,7 @@ impl EvalError {
         }
     }
 
-    /// Notes the functions that are under way, where the error tells none yet.
+    /// Adds the active functions, if the error lists none yet.
     pub(super) fn note_calls(&mut self, under_way: impl FnOnce() -> Vec<CallPlace>) {
         match self {
             EvalError::Runtime { calls, .. }
@@ -231,21 +233,22 @@ impl EvalError {
     }
 }
 
-/// What is told of an error.
+/// How library results become errors.
 impl EvalError {
-    /// The line, where there is a place.
+    /// Returns the line, if there is a position.
     pub fn line(&self) -> Option<u32> {
         self.position().map(|(line, _)| line)
     }
 
-    /// The place on the line, where there is one.
+    /// Returns the column, if there is a position.
     pub fn column(&self) -> Option<u32> {
         self.position().map(|(_, column)| column)
     }
 
-    /// Renders the error for who wrote the script, of which this is the text: the message, the line behind its number, and a caret beneath
-    /// the column. Columns count characters, however wide these are. Without a place, or such a line, it is the message alone. The
-    /// functions under way are told by [`calls`](EvalError::calls).
+    /// Renders the error for the author of the script, whose text is given: the message, the
+    /// numbered line, and a caret below the column. Columns count characters, whatever their width.
+    /// Without a position, or without such a line, it is only the message.
+    /// [`calls`](EvalError::calls) lists the active functions.
     ///
     /// ```
     /// use rhai_world::Engine;
@@ -304,7 +307,7 @@ impl From<NoIntError> for EvalError {
     }
 }
 
-/// What always becomes a value.
+/// Conversions that can't fail.
 impl From<Infallible> for EvalError {
     fn from(never: Infallible) -> EvalError {
         match never {}

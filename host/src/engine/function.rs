@@ -1,17 +1,20 @@
-//! Functions of scripts in the program's hands.
+//! Functions of scripts, held by the program.
 use super::functions::Wanted;
 use super::{Arguments, Ast, Call, Engine, EvalError, Run, Scope};
 use crate::value::{TryFromValueError, Value};
 use std::fmt;
 use std::sync::{Arc, Mutex, MutexGuard, PoisonError};
 
-/// A function of a script, as `Fn("name")`, `|x| x + y` and `name` there are: what rhai calls `FnPtr`.
+/// A function of a script, such as `Fn("name")`, `|x| x + y` or `name`. In rhai it is `FnPtr`.
 ///
-/// It comes from a [`Scope`], whose variables it may share, as an argument of a function that is registered, as what a script comes to, or
-/// out of a variable. That scope keeps what it has captured until the last clone of it is dropped: what the function writes is seen by the script and by other
-/// functions, in later runs too. Another scope refuses it with [`EvalError::OtherScope`], and so does each once that scope is dropped.
+/// It belongs to a [`Scope`], whose variables it may share. It comes from an argument of a
+/// registered function, the value of a script, or a variable. The scope keeps what the function has
+/// captured until its last clone is dropped: the script and other functions see what it writes, in
+/// later runs too. Another scope refuses it with [`EvalError::OtherScope`], and so does every scope
+/// once its own is dropped.
 ///
-/// While a function of the program is called, [`Call::call`] calls it. Otherwise `call` does, for the script that it was made by, read by any engine.
+/// During a call of a host function use [`Call::call`] to call it. Otherwise use `call` with the
+/// script that made it, compiled by any engine.
 ///
 /// ```
 /// use rhai_world::{Engine, EvalError, Function, Scope};
@@ -30,7 +33,7 @@ pub struct Function {
     root: Arc<Root>,
 }
 
-/// That a scope keeps a function.
+/// The share in a function that a scope keeps; dropped with the last clone.
 struct Root {
     number: usize,
     ledger: Arc<Ledger>,
@@ -40,12 +43,12 @@ impl Drop for Root {
     fn drop(&mut self) {
         let mut entries = self.ledger.entries();
         entries.live = entries.live.saturating_sub(1);
-        // (its room is there since the function was kept)
+        // (its capacity was reserved when the function was kept)
         entries.dropped.push(self.number);
     }
 }
 
-/// What a scope knows of its functions: it lets those go that were dropped when it is used next.
+/// A scope's record of functions that were dropped; the scope frees them the next time it is used.
 #[derive(Default)]
 pub(super) struct Ledger {
     entries: Mutex<Entries>,
@@ -62,31 +65,32 @@ impl Ledger {
         self.entries.lock().unwrap_or_else(PoisonError::into_inner)
     }
 
-    /// Makes room for one more function to be noted when it is dropped.
+    /// Reserves capacity to record one more dropped function.
     pub(super) fn reserve(&self) -> Result<(), EvalError> {
         let mut entries = self.entries();
         let more = entries.live.saturating_add(1);
         entries.dropped.try_reserve(more).map_err(|_| EvalError::OutOfMemory { line: 0, column: 0, calls: Vec::new() })
     }
 
-    /// The function of a number, which the library keeps.
+    /// Makes the handle of a function that the library keeps under this number.
     pub(super) fn function(ledger: &Arc<Ledger>, number: usize) -> Function {
         let mut entries = ledger.entries();
         entries.live = entries.live.saturating_add(1);
         Function { root: Arc::new(Root { number, ledger: Arc::clone(ledger) }) }
     }
 
-    /// Takes the number of a function that was dropped.
+    /// Takes the number of one dropped function.
     pub(super) fn take(&self) -> Option<usize> {
         self.entries().dropped.pop()
     }
 }
 
 impl Function {
-    /// Calls the function over the variables of its scope, whose script this is, without running the script itself.
+    /// Calls the function over the variables of its scope, without running the script itself. `ast`
+    /// is the script that made it.
     ///
-    /// Errors: what ended the call; `EvalError::OtherScope`; `EvalError::NoFunction`, where it takes another number of arguments, or was made by
-    /// another script.
+    /// Errors: whatever ended the call; `EvalError::OtherScope`; `EvalError::NoFunction`, if it
+    /// takes another number of arguments, or another script made it.
     pub fn call<T: Wanted>(
         &self,
         engine: &Engine,
@@ -97,12 +101,12 @@ impl Function {
         Run::begin_function(engine, scope, ast, self, arguments.into_values()?)?.finish()
     }
 
-    /// Calls the function while one of the program is called, as [`Call::call`] does.
+    /// Calls the function during a call of a host function, as [`Call::call`] does.
     pub fn call_within_context<T: Wanted>(&self, call: &mut Call<'_>, arguments: impl Arguments) -> Result<T, EvalError> {
         call.call(self, arguments)
     }
 
-    /// Its number, for the scope that has this ledger.
+    /// Returns its number, if the scope with this ledger keeps it.
     pub(super) fn number(&self, ledger: &Arc<Ledger>) -> Result<usize, EvalError> {
         if Arc::ptr_eq(&self.root.ledger, ledger) {
             Ok(self.root.number)
@@ -113,7 +117,7 @@ impl Function {
 }
 
 impl Wanted for Function {
-    /// Refuses the value: one of Rust's has no part in what a script shares.
+    /// Fails: a Rust value has no part in what a script shares.
     fn wanted(value: Value) -> Result<Function, TryFromValueError> {
         Err(TryFromValueError::of_type(value, "Function"))
     }
@@ -126,7 +130,7 @@ impl Wanted for Function {
     }
 }
 
-/// Tells whether they are clones of each other.
+/// Compares identity: equal if they are clones of each other.
 impl PartialEq for Function {
     fn eq(&self, other: &Function) -> bool {
         Arc::ptr_eq(&self.root, &other.root)
@@ -141,19 +145,19 @@ impl fmt::Debug for Function {
     }
 }
 
-/// A value where it stands in a scope, before it is taken as a type of Rust's.
+/// A value in a scope, before its conversion to a Rust type.
 #[derive(Debug)]
 pub struct Found<'a> {
     scope: &'a Scope,
     place: Standing,
 }
 
-/// Where a value stands.
+/// Where a value is.
 #[derive(Clone, Copy, Debug)]
 pub(super) enum Standing {
-    /// Among the arguments of a function of the program.
+    /// Among the arguments of a host function.
     Argument(usize),
-    /// As what a run, or a call within it, has just come to.
+    /// The value that a run, or a call within it, has just returned.
     Value,
     /// Among the variables.
     Variable(usize),
@@ -164,9 +168,9 @@ impl<'a> Found<'a> {
         Found { scope, place }
     }
 
-    /// The value, without what it shares.
+    /// Returns the value, without what it shares.
     ///
-    /// Errors: want of memory.
+    /// Errors: an allocation fails.
     pub fn value(&self) -> Result<Value, EvalError> {
         match self.place {
             Standing::Argument(number) => self.scope.argument(number),
@@ -175,9 +179,9 @@ impl<'a> Found<'a> {
         }
     }
 
-    /// The function that it is, if it is one.
+    /// Returns the function, if the value is one.
     ///
-    /// Errors: want of memory.
+    /// Errors: an allocation fails.
     pub fn function(&self) -> Result<Option<Function>, EvalError> {
         match self.place {
             Standing::Argument(number) => self.scope.keep(0, number),

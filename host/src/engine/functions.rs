@@ -1,4 +1,4 @@
-//! Functions of the program that scripts call.
+//! Host functions that scripts call.
 use super::function::Found;
 use super::{Call, EvalError, Function};
 use crate::value::{TryFromValueError, Value};
@@ -7,17 +7,18 @@ use std::fmt::Display;
 use std::marker::PhantomData;
 use std::panic::{catch_unwind, AssertUnwindSafe};
 
-/// A type of Rust's that a [`Value`] is taken as: each with a `TryFrom<Value>` whose error is a [`TryFromValueError`], and `Value` itself. A
-/// [`Function`] is one too, which is taken where it stands in a scope alone.
+/// A Rust type that a [`Value`] can be converted to: a type with a `TryFrom<Value>` whose error is
+/// a [`TryFromValueError`], and `Value` itself. [`Function`] is one too; it converts only from a
+/// value in a scope.
 pub trait Wanted: Sized {
-    /// Takes a value.
+    /// Converts a value.
     ///
-    /// Errors: the value is of another type, or is a number that the type doesn't have.
+    /// Errors: the value is of another type, or is a number out of the type's range.
     fn wanted(value: Value) -> Result<Self, TryFromValueError>;
 
-    /// Takes a value that stands in a scope.
+    /// Converts a value in a scope.
     ///
-    /// Errors: those of `wanted`, and want of memory.
+    /// Errors: those of `wanted`, and an allocation that fails.
     fn found(found: &Found<'_>) -> Result<Self, EvalError> {
         Ok(Self::wanted(found.value()?)?)
     }
@@ -29,7 +30,7 @@ impl<T: TryFrom<Value, Error: Into<TryFromValueError>>> Wanted for T {
     }
 }
 
-/// A value that isn't wanted, and isn't read.
+/// A value that is ignored, and not read.
 pub(super) struct Unread;
 
 impl Wanted for Unread {
@@ -42,7 +43,7 @@ impl Wanted for Unread {
     }
 }
 
-/// What a function of the program answers with.
+/// What a host function returns.
 #[derive(Debug)]
 pub enum Given {
     /// A value.
@@ -51,33 +52,33 @@ pub enum Given {
     Function(Function),
 }
 
-/// Why a function of the program has no answer.
+/// Why a host function failed.
 #[derive(Debug)]
 pub enum Refused {
-    /// This is thrown where the script calls.
+    /// An error that is thrown where the script calls.
     Thrown(String),
-    /// This ends the run.
+    /// An error that ends the run.
     Ends(EvalError),
 }
 
-/// What a function of the program may answer: what becomes a [`Value`], a [`Function`], or a `Result` of either and an error that is shown. `K` tells these
-/// apart.
+/// What a host function may return: anything that converts to a [`Value`], a [`Function`], or a
+/// `Result` of either and an error that implements `Display`. `K` separates these implementations.
 pub trait Answers<K> {
-    /// Makes an answer of it.
+    /// Converts the result.
     ///
-    /// Errors: what it fails with; a number is no int.
+    /// Errors: the function's own error; a number that doesn't fit an int.
     fn given(self) -> Result<Given, Refused>;
 }
 
-/// The mark of answers that become values.
+/// Marks results that convert to values.
 #[derive(Debug)]
 pub struct Plain;
 
-/// The mark of answers that may be errors.
+/// Marks results that may be errors.
 #[derive(Debug)]
 pub struct Fallible<K>(PhantomData<K>);
 
-/// The mark of functions of scripts as answers.
+/// Marks functions of scripts as results.
 #[derive(Debug)]
 pub struct Kept;
 
@@ -102,11 +103,13 @@ impl<K, R: Answers<K>, E: Display> Answers<Fallible<K>> for Result<R, E> {
     }
 }
 
-/// A function of Rust's that scripts may call: up to six parameters, each of a type that a [`Value`] is taken as, and an answer that becomes
-/// a [`Value`], or a `Result` of one and an error that is shown. A number that is no int is thrown as such an error. Before the parameters it may take a
-/// `&mut` [`Call`], and the first one may be taken as `&mut`. `A` is the list of its parameters' types, and `K` tells the kinds of answers apart.
+/// A Rust function that scripts may call. It takes up to six parameters of types that a [`Value`]
+/// converts to. It returns something that converts to a [`Value`], or a `Result` of such and an
+/// error that implements `Display`. A number that doesn't fit an int is thrown as such an error. It
+/// may take a `&mut` [`Call`] before the parameters, and the first parameter as `&mut`. `A` is the
+/// list of parameter types, and `K` separates the kinds of results.
 pub trait HostFn<A, K>: Send + Sync + 'static {
-    /// How many parameters it has.
+    /// The number of parameters.
     const PARAMETERS: usize;
 
     /// Whether it may change the first argument.
@@ -114,19 +117,19 @@ pub trait HostFn<A, K>: Send + Sync + 'static {
 
     /// Calls it with the arguments of the script's call.
     ///
-    /// Errors: what it fails with; an argument that isn't of its parameter's type.
+    /// Errors: the function's own error; an argument that isn't of its parameter's type.
     fn call(&self, call: &mut Call<'_>) -> Result<Given, Refused>;
 }
 
-/// The list of the parameters of a function that takes a [`Call`] before these.
+/// The parameter list of a function that takes a [`Call`] before it.
 #[derive(Debug)]
 pub struct WithCall<A>(PhantomData<A>);
 
-/// The list of the parameters of a function whose first one is changed.
+/// The parameter list of a function that changes its first argument.
 #[derive(Debug)]
 pub struct Changing<A>(PhantomData<A>);
 
-/// Gives the first argument back, which was changed.
+/// Writes the changed first argument back.
 fn put_back<M: TryInto<Value, Error: Display>>(call: &mut Call<'_>, changed: M) -> Result<(), Refused> {
     match changed.try_into() {
         Ok(value) => call.change(&value),
@@ -215,9 +218,9 @@ macro_rules! changing {
 
 /// Arguments for a function of a script: a tuple of up to six, or a list of values.
 pub trait Arguments {
-    /// Makes values of the arguments.
+    /// Converts the arguments to values.
     ///
-    /// Errors: a number is no int.
+    /// Errors: a number doesn't fit an int.
     fn into_values(self) -> Result<Vec<Value>, EvalError>;
 }
 
@@ -246,10 +249,10 @@ changing! {
     6: B 1, C 2, D 3, G 4, H 5;
 }
 
-/// What is called for a function of the program.
+/// The closure that is called for a host function.
 type Called = Box<dyn Fn(&mut Call<'_>) -> Result<Given, Refused> + Send + Sync>;
 
-/// A function that an engine knows.
+/// A function that is registered with an engine.
 pub(crate) struct Registered {
     name: String,
     parameters: usize,
@@ -267,17 +270,17 @@ impl Registered {
         }
     }
 
-    /// Whether scripts would call either by the same call.
+    /// Whether one call of a script could mean either.
     pub(crate) fn is_like(&self, other: &Registered) -> bool {
         self.name == other.name && self.parameters == other.parameters
     }
 
-    /// How it is named for the library.
+    /// Returns the line that names it for the library.
     pub(crate) fn line(&self) -> String {
         format!("{} {}{}\n", self.name, self.parameters, if self.changes { " mut" } else { "" })
     }
 
-    /// Calls it; gives its panic where it panics.
+    /// Calls it; returns the panic if it panics.
     pub(crate) fn call(&self, call: &mut Call<'_>) -> Result<Result<Given, Refused>, Box<dyn Any + Send>> {
         catch_unwind(AssertUnwindSafe(|| (self.call)(call)))
     }

@@ -1,4 +1,4 @@
-//! What a scope does with functions that it keeps for the program.
+//! How a scope keeps functions for the program.
 use super::function::Ledger;
 use super::{EvalError, Function, Scope};
 use crate::error::{done, Error};
@@ -7,7 +7,8 @@ use crate::value::Value;
 
 /// Functions that are kept for the program.
 impl Scope {
-    /// Keeps the function that stands at a place, if it is one: at source 0 an argument of this number, at 1 what a run came to, at 2 a variable.
+    /// Keeps the function at a place, if there is one: at source 0 an argument of this number, at 1
+    /// the value of a run, at 2 a variable.
     pub(super) fn keep(&self, source: u32, at: usize) -> Result<Option<Function>, EvalError> {
         self.let_go();
         self.ledger.reserve()?;
@@ -19,9 +20,10 @@ impl Scope {
         }
     }
 
-    /// Makes a pointer to the function of a name, as `Fn(name)` does in a script. Whether a script has such a function shows where it is called.
+    /// Makes a pointer to the function with a name, as `Fn(name)` does in a script. Whether the
+    /// script has such a function shows only when it is called.
     ///
-    /// Errors: want of memory.
+    /// Errors: an allocation fails.
     ///
     /// ```
     /// use rhai_world::{Engine, EvalError, Scope};
@@ -41,20 +43,21 @@ impl Scope {
         Ok(Ledger::function(&self.ledger, number))
     }
 
-    /// Lets go of the functions that the program has dropped.
+    /// Frees the functions that the program has dropped.
     pub(super) fn let_go(&self) {
         while let Some(number) = self.ledger.take() {
-            // (a kept function is let go once; there is nothing to say where there is none)
+            // (a kept function is freed once, so an error here can't happen, and could not be
+            // reported)
             let _status = sys::function_let_go(&self.world.handle, number);
         }
     }
 
-    /// Refuses a function of another scope.
+    /// Fails for a function of another scope.
     pub(super) fn owns(&self, function: &Function) -> Result<(), EvalError> {
         function.number(&self.ledger).map(drop)
     }
 
-    /// Begins a call of a function of this scope.
+    /// Starts a call of a function of this scope.
     pub(super) fn call_function(&mut self, function: &Function, arguments: Vec<Value>) -> Result<(), EvalError> {
         let number = function.number(&self.ledger)?;
         let count = arguments.len();
@@ -66,7 +69,7 @@ impl Scope {
         }
     }
 
-    /// Answers the call of a registered function with one of the scope's.
+    /// Passes a function of the scope to the script that called a registered function.
     pub(super) fn answer_function(&mut self, function: &Function) -> Result<(), EvalError> {
         let number = function.number(&self.ledger)?;
         Ok(done(sys::function_answer(&self.world.handle, number))?)

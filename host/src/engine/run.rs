@@ -1,4 +1,4 @@
-//! Runs that stand, and go on by pieces.
+//! Paused runs, and their execution in pieces.
 use super::error::MOST_CALLS;
 use super::function::{Found, Standing};
 use super::scope::Stop;
@@ -9,33 +9,34 @@ use crate::value::Value;
 use std::fmt;
 use std::mem::replace;
 
-/// How far a run came.
+/// How far a run got.
 #[derive(Clone, Debug, PartialEq, Eq, Hash)]
 pub enum Progress {
     /// To its end, with this value.
     Done(Value),
-    /// As far as it might: it may go on.
+    /// To the end of its piece: it may continue.
     Paused,
-    /// To a statement that is done next, where the run stops at these: it may go on.
+    /// To the next statement, if it stops before statements: it may continue.
     Statement {
         /// The line of the statement.
         line: u32,
-        /// The place on that line.
+        /// The column of the statement.
         column: u32,
     },
 }
 
-/// How far a run came, with its value as a type of Rust's.
+/// How far a run got, with its value as a Rust type.
 enum Came<T> {
     Done(T),
     Paused,
     Statement { line: u32, column: u32 },
 }
 
-/// A run of a script, which goes on by as many operations as it is told. Functions of the program are answered meanwhile.
+/// A run of a script that executes as many operations at a time as it is given. It calls host
+/// functions meanwhile.
 ///
-/// While it is there, it has the variables of its scope. They are back, as they stand by then, once it is done, has ended by an error, or
-/// is dropped.
+/// While it exists, it has the variables of its scope. The scope has them back, with their current
+/// values, once the run is done, failed, or dropped.
 ///
 /// ```
 /// use rhai_world::{Engine, EvalError, Progress, Scope, Value};
@@ -58,9 +59,9 @@ enum Came<T> {
 pub struct Run<'a> {
     engine: &'a Engine,
     scope: &'a mut Scope,
-    /// The function that is called once the statements outside of functions are done.
+    /// The function to call after the statements outside functions.
     function: Option<(String, Vec<Value>)>,
-    /// How many variables stay at the end, where not all do.
+    /// How many variables are left at the end, if not all.
     stay: Option<usize>,
     stands: bool,
     stops: bool,
@@ -75,7 +76,7 @@ impl<'a> Run<'a> {
         Ok(run)
     }
 
-    /// Begins a run that calls a function of the scope, and nothing else of the script.
+    /// Starts a run that only calls a function of the scope.
     pub(super) fn begin_function(
         engine: &'a Engine,
         scope: &'a mut Scope,
@@ -91,7 +92,8 @@ impl<'a> Run<'a> {
         Ok(run)
     }
 
-    /// Begins a run that calls a function at its end. Of the variables, those that were there before stay.
+    /// Starts a run that calls a function at its end. It keeps only the variables that existed
+    /// before.
     pub(super) fn begin_call(
         engine: &'a Engine,
         scope: &'a mut Scope,
@@ -106,10 +108,11 @@ impl<'a> Run<'a> {
         Ok(run)
     }
 
-    /// Goes on by up to so many operations, and tells how far it came. The room of values that are made counts as operations too, so that it
-    /// may be past that many by the ones of its last operation.
+    /// Continues for at most this many operations, and returns how far it got. The size of new
+    /// values counts as operations too, so the last operation may go past the limit by that size.
     ///
-    /// Errors: what ended the run, which goes on no more; `EvalError::Ended` where it had ended before.
+    /// Errors: whatever ended the run, which can't continue; `EvalError::Ended` if it had ended
+    /// before.
     pub fn go(&mut self, operations: u64) -> Result<Progress, EvalError> {
         Ok(match self.piece(operations)? {
             Came::Done(value) => Progress::Done(value),
@@ -118,7 +121,7 @@ impl<'a> Run<'a> {
         })
     }
 
-    /// Goes on by a piece, and takes the value where it is done.
+    /// Executes one piece, and converts the value if the run is done.
     fn piece<T: Wanted>(&mut self, operations: u64) -> Result<Came<T>, EvalError> {
         if !self.stands {
             return Err(EvalError::Ended);
@@ -136,7 +139,7 @@ impl<'a> Run<'a> {
         gone
     }
 
-    /// Goes on to its end.
+    /// Continues to its end.
     pub(super) fn finish<T: Wanted>(mut self) -> Result<T, EvalError> {
         loop {
             if let Came::Done(value) = self.piece(u64::MAX)? {
@@ -145,7 +148,7 @@ impl<'a> Run<'a> {
         }
     }
 
-    /// Has the run stop before each statement, or no longer: `go` answers `Progress::Statement` there.
+    /// Sets whether the run stops before each statement. `go` then returns `Progress::Statement`.
     ///
     /// Errors: `EvalError::Ended`.
     pub fn stop_at_statements(&mut self, stops: bool) -> Result<(), EvalError> {
@@ -156,22 +159,22 @@ impl<'a> Run<'a> {
         self.scope.stop_at_statements(stops || self.engine.stops_at_statements())
     }
 
-    /// Tells how many operations it took so far.
+    /// Returns the number of operations that it has used so far.
     pub fn operations(&self) -> u64 {
         self.used.operations
     }
 
-    /// Tells the line and the column where it stands, once it went on; `None` where it is done.
+    /// Returns the line and the column where it is, once it has started; `None` if it is done.
     pub fn line_column(&self) -> Option<(u32, u32)> {
         (self.used.line > 0).then_some((self.used.line, self.used.column))
     }
 
-    /// Tells how much memory the scope holds by now.
+    /// Returns how much memory the scope holds now.
     pub fn memory(&self) -> Memory {
         self.scope.memory()
     }
 
-    /// Looks at the functions of the script that are under way, the innermost first: the last one is the script itself.
+    /// Returns the active functions of the script, the innermost first; the last is the script itself.
     ///
     /// ```
     /// use rhai_world::{Engine, EvalError, Progress, Scope, Value};
@@ -192,18 +195,18 @@ impl<'a> Run<'a> {
         self.scope.calls_under_way(usize::MAX)
     }
 
-    /// Looks at the variables in sight of a function under way, by its number in [`calls`](Run::calls), with their values: from the newest to
-    /// the oldest, so that a hidden one comes behind the one that hides it. There are none where no such function is under way.
+    /// Returns the visible variables of an active function, given by its number in [`calls`](Run::calls), with their values: from the newest
+    /// to the oldest, so that a shadowed one comes after the one that shadows it. The list is empty if there is no such function.
     ///
-    /// Errors: want of memory; `EvalError::Unexpected` where a value holds itself.
+    /// Errors: an allocation fails; `EvalError::Unexpected` if a value contains itself.
     pub fn variables(&self, call: usize) -> Result<Vec<(String, Value)>, EvalError> {
         self.scope.variables_in_sight(call)
     }
 }
 
-/// How it goes on.
+/// How it continues.
 impl Run<'_> {
-    /// Goes on until it took so many operations, is done, or is to stop.
+    /// Continues until it has used this many operations, is done, or has to stop.
     fn advance<T: Wanted>(&mut self, until: u64) -> Result<Came<T>, EvalError> {
         loop {
             self.used.check(&self.engine.watch)?;
@@ -240,12 +243,12 @@ impl Run<'_> {
         }
     }
 
-    /// What answers calls of the program's functions.
+    /// What serves calls of host functions.
     fn call(&mut self) -> Call<'_> {
         Call::new(self.engine, self.scope, &mut self.used)
     }
 
-    /// Gives the variables back.
+    /// Gives the variables back to the scope.
     fn end(&mut self) -> Result<(), EvalError> {
         if !replace(&mut self.stands, false) {
             return Ok(());
@@ -260,7 +263,7 @@ impl Run<'_> {
 
 impl Drop for Run<'_> {
     fn drop(&mut self) {
-        // (no end is refused but that of a closed world, and a scope's is open)
+        // (ending a run fails only for a closed world, and a scope's world is open)
         let _ended = self.end();
     }
 }

@@ -10,10 +10,11 @@ use crate::world::World;
 use std::fmt;
 use std::sync::Arc;
 
-/// Variables that live on between runs, with all that closures share. A later one hides an earlier one of its name.
+/// Variables that outlive a run, with everything that closures share. A later one hides an earlier
+/// one of the same name.
 ///
-/// It stays on the thread that made it. A closure in it is called by the script that made it alone, in another run of the same text; another
-/// script is told that there is no such function.
+/// It stays on the thread that made it. Only the script that made a closure can call it, in another
+/// run of the same text; for another script there is no such function.
 ///
 /// ```
 /// use rhai_world::{Engine, EvalError, Scope};
@@ -28,19 +29,19 @@ use std::sync::Arc;
 /// ```
 pub struct Scope {
     pub(super) world: World,
-    /// The script and the engine that the code is of that the library has.
+    /// The script and the engine whose code the library has.
     compiled: Option<(u64, u64)>,
     /// The functions that it keeps for the program.
     pub(super) ledger: Arc<Ledger>,
 }
 
-/// How a run went on.
+/// How a run got on.
 pub(crate) struct Went {
     /// What it printed.
     pub(crate) printed: String,
-    /// How many operations it took so far.
+    /// How many operations it has used so far.
     pub(crate) operations: u64,
-    /// Where it stands; 0 where it is done.
+    /// Where it is; 0 if it is done.
     pub(crate) line: u32,
     pub(crate) column: u32,
     pub(crate) stop: Stop,
@@ -58,32 +59,32 @@ pub(crate) enum Stop {
     Fault {
         message: String,
     },
-    /// A function that one of the program called is done, and that one still waits.
+    /// A function called from a host function is done, and the host function still waits.
     Answered,
-    /// It went wrong, and that one still waits.
+    /// Such a function failed, and the host function still waits.
     Refused {
         message: String,
     },
 }
 
 impl Scope {
-    /// Makes a scope of no variables.
+    /// Makes a scope without variables.
     pub fn new() -> Result<Scope, EvalError> {
         Ok(Scope { world: World::new(Limits::default())?, compiled: None, ledger: Arc::default() })
     }
 
     /// Declares a variable.
     ///
-    /// Errors: want of memory; a number is no int. There is no such variable then.
+    /// Errors: an allocation fails; a number doesn't fit an int. The variable isn't declared then.
     pub fn push(&mut self, name: &str, value: impl TryInto<Value, Error: Into<EvalError>>) -> Result<&mut Scope, EvalError> {
         let bytes = value.try_into().map_err(Into::into)?.to_bytes()?;
         done(sys::variable_push(&self.world.handle, name.as_bytes(), &bytes))?;
         Ok(self)
     }
 
-    /// Writes over the newest variable of a name, or declares one where there is none.
+    /// Overwrites the newest variable with the name, or declares one if there is none.
     ///
-    /// Errors: want of memory; a number is no int. Nothing changes then.
+    /// Errors: an allocation fails; a number doesn't fit an int. Nothing changes then.
     pub fn set(&mut self, name: &str, value: impl TryInto<Value, Error: Into<EvalError>>) -> Result<&mut Scope, EvalError> {
         let Some(number) = self.find(name)? else {
             return self.push(name, value);
@@ -93,14 +94,16 @@ impl Scope {
         Ok(self)
     }
 
-    /// The value of the newest variable of a name as a type of Rust's, if there is one, and if it is of that type. `try_get` tells why not.
+    /// Returns the value of the newest variable with the name, converted to a Rust type, if there
+    /// is one and it is of that type. `try_get` says why not.
     pub fn get<T: Wanted>(&self, name: &str) -> Option<T> {
         self.try_get(name).ok().flatten()
     }
 
-    /// The value of the newest variable of a name as a type of Rust's: `Ok(None)` where there is no such variable.
+    /// Returns the value of the newest variable with the name, converted to a Rust type; `Ok(None)`
+    /// if there is no such variable.
     ///
-    /// Errors: `EvalError::Mismatch`, where the value isn't of that type; want of memory.
+    /// Errors: `EvalError::Mismatch` if the value isn't of that type; an allocation fails.
     ///
     /// ```
     /// use rhai_world::{EvalError, Scope};
@@ -118,7 +121,7 @@ impl Scope {
         }
     }
 
-    /// The value of the newest variable of a name, if there is one.
+    /// Returns the value of the newest variable with the name, if there is one.
     pub fn value(&self, name: &str) -> Result<Option<Value>, EvalError> {
         match self.find(name)? {
             Some(number) => self.value_at(number).map(Some),
@@ -126,34 +129,35 @@ impl Scope {
         }
     }
 
-    /// The value of the variable of this number, the oldest being 0.
+    /// Returns the value of the variable of this number, the oldest being 0.
     pub(crate) fn value_at(&self, number: usize) -> Result<Value, EvalError> {
         let mut told = Told::default();
         let status = sys::variable_value(&self.world.handle, number, &mut told);
         Ok(Value::from_bytes(&self.world.bytes(status, &told)?)?)
     }
 
-    /// How many variables there are.
+    /// Returns the number of variables.
     pub fn len(&self) -> usize {
         sys::variable_count(&self.world.handle)
     }
 
-    /// Whether there is no variable.
+    /// Returns whether there are no variables.
     pub fn is_empty(&self) -> bool {
         self.len() == 0
     }
 
-    /// The names of the variables, the oldest first.
+    /// Returns the names of the variables, oldest first.
     pub fn names(&self) -> Result<Vec<String>, EvalError> {
         (0..self.len()).map(|number| self.name(number)).collect()
     }
 
-    /// Ends the variables that came since there were so many.
+    /// Keeps the oldest `count` variables, and drops the newer ones.
     pub fn rewind(&mut self, count: usize) -> Result<(), EvalError> {
         Ok(done(sys::variable_rewind(&self.world.handle, count))?)
     }
 
-    /// Tells how much memory the scope holds: its variables, the script that was run last, and what that answered.
+    /// Returns how much memory the scope holds: its variables, the last script that ran, and that
+    /// script's last result.
     pub fn memory(&self) -> Memory {
         self.let_go();
         self.world.memory()
@@ -177,7 +181,7 @@ impl Scope {
 
 /// Runs.
 impl Scope {
-    /// Has the library read a script for these variables, in as much memory as the engine allows.
+    /// Has the library compile a script for these variables, within the engine's memory limit.
     pub(crate) fn compile(&mut self, ast: &Ast, engine: &Engine) -> Result<(), EvalError> {
         self.world.set_max_memory(engine.limits().memory);
         let compiled = self.compile_within(ast, engine);
@@ -198,7 +202,8 @@ impl Scope {
         Ok(())
     }
 
-    /// Begins a run of a script, which `end` ends, also where it fails. Until then the scope may hold as much memory as the engine allows.
+    /// Starts a run of a script; `end` ends it, also if this fails. Until then the engine's memory
+    /// limit applies to the scope.
     pub(crate) fn begin(&mut self, ast: &Ast, engine: &Engine, with_body: bool) -> Result<(), EvalError> {
         self.let_go();
         self.world.set_max_memory(engine.limits().memory);
@@ -213,7 +218,7 @@ impl Scope {
         }
     }
 
-    /// Begins a run of the script that was read last, if it was read for these variables.
+    /// Starts a run of the script that was compiled last, if it was compiled for these variables.
     fn begins(&mut self, engine: &Engine, with_body: bool) -> Result<bool, EvalError> {
         let (text, items) = engine.limits().numbers();
         match done(sys::script_begin(&self.world.handle, text, items, engine.entries(), engine.calls(), with_body)) {
@@ -228,7 +233,7 @@ impl Scope {
         }
     }
 
-    /// Begins a call of a function of the script.
+    /// Starts a call of a function of the script.
     pub(crate) fn call(&mut self, name: &str, arguments: Vec<Value>) -> Result<(), EvalError> {
         let count = arguments.len();
         let arguments = Value::from(arguments).to_bytes()?;
@@ -239,12 +244,12 @@ impl Scope {
         }
     }
 
-    /// Has the run stop before each statement, or no longer.
+    /// Sets whether the run stops before each statement.
     pub(crate) fn stop_at_statements(&mut self, stops: bool) -> Result<(), EvalError> {
         Ok(done(sys::script_stop_at_statements(&self.world.handle, stops))?)
     }
 
-    /// Goes on with the run by up to so many operations.
+    /// Continues the run for at most this many operations.
     pub(crate) fn go(&mut self, operations: u64) -> Result<Went, EvalError> {
         let mut stop = ScriptStop::default();
         done(sys::script_go(&self.world.handle, operations, &mut stop))?;
@@ -268,52 +273,53 @@ impl Scope {
         Ok(Went { printed, operations, line, column, stop })
     }
 
-    /// The value that the run came to.
+    /// Returns the value of the run.
     pub(crate) fn last_value(&self) -> Result<Value, EvalError> {
         let mut told = Told::default();
         let status = sys::script_value(&self.world.handle, &mut told);
         Ok(Value::from_bytes(&self.world.bytes(status, &told)?)?)
     }
 
-    /// An argument that a registered function is called with.
+    /// Returns an argument of the registered function being called.
     pub(crate) fn argument(&self, number: usize) -> Result<Value, EvalError> {
         let mut told = Told::default();
         let status = sys::script_argument(&self.world.handle, number, &mut told);
         Ok(Value::from_bytes(&self.world.bytes(status, &told)?)?)
     }
 
-    /// Answers the call of a registered function.
+    /// Passes a value to the script that called a registered function.
     pub(crate) fn answer(&mut self, value: &Value) -> Result<(), EvalError> {
         Ok(done(sys::script_answer(&self.world.handle, &value.to_bytes()?))?)
     }
 
-    /// Refuses the call of a registered function: the script catches that and goes on, which is told as a pause, or the run ends.
+    /// Fails the call of a registered function: either the script catches the error and continues,
+    /// which is reported as a pause, or the run ends.
     pub(crate) fn refuse(&mut self, why: &str) -> Result<Went, EvalError> {
         let mut stop = ScriptStop::default();
         done(sys::script_refuse(&self.world.handle, why.as_bytes(), &mut stop))?;
         self.went(&stop)
     }
 
-    /// Refuses it with a value, as if the script threw that.
+    /// Fails the call with a value, as if the script had thrown it.
     pub(crate) fn throw(&mut self, value: &Value) -> Result<Went, EvalError> {
         let mut stop = ScriptStop::default();
         done(sys::script_throw(&self.world.handle, &value.to_bytes()?, &mut stop))?;
         self.went(&stop)
     }
 
-    /// Changes the first argument that a registered function is called with.
+    /// Replaces the first argument of the registered function being called.
     pub(crate) fn change(&mut self, value: &Value) -> Result<(), EvalError> {
         Ok(done(sys::script_change(&self.world.handle, &value.to_bytes()?))?)
     }
 
-    /// Ends the run, if one stands: the variables are here again, and may be read and written without a cap on memory.
+    /// Ends the run, if there is one: the scope has its variables back, without a limit on memory.
     pub(crate) fn end(&mut self) -> Result<(), EvalError> {
         self.let_go();
         self.world.set_max_memory(None);
         Ok(done(sys::script_end(&self.world.handle))?)
     }
 
-    /// What a run printed, and what is said of its stop.
+    /// What a run printed, and the text of why it stopped.
     fn texts(&self, stop: &ScriptStop) -> Result<(String, String), EvalError> {
         if stop.printed == 0 && stop.said == 0 {
             return Ok((String::new(), String::new()));

@@ -1,11 +1,11 @@
-//! What is seen of a run that stands: the functions under way, and their variables.
+//! Inspection of a paused run: the active functions, and their variables.
 use super::{CallPlace, EvalError, Scope};
 use crate::error::{done, Error};
 use crate::sys::{self, Told};
 use crate::value::Value;
 
 impl Scope {
-    /// The functions under way, the innermost first, as many as there are and as are asked for; fewer where memory is refused.
+    /// Returns the active functions, the innermost first, at most this many; fewer if an allocation fails.
     pub(super) fn calls_under_way(&self, most: usize) -> Vec<CallPlace> {
         (0..most).map_while(|number| self.call_under_way(number).ok().flatten()).collect()
     }
@@ -20,7 +20,7 @@ impl Scope {
         Ok(Some(CallPlace { function, line: number(line), column: number(column) }))
     }
 
-    /// The variables in sight of a function under way, from the newest to the oldest.
+    /// Returns the visible variables of an active function, from the newest to the oldest.
     pub(super) fn variables_in_sight(&self, function: usize) -> Result<Vec<(String, Value)>, EvalError> {
         let (mut variables, mut before) = (Vec::new(), usize::MAX);
         loop {
@@ -36,7 +36,7 @@ impl Scope {
         }
     }
 
-    /// The text of an answer; `None` where the call found nothing.
+    /// Returns the text of an answer; `None` if the call found nothing.
     fn text_there(&self, status: u32, told: &Told) -> Result<Option<String>, EvalError> {
         match done(status) {
             Ok(()) => String::from_utf8(self.world.bytes(status, told)?).map(Some).map_err(|_| EvalError::Unexpected),

@@ -1,11 +1,12 @@
-//! Looks at all variables of a scope, and changes of several.
+//! Access to all variables of a scope, and changes of several.
 use super::{EvalError, Scope};
 use crate::value::Value;
 use std::iter::FusedIterator;
 
-/// The variables of a scope by their names, from the oldest to the newest. A later one hides an earlier one of its name from scripts.
+/// The variables of a scope with their names, oldest first. A later one hides an earlier one of the
+/// same name from scripts.
 ///
-/// Errors: want of memory for one of them.
+/// Errors: an allocation fails for one of them.
 #[derive(Clone, Debug)]
 pub struct Variables<'a> {
     scope: &'a Scope,
@@ -59,9 +60,9 @@ impl<'a> IntoIterator for &'a Scope {
     }
 }
 
-/// Several variables at once. (`FromIterator` and `Extend` can't say that memory is refused.)
+/// Several variables at once. (`FromIterator` and `Extend` can't report a failed allocation.)
 impl Scope {
-    /// Makes a scope of these variables, the oldest first.
+    /// Makes a scope with these variables, oldest first.
     ///
     /// ```
     /// use rhai_world::{Engine, EvalError, Scope};
@@ -82,7 +83,7 @@ impl Scope {
         Ok(scope)
     }
 
-    /// Declares these variables. After an error there is none of them.
+    /// Declares these variables. After an error none of them is declared.
     pub fn extend<N: AsRef<str>, V: TryInto<Value, Error: Into<EvalError>>>(
         &mut self,
         variables: impl IntoIterator<Item = (N, V)>,
@@ -98,17 +99,17 @@ impl Scope {
         Ok(self)
     }
 
-    /// Ends all variables.
+    /// Drops all variables.
     pub fn clear(&mut self) -> Result<(), EvalError> {
         self.rewind(0)
     }
 
-    /// Tells whether there is a variable of a name.
+    /// Returns whether there is a variable with the name.
     pub fn contains(&self, name: &str) -> Result<bool, EvalError> {
         Ok(self.find(name)?.is_some())
     }
 
-    /// Goes through the names with their values, from the oldest to the newest.
+    /// Iterates over the names and their values, oldest first.
     pub fn iter(&self) -> Variables<'_> {
         Variables { scope: self, next: 0, end: self.len() }
     }

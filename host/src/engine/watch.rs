@@ -1,4 +1,4 @@
-//! What runs are watched for: operations, time, output, interrupts, and what the program says of their progress.
+//! What is watched in a run: operations, time, output, interrupts, and the progress callback.
 use super::{Engine, EvalError};
 use crate::value::Value;
 use std::fmt;
@@ -6,15 +6,17 @@ use std::sync::atomic::{AtomicU64, Ordering};
 use std::sync::Arc;
 use std::time::{Duration, Instant};
 
-/// After so many operations at most a run is looked at.
+/// The most operations between two checks of a run.
 const AT_ONCE: u64 = 1_024 * 1_024;
 
-/// The same, where more is watched than operations.
+/// The same, if anything besides operations is watched.
 const WATCHED_AT_ONCE: u64 = 1_024;
 
-/// Ends the runs of an engine that are under way, from any thread. A script can't catch that; the variables stay.
+/// Ends the unfinished runs of an engine, from any thread. A script can't catch it, and the
+/// variables keep their values.
 ///
-/// A run that only stands, as a [`Run`](crate::Run) between two pieces, is under way too. Those that begin later aren't touched.
+/// A run that is paused, as a [`Run`](crate::Run) between two pieces, is unfinished too. Runs that
+/// start later are not affected.
 ///
 /// ```
 /// use rhai_world::{Engine, EvalError};
@@ -37,9 +39,10 @@ impl Interrupt {
         Interrupt { pulls: Arc::new(AtomicU64::new(0)) }
     }
 
-    /// Ends each run that is under way, within 1,024 operations. A function of the program that is called meanwhile answers first.
+    /// Ends each unfinished run within 1,024 operations. A host function that is being called
+    /// returns first.
     ///
-    /// Cost: one atomic operation, so that a signal handler may call it.
+    /// Cost: one atomic operation, so a signal handler may call it.
     pub fn pull(&self) {
         self.pulls.fetch_add(1, Ordering::Release);
     }
@@ -48,16 +51,16 @@ impl Interrupt {
         self.pulls.load(Ordering::Acquire)
     }
 
-    /// Whether anyone beside the engine may pull it.
+    /// Whether anyone except the engine holds it.
     fn is_held(&self) -> bool {
         Arc::strong_count(&self.pulls) > 1
     }
 }
 
-/// What is asked as runs go on, with the operations that they took.
+/// The progress callback, called with the operations used so far.
 type OnProgress = Box<dyn Fn(u64) -> Option<Value> + Send + Sync>;
 
-/// What an engine watches its runs for; 0 is no limit.
+/// What an engine watches its runs for; 0 means no limit.
 pub(super) struct Watch {
     operations: u64,
     time: Duration,
@@ -75,7 +78,7 @@ impl Watch {
         !self.time.is_zero()
     }
 
-    /// How many operations a run is granted at once.
+    /// How many operations a run may execute before the next check.
     fn at_once(&self) -> u64 {
         if self.has_time() || self.output != 0 || self.on_progress.is_some() || self.interrupt.is_held() {
             WATCHED_AT_ONCE
@@ -95,17 +98,20 @@ impl fmt::Debug for Watch {
     }
 }
 
-/// Limits on runs, and ways to end them. None of these errors can be caught by a script, and the variables stay after each of them.
+/// Limits on runs, and ways to end them. No script can catch these errors, and the variables keep
+/// their values after each of them.
 impl Engine {
-    /// Limits how many operations a run may take; 0 is no limit. A run that wants more ends with [`EvalError::TooManyOperations`].
+    /// Limits the operations of a run; 0 means no limit. A run that needs more ends with
+    /// [`EvalError::TooManyOperations`].
     pub fn set_max_operations(&mut self, operations: u64) -> &mut Engine {
         self.watch.operations = operations;
         self
     }
 
-    /// Limits how long a run may take, with the functions of the program that it calls; zero is no limit. The time between the pieces of a
-    /// [`Run`](crate::Run) doesn't count. A run that is at it longer ends within 1,024 operations, with [`EvalError::TooMuchTime`]; a
-    /// function of the program that is called meanwhile answers first.
+    /// Limits the time of a run, including the host functions that it calls; zero means no limit.
+    /// Time between the pieces of a [`Run`](crate::Run) doesn't count. A run that takes longer ends
+    /// within 1,024 operations, with [`EvalError::TooMuchTime`]; a host function that is being
+    /// called returns first.
     ///
     /// ```
     /// use rhai_world::{Engine, EvalError};
@@ -120,10 +126,12 @@ impl Engine {
         self
     }
 
-    /// Limits how many bytes a run may print in all, line feeds among them; 0 is no limit. Lines up to that are handed on; the run ends with
-    /// [`EvalError::TooMuchOutput`] in the place of the first one that is past it.
+    /// Limits the bytes that a run may print in all, including line feeds; 0 means no limit. Lines
+    /// within the limit are passed on; at the first line past it the run ends with
+    /// [`EvalError::TooMuchOutput`].
     ///
-    /// What is printed is handed on each 1,024 operations, and before a function of the program is called: it doesn't stand in memory whole.
+    /// Output is passed on every 1,024 operations, and before each call of a host function: it is
+    /// never all in memory.
     ///
     /// ```
     /// use rhai_world::{Engine, EvalError};
@@ -137,8 +145,9 @@ impl Engine {
         self
     }
 
-    /// Has a function be asked as runs go on, with the operations that the run took so far: after each 1,024 at most, and after each call of
-    /// a function of the program. Where it gives a reason, the run ends with that, as [`EvalError::Terminated`].
+    /// Sets a callback that is called during runs, with the operations used so far: at least every
+    /// 1,024 operations, and after each call of a host function. If it returns a reason, the run
+    /// ends with [`EvalError::Terminated`] and that reason.
     ///
     /// ```
     /// use rhai_world::{Engine, EvalError, Value};
@@ -153,38 +162,39 @@ impl Engine {
         self
     }
 
-    /// Gives a handle by which other threads end the runs of this engine. While there is one, runs are looked at each 1,024 operations;
-    /// one that was under way before that is looked at after 1,048,576 first.
+    /// Returns a handle with which other threads can end the runs of this engine. While one exists,
+    /// runs check for it every 1,024 operations; a run that had started before may first execute up
+    /// to 1,048,576.
     pub fn interrupt(&self) -> Interrupt {
         self.watch.interrupt.clone()
     }
 }
 
-/// What a run took of what it is watched for.
+/// What a run has used of its limits.
 #[derive(Debug)]
 pub(super) struct Used {
     pub(super) operations: u64,
-    /// Where it stands; 0 is nowhere.
+    /// Where it is; 0 is nowhere.
     pub(super) line: u32,
     pub(super) column: u32,
-    /// How long its pieces took, and when the one began that is under way.
+    /// How long its pieces took, and when the current one began.
     time: Duration,
     since: Option<Instant>,
     output: u64,
-    /// How often the interrupt was pulled before it began.
+    /// How often the interrupt had been pulled before the run started.
     pulls: u64,
-    /// How many operations were told last.
+    /// The number of operations last reported to the callback.
     told: u64,
-    /// How many calls of functions of scripts stand within each other.
+    /// How deep calls of functions of scripts are nested.
     pub(super) within: usize,
-    /// What went wrong last in such a call, as it is shown and as a script sees it.
+    /// The last error in such a call, as it is shown and as a script sees it.
     pub(super) refused: Option<(String, Value)>,
-    /// What ended the run in such a call.
+    /// The error that ended the run in such a call.
     pub(super) ended: Option<EvalError>,
 }
 
 impl Used {
-    /// Nothing yet, of a run that begins.
+    /// The counts of a run that starts.
     pub(super) fn new(watch: &Watch) -> Used {
         let pulls = watch.interrupt.pulls();
         Used {
@@ -202,7 +212,7 @@ impl Used {
         }
     }
 
-    /// Begins a piece.
+    /// Starts a piece.
     pub(super) fn begin_piece(&mut self, watch: &Watch) {
         self.since = watch.has_time().then(Instant::now);
     }
@@ -218,13 +228,13 @@ impl Used {
         self.time.saturating_add(piece)
     }
 
-    /// How many operations the run is granted next, where it may take so many in all.
+    /// How many operations the run may execute next, if it may use this many in all.
     pub(super) fn granted(&self, watch: &Watch, until: u64) -> u64 {
         let most = if watch.operations == 0 { until } else { until.min(watch.operations) };
         most.saturating_sub(self.operations).min(watch.at_once())
     }
 
-    /// That the run may go on.
+    /// Fails if the run may not continue.
     pub(super) fn check(&mut self, watch: &Watch) -> Result<(), EvalError> {
         let (line, column) = (self.line, self.column);
         if watch.interrupt.pulls() != self.pulls {
@@ -251,7 +261,7 @@ impl Used {
         ask(self.operations)
     }
 
-    /// Counts a line that is printed, and tells whether it may be.
+    /// Counts a printed line; fails if it is past the limit.
     pub(super) fn print(&mut self, watch: &Watch, line: &str) -> Result<(), EvalError> {
         self.output = self.output.saturating_add(line.len() as u64);
         if watch.output != 0 && self.output > watch.output {

@@ -13,32 +13,33 @@ pub struct Account {
 }
 
 thread_local! {
-    /// The account of the call under way on this thread; null while there is none.
+    /// The account of the call on this thread; null if there is none.
     static CURRENT: Cell<*const Account> = const { Cell::new(null()) };
 }
 
 impl Account {
-    /// Makes one that holds nothing, without a cap.
+    /// Makes an account that holds nothing, without a limit.
     pub const fn new() -> Account {
         Account { held: Cell::new(0), most: Cell::new(0), cap: Cell::new(usize::MAX) }
     }
 
-    /// Caps what may be held. What is held already stays.
+    /// Limits what may be held. What is already held is kept.
     pub fn set_cap(&self, bytes: Option<NonZeroUsize>) {
         self.cap.set(bytes.map_or(usize::MAX, NonZeroUsize::get));
     }
 
-    /// Tells how many bytes are held.
+    /// Returns how many bytes are held.
     pub fn held(&self) -> usize {
         self.held.get()
     }
 
-    /// Tells the most bytes that were held.
+    /// Returns the most bytes that were held at any time.
     pub fn most(&self) -> usize {
         self.most.get()
     }
 
-    /// Counts what the doors give and take here, until the guard is dropped: then the account before is the current one again.
+    /// Counts allocations here, until the guard is dropped: then the previous account is the
+    /// current one again.
     #[inline]
     pub fn enter(&self) -> Entered<'_> {
         Entered { before: CURRENT.replace(self), account: PhantomData }
@@ -59,7 +60,7 @@ impl Account {
     }
 }
 
-/// While it is there, an account is the current one of its thread.
+/// While it exists, an account is the current one of its thread.
 pub struct Entered<'a> {
     before: *const Account,
     account: PhantomData<&'a Account>,
@@ -72,19 +73,19 @@ impl Drop for Entered<'_> {
     }
 }
 
-/// Whether the current account may hold so many bytes more; none is any.
+/// Whether the current account may hold this many bytes more; without one, any number.
 #[inline]
 pub fn has_room(bytes: usize) -> bool {
     current(|account| account.has_room(bytes)).unwrap_or(true)
 }
 
-/// Counts a block that was made.
+/// Counts a block that was allocated.
 #[inline]
 pub fn take(bytes: usize) {
     current(|account| account.take(bytes));
 }
 
-/// Counts a block that is given back.
+/// Counts a block that is freed.
 #[inline]
 pub fn give(bytes: usize) {
     current(|account| account.give(bytes));
@@ -92,8 +93,8 @@ pub fn give(bytes: usize) {
 
 #[inline]
 fn current<T>(work: impl FnOnce(&Account) -> T) -> Option<T> {
-    // SAFETY: it is null or an account that a guard of this thread borrows: each guard puts back what was there before it, and they end
-    // in the other order than they began, also where a panic passes.
+    // SAFETY: it is null or an account that a guard of this thread borrows. Each guard restores
+    // what was there before it, and guards end in reverse order, also during a panic.
     unsafe { CURRENT.get().as_ref() }.map(work)
 }
 

@@ -1,13 +1,15 @@
-//! The three doors by which the library asks for memory: C's `malloc`, `realloc` and `free`, which align a block to 16 bytes. Each block is
-//! counted for the world whose call is under way, and refused where that would hold more than it may.
+//! The three functions through which the library allocates: C's `malloc`, `realloc` and `free`,
+//! which align a block to 16 bytes. Each block counts for the world whose call is running, and is
+//! refused if that world would hold more than it may.
 use super::account;
 use super::blocks;
 use std::ffi::c_void;
 
-/// To how many bytes C's functions align a block, so that the library may ask for no more. (A block that is given back has no alignment told.)
+/// The alignment of blocks from C's functions, and the most that the library may ask for. (A block
+/// is freed without its alignment.)
 const ALIGN: usize = 16;
 
-/// Whether there is memory, and where. Where there is none, the address is still not null.
+/// Whether the allocation succeeded, and where. If it failed, the address is still not null.
 #[repr(C)]
 struct Tried {
     is_there: bool,
@@ -33,7 +35,8 @@ fn at_least(size: usize, align: usize) -> usize {
     }
 }
 
-// SAFETY: the name is the library's for this door, and no other item of the program has it: `SAFETY.md` says so of a second such library.
+// SAFETY: the library expects this function under this name, and no other item of the program has
+// the name: `SAFETY.md` treats a second such library.
 #[unsafe(no_mangle)]
 extern "C" fn rattle_alloc(size: usize, align: usize) -> Tried {
     let size = at_least(size, align);
@@ -42,35 +45,37 @@ extern "C" fn rattle_alloc(size: usize, align: usize) -> Tried {
     }
     let at = blocks::make(size);
     if !at.is_null() {
-        // SAFETY: it was just made.
+        // SAFETY: it was just allocated.
         account::take(unsafe { blocks::size(at) });
     }
     Tried::of(at)
 }
 
-// SAFETY: as of `rattle_alloc`.
+// SAFETY: as for `rattle_alloc`.
 #[unsafe(no_mangle)]
 unsafe extern "C" fn rattle_realloc(at: *mut c_void, _kept: usize, size: usize, align: usize) -> Tried {
     let size = at_least(size, align);
-    // SAFETY: the library passes a block that one of these doors gave, and that it has not given back.
+    // SAFETY: the library passes a block that one of these functions returned, and that it has not
+    // freed.
     let before = unsafe { blocks::size(at) };
     if is_refused() || !account::has_room(size.saturating_sub(before)) {
         return Tried::of(std::ptr::null_mut());
     }
-    // SAFETY: as above. The library uses the old one no more where there is a new one, and keeps it where there is none.
+    // SAFETY: as above. The library no longer uses the old block if there is a new one, and keeps
+    // it otherwise.
     let new = unsafe { blocks::resize(at, size) };
     if !new.is_null() {
         account::give(before);
-        // SAFETY: it was just made.
+        // SAFETY: it was just allocated.
         account::take(unsafe { blocks::size(new) });
     }
     Tried::of(new)
 }
 
-// SAFETY: as of `rattle_alloc`.
+// SAFETY: as for `rattle_alloc`.
 #[unsafe(no_mangle)]
 unsafe extern "C" fn rattle_dealloc(at: *mut c_void) {
-    // SAFETY: the library passes a block that one of these doors gave, once.
+    // SAFETY: the library passes a block that one of these functions returned, once.
     account::give(unsafe { blocks::size(at) });
     // SAFETY: the same.
     unsafe { blocks::free(at) }
@@ -94,8 +99,8 @@ mod faults {
         static SO_FAR: Cell<u64> = const { Cell::new(0) };
     }
 
-    /// Does the work, in which the request for memory of this number, counted from 0, is refused, and each later one too where it
-    /// lasts. Tells how many requests were made.
+    /// Does the work; the allocation of this number, counted from 0, fails, and so does each later
+    /// one if `lasts` is set. Returns how many allocations were tried.
     pub fn refuse<T>(nth: u64, lasts: bool, work: impl FnOnce() -> T) -> (T, u64) {
         NTH.set(nth);
         LASTS.set(lasts);
@@ -129,12 +134,12 @@ mod tests {
         unsafe { block.at.cast::<[u8; 1_000]>().write([7; 1_000]) };
         let held = account.held();
         assert!(!rattle_alloc(10_000, 8).is_there && !rattle_alloc(usize::MAX, 8).is_there);
-        // SAFETY: the block is there still.
+        // SAFETY: the block was not freed.
         let refused = unsafe { rattle_realloc(block.at, 1_000, 20_000, 8) };
         assert!(!refused.is_there && account.held() == held);
         // SAFETY: it has as many bytes.
         assert_eq!(unsafe { block.at.cast::<[u8; 1_000]>().read() }, [7; 1_000]);
-        // SAFETY: it is given back once.
+        // SAFETY: it is freed once.
         unsafe { rattle_dealloc(block.at) };
         assert_eq!((account.held(), account.most()), (0, held));
     }
@@ -145,13 +150,13 @@ mod tests {
         let _entered = account.enter();
         let block = rattle_alloc(100_000, 8);
         account.set_cap(NonZeroUsize::new(10));
-        // SAFETY: the block is there still.
+        // SAFETY: the block was not freed.
         let smaller = unsafe { rattle_realloc(block.at, 100_000, 100, 8) };
         assert!(smaller.is_there && account.held() >= 100 && account.held() < 100_000);
         // SAFETY: the same.
         let larger = unsafe { rattle_realloc(smaller.at, 100, 50_000, 8) };
         assert!(!larger.is_there);
-        // SAFETY: it is given back once.
+        // SAFETY: it is freed once.
         unsafe { rattle_dealloc(smaller.at) };
         assert_eq!(account.held(), 0);
     }

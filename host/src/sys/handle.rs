@@ -1,11 +1,13 @@
-//! What stands for a world on this side.
+//! The Rust side of a world.
 use super::account::{Account, Entered};
 use super::exports;
 use std::cell::UnsafeCell;
 
-/// A world, or none, and the account of its memory. All zero is none. The library alone looks at what is held, and only while a call has it.
+/// A world, or none, and the account of its memory. All zeros is none. Only the library reads the
+/// contents, and only during a call.
 ///
-/// It stays on its thread: it is no `Sync` by its cells, and no `Send` by its address.
+/// It stays on its thread: it isn't `Sync` because of its cells, and isn't `Send` because of its
+/// address.
 #[repr(C)]
 pub struct Handle {
     held: UnsafeCell<Held>,
@@ -23,12 +25,12 @@ impl Handle {
         Handle { held: UnsafeCell::new(Held { is_open: false, at: std::ptr::null_mut() }), account: Account::new() }
     }
 
-    /// Whether the library takes as much room for a handle as this side gives it.
+    /// Whether the library's handle has the size that this crate gives it.
     pub fn fits() -> bool {
         exports::handle_size() == size_of::<Held>() && exports::handle_align() == align_of::<Held>()
     }
 
-    /// Lends what is the library's, for one call. What that asks for is counted here.
+    /// Gives the library its part for one call, and counts what the call allocates here.
     #[inline]
     pub(super) fn lent(&self) -> Lent<'_> {
         Lent { at: self.held.get().cast(), _entered: self.account.enter() }
@@ -39,14 +41,14 @@ impl Handle {
     }
 }
 
-/// A handle while the library has it.
+/// A handle while the library uses it.
 pub(super) struct Lent<'a> {
     at: *mut Handle,
     _entered: Entered<'a>,
 }
 
 impl Lent<'_> {
-    /// Where it is.
+    /// Returns its address.
     #[inline]
     pub(super) fn at(&self) -> *mut Handle {
         self.at

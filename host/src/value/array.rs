@@ -4,7 +4,7 @@ use super::Value;
 use std::fmt;
 use std::mem::take;
 
-/// Values in order, as an array or what a function pointer has curried.
+/// Values in order: an array, or the curried values of a function pointer.
 ///
 /// ```
 /// use rhai_world::{Array, Value};
@@ -19,17 +19,17 @@ pub struct Array {
 }
 
 impl Array {
-    /// Makes an empty one.
+    /// Makes an empty array.
     pub const fn new() -> Array {
         Array { items: Vec::new() }
     }
 
-    /// How many values there are.
+    /// Returns the number of values.
     pub fn len(&self) -> usize {
         self.items.len()
     }
 
-    /// Whether there is none.
+    /// Returns whether there are no values.
     pub fn is_empty(&self) -> bool {
         self.items.is_empty()
     }
@@ -39,27 +39,27 @@ impl Array {
         self.items.push(value);
     }
 
-    /// The values.
+    /// Borrows the values as a slice.
     pub fn as_slice(&self) -> &[Value] {
         &self.items
     }
 
-    /// The values, which may be changed.
+    /// Borrows the values as a mutable slice.
     pub fn as_mut_slice(&mut self) -> &mut [Value] {
         &mut self.items
     }
 
-    /// Lends the values in order.
+    /// Iterates over the values in order.
     pub fn iter(&self) -> std::slice::Iter<'_, Value> {
         self.items.iter()
     }
 
-    /// Lends the values in order, which may be changed.
+    /// Iterates over the values in order, by mutable reference.
     pub fn iter_mut(&mut self) -> std::slice::IterMut<'_, Value> {
         self.items.iter_mut()
     }
 
-    /// The values as a vector.
+    /// Returns the values as a vector.
     pub fn into_vec(mut self) -> Vec<Value> {
         take(&mut self.items)
     }

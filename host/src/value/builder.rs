@@ -1,10 +1,10 @@
-//! Values that are made from their heads.
+//! Builds values from their heads.
 use super::head::Head;
 use super::{Array, Map, Value};
 use crate::error::Error;
 use crate::world::copied;
 
-/// A value under way: those that want further values inside, from the outermost on.
+/// A value being built: the containers that still lack values, outermost first.
 #[derive(Default)]
 pub(crate) struct Builder {
     open: Vec<Open>,
@@ -17,7 +17,7 @@ struct Open {
     left: usize,
 }
 
-/// What has values inside.
+/// A container.
 enum Shell {
     Array(Vec<Value>),
     Map(Vec<(String, Value)>),
@@ -42,7 +42,7 @@ impl Shell {
 }
 
 impl Builder {
-    /// The value, once it is whole.
+    /// Returns the value, once it is complete.
     pub(crate) fn whole(self) -> Option<Value> {
         self.whole
     }
@@ -56,7 +56,7 @@ impl Builder {
         self.open.last().is_some_and(|top| matches!(top.shell, Shell::Map(_)))
     }
 
-    /// Adds the next value. What is inside it comes behind it.
+    /// Adds the next value. Its children follow it.
     pub(crate) fn add(&mut self, key: &str, head: Head<'_>) -> Result<(), Error> {
         let key = copied(key)?;
         match head {
@@ -80,14 +80,15 @@ impl Builder {
         Ok(())
     }
 
-    /// Puts a whole value into its place, and each that becomes whole by it.
+    /// Puts a complete value into its container, and each container that this completes into its
+    /// own.
     fn close(&mut self, key: String, value: Value) {
         let (mut key, mut value) = (key, value);
         while let Some(mut top) = self.open.pop() {
             top.shell.add(key, value);
             top.left -= 1;
             if top.left > 0 {
-                // (its room is there still)
+                // (its capacity is still there)
                 self.open.push(top);
                 return;
             }

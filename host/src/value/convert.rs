@@ -1,4 +1,4 @@
-//! Values of and as types of Rust's: those that have no others inside.
+//! Conversions of values from and to Rust types without values inside.
 use super::misfit::TryFromValueError;
 use super::{Array, Map, Value};
 use std::ops::{Range, RangeInclusive};

@@ -1,10 +1,10 @@
-//! What a value is but for what is inside.
+//! A value without its children.
 use super::{Array, Map, Value};
 use crate::error::Error;
 use crate::world::copied;
 use std::slice;
 
-/// A value that has none inside.
+/// A value without children.
 #[derive(Clone, Copy, Debug, PartialEq, Eq, Hash)]
 pub(crate) enum Leaf<'a> {
     Unit,
@@ -26,7 +26,7 @@ pub(crate) enum Leaf<'a> {
     RangeWithEnd(i64, i64),
 }
 
-/// A value with the number of values inside in place of these.
+/// A value with the number of its children in their place.
 #[derive(Clone, Copy, Debug, PartialEq, Eq, Hash)]
 pub(crate) enum Head<'a> {
     Leaf(Leaf<'a>),
@@ -70,7 +70,7 @@ impl Value {
         })
     }
 
-    /// The name of the value's kind, as it is told.
+    /// Returns the name of the value's kind, for messages.
     pub(crate) fn kind_name(&self) -> &'static str {
         match self {
             Value::Unit => "()",
@@ -104,7 +104,7 @@ impl Value {
         }
     }
 
-    /// The values inside, each with its key in a map.
+    /// Returns the children, each with its key if it is in a map.
     pub(crate) fn children(&self) -> Children<'_> {
         match self.parts() {
             Parts::Leaf(_) => Children::Values([].iter()),
@@ -123,7 +123,7 @@ impl Value {
 }
 
 impl Leaf<'_> {
-    /// The value, with copies of texts and bytes.
+    /// Returns the value, with copies of texts and bytes.
     pub(crate) fn value(self) -> Result<Value, Error> {
         Ok(match self {
             Leaf::Unit => Value::Unit,
@@ -154,7 +154,7 @@ fn copied_bytes(bytes: &[u8]) -> Result<Vec<u8>, Error> {
     Ok(copy)
 }
 
-/// The values inside one.
+/// The children of a value.
 pub(crate) enum Children<'a> {
     Values(slice::Iter<'a, Value>),
     Fields(slice::Iter<'a, (String, Value)>),

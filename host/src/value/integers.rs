@@ -1,9 +1,9 @@
-//! Integers of Rust's: as ints of scripts where they fit, and of any integer that fits.
+//! Rust integers: conversion to ints of scripts if they fit, and from any integer value that fits.
 use super::misfit::TryFromValueError;
 use super::Value;
 use std::fmt;
 
-/// An integer of any of Rust's types.
+/// An integer of any Rust type.
 #[derive(Clone, Copy, Debug, PartialEq, Eq, Hash)]
 pub(crate) enum Integer {
     Signed(i128),
@@ -11,7 +11,7 @@ pub(crate) enum Integer {
 }
 
 impl Integer {
-    /// The number that a value is, if it is one.
+    /// Returns the number of a value, if it is one.
     pub(crate) fn of(value: &Value) -> Option<Integer> {
         Some(match value {
             Value::Int(n) => Integer::Signed(i128::from(*n)),
@@ -29,7 +29,7 @@ impl Integer {
         })
     }
 
-    /// The number as another type, if that has it.
+    /// Converts the number to another type, if it fits.
     fn narrow<T: TryFrom<i128> + TryFrom<u128>>(self) -> Option<T> {
         match self {
             Integer::Signed(n) => T::try_from(n).ok(),
@@ -47,7 +47,7 @@ impl fmt::Display for Integer {
     }
 }
 
-/// That a number is no int of scripts, which has 64 bits.
+/// The error for a number that doesn't fit an int of scripts, which has 64 bits.
 ///
 /// ```
 /// use rhai_world::Value;
@@ -87,7 +87,7 @@ macro_rules! at_times {
             fn try_from(number: $kind) -> Result<Value, NoIntError> {
                 match i64::try_from(number) {
                     Ok(int) => Ok(Value::Int(int)),
-                    // (the cast widens it)
+                    // (the cast widens)
                     Err(_) => Err(NoIntError { number: Integer::$integer(number as $wide) }),
                 }
             }

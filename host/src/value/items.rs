@@ -1,11 +1,13 @@
-//! Values of and as types of Rust's that have others inside: vectors, arrays, options and maps.
+//! Conversions of values from and to Rust types with values inside: vectors, arrays, options and
+//! maps.
 use super::misfit::TryFromValueError;
 use super::{Array, Map, Value};
 use std::collections::{BTreeMap, HashMap};
 use std::hash::BuildHasher;
 use std::ops::{Range, RangeInclusive};
 
-/// A type whose vectors, arrays and slices become values: arrays, but of bytes a blob. One of the program's own needs no more than the mark.
+/// An item type whose vectors, arrays and slices convert to values: to arrays, but bytes to a blob.
+/// A type of the program's own only needs the empty implementation.
 ///
 /// ```
 /// use rhai_world::{Engine, EvalError, IntoItem, Map, Value};
@@ -26,14 +28,14 @@ use std::ops::{Range, RangeInclusive};
 /// # Ok::<(), EvalError>(())
 /// ```
 pub trait IntoItem: Into<Value> {
-    /// Makes a value of these.
+    /// Makes a value from these items.
     fn items_into_value(items: Vec<Self>) -> Value {
         Value::Array(items.into_iter().map(Into::into).collect())
     }
 }
 
-/// A type that items are taken as: those of vectors, arrays and options of Rust's, and the fields of maps. One of the program's own needs no
-/// more than the mark.
+/// An item type that values convert to: in Rust vectors, arrays and options, and in the fields of
+/// maps. A type of the program's own only needs the empty implementation.
 ///
 /// ```
 /// use rhai_world::{Engine, EvalError, FromItem, TryFromValueError, Value};
@@ -56,7 +58,7 @@ pub trait IntoItem: Into<Value> {
 /// # Ok::<(), EvalError>(())
 /// ```
 pub trait FromItem: TryFrom<Value, Error = TryFromValueError> {
-    /// Takes a value as a vector of these.
+    /// Converts a value to a vector of these items.
     fn items_of_value(value: Value) -> Result<Vec<Self>, TryFromValueError> {
         let Value::Array(items) = value else {
             return Err(TryFromValueError::of_type(value, "an array"));
@@ -87,7 +89,7 @@ impl IntoItem for u8 {
     }
 }
 
-/// Bytes are taken of a blob, or of an array of ints.
+/// Bytes convert from a blob, or from an array of ints.
 impl FromItem for u8 {
     fn items_of_value(value: Value) -> Result<Vec<u8>, TryFromValueError> {
         match value {
@@ -159,7 +161,7 @@ impl<const N: usize> TryFrom<Value> for [Value; N] {
     }
 }
 
-/// The value, unless it has another number of items.
+/// Returns the value, unless its number of items is another one.
 fn of_length(value: Value, wanted: usize) -> Result<Value, TryFromValueError> {
     match &value {
         Value::Array(items) if items.len() != wanted => Err(TryFromValueError::of_length(value, wanted)),
@@ -170,14 +172,15 @@ fn of_length(value: Value, wanted: usize) -> Result<Value, TryFromValueError> {
 
 // Options
 
-/// `None` is unit.
+/// `None` converts to unit.
 impl<T: Into<Value>> From<Option<T>> for Value {
     fn from(it: Option<T>) -> Value {
         it.map_or(Value::Unit, Into::into)
     }
 }
 
-/// Unit is `None`. (An `Option<Value>` is always `Some`, by an implementation of the standard library's.)
+/// Unit converts to `None`. (An `Option<Value>` is always `Some`, by an implementation in the
+/// standard library.)
 impl<T: FromItem> TryFrom<Value> for Option<T> {
     type Error = TryFromValueError;
 
@@ -249,7 +252,7 @@ fn field<T: FromItem>((key, value): (String, Value)) -> Result<(String, T), TryF
     }
 }
 
-// What may be inside others
+// What may be an item
 
 impl<T: IntoItem> IntoItem for Vec<T> {}
 impl<T: IntoItem, const N: usize> IntoItem for [T; N] {}

@@ -6,7 +6,7 @@ use std::fmt;
 use std::iter::FusedIterator;
 use std::mem::{replace, take};
 
-/// Values by keys, in the order of the keys' bytes.
+/// Values by keys, in the byte order of the keys.
 ///
 /// ```
 /// use rhai_world::{Map, Value};
@@ -19,17 +19,17 @@ use std::mem::{replace, take};
 /// ```
 #[derive(Clone, Default, PartialEq, Eq, Hash)]
 pub struct Map {
-    /// In order, and no key twice.
+    /// Sorted, without duplicate keys.
     fields: Vec<(String, Value)>,
 }
 
 impl Map {
-    /// Makes an empty one.
+    /// Makes an empty map.
     pub const fn new() -> Map {
         Map { fields: Vec::new() }
     }
 
-    /// Of fields without a key twice, in any order.
+    /// Makes a map from fields without duplicate keys, in any order.
     pub(super) fn of_fields(mut fields: Vec<(String, Value)>) -> Map {
         if !fields.is_sorted_by(|one, next| one.0 < next.0) {
             fields.sort_unstable_by(|one, other| one.0.cmp(&other.0));
@@ -37,27 +37,27 @@ impl Map {
         Map { fields }
     }
 
-    /// Of fields that are only to be dropped.
+    /// Makes a map from fields that are only dropped.
     pub(super) fn of_any(fields: Vec<(String, Value)>) -> Map {
         Map { fields }
     }
 
-    /// How many keys there are.
+    /// Returns the number of keys.
     pub fn len(&self) -> usize {
         self.fields.len()
     }
 
-    /// Whether there is none.
+    /// Returns whether there are no keys.
     pub fn is_empty(&self) -> bool {
         self.fields.is_empty()
     }
 
-    /// The value of a key.
+    /// Returns the value of a key, if there is one.
     pub fn get(&self, key: &str) -> Option<&Value> {
         self.place(key).ok().map(|at| &self.fields[at].1)
     }
 
-    /// Gives a key this value, and answers the one that it had.
+    /// Sets the value of a key, and returns its previous value, if any.
     pub fn insert(&mut self, key: impl Into<String>, value: Value) -> Option<Value> {
         let key = key.into();
         match self.place(&key) {
@@ -69,12 +69,12 @@ impl Map {
         }
     }
 
-    /// Takes a key out, and answers its value.
+    /// Removes a key, and returns its value, if there is one.
     pub fn remove(&mut self, key: &str) -> Option<Value> {
         self.place(key).ok().map(|at| self.fields.remove(at).1)
     }
 
-    /// Lends the keys with their values, in the order of the keys.
+    /// Iterates over the keys and their values, in key order.
     pub fn iter(&self) -> Fields<'_> {
         Fields { left: self.fields.iter() }
     }
@@ -152,7 +152,7 @@ impl IntoIterator for Map {
     }
 }
 
-/// Of equal keys the last value stands.
+/// For duplicate keys the last value counts.
 impl FromIterator<(String, Value)> for Map {
     fn from_iter<I: IntoIterator<Item = (String, Value)>>(fields: I) -> Map {
         Map::from(fields.into_iter().collect::<BTreeMap<_, _>>())

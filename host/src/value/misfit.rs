@@ -1,36 +1,37 @@
-//! Why a value isn't taken as a type of Rust's.
+//! Why a value can't be converted to a Rust type.
 use super::integers::Integer;
 use super::Value;
 use std::convert::Infallible;
 use std::fmt;
 
-/// What is wrong with a value that isn't taken as a type of Rust's.
+/// What is wrong with a value that can't be converted to a Rust type.
 #[derive(Clone, Debug, PartialEq, Eq, Hash)]
 #[non_exhaustive]
 pub enum Misfit {
-    /// It is of another type.
+    /// It has another type.
     Type,
-    /// It is a number that the type doesn't have.
+    /// It is a number out of the type's range.
     Range,
-    /// It has another number of items than this one.
+    /// It doesn't have this number of items.
     Length(usize),
-    /// What the program says of it.
+    /// A reason that the program gave.
     Other(Box<str>),
 }
 
-/// That a value isn't taken as a type of Rust's. It has the value, or that inside it which doesn't fit.
+/// The error for a value that can't be converted to a Rust type. It holds the value, or the part of
+/// it that doesn't fit.
 #[derive(Clone, Debug, PartialEq, Eq, Hash)]
 pub struct TryFromValueError {
     value: Value,
-    /// What was wanted.
+    /// The name of the expected type.
     wanted: &'static str,
     why: Misfit,
-    /// Where it is inside, as a script would name that; empty where it is the whole.
+    /// Where the part is, as a script would write it; empty for the whole value.
     place: Box<str>,
 }
 
 impl TryFromValueError {
-    /// Says why a value isn't taken as a type of the program's.
+    /// Makes an error for a value that can't be converted to a type of the program's own.
     ///
     /// ```
     /// use rhai_world::{Engine, TryFromValueError, Value};
@@ -72,34 +73,34 @@ impl TryFromValueError {
         TryFromValueError::of(value, "an array", Misfit::Length(wanted))
     }
 
-    /// The same of an item of an array.
+    /// Adds the position of an item to the place.
     pub(crate) fn at_item(mut self, number: usize) -> TryFromValueError {
         self.place = format!("[{number}]{}", self.place).into();
         self
     }
 
-    /// The same of a field of a map.
+    /// Adds a field to the place.
     pub(crate) fn at_field(mut self, key: &str) -> TryFromValueError {
         self.place = format!("[{key:?}]{}", self.place).into();
         self
     }
 
-    /// Lends the value.
+    /// Borrows the value.
     pub fn value(&self) -> &Value {
         &self.value
     }
 
-    /// Gives the value back.
+    /// Returns the value itself.
     pub fn into_value(self) -> Value {
         self.value
     }
 
-    /// Tells what is wrong with it.
+    /// Returns what is wrong with the value.
     pub fn why(&self) -> &Misfit {
         &self.why
     }
 
-    /// Says what is wrong with what it was of.
+    /// Formats the message, with the words for what failed.
     pub(crate) fn said(&self, of: &str, is: &str) -> String {
         let place = if self.place.is_empty() { String::new() } else { format!(" at {}", self.place) };
         let (kind, wanted) = (self.value.kind_name(), self.wanted);
@@ -120,7 +121,7 @@ impl fmt::Display for TryFromValueError {
 
 impl std::error::Error for TryFromValueError {}
 
-/// Whole values are always taken.
+/// Conversions to `Value` itself can't fail.
 impl From<Infallible> for TryFromValueError {
     fn from(never: Infallible) -> TryFromValueError {
         match never {}

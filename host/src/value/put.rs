@@ -1,4 +1,4 @@
-//! Values into a world.
+//! Copies values into a world.
 use super::head::{Children, Head, Leaf};
 use super::Value;
 use crate::error::Error;
@@ -6,14 +6,14 @@ use crate::names::Name;
 use crate::world::World;
 use std::iter;
 
-/// A value whose inside is put.
+/// A value whose children are being put.
 struct Level<'a> {
     value: &'a Value,
     left: Children<'a>,
 }
 
 impl World {
-    /// Appends the value. After an error the hand is as it was before.
+    /// Appends the value. After an error the hand is unchanged.
     pub fn put(&mut self, value: &Value) -> Result<(), Error> {
         let before = self.hand_len();
         let put = self.put_whole(value);
@@ -25,7 +25,7 @@ impl World {
         put
     }
 
-    /// Puts what is inside each value, and then makes it of these.
+    /// Puts the children of each value, and then makes the value from them.
     fn put_whole(&mut self, value: &Value) -> Result<(), Error> {
         let mut open: Vec<Level<'_>> = Vec::new();
         let mut next = Some(value);
@@ -45,7 +45,7 @@ impl World {
         }
     }
 
-    /// Appends a value of the last ones, as many as are inside it.
+    /// Appends a value that takes its children from the end of the hand.
     fn put_head(&mut self, value: &Value) -> Result<(), Error> {
         match value.head() {
             Head::Leaf(leaf) => self.put_leaf(leaf),
@@ -80,7 +80,7 @@ impl World {
         }
     }
 
-    /// Does the work with names that are handed over meanwhile.
+    /// Does the work with names that are passed to the world for its duration.
     fn with_names<'a>(
         &mut self,
         texts: impl Iterator<Item = &'a str>,

@@ -1,4 +1,4 @@
-//! Values out of a world, by their hash bytes.
+//! Copies values out of a world, through their hash bytes.
 use super::builder::Builder;
 use super::head::{Head, Leaf};
 use super::Value;
@@ -7,7 +7,7 @@ use crate::error::Error;
 use crate::world::World;
 
 impl World {
-    /// The value at the hand position, without its holders; `None` where it holds itself.
+    /// Returns the value at the hand position, without its holders; `None` if it contains itself.
     pub fn value(&self, i: usize) -> Result<Option<Value>, Error> {
         match self.hash(i) {
             Ok(bytes) => Value::from_bytes(&bytes).map(Some),
@@ -18,13 +18,13 @@ impl World {
 }
 
 impl Value {
-    /// The value of hash bytes.
+    /// Returns the value with these hash bytes.
     pub(crate) fn from_bytes(bytes: &[u8]) -> Result<Value, Error> {
         Reader { bytes }.value()
     }
 }
 
-/// Hash bytes that are read.
+/// Hash bytes being read.
 struct Reader<'a> {
     bytes: &'a [u8],
 }

@@ -1,8 +1,8 @@
-//! Drops what is nested deep, without a call for each level and without memory.
+//! Drops deeply nested values, without recursion and without allocation.
 use super::{Array, Map, Value};
 use std::mem::take;
 
-/// The values inside one.
+/// The children of a value.
 pub(crate) enum Nest {
     Values(Vec<Value>),
     Fields(Vec<(String, Value)>),
@@ -27,7 +27,7 @@ impl Nest {
         }
     }
 
-    /// Puts another nest under all, where there is the room of one that was taken off.
+    /// Moves another nest below all values, into the capacity of a value that was taken out.
     fn put_under(&mut self, other: Nest) {
         let held = match other {
             Nest::Values(values) => Value::Array(Array::from(values)),
@@ -49,7 +49,7 @@ impl Nest {
 }
 
 impl Value {
-    /// Takes out what is inside.
+    /// Takes the children out.
     fn take_inside(&mut self) -> Nest {
         match self {
             Value::Array(items) | Value::FnPtr(_, items) => Nest::Values(take(items.as_mut_vec())),
@@ -62,8 +62,9 @@ impl Value {
     }
 }
 
-/// Drops it all. One that is gone into gets what is left of the one that it stood in under its own values, in the room of the value that was taken
-/// off it first; so each is gone into once, and left once.
+/// Drops everything. When the walk enters a child, it moves what is left of the parent below the
+/// child's own children, into the slot of the first one taken out. So each value is entered once
+/// and left once.
 pub(crate) fn shed(mut nest: Nest) {
     while let Some(mut value) = nest.pop() {
         loop {

@@ -1,9 +1,10 @@
-//! Values as scripts print them.
+//! Formats values as scripts print them.
 use super::head::{Leaf, Parts};
 use super::{Value, SHOWN};
 use std::fmt::{self, Write};
 
-/// Shows the value as `print` does: texts and characters as they are, unit as nothing, and what is inside of arrays and maps as `debug` does.
+/// Formats the value as `print` does: texts and characters plainly, unit as nothing, and the
+/// contents of arrays and maps as `debug` does.
 ///
 /// ```
 /// use rhai_world::{Engine, EvalError, Value};
@@ -25,7 +26,7 @@ impl fmt::Display for Value {
     }
 }
 
-/// Shows so many levels of a value as `debug` does.
+/// Formats this many levels of a value as `debug` does.
 fn shown(value: &Value, levels: usize, f: &mut fmt::Formatter<'_>) -> fmt::Result {
     let Some(levels) = levels.checked_sub(1) else {
         return f.write_str("..");

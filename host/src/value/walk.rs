@@ -1,8 +1,8 @@
-//! A walk through a value.
+//! A walk over a value.
 use super::head::{Children, Head};
 use super::Value;
 
-/// Each value before what is inside it, in order, and with its key where it is in a map.
+/// Visits each value before its children, in order, with its key if it is in a map.
 pub(crate) struct Walk<'a> {
     first: Option<&'a Value>,
     open: Vec<Children<'a>>,

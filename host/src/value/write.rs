@@ -1,10 +1,10 @@
-//! Values as the bytes that the library reads them of, which are their hash bytes.
+//! Values as the bytes from which the library reads them: their hash bytes.
 use super::head::{Children, Head, Leaf};
 use super::Value;
 use crate::error::Error;
 
 impl Value {
-    /// The bytes of this value.
+    /// Returns the bytes of this value.
     pub(crate) fn to_bytes(&self) -> Result<Vec<u8>, Error> {
         let mut out = Vec::new();
         let mut open: Vec<Children<'_>> = Vec::new();

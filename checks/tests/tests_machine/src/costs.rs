@@ -1,14 +1,14 @@
-//! What operations count that go through values: by what a script takes more where its value is long than where it is empty. An operation
-//! stands for four values, or for 64 bytes.
+//! The cost in operations of walks over values: how much more a script takes with a long value than
+//! with an empty one. An operation pays for four values, or for 64 bytes.
 
 use crate::runs::{LIMITS, compiled};
 use script_run::{Outcome, Run};
 use std::alloc::Global;
 
-/// What a statement is to count for a value that is so long.
+/// The operations that a statement has to count for a value of this length.
 #[derive(Clone, Copy)]
 struct Row {
-    /// Makes the value; `N` is how long it is.
+    /// Makes the value; `N` is its length.
     front: &'static str,
     statement: &'static str,
     length: &'static str,
@@ -54,15 +54,15 @@ fn rows_of_arrays() -> [Row; 20] {
         to_count(ITEMS, "400", "let c = a; c.len(); a.len();", 100),
         to_count(ITEMS, "400", "let c = [a, a]; a.len();", 200),
         to_count(ITEMS, "400", "let c = a == a;", 200),
-        // both are gone through, and 800 items are made
+        // both are visited, and 800 items are made
         to_count(ITEMS, "400", "let c = a + a;", 400),
         // the right side is copied and moved
         to_count(ITEMS, "400", "a += a;", 200),
-        // two items are copied, which are less than one operation
+        // two items are copied, which cost less than one operation
         to_count(ITEMS, "400", "let c = a.extract(0, 2);", 0),
         // 200 items are copied, and made
         to_count(ITEMS, "400", "let c = a.extract(0, 200);", 100),
-        // what is printed counts three times, and "[1, 1, .. 1]" has 600 bytes
+        // each printed item counts three times, and "[1, 1, .. 1]" has 600 bytes
         to_count(ITEMS, "200", "let t = a.to_string();", 159),
         // and with the end of the line 601
         to_count(ITEMS, "200", "print(a);", 159),
@@ -77,20 +77,20 @@ fn rows_of_texts() -> [Row; 18] {
         to_count(BYTES, "640", "s.is_empty();", 0),
         to_count(BYTES, "640", "s.contains(\"y\");", 10),
         to_count(BYTES, "640", "s.starts_with(\"y\");", 0),
-        // what is made counts, too, and four characters are an operation
+        // the result counts, too, and four characters are an operation
         to_count(BYTES, "640", "s.to_upper();", 180),
-        // so do 640 characters
+        // and so do 640 characters
         to_count(BYTES, "640", "s.chars();", 170),
         to_count(BYTES, "640", "let t = s; t.is_empty(); s.is_empty();", 10),
         to_count(BYTES, "640", "let t = s == s;", 10),
         to_count(BYTES, "640", "let t = s == \"\";", 0),
         to_count(BYTES, "640", "let t = s[0..1];", 10),
         to_count(BYTES, "640", "s[0..1] = \"yy\";", 10),
-        // what is copied, and put behind
+        // what is copied, and appended
         to_count(BYTES, "320", "s += s;", 10),
-        // it is gone through twice, and 640 bytes are made for 320 parts
+        // it is walked twice, and 640 bytes are made for 320 parts
         to_count(BYTES, "320", "s.replace(\"x\", \"yy\");", 340),
-        // it is gone through twice, each part is an operation, and 321 values are made
+        // it is walked twice, each part is an operation, and 321 values are made
         to_count(BYTES, "320", "let p = s.split('x');", 410),
         to_count(BYTES, "640", "print(s);", 20),
         to_count(BLOB, "640", "b.reverse();", 10),
@@ -103,7 +103,7 @@ fn rows_of_texts() -> [Row; 18] {
 fn rows_of_maps() -> [Row; 6] {
     [
         to_count(ENTRIES, "80", "m.len();", 0),
-        // copies, what is made, and an operation for each key
+        // copies, the result, and an operation for each key
         to_count(ENTRIES, "80", "let k = m.keys();", 120),
         to_count(ENTRIES, "80", "let n = m; n.len(); m.len();", 20),
         // the argument is copied twice, and each entry is three operations
@@ -113,7 +113,7 @@ fn rows_of_maps() -> [Row; 6] {
     ]
 }
 
-/// The operations of a script that is done.
+/// Returns the operations of a script that is done.
 fn taken(alloc: Global, row: &Row, length: &str, statement: &str) -> Option<u64> {
     let front = row.front.replace(alloc, "N", length).ok()?;
     let text = format!(in alloc; "{front}{statement}").ok()?;
@@ -131,7 +131,7 @@ fn taken(alloc: Global, row: &Row, length: &str, statement: &str) -> Option<u64>
     }
 }
 
-/// What a statement counts for a long value beyond what it counts for an empty one.
+/// Returns how many more operations a statement counts for a long value than for an empty one.
 fn counted(alloc: Global, row: &Row) -> Option<u64> {
     let with = taken(alloc, row, row.length, row.statement)?;
     let without = taken(alloc, row, row.length, "")?;
@@ -141,7 +141,7 @@ fn counted(alloc: Global, row: &Row) -> Option<u64> {
     long.checked_sub(short.checked_sub(shorter)?)
 }
 
-/// Whether each statement counts what is wanted; those that don't are told.
+/// Whether each statement counts as expected; reports those that don't.
 fn are_counted(rt: &impl Print, alloc: Global, rows: &[Row]) -> bool {
     let mut is_right = true;
     for row in rows {

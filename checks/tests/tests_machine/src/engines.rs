@@ -1,4 +1,4 @@
-//! Engines: variables, scripts and runs as a host keeps them, and values out of bytes.
+//! Engines: variables, scripts and runs as a host keeps them, and values from bytes.
 
 use crate::runs::LIMITS;
 use rhai_value::{Dynamic, INT};
@@ -6,7 +6,7 @@ use script_code::HostName;
 use script_engine::{Engine, Step, Unread, read_value};
 use std::alloc::Global;
 
-/// The function `ask` of the host, of one argument.
+/// The host function `ask`, with one argument.
 fn asked(alloc: Global) -> Option<Vec<HostName>> {
     let mut host = Vec::new(alloc);
     let name = String::from_str(alloc, "ask").ok()?;
@@ -19,7 +19,7 @@ fn asked(alloc: Global) -> Option<Vec<HostName>> {
     Some(host)
 }
 
-/// Goes on with the run; each call is answered with twice its argument.
+/// Continues the run; returns twice the argument for each call.
 fn driven(engine: &mut Engine) -> Option<INT> {
     for _ in 0..1_000 {
         match engine.go(10) {
@@ -67,7 +67,7 @@ fn variables_functions_and_answers(rt: HostRuntime) {
     assert!(rt; is_used == Some(true));
 }
 
-/// `[7, #{"k": "t"}]` as bytes, the kind of a value first, then its number of parts.
+/// `[7, #{"k": "t"}]` as bytes: the kind of a value first, then its number of parts.
 const BYTES: [u8; 47] = [
     5, 2, 0, 0, 0, 0, 0, 0, 0, 4, 7, 0, 0, 0, 0, 0, 0, 0, 7, 1, 0, 0, 0, 0, 0, 0, 0, 1, 0, 0, 0, 0,
     0, 0, 0, b'k', 2, 1, 0, 0, 0, 0, 0, 0, 0, b't', 0,
@@ -89,7 +89,7 @@ fn values_are_read_of_bytes(rt: HostRuntime) {
     assert!(rt; is_read == Some(true));
 }
 
-/// Bytes that are cut short, go on, or say no kind are none of a value.
+/// Bytes that are cut short, continue, or name no kind are not those of a value.
 #[test]
 fn other_bytes_are_no_value(rt: HostRuntime) {
     let alloc = rt.alloc();

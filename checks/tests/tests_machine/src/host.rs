@@ -1,4 +1,4 @@
-//! Functions of the host.
+//! Host functions.
 
 use crate::runs::{begun, compiled, driven, is_told, value_of};
 use rhai_value::Dynamic;
@@ -6,7 +6,7 @@ use script_code::Program;
 use script_run::{Outcome, Run};
 use std::alloc::Global;
 
-/// Answers each call with twice its argument, until the run ends.
+/// Returns twice the argument for each call, until the run ends.
 fn answered(run: &mut Run, program: &Program) -> Outcome {
     for _ in 0..1_000 {
         let outcome = driven(run, program, 7);
@@ -22,7 +22,8 @@ fn answered(run: &mut Run, program: &Program) -> Outcome {
     Outcome::Paused
 }
 
-/// The host is called in a loop, deep within calls and by a callback: 0 + 2 + 4 + 6, then 2 + 5, then 4.
+/// The script calls the host in a loop, deep within calls and in a callback: first 0 + 2 + 4 + 6,
+/// then 2 + 5, and then 4.
 fn is_answered(alloc: Global) -> Option<bool> {
     let text = "
 fn deep(n) { if n == 0 { ask(1) } else { deep(n - 1) + 1 } }
@@ -91,7 +92,8 @@ fn a_run_that_waits_goes_on_only_with_an_answer(rt: HostRuntime) {
     assert!(rt; waits == Some(true));
 }
 
-/// The statements come to 1 + 1, a call to 3 + 4, another fails, and the run may be called again.
+/// The value of the statements is 1 + 1, that of a call 3 + 4, another call fails, and the run can
+/// be called again.
 fn is_called_again(alloc: Global) -> Option<bool> {
     let text =
         "fn sum(a, b) { a + b }\nfn fails() { 1 / 0 }\nlet n = 1; let f = || n; n += 1; f.call()";

@@ -6,7 +6,8 @@ use script_code::HostName;
 use script_engine::{Engine, Step};
 use std::alloc::Global;
 
-/// The functions of the host: `apply` calls its first argument with the second, and `bump` adds one to its argument.
+/// The host functions: `apply` calls its first argument with the second, and `bump` adds one to its
+/// argument.
 fn names(alloc: Global) -> Option<Vec<HostName>> {
     let mut host = Vec::new(alloc);
     let name = String::from_str(alloc, "apply").ok()?;
@@ -26,7 +27,7 @@ fn names(alloc: Global) -> Option<Vec<HostName>> {
     Some(host)
 }
 
-/// Begins the call of a function that `apply` is given.
+/// Starts a call of the function that `apply` receives.
 fn applies(engine: &mut Engine) -> Option<()> {
     let number = engine.keep_argument(0).ok()??;
     let given = engine.run()?.argument(1)?.as_int(engine.store()).ok()?;
@@ -38,7 +39,7 @@ fn applies(engine: &mut Engine) -> Option<()> {
     }
 }
 
-/// Answers `bump`.
+/// Returns from `bump`.
 fn bumps(engine: &mut Engine) -> Option<()> {
     let given = engine.run()?.argument(0)?.as_int(engine.store()).ok()?;
     let changed = engine.change(Dynamic::from_int(given.saturating_add(1)));
@@ -48,7 +49,7 @@ fn bumps(engine: &mut Engine) -> Option<()> {
     if changed && answered { Some(()) } else { None }
 }
 
-/// Goes on by so many operations at a time until the run is done.
+/// Continues by this many operations at a time until the run is done.
 fn driven(engine: &mut Engine, at_once: u64) -> Option<INT> {
     for _ in 0..100_000 {
         match engine.go(at_once) {

@@ -1,4 +1,4 @@
-//! Limits of runs: of operations, however few are granted at once, of entries and of what is printed.
+//! Limits of runs: on operations, however few are executed at once, on entries and on output.
 
 use crate::runs::{LIMITS, compiled, driven, is_told, value_of};
 use rhai_value::INT;
@@ -6,7 +6,7 @@ use script_run::{Outcome, Run, RunLimits};
 use script_values::FaultKind;
 use std::alloc::Global;
 
-/// The limits of a run of so many operations, and so many bytes of output.
+/// Makes the limits of a run: operations, and bytes of output.
 fn limited(operations: u64, output: u64) -> RunLimits {
     RunLimits {
         sizes: LIMITS.sizes,
@@ -17,10 +17,10 @@ fn limited(operations: u64, output: u64) -> RunLimits {
     }
 }
 
-/// How a run ended that went on by so many operations at a time.
+/// How a run ended that executed this many operations at a time.
 #[derive(Drop)]
 struct Ended {
-    /// Whether it was by the wanted fault.
+    /// Whether it ended with the expected fault.
     is_told: bool,
     operations: u64,
     printed: String,
@@ -49,7 +49,7 @@ a.pad(1000, 1);
 loop { a.contains(2); }
 ";
 
-/// A search goes through 1,000 items, which are 250 operations: the last ones aren't enough for one.
+/// A search visits 1,000 items, which are 250 operations: the last ones aren't enough for another.
 fn is_bounded(alloc: Global) -> Option<bool> {
     let told = "too many operations at 4:10";
     let whole = run_to_end(alloc, SEARCHES, &limited(10_000, 0), u64::MAX, told)?;
@@ -89,7 +89,7 @@ fn the_limit_is_not_caught(rt: HostRuntime) {
     assert!(rt; is_not_caught == Some(true));
 }
 
-/// What is refused isn't begun: `pad` would copy 900 items, which are 225 operations.
+/// Work that is too expensive isn't begun: `pad` would copy 900 items, which are 225 operations.
 fn is_refused_before(alloc: Global) -> Option<bool> {
     let text = "let a = [];\na.pad(900, 1);";
     let told = "too many operations at 2:3";
@@ -128,7 +128,8 @@ total + b.len()
 /// 300 times 7, 301 of the function, 1 for the comparison, and the one item that is left.
 const WALKED: INT = 2_403;
 
-/// What a script takes in all that goes through values in many ways, by so many operations at a time.
+/// Returns the total operations of a script that walks values in many ways, executed this many
+/// operations at a time.
 fn taken(alloc: Global, at_once: u64) -> Option<u64> {
     let program = compiled(alloc, WALKS)?;
     let mut run = Run::new(alloc, &program, &LIMITS).ok()?;
@@ -173,7 +174,7 @@ fn output_is_limited(rt: HostRuntime) {
     assert!(rt; is_limited == Some(true));
 }
 
-/// Whether a run ends since a map would have more than 100 entries.
+/// Whether a run ends because a map would have more than 100 entries.
 fn has_too_many_entries(alloc: Global, text: &str) -> Option<bool> {
     let program = compiled(alloc, text)?;
     let mut run = Run::new(alloc, &program, &LIMITS).ok()?;

@@ -1,4 +1,4 @@
-//! Pauses: a run that is stopped after some operations does what one does that isn't stopped.
+//! Pauses: a run that is paused after some operations does the same as one that isn't.
 
 use crate::runs::{begun, compiled, driven, is_told, value_of};
 use rhai_value::INT;
@@ -24,7 +24,8 @@ total + fib(7)
 /// 10 + 20 + 30, the numbers 0 to 2, and the seventh of Fibonacci's, 13.
 const VALUE: INT = 76;
 
-/// What a run prints and comes to that goes on by so many operations at a time, and how many it was.
+/// Checks the output and the value of a run that executes this many operations at a time, and
+/// returns its number of operations.
 fn done_by(alloc: Global, program: &Program, at_once: u64) -> Option<u64> {
     let mut run = begun(alloc, program)?;
     let outcome = driven(&mut run, program, at_once);
@@ -37,7 +38,7 @@ fn done_by(alloc: Global, program: &Program, at_once: u64) -> Option<u64> {
     }
 }
 
-/// Whether a run comes to the same by the same operations, however often it pauses.
+/// Whether a run has the same value and the same number of operations, however often it pauses.
 fn is_same_with_pauses(alloc: Global) -> Option<bool> {
     let program = compiled(alloc, SCRIPT)?;
     let whole = done_by(alloc, &program, 1_000_000)?;
@@ -102,7 +103,8 @@ fn a_run_may_be_dropped_where_it_stands(rt: HostRuntime) {
     assert!(rt; stands == Some(true));
 }
 
-/// The lists of a run that hasn't begun are empty; each text of the program takes a value and a block.
+/// The lists of a run that hasn't started are empty; each text of the program takes a value and a
+/// block.
 #[test]
 fn a_run_is_small(rt: HostRuntime) {
     assert!(rt; size_of::<Run>() <= 1_024);

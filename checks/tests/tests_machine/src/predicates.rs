@@ -1,10 +1,11 @@
-//! Functions that take a function of the script, where the run pauses within them, and where sizes and types are refused.
+//! Functions that take a callback of the script: with pauses inside them, and with refused sizes
+//! and types.
 
 use crate::runs::{begun, compiled, driven};
 use script_run::Outcome;
 use std::alloc::Global;
 
-/// What a script prints that is done, by so many operations at a time.
+/// Returns what a script prints that is done, executed this many operations at a time.
 fn printed(alloc: Global, text: &str, at_once: u64) -> Option<String> {
     let program = compiled(alloc, text)?;
     let mut run = begun(alloc, &program)?;
@@ -81,7 +82,7 @@ fn functions_of_the_packages_are_called_by_pointers(rt: HostRuntime) {
     assert!(rt; is_right);
 }
 
-/// The message by which a script ends, if it does so by a fault.
+/// Returns the message of the fault that ends a script, if one does.
 fn refusal(alloc: Global, text: &str) -> Option<String> {
     let program = compiled(alloc, text)?;
     let mut run = begun(alloc, &program)?;

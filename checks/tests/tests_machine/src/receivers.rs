@@ -1,4 +1,4 @@
-//! Variables that functions are called on, where such a call doesn't come to its end.
+//! Variables as receivers of calls that don't complete.
 
 use crate::runs::LIMITS;
 use rhai_value::{Dynamic, INT};
@@ -13,7 +13,7 @@ fn compiled_for(alloc: Global, scope: &Scope, text: &str) -> Option<Program> {
     compile(alloc, &script, &[]).ok()
 }
 
-/// What the variable `x`, which begins with 1, is behind so many operations of a script.
+/// Returns the variable `x`, which begins with 1, after this many operations of a script.
 fn x_behind(alloc: Global, text: &str, operations: u64) -> Option<INT> {
     let mut scope = Scope::new(alloc);
     scope.push("x", Dynamic::from_int(1)).ok()?;

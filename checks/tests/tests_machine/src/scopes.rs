@@ -1,4 +1,4 @@
-//! Variables that live on between runs, and calls from outside.
+//! Variables that outlive a run, and calls from outside.
 
 use crate::runs::{LIMITS, driven, value_of};
 use rhai_value::{Dynamic, INT};
@@ -13,7 +13,7 @@ fn compiled_for(alloc: Global, scope: &Scope, text: &str) -> Option<Program> {
     compile(alloc, &script, &[]).ok()
 }
 
-/// Runs a script over a scope, and gives the int that it came to.
+/// Runs a script over a scope, and returns its value, an int.
 fn run_over(alloc: Global, scope: &mut Scope, text: &str) -> Option<INT> {
     let program = compiled_for(alloc, scope, text)?;
     let mut run = Run::over(alloc, &program, &LIMITS, scope).ok()??;
@@ -23,7 +23,7 @@ fn run_over(alloc: Global, scope: &mut Scope, text: &str) -> Option<INT> {
     value
 }
 
-/// The int of the newest variable of a name.
+/// Returns the int of the newest variable with a name.
 fn int_of(scope: &Scope, name: &str) -> Option<INT> {
     let number = scope.find(name)?;
     scope.get(number)?.as_int(scope.store()).ok()
@@ -52,7 +52,7 @@ fn variables_outlive_their_run(rt: HostRuntime) {
     assert!(rt; live_on == Some(true));
 }
 
-/// What stands behind the `return` was never declared, and what went wrong leaves what was.
+/// What comes after the `return` was never declared, and a fault leaves what was declared.
 fn only_what_was_declared(alloc: Global) -> Option<bool> {
     let mut scope = Scope::new(alloc);
     let first = run_over(
@@ -91,7 +91,7 @@ fn shared_cells_outlive_their_run(rt: HostRuntime) {
     assert!(rt; live_on == Some(true));
 }
 
-/// Runs a script over a scope, and answers whether it came to an end.
+/// Runs a script over a scope, and returns whether it succeeded.
 fn ends(alloc: Global, scope: &mut Scope, text: &str) -> Option<bool> {
     let program = compiled_for(alloc, scope, text)?;
     let mut run = Run::over(alloc, &program, &LIMITS, scope).ok()??;
@@ -101,7 +101,8 @@ fn ends(alloc: Global, scope: &mut Scope, text: &str) -> Option<bool> {
     Some(is_done)
 }
 
-/// A closure that a scope keeps is one of the script that made it: another script has a function of its number, too.
+/// A closure that a scope keeps belongs to the script that made it, although another script has a
+/// function with its number, too.
 fn closures_know_their_script(alloc: Global) -> Option<bool> {
     let mut scope = Scope::new(alloc);
     scope.push("f", Dynamic::from_int(0)).ok()?;
@@ -120,7 +121,7 @@ fn a_closure_is_called_by_its_script_alone(rt: HostRuntime) {
     assert!(rt; is_right == Some(true));
 }
 
-/// A scope of other names than those of the program stays.
+/// A scope with other names than those of the program is unchanged.
 fn other_names_are_refused(alloc: Global) -> Option<bool> {
     let mut scope = Scope::new(alloc);
     scope.push("x", Dynamic::from_int(1)).ok()?;
@@ -172,7 +173,7 @@ fn functions_are_called(alloc: Global) -> Option<bool> {
     Some(is_right && early.is_none() && failed.is_none() && missing.is_none() && nothing.is_none())
 }
 
-/// Goes on with a run that has ended.
+/// Continues a run that has ended.
 fn run_on(run: &mut Run, program: &Program) -> Outcome {
     run.go(program, 10)
 }

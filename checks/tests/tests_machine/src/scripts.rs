@@ -16,7 +16,7 @@ const LIMITS: ScriptLimits = ScriptLimits {
     calls: 20,
 };
 
-/// A script writes behind what is there, and counts on; so does one that fails.
+/// A script appends to the output, and adds to the number of operations; so does one that fails.
 fn goes_on(alloc: Global) -> Option<bool> {
     let mut out = String::from_str(alloc, "0\n").ok()?;
     let mut operations = 50;
@@ -40,7 +40,7 @@ fn a_script_goes_on_with_what_is_given(rt: HostRuntime) {
     assert!(rt; goes_on == Some(true));
 }
 
-/// A script that begins with all operations taken does nothing; it stands at its beginning.
+/// A script that begins with all operations used does nothing; its position is its beginning.
 fn is_limited(alloc: Global) -> bool {
     let mut out = String::new(alloc);
     let mut operations = 100;
@@ -60,7 +60,8 @@ fn operations_that_were_taken_before_count(rt: HostRuntime) {
     assert!(rt; is_limited);
 }
 
-/// More variables than a slot can name. The text has 6 times 65,536 bytes, which are 6,144 operations.
+/// More variables than a slot can address. The text has 6 times 65,536 bytes, which are 6,144
+/// operations.
 fn is_too_large(alloc: Global) -> Option<bool> {
     let mut text = String::new(alloc);
     for _ in 0..65_536 {
@@ -89,7 +90,7 @@ fn a_script_of_very_many_variables_is_too_large(rt: HostRuntime) {
     assert!(rt; is_too_large == Some(true));
 }
 
-/// 6,410 bytes are 100 operations, of which 99 are left: the text isn't read, and none counts.
+/// 6,410 bytes are 100 operations, of which 99 are left: the text isn't compiled, and none counts.
 fn is_text_counted(alloc: Global) -> Option<bool> {
     let mut text = String::new(alloc);
     for _ in 0..640 {
@@ -112,4 +113,30 @@ fn is_text_counted(alloc: Global) -> Option<bool> {
 fn a_text_counts_before_it_is_read(rt: HostRuntime) {
     let is_counted = is_text_counted(rt.alloc());
     assert!(rt; is_counted == Some(true));
+}
+
+/// An error has the active functions, the innermost first: the script itself is the last.
+fn has_calls(alloc: Global) -> bool {
+    let mut out = String::new(alloc);
+    let mut operations = 0;
+    let text = "fn f(a) {\n  a[1]\n}\nfn g(a) {\n  let b = f(a);\n  b\n}\ng([0]);";
+    match run_script(alloc, text, &mut out, &LIMITS, &mut operations) {
+        Err(ScriptError::Fault(_, place, calls)) => {
+            let expected = [("f", 2), ("g", 5), ("", 8)];
+            let mut is_right = place.line() == 2 && calls.len() == expected.len();
+            for (call, (name, line)) in calls.iter().zip(expected.iter()) {
+                if call.function.as_str() != *name || call.position.line() != *line {
+                    is_right = false;
+                }
+            }
+            is_right
+        }
+        Ok(()) | Err(_) => false,
+    }
+}
+
+#[test]
+fn an_error_has_the_active_functions(rt: HostRuntime) {
+    let has_calls = has_calls(rt.alloc());
+    assert!(rt; has_calls);
 }

@@ -1,11 +1,11 @@
-//! What is seen of a run that stands: calls, variables, and stops at statements.
+//! Views of a stopped run: calls, variables, and stops at statements.
 
 use crate::runs::{begun, compiled, driven, value_of};
 use script_code::Program;
 use script_run::{Outcome, Run};
 use std::alloc::{AllocError, Global};
 
-/// The functions under way, with where they stand.
+/// Lists the open calls, with where they are.
 fn calls(alloc: Global, run: &Run, program: &Program) -> Result<String, AllocError> {
     let mut told = String::new(alloc);
     for number in 0..run.depth() {
@@ -18,7 +18,7 @@ fn calls(alloc: Global, run: &Run, program: &Program) -> Result<String, AllocErr
     Ok(told)
 }
 
-/// The variables in sight of a function under way, with their ints.
+/// Lists the variables in scope of an open call, with their ints.
 fn variables(
     alloc: Global,
     run: &Run,
@@ -100,7 +100,7 @@ fn variables_in_sight_are_seen(rt: HostRuntime) {
     assert!(rt; are_seen == Some(true));
 }
 
-/// Whether these variables are in sight where a script first calls the host.
+/// Whether these variables are in scope where a script first calls the host.
 fn sees(alloc: Global, text: &str, wanted: &str) -> Option<bool> {
     let program = compiled(alloc, text)?;
     let mut run = begun(alloc, &program)?;
@@ -140,7 +140,8 @@ fn twice(n) { n * 2 }
 twice(b)
 ";
 
-/// Where a run stops that stops at statements, and goes on by so many operations at a time; and how many operations it did.
+/// Lists where a run stops that stops at statements, and executes this many operations at a time;
+/// with its number of operations.
 fn stops(alloc: Global, program: &Program, at_once: u64) -> Option<(String, u64)> {
     let mut run = begun(alloc, program)?;
     run.stop_at_statements(true);

@@ -1,4 +1,4 @@
-//! Largest sizes, at each operation that makes or writes a value.
+//! Size limits, at each operation that makes or writes a value.
 
 use crate::runs::compiled;
 use rhai_text::{EvalAltResult, Limits, SizeKind};
@@ -15,7 +15,7 @@ const SMALL: RunLimits = RunLimits {
     calls: 20,
 };
 
-/// Which limit a script would go past.
+/// Which limit a script exceeds.
 #[derive(Clone, Copy, PartialEq, Eq)]
 enum Past {
     None,
@@ -37,7 +37,7 @@ fn past_of(kind: &FaultKind) -> Option<Past> {
     }
 }
 
-/// Which limit a script goes past, if it is one that runs.
+/// Returns which limit a script exceeds, if it is one that runs.
 fn limit_passed(alloc: Global, text: &str) -> Option<Past> {
     let program = compiled(alloc, text)?;
     let mut run = Run::new(alloc, &program, &SMALL).ok()?;
@@ -103,7 +103,7 @@ fn arrays_keep_their_size(rt: HostRuntime) {
         ("let a = \"a,b,c,d,,e\".split(',', 5);", Past::None),
         ("let b = \"abcdef\".to_blob();", Past::Items),
         ("let a = (5).bits;", Past::Items),
-        // an empty text stands before and behind the characters
+        // there is an empty text before and after the characters
         ("let a = \"abc\".split(\"\");", Past::None),
         ("let a = \"abcd\".split(\"\");", Past::Items),
         ("let a = [1, 2, 3]; a += [4, 5];", Past::None),

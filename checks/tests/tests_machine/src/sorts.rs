@@ -4,7 +4,7 @@ use crate::runs::{begun, compiled, driven};
 use script_run::Outcome;
 use std::alloc::Global;
 
-/// What a script prints that is done, by so many operations at a time.
+/// Returns what a script prints that is done, executed this many operations at a time.
 fn printed(alloc: Global, text: &str, at_once: u64) -> Option<String> {
     let program = compiled(alloc, text)?;
     let mut run = begun(alloc, &program)?;
@@ -68,7 +68,7 @@ fn items_in_order_are_compared_least(rt: HostRuntime) {
     assert!(rt; is_least);
 }
 
-/// Whatever the function answers, each item comes out once: 1 to 11 add up to 66.
+/// Whatever the function returns, the result contains each item once: 1 to 11 add up to 66.
 #[test]
 fn a_function_that_lies_loses_nothing(rt: HostRuntime) {
     let text = "

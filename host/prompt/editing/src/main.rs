@@ -1,6 +1,7 @@
-//! The program `rhai-world` with an editor of lines: it keeps their history, and completes names of variables, functions and commands.
+//! The program `rhai-world` with a line editor: it has a history, and completes names of variables,
+//! functions and commands.
 //!
-//! `RHAI_WORLD_HISTORY` may name a file where the history lives on.
+//! `RHAI_WORLD_HISTORY` may name a file that keeps the history.
 #![forbid(unsafe_code)]
 
 use rhai_world_prompt::{program, Lines, Plain};
@@ -62,21 +63,21 @@ impl Lines for Edited {
     }
 }
 
-/// The words that a line may be completed by, in order.
+/// The words that complete a line, in order.
 #[derive(Default)]
 struct Words {
     words: Vec<String>,
 }
 
 impl Words {
-    /// Where the word before this place begins, and what it may become.
+    /// Returns where the word before this position begins, and its completions.
     fn completed(&self, line: &str, place: usize) -> (usize, Vec<String>) {
         let before = &line[..place];
         let begin = before.rfind(|character: char| !character.is_ascii_alphanumeric() && character != '_').map_or(0, |i| {
             let character = before[i..].chars().next().map_or(0, char::len_utf8);
             i + character
         });
-        // (a command is a word with its colon)
+        // (the colon belongs to the word of a command)
         let begin = if begin == 1 && line.starts_with(':') { 0 } else { begin };
         let word = &before[begin..];
         let found = self.words.iter().filter(|one| !word.is_empty() && one.starts_with(word));

@@ -1,4 +1,4 @@
-//! What is inside of arrays, maps and variants.
+//! The contents of arrays, maps and variants.
 use super::key::KeyDeserializer;
 use super::{below, unexpected, visited, Deserializer};
 use crate::error::Error;
@@ -6,7 +6,7 @@ use rhai_world::{Map, Value};
 use serde::de::{DeserializeSeed, EnumAccess, Error as _, MapAccess, SeqAccess, Unexpected, VariantAccess, Visitor};
 use std::vec::IntoIter;
 
-/// Shows a visitor an array, of which it has to take all.
+/// Passes an array to a visitor, which has to take all of it.
 pub fn items<'de, V: Visitor<'de>>(items: Vec<Value>, levels: usize, visitor: V) -> Result<V::Value, Error> {
     let count = items.len();
     let mut items = Items { left: items.into_iter(), levels };
@@ -17,7 +17,7 @@ pub fn items<'de, V: Visitor<'de>>(items: Vec<Value>, levels: usize, visitor: V)
     Ok(made)
 }
 
-/// Shows a visitor a map, of which it has to take all.
+/// Passes a map to a visitor, which has to take all of it.
 pub fn fields<'de, V: Visitor<'de>>(map: Map, levels: usize, visitor: V) -> Result<V::Value, Error> {
     let count = map.len();
     let mut fields = Fields { left: map.into_iter(), content: None, levels };
@@ -77,7 +77,7 @@ impl<'de> MapAccess<'de> for Fields {
     }
 }
 
-/// A variant with what is inside of it.
+/// A variant with its content.
 pub struct Content {
     pub variant: String,
     pub content: Option<Value>,

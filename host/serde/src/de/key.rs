@@ -5,7 +5,7 @@ use serde::forward_to_deserialize_any;
 use std::fmt::Display;
 use std::str::FromStr;
 
-/// Takes a key apart: a text, or what is written as one.
+/// Deserializes from a key: a text, or a value written as one.
 pub struct KeyDeserializer {
     key: String,
 }
@@ -15,7 +15,7 @@ impl KeyDeserializer {
         KeyDeserializer { key }
     }
 
-    /// What the key is written as. It has one spelling, so that two keys don't become one.
+    /// Parses the key. It has one spelling per value, so that two keys can't become one.
     fn read<T: FromStr + Display>(self, wanted: &'static str) -> Result<T, Error> {
         match self.key.parse::<T>() {
             Ok(read) if read.to_string() == self.key => Ok(read),

@@ -1,4 +1,4 @@
-//! Arrays and maps under way.
+//! Arrays and maps being built.
 use super::key::KeySerializer;
 use super::{array, tagged, Serializer};
 use crate::error::Error;
@@ -11,10 +11,10 @@ use serde::Serialize;
 use std::collections::btree_map::Entry;
 use std::collections::BTreeMap;
 
-/// For so many items at most room is made ahead, since a count is only what a type says.
+/// The most items that are allocated in advance, since a type may announce any count.
 const AHEAD: usize = 4096;
 
-/// An array under way.
+/// An array being built.
 pub struct Items {
     inside: Serializer,
     items: Vec<Value>,
@@ -58,7 +58,7 @@ items! {
     SerializeTupleVariant serialize_field
 }
 
-/// A map under way.
+/// A map being built.
 pub struct Fields {
     inside: Serializer,
     fields: BTreeMap<String, Value>,

@@ -3,7 +3,7 @@ use crate::error::Error;
 use serde::ser::Impossible;
 use serde::Serialize;
 
-/// Makes texts of keys.
+/// Serializes keys to texts.
 pub struct KeySerializer;
 
 macro_rules! written {

@@ -1,53 +1,54 @@
-//! Blocks whose sizes stand before them, where the C library doesn't tell them.
+//! Blocks with their size stored before them, for a C library that doesn't report sizes.
 use super::{c_free, c_realloc, malloc};
 use std::ffi::c_void;
 use std::ptr::null_mut;
 
-/// How many bytes stand before a block: as many as C's functions align to, so that what is behind them is aligned too.
+/// How many bytes precede a block: the alignment of C's functions, so that the block itself is
+/// aligned too.
 const HEADER: usize = 16;
 
-/// Makes a block of so many bytes; null where there is no memory.
+/// Allocates a block of this many bytes; null if that fails.
 pub fn make(bytes: usize) -> *mut c_void {
     let Some(whole) = bytes.checked_add(HEADER) else {
         return null_mut();
     };
     // SAFETY: `malloc` takes any size.
     let front = unsafe { malloc(whole) };
-    // SAFETY: it is null or a block of so many bytes, which nobody else has.
+    // SAFETY: it is null or a block of this many bytes, which nobody else uses.
     unsafe { behind(front, whole) }
 }
 
-/// Makes a block larger or smaller, perhaps at another place; null where there is no memory, and the block stays.
+/// Resizes a block, perhaps moving it; null if that fails, and the block is unchanged.
 ///
 /// # Safety
-/// The block is one of `make` or `resize`, and wasn't given back.
+/// The block comes from `make` or `resize`, and wasn't freed.
 pub unsafe fn resize(at: *mut c_void, bytes: usize) -> *mut c_void {
     let Some(whole) = bytes.checked_add(HEADER) else {
         return null_mut();
     };
     // SAFETY: as this function's.
     let front = unsafe { front(at) };
-    // SAFETY: that is where C's block begins.
+    // SAFETY: C's block begins there.
     let front = unsafe { c_realloc(front, whole) };
-    // SAFETY: it is null or a block of so many bytes, which nobody else has.
+    // SAFETY: it is null or a block of this many bytes, which nobody else uses.
     unsafe { behind(front, whole) }
 }
 
-/// Gives a block back.
+/// Frees a block.
 ///
 /// # Safety
-/// As of `resize`.
+/// As for `resize`.
 pub unsafe fn free(at: *mut c_void) {
     // SAFETY: as this function's.
     let front = unsafe { front(at) };
-    // SAFETY: that is where C's block begins.
+    // SAFETY: C's block begins there.
     unsafe { c_free(front) }
 }
 
-/// Tells how many bytes a block takes, with those before it.
+/// Returns how many bytes a block takes, including those before it.
 ///
 /// # Safety
-/// As of `resize`.
+/// As for `resize`.
 pub unsafe fn size(at: *mut c_void) -> usize {
     // SAFETY: as this function's.
     let front = unsafe { front(at) };
@@ -55,26 +56,26 @@ pub unsafe fn size(at: *mut c_void) -> usize {
     unsafe { front.cast::<usize>().read() }
 }
 
-/// Writes down how many bytes a block of C's has, and answers where it goes on behind that; null stays null.
+/// Stores the size of a C block, and returns the address behind it; null for null.
 ///
 /// # Safety
-/// It is null or a block of C's of so many bytes, at least `HEADER`, and nobody else has it.
+/// It is null or a C block of this many bytes, at least `HEADER`, and nobody else uses it.
 unsafe fn behind(front: *mut c_void, whole: usize) -> *mut c_void {
     if front.is_null() {
         return front;
     }
-    // SAFETY: the block is aligned to 16 bytes, and has as many.
+    // SAFETY: the block is aligned to 16 bytes, and has at least as many.
     unsafe { front.cast::<usize>().write(whole) };
-    // SAFETY: it has as many bytes.
+    // SAFETY: it has at least as many bytes.
     unsafe { front.byte_add(HEADER) }
 }
 
-/// Where C's block begins.
+/// Returns where C's block begins.
 ///
 /// # Safety
-/// As of `resize`.
+/// As for `resize`.
 unsafe fn front(at: *mut c_void) -> *mut c_void {
-    // SAFETY: `behind` went as far.
+    // SAFETY: `behind` moved the address by as much.
     unsafe { at.byte_sub(HEADER) }
 }
 
@@ -99,7 +100,7 @@ mod tests {
         assert_eq!(unsafe { at.cast::<[u8; 100]>().read() }, [7; 100]);
         // SAFETY: it wasn't given back.
         assert!(unsafe { resize(at, usize::MAX) }.is_null());
-        // SAFETY: a block that isn't resized stays.
+        // SAFETY: a block that couldn't be resized is unchanged.
         unsafe { free(at) };
     }
 

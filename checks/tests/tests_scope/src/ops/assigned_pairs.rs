@@ -1,4 +1,4 @@
-//! The row of each assignment on each pair of kinds, against a table that was typed by hand.
+//! The row of each assignment for each pair of kinds, compared with a handwritten table.
 use super::holders::shared;
 use super::pairs::{OPERATORS, kind};
 use rhai_ops::{FnBuiltin, get_builtin_op_assignment_fn};
@@ -45,7 +45,8 @@ const PAIRS: [&str; 20] = [
     "--------------------",
 ];
 
-/// The line of a pair: `+` and `m` are rows by themselves, `n` and `b` rows with their assignment, `-` is none.
+/// The line of a pair: `+` and `m` are rows of their own, `n` and `b` rows with their assignment,
+/// `-` is none.
 fn line(pair: char) -> &'static str {
     match pair {
         'I' => "nnnnnnnnnnn",
@@ -88,7 +89,7 @@ fn has_line(pair: char, x: &Dynamic, y: &Dynamic) -> bool {
     true
 }
 
-/// Whether each assignment has its row on a value and one of each kind.
+/// Whether each assignment has its row for a value and one of each kind.
 fn has_lines(alloc: Global, x: &Dynamic, pairs: &str) -> bool {
     for (which, pair) in pairs.chars().enumerate() {
         if !has_line(pair, x, &kind(alloc, which)) {
@@ -106,7 +107,7 @@ fn each_assignment_on_each_pair_of_kinds(rt: HostRuntime) {
     }
 }
 
-/// Whether a holder has no row but where it is pushed.
+/// Whether a holder has no row except for being pushed.
 fn is_pushed_alone(array: &Dynamic, holder: &Dynamic) -> bool {
     has_line('-', holder, &Dynamic::ONE)
         && has_line('-', &Dynamic::ONE, holder)
@@ -120,7 +121,7 @@ fn holders_are_pushed_and_nothing_else(rt: HostRuntime) {
     assert!(rt; is_pushed_alone(&kind(rt.alloc(), 5), &one));
 }
 
-/// Whether an operator has no row of an assignment on any pair of kinds.
+/// Whether an operator has no row as an assignment for any pair of kinds.
 fn has_none(alloc: Global, op: Token) -> bool {
     for x in 0..20 {
         for y in 0..20 {

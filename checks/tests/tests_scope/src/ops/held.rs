@@ -1,4 +1,4 @@
-//! Rows that are called on other values than they were looked up for: they go by what is held.
+//! Rows that are called with other values than they were looked up for: they use the held values.
 use super::holders::shared;
 use super::readme::{assign, operate};
 use rhai_ops::FnBuiltin;
@@ -8,7 +8,7 @@ use std::alloc::Global;
 
 const UNLIMITED: Limits = Limits { text: 0, items: 0 };
 
-/// Whether the row of two ints comes to 11 on a holder of 5 and 6.
+/// Whether the row of two ints returns 11 for a holder of 5 and 6.
 fn is_added(alloc: Global, store: &mut Store, x: &mut Dynamic, y: &mut Dynamic) -> bool {
     if !x.is_int(store) || !y.is_int(store) {
         return false;
@@ -27,7 +27,7 @@ fn a_row_goes_by_what_is_held(rt: HostRuntime) {
     assert!(rt; five.is_shared() && is_added(rt.alloc(), &mut store, &mut five, &mut six));
 }
 
-/// Another holder of the cell; unit where there is no room.
+/// Makes another holder of the cell; unit if the allocation fails.
 fn again(alloc: Global, holder: &Dynamic) -> Dynamic {
     match holder.copy(alloc) {
         Ok(copy) => copy,
@@ -68,7 +68,7 @@ fn is_appended(alloc: Global, store: &mut Store, x: &mut Dynamic, y: &mut Dynami
         && matches!(x.as_array_ref(store), Ok(items) if items.len() == 2)
 }
 
-/// An array of one value; unit where there is no room.
+/// Makes an array of one value; unit if the allocation fails.
 fn array(alloc: Global) -> Dynamic {
     match vec![in alloc; Dynamic::ONE] {
         Ok(items) => Dynamic::from_array(items),
@@ -104,13 +104,14 @@ fn an_array_may_hold_its_own_holder(rt: HostRuntime) {
     assert!(rt; is_pushed(rt.alloc(), &mut store, &mut x, &mut y));
 }
 
-/// The int that an operator comes to; `None` where it has no row.
+/// Returns an operator's int result; `None` if it has no row.
 fn sum(alloc: Global, store: &mut Store, x: &mut Dynamic, y: &mut Dynamic) -> Option<i64> {
     let answer = operate(Token::Plus, alloc, store, &UNLIMITED, x, y).ok()??;
     answer.as_int(store).ok()
 }
 
-/// Whether two ints are added, by an operator and by an assignment, and a holder has no row of either.
+/// Whether two ints are added, by an operator and by an assignment, and a holder has no row for
+/// either.
 fn are_added(alloc: Global, store: &mut Store, x: &mut Dynamic, holder: &mut Dynamic) -> bool {
     sum(alloc, store, x, &mut { Dynamic::TWO }) == Some(3)
         && sum(alloc, store, x, holder).is_none()
@@ -140,7 +141,7 @@ fn callers_look_rows_up(rt: HostRuntime) {
     assert!(rt; are_added(rt.alloc(), &mut store, &mut one, &mut holder));
 }
 
-/// Whether a third item is refused by its number, at no place, and all stays.
+/// Whether a third item is refused by the limit, without a position, and everything is unchanged.
 fn is_too_many(alloc: Global, store: &mut Store, x: &mut Dynamic, y: &mut Dynamic) -> bool {
     let limits = Limits { text: 0, items: 1 };
     let is_refused = match assign(Token::PlusAssign, alloc, store, &limits, x, y) {

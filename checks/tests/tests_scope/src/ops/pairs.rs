@@ -1,4 +1,4 @@
-//! The row of each operator on each pair of kinds, against a table that was typed by hand.
+//! The row of each operator for each pair of kinds, compared with a handwritten table.
 use super::assigned_pairs::ASSIGNMENTS;
 use super::holders::shared;
 use rhai_ops::{FnBuiltin, get_builtin_binary_op_fn};
@@ -30,8 +30,8 @@ pub(super) const OPERATORS: [Token; 20] = [
     Token::Equals,
 ];
 
-/// For each kind of the first operand, in the order of `kind`, the line of each kind of the second one. `d` is the line of two
-/// types that differ, `-` that of no row.
+/// For each kind of the first operand, in the order of `kind`, the line for each kind of the second
+/// one. `d` is the line of two types that differ, `-` that without rows.
 const PAIRS: [&str; 20] = [
     "Uddtuddddddddddddddd",
     "dBdddddddddddddddddd",
@@ -81,7 +81,7 @@ pub(super) fn kind(alloc: Global, which: usize) -> Dynamic {
     }
 }
 
-/// A text; unit where there is no room for it.
+/// Makes a text; unit if the allocation fails.
 fn text(alloc: Global) -> Dynamic {
     match Dynamic::from_text(alloc, "a") {
         Ok(value) => value,
@@ -89,7 +89,7 @@ fn text(alloc: Global) -> Dynamic {
     }
 }
 
-/// A blob; unit where there is no room for it.
+/// Makes a blob; unit if the allocation fails.
 fn blob(alloc: Global) -> Dynamic {
     match Vec::from_slice(alloc, &[1]) {
         Ok(bytes) => Dynamic::from_blob(bytes),
@@ -97,7 +97,7 @@ fn blob(alloc: Global) -> Dynamic {
     }
 }
 
-/// A function pointer; unit where there is no room for it.
+/// Makes a function pointer; unit if the allocation fails.
 fn function(alloc: Global) -> Dynamic {
     match ImmutableString::from_str(alloc, "f") {
         Ok(name) => Dynamic::from(FnPtr::new(name, Vec::new(alloc))),
@@ -105,8 +105,9 @@ fn function(alloc: Global) -> Dynamic {
     }
 }
 
-/// The line of a pair, a letter for each operator: `t` and `f` are the constants, `r` and `R` the ranges without and with their
-/// end, `x` and `X` an equality and its opposite, `c` a comparison, `-` is none, and any other letter the row by itself.
+/// The line of a pair, a letter for each operator: `t` and `f` are the constants, `r` and `R` the
+/// ranges with their end excluded and included, `x` and `X` an equality and its opposite, `c` a
+/// comparison, `-` is none, and any other letter the row itself.
 fn line(pair: char) -> &'static str {
     match pair {
         'I' => "nnnnnnnnnnnccccccrR-",
@@ -179,7 +180,7 @@ fn has_line(pair: char, x: &Dynamic, y: &Dynamic, store: &Store) -> bool {
     true
 }
 
-/// Whether each operator has its row on a value and one of each kind.
+/// Whether each operator has its row for a value and one of each kind.
 fn has_lines(alloc: Global, x: &Dynamic, pairs: &str, store: &Store) -> bool {
     for (which, pair) in pairs.chars().enumerate() {
         if !has_line(pair, x, &kind(alloc, which), store) {
@@ -201,12 +202,12 @@ fn each_operator_on_each_pair_of_kinds(rt: HostRuntime) {
     }
 }
 
-/// Whether a value and unit have no row, either first.
+/// Whether a value and unit have no row, in either order.
 fn has_no_row(x: &Dynamic, store: &Store) -> bool {
     has_line('-', x, &Dynamic::UNIT, store) && has_line('-', &Dynamic::UNIT, x, store)
 }
 
-/// A holder of its own cell; unit where there is no room.
+/// Makes a holder of its own cell; unit if the allocation fails.
 fn closed(alloc: Global, store: &mut Store) -> Dynamic {
     let mut holder = shared(Dynamic::UNIT, store);
     let Ok(again) = holder.copy(alloc) else {
@@ -232,7 +233,7 @@ fn what_holds_nothing_has_no_row(rt: HostRuntime) {
     assert!(rt; has_line('d', &one, &Dynamic::UNIT, &store));
 }
 
-/// Whether an operator has no row on any pair of kinds.
+/// Whether an operator has no row for any pair of kinds.
 fn has_none(alloc: Global, op: Token, store: &Store) -> bool {
     for x in 0..20 {
         for y in 0..20 {

@@ -1,8 +1,8 @@
-//! Entries, one after another.
+//! Iterators over entries.
 use rhai_scope::Scope;
 use rhai_value::{Dynamic, Store};
 
-/// Puts a variable of 1 with an alias, and a holder of a constant 2, into a scope.
+/// Adds a variable of 1 with an alias, and a holder of a constant 2, to a scope.
 fn fill(scope: &mut Scope, store: &mut Store) -> bool {
     let Ok(holder) = Dynamic::TWO.into_read_only().into_shared(store) else {
         return false;
@@ -12,7 +12,7 @@ fn fill(scope: &mut Scope, store: &mut Store) -> bool {
         && scope.push("b", holder).is_ok()
 }
 
-/// Whether entries come first to last.
+/// Whether entries come in order, first to last.
 fn is_in_order(scope: &Scope) -> bool {
     let mut entries = scope.into_iter();
     entries.len() == 2
@@ -22,7 +22,7 @@ fn is_in_order(scope: &Scope) -> bool {
         && entries.next().is_none()
 }
 
-/// Whether values as they are come last to first, with the modes of what holders hold.
+/// Whether values come last to first, with the modes of held values.
 fn is_in_turn(scope: &Scope, store: &Store) -> bool {
     let mut raw = scope.iter_raw(store);
     raw.len() == 2
@@ -42,7 +42,7 @@ fn is_flat(scope: &Scope, store: &Store) -> bool {
     }
 }
 
-/// Whether a scope comes apart in order.
+/// Whether a scope is taken apart in order.
 fn comes_apart(scope: Scope, store: &Store) -> bool {
     let mut entries = scope.into_iter();
     let is_first = match entries.next() {
@@ -70,7 +70,7 @@ fn has_no_alias(scope: &Scope) -> bool {
     true
 }
 
-/// Whether an alias goes with its entry, and another entry of the name comes without.
+/// Whether an alias is dropped with its entry, and another entry with the name comes without one.
 fn drops_alias(scope: &mut Scope) -> bool {
     let is_filled = scope.push("x", 1i64).is_ok()
         && scope.push("y", 2i64).is_ok()

@@ -1,4 +1,4 @@
-//! Look-ups by name where entries come and go, in scopes of few entries and of many.
+//! Look-ups by name while entries are pushed and dropped, in scopes of few entries and of many.
 use super::walker::leave;
 use rhai_scope::Scope;
 use rhai_text::ImmutableString;
@@ -18,7 +18,7 @@ fn names(alloc: Global) -> Result<Vec<ImmutableString>, AllocError> {
     Ok(names)
 }
 
-/// Whether `x` and `y` are found where they come and go behind `first` other entries.
+/// Whether `x` and `y` are found while they are pushed and dropped after `first` other entries.
 fn are_found(scope: &mut Scope, store: &Store, first: usize) -> bool {
     let (second, third) = (first.wrapping_add(1), first.wrapping_add(2));
     if scope.push("x", 1i64).is_err()
@@ -59,12 +59,12 @@ fn push_many(
     true
 }
 
-/// The position of the last entry whose name has this number, by a walk through all of them.
+/// Returns the position of the newest entry whose name has this number, by a walk over all entries.
 fn last_of(numbers: &[usize], number: usize) -> Option<usize> {
     numbers.iter().rposition(|own| *own == number)
 }
 
-/// Drops the last entry of a name, if there is one.
+/// Drops the newest entry with a name, if there is one.
 fn drop_last(scope: &mut Scope, name: &ImmutableString) {
     match scope.search(name.as_str()) {
         Some(i) if i < scope.len() => drop(scope.remove_at(i)),
@@ -72,7 +72,7 @@ fn drop_last(scope: &mut Scope, name: &ImmutableString) {
     }
 }
 
-/// Drops the last entry of every seventh name.
+/// Drops the newest entry of every seventh name.
 fn drop_some(scope: &mut Scope, names: &[ImmutableString], numbers: &mut Vec<usize>) {
     for (number, name) in names.iter().enumerate() {
         if number % 7 == 0 {
@@ -123,7 +123,7 @@ const FIRST: &str = "size_of_first_item";
 
 const SECOND: &str = "size_of_second_item";
 
-/// Whether the two names stand there, and no name is found that never came.
+/// Whether the two names are at these positions, and a name that was never pushed isn't found.
 fn stand(scope: &Scope, first: Option<usize>, second: Option<usize>) -> bool {
     scope.search(FIRST) == first
         && scope.search(SECOND) == second
@@ -132,7 +132,7 @@ fn stand(scope: &Scope, first: Option<usize>, second: Option<usize>) -> bool {
         && !scope.contains("")
 }
 
-/// Whether they are told apart while one of them, and then both, stand before forty entries.
+/// Whether they are distinguished while one of them, and then both, come before forty entries.
 fn are_told_apart(scope: &mut Scope, names: &[ImmutableString], numbers: &mut Vec<usize>) -> bool {
     if scope.push(FIRST, 1i64).is_err()
         || !push_many(scope, names, numbers, 40, 1)
@@ -147,7 +147,8 @@ fn are_told_apart(scope: &mut Scope, names: &[ImmutableString], numbers: &mut Ve
     stand(scope, Some(0), None)
 }
 
-/// Whether they are told apart once the first of them is taken out, the other one comes, and all entries go.
+/// Whether they are distinguished after the first of them is taken out, the other one is pushed,
+/// and all entries are dropped.
 fn stay_apart(scope: &mut Scope, store: &Store) -> bool {
     if !matches!(scope.remove::<i64>(FIRST, store), Ok(Some(1)))
         || !stand(scope, None, None)

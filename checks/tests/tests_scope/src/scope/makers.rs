@@ -1,4 +1,4 @@
-//! Scopes that are made of items, and items that are added.
+//! Scopes that are made from items, and items that are added.
 use super::prints;
 use rhai_scope::Scope;
 use rhai_text::ImmutableString;
@@ -14,7 +14,7 @@ fn flagged(alloc: Global) -> Result<Vec<(ImmutableString, bool, Dynamic)>, Alloc
     Ok(vec![in alloc; (ImmutableString::from_str(alloc, "b")?, true, Dynamic::TWO)]?)
 }
 
-/// Whether a scope was made, and prints this after these items were added.
+/// Whether a scope was made, and prints like this after these items were added.
 fn is_made(
     alloc: Global,
     made: Result<Scope, AllocError>,

@@ -5,7 +5,7 @@ use rhai_scope::Scope;
 use rhai_value::{Dynamic, INT, Store};
 use std::test::Fail;
 
-/// A scope of an x, a constant y, and another x.
+/// Fills a scope with an x, a constant y, and another x.
 fn fill(scope: &mut Scope) -> bool {
     scope.push("x", 1i64).is_ok()
         && scope.push_constant("y", 2i64).is_ok()
@@ -31,7 +31,7 @@ fn entries_are_read_by_position(rt: HostRuntime) {
     assert!(rt; is_at(&scope, &store, 2, 3, false));
 }
 
-/// Writes an int to the last entry of a name, also to a constant.
+/// Overwrites the newest entry with a name with an int, also a constant.
 fn overwrite(scope: &mut Scope, name: &str, value: INT) -> bool {
     let Some(i) = scope.search(name) else {
         return false;
@@ -53,7 +53,7 @@ fn a_constant_is_written_by_position(rt: HostRuntime) {
     assert!(rt; !overwrite(&mut scope, "z", 7));
 }
 
-/// The int at a position, whose entry is taken out.
+/// Returns the int at a position, whose entry is taken out.
 fn taken(scope: &mut Scope, store: &Store, i: usize) -> Option<INT> {
     if i >= scope.len() {
         return None;
@@ -75,7 +75,7 @@ fn an_entry_is_taken_out_by_position(rt: HostRuntime) -> Result<(), Fail> {
     Ok(())
 }
 
-/// Whether the last x, which is sought once, is named, read and written where it stands.
+/// Whether the newest x, which is looked up once, is named, read and written by its position.
 fn is_walked(scope: &mut Scope, store: &Store, had: INT, has: INT) -> bool {
     let Some(i) = resolve(scope, "x") else {
         return false;
@@ -83,7 +83,7 @@ fn is_walked(scope: &mut Scope, store: &Store, had: INT, has: INT) -> bool {
     name_of(scope, i) == "x" && exchange(scope, i, Dynamic::from_int(has)).as_int(store) == Ok(had)
 }
 
-/// Whether the newest entry is this one, with this alias, and goes.
+/// Whether the newest entry is this one, with this alias, and can be taken out.
 fn is_left(scope: &mut Scope, store: &Store, name: &str, wanted: INT, alias: &str) -> bool {
     let Some((own_name, value, aliases)) = leave(scope) else {
         return false;

@@ -1,4 +1,4 @@
-//! Entries by types of Rust.
+//! Entries by Rust types.
 use super::{is_int, prints};
 use rhai_scope::Scope;
 use rhai_text::ImmutableString;
@@ -6,7 +6,7 @@ use rhai_value::{AccessMode, Dynamic, Store};
 use std::alloc::Global;
 use std::test::Fail;
 
-/// Whether values go in by their types, and a constant is hidden by a new entry.
+/// Whether values can be pushed by their types, and a constant is hidden by a new entry.
 fn is_filled(scope: &mut Scope) -> bool {
     scope.push("x", 42i64).is_ok()
         && scope.push_constant("y", 1i64).is_ok()
@@ -19,7 +19,8 @@ fn is_filled(scope: &mut Scope) -> bool {
         && scope.is_constant("y") == Some(false)
 }
 
-/// Whether values come out by their types, and an entry goes also where its value isn't cast.
+/// Whether values can be taken out by their types, and an entry is also removed if its value can't
+/// be cast.
 fn is_emptied(scope: &mut Scope, store: &Store) -> bool {
     matches!(scope.get_value::<i64>("x", store), Ok(Some(43)))
         && matches!(scope.get_value::<bool>("x", store), Ok(None))
@@ -39,7 +40,7 @@ fn values_go_in_and_out_by_their_types(rt: HostRuntime) {
     assert!(rt; is_emptied(&mut scope, &Store::new(alloc)));
 }
 
-/// Writes 5 over a value that is lent.
+/// Overwrites a borrowed value with 5.
 fn write_five(scope: &mut Scope, name: &str) -> bool {
     match scope.get_mut(name) {
         Some(value) => {
@@ -50,7 +51,7 @@ fn write_five(scope: &mut Scope, name: &str) -> bool {
     }
 }
 
-/// Whether a variable is lent for writing, and neither a constant nor what isn't there.
+/// Whether a variable can be borrowed mutably, but neither a constant nor a missing one.
 fn is_lent(scope: &mut Scope, store: &Store, name: ImmutableString) -> bool {
     scope.push("x", 1i64).is_ok()
         && write_five(scope, "x")

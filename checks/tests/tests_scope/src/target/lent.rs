@@ -1,8 +1,8 @@
-//! Working values that are lent: what is written through them is written back to the very part.
+//! Borrowed working values: what is written through them is written back to exactly that part.
 use super::parts::{has_byte, propagated};
 use super::*;
 
-/// Writes true over a bit that is lent, and writes it back.
+/// Overwrites a borrowed bit with true, and writes it back.
 fn write_bit(rt: &impl Abort, alloc: Global, store: &mut Store, source: &mut Dynamic) -> bool {
     let mut target = Target::Bit {
         source,
@@ -20,7 +20,7 @@ fn write_bit(rt: &impl Abort, alloc: Global, store: &mut Store, source: &mut Dyn
     propagated(Target::Bit { source, value, bit }, alloc, store).is_ok() && is_lent
 }
 
-/// Writes 511 over a byte that is lent, and writes it back.
+/// Overwrites a borrowed byte with 511, and writes it back.
 fn write_byte(rt: &impl Abort, alloc: Global, store: &mut Store, source: &mut Dynamic) -> bool {
     let mut target = Target::BlobByte {
         source,
@@ -48,7 +48,7 @@ fn write_byte(rt: &impl Abort, alloc: Global, store: &mut Store, source: &mut Dy
     propagated(target, alloc, store).is_ok() && is_lent
 }
 
-/// Writes a character over one that is lent, and writes it back.
+/// Overwrites a borrowed character, and writes it back.
 fn write_char(rt: &impl Abort, alloc: Global, store: &mut Store, source: &mut Dynamic) -> bool {
     let mut target = Target::StringChar {
         source,
@@ -76,7 +76,7 @@ fn write_char(rt: &impl Abort, alloc: Global, store: &mut Store, source: &mut Dy
     propagated(target, alloc, store).is_ok() && is_lent
 }
 
-/// Writes 9 over a value that is lent as a whole.
+/// Overwrites a borrowed whole value with 9.
 fn write_value(rt: &impl Abort, store: &mut Store, value: &mut Dynamic) -> bool {
     let mut target = Target::RefMut(value);
     let is_lent = target.as_ref(store).as_int(store) == Ok(7);

@@ -1,14 +1,14 @@
-//! Targets that are shared values: the mark of the cell, the holder, and every way out.
+//! Targets that are shared values: the mark of the cell, the holder, and every way to consume them.
 use super::*;
 
-/// A constant holder with tag 4 of a cell that has the constant 7 with tag 3.
+/// Makes a constant holder with tag 4 of a cell with the constant 7 with tag 3.
 fn holder(store: &mut Store) -> Dynamic {
     let mut holder = shared(seven(), store).into_read_only();
     holder.set_tag(4);
     holder
 }
 
-/// Whether a value is that holder, and its cell is open.
+/// Whether a value is that holder, and its cell isn't marked.
 fn is_kept(holder: &Dynamic, store: &Store) -> bool {
     matches!(holder.parts(), Union::Shared(4, AccessMode::ReadOnly, _))
         && holder.read_whole(store).map(is_seven) == Some(true)
@@ -35,7 +35,7 @@ fn is_cloned(alloc: Global, store: &mut Store, value: &mut Dynamic) -> bool {
     }
 }
 
-/// Whether no reference is handed back.
+/// Whether no reference is returned.
 fn gives_no_reference(store: &mut Store, value: &mut Dynamic) -> bool {
     match Target::try_from(value, store) {
         Ok(target) => target.take_ref(store).is_none(),
@@ -56,7 +56,7 @@ fn is_released(store: &mut Store, value: &mut Dynamic) -> bool {
     }
 }
 
-/// Whether a target of its own is made of the holder.
+/// Whether an owned target is made from the holder.
 fn is_owned(alloc: Global, store: &mut Store, value: &mut Dynamic) -> bool {
     let Ok(target) = Target::try_from(value, store) else {
         return false;
@@ -85,7 +85,8 @@ fn a_shared_value_stays_on_every_way_out(rt: HostRuntime) {
     assert!(rt; is_owned(alloc, &mut store, &mut value) && is_kept(&value, &store));
 }
 
-/// Whether another holder of a marked cell is refused at no place, and stays, and the cell has what it had.
+/// Whether another holder of a marked cell is refused without a position, and holder and cell are
+/// unchanged.
 fn is_no_target(
     rt: &impl Abort,
     value: &mut Dynamic,
@@ -137,7 +138,7 @@ fn a_holder_of_another_store_is_no_target(rt: HostRuntime) {
     assert!(rt; is_kept(&value, &store));
 }
 
-/// Whether a holder whose cell is written over through its mark is of the new value.
+/// Whether a holder has the new value after its cell was overwritten through its mark.
 fn is_written(alloc: Global, store: &mut Store, value: &mut Dynamic) -> bool {
     let Ok(target) = Target::try_from(value, store) else {
         return false;

@@ -1,10 +1,10 @@
-//! Worked write-backs, each by the target that has the part, and worked places in lists.
+//! Worked write-backs, each with the target of a part, and worked positions in lists.
 use super::parts::propagated;
 use super::*;
 use rhai_target::{calc_index, calc_offset_len};
 use rhai_value::INT;
 
-/// Which characters of a text a slice has.
+/// The characters that a slice selects.
 #[derive(Clone, Copy)]
 struct Slice {
     start: usize,
@@ -75,7 +75,7 @@ fn holds_text(value: &Dynamic, store: &Store, wanted: &str) -> bool {
     }
 }
 
-/// The characters from one place to before another.
+/// Makes a slice from one position to before another.
 fn between(start: usize, end: usize) -> Slice {
     Slice {
         start,

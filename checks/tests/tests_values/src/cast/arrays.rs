@@ -20,7 +20,7 @@ fn is_bytes(alloc: Global, store: &Store, value: Dynamic) -> bool {
     }
 }
 
-/// Whether what is no int has this name.
+/// Whether what isn't an int has this name.
 fn is_refused(alloc: Global, store: &Store, value: Dynamic, wanted: &str) -> bool {
     match value.into_typed_array::<INT>(alloc, store) {
         Err(IntoError::Mismatch(name)) => name == wanted,

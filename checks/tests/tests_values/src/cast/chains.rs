@@ -1,10 +1,10 @@
-//! Casts of holders, and of chains that are stuck or close.
+//! Casts of holders, and of chains that are stuck or closed.
 use crate::values::{chain, closed, copied, holds, is_named, is_shared, shared};
 use rhai_cast::{DynamicCast, lent_lock, write_lock};
 use rhai_value::{Dynamic, INT, InStore, Store};
 use std::alloc::Global;
 
-/// Writes over the first content.
+/// Overwrites the first content.
 fn put(holder: &mut Dynamic, value: Dynamic, store: &mut Store) -> bool {
     match holder.write_lock::<Dynamic>(store) {
         Some(content) => {
@@ -23,7 +23,7 @@ fn is_flat(alloc: Global, store: &Store, holder: &Dynamic) -> bool {
     }
 }
 
-/// Whether a value is read as a holder, of one, as a `Dynamic`.
+/// Whether reading a holder as a `Dynamic` returns the holder.
 fn is_read_shared(alloc: Global, store: &Store, value: Dynamic) -> bool {
     match value.try_cast_result::<Dynamic>(alloc, store) {
         Ok(read) => is_shared(&read),
@@ -49,12 +49,12 @@ fn a_holder_is_itself_or_its_flat_copy(rt: HostRuntime) {
     assert!(rt; is_same(alloc, &store, holder));
 }
 
-/// Whether nothing but itself is lent of a value, as it is.
+/// Whether a value can only be borrowed whole.
 fn is_lent_whole(value: &Dynamic) -> bool {
     value.downcast_ref::<INT>().is_none() && value.downcast_ref::<Dynamic>().is_some()
 }
 
-/// Whether a value is read as no int.
+/// Whether a value can't be read as an int.
 fn is_no_int(alloc: Global, store: &Store, value: Dynamic) -> bool {
     match value.try_cast::<INT>(alloc, store) {
         Ok(found) => found.is_none(),
@@ -62,7 +62,7 @@ fn is_no_int(alloc: Global, store: &Store, value: Dynamic) -> bool {
     }
 }
 
-/// Whether no int is in a value, and none is lent.
+/// Whether a value contains no int, and none can be borrowed.
 fn has_no_int(value: &Dynamic, store: &Store) -> bool {
     !value.is::<INT>(store) && value.read_lock::<INT>(store).is_none()
 }
@@ -90,7 +90,7 @@ fn closed_chains_are_cast_to_dynamic_alone(rt: HostRuntime) {
     assert!(rt; is_read_shared(alloc, &store, holder));
 }
 
-/// Writes over the int that is held.
+/// Overwrites the held int.
 fn put_int(place: &mut InStore<'_>, int: INT) -> bool {
     match write_lock::<INT>(place) {
         Some(held) => {
@@ -101,7 +101,7 @@ fn put_int(place: &mut InStore<'_>, int: INT) -> bool {
     }
 }
 
-/// The same, by the method.
+/// The same, with the method.
 fn write_int(holder: &mut Dynamic, store: &mut Store, int: INT) -> bool {
     match holder.write_lock::<INT>(store) {
         Some(held) => {
@@ -112,7 +112,7 @@ fn write_int(holder: &mut Dynamic, store: &mut Store, int: INT) -> bool {
     }
 }
 
-/// The same, as the value or its store lends it.
+/// The same, borrowed from the value or its store.
 fn write_lent(value: &mut Dynamic, store: &mut Store, int: INT) -> bool {
     match lent_lock::<INT>(false, value, store) {
         Some(held) => {
@@ -123,7 +123,7 @@ fn write_lent(value: &mut Dynamic, store: &mut Store, int: INT) -> bool {
     }
 }
 
-/// Writes over the first content, as the value or its store lends it.
+/// Overwrites the first content, borrowed from the value or its store.
 fn replace_first(value: &mut Dynamic, store: &mut Store, other: Dynamic) -> bool {
     match lent_lock::<Dynamic>(true, value, store) {
         Some(content) => {
@@ -152,7 +152,7 @@ fn one_of_a_type_is_lent_of_the_value_or_of_its_store(rt: HostRuntime) {
     assert!(rt; holds(&value, &store, 1));
 }
 
-/// Writes over the value itself.
+/// Overwrites the value itself.
 fn replace(value: &mut Dynamic, other: Dynamic) -> bool {
     match value.downcast_mut::<Dynamic>() {
         Some(own) => {

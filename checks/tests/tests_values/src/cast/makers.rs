@@ -1,4 +1,4 @@
-//! Values that are made of Rust's collections.
+//! Values that are made from Rust collections.
 use rhai_cast::DynamicCast;
 use rhai_value::{Dynamic, INT, Store};
 use rhai_variant::Variant;
@@ -33,7 +33,8 @@ fn arrays_are_made_of_items(rt: HostRuntime) -> Result<(), Fail> {
     Ok(())
 }
 
-/// Whether a value was made, is named as a map, and has one key, "a", with this type at it.
+/// Whether a value was made, has the type name of a map, and has one key, "a", with a value of this
+/// type.
 fn has_key<T: Variant>(store: &Store, made: Result<Dynamic, AllocError>) -> bool {
     let Ok(value) = made else {
         return false;

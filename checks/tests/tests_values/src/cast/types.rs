@@ -1,4 +1,5 @@
-//! Casts, where a call alone can show it: each type there and back, holders, typed arrays, values made of collections.
+//! Casts that only a call can show: each type there and back, holders, typed arrays, values made
+//! from collections.
 use super::readme::cast_or;
 use crate::values::{copied, is_named, shared, text_of};
 use rhai_cast::{DynamicCast, cast_or_give_back};
@@ -8,7 +9,7 @@ use rhai_variant::{CastError, Variant};
 use std::alloc::Global;
 use std::test::Fail;
 
-/// What `of` makes of a value, cast to its type again.
+/// Converts a value with `of`, and casts the result to its type again.
 fn there_and_back<T: Variant>(alloc: Global, store: &Store, x: T) -> Option<T> {
     match Dynamic::of(alloc, x) {
         Ok(value) => value.try_cast::<T>(alloc, store).ok()?,
@@ -16,7 +17,7 @@ fn there_and_back<T: Variant>(alloc: Global, store: &Store, x: T) -> Option<T> {
     }
 }
 
-/// Whether a plain value is the same there and back.
+/// Whether a plain value is unchanged by that.
 fn is_back<T: Variant + Copy + PartialEq>(alloc: Global, x: T) -> bool {
     match there_and_back(alloc, &Store::new(alloc), x) {
         Some(back) => back == x,
@@ -44,7 +45,7 @@ fn plain_values_are_cast_there_and_back(rt: HostRuntime) {
     assert!(rt; is_back(alloc, InclusiveRange { start: -1, end: 1 }));
 }
 
-/// Whether a `String` is the same there and back.
+/// Whether a `String` is unchanged by that.
 fn is_string_back(alloc: Global, store: &Store, text: String) -> bool {
     match there_and_back(alloc, store, text) {
         Some(text) => text.as_str() == "hé",
@@ -52,7 +53,7 @@ fn is_string_back(alloc: Global, store: &Store, text: String) -> bool {
     }
 }
 
-/// Whether a text is the same there and back.
+/// Whether a text is unchanged by that.
 fn is_text_back(alloc: Global, store: &Store, text: ImmutableString) -> bool {
     match there_and_back(alloc, store, text) {
         Some(text) => text.as_str() == "hé",
@@ -70,22 +71,22 @@ fn texts_are_cast_there_and_back(rt: HostRuntime) -> Result<(), Fail> {
     Ok(())
 }
 
-/// How many items come back.
+/// Returns how many items come back.
 fn items_back(alloc: Global, store: &Store, items: Array) -> Option<usize> {
     Some(there_and_back(alloc, store, items)?.len())
 }
 
-/// How many bytes come back.
+/// Returns how many bytes come back.
 fn bytes_back(alloc: Global, store: &Store, bytes: Blob) -> Option<usize> {
     Some(there_and_back(alloc, store, bytes)?.len())
 }
 
-/// How many entries come back.
+/// Returns how many entries come back.
 fn entries_back(alloc: Global, store: &Store, map: Map) -> Option<usize> {
     Some(there_and_back(alloc, store, map)?.len())
 }
 
-/// How many curried values come back.
+/// Returns how many curried values come back.
 fn curried_back(alloc: Global, store: &Store, function: FnPtr) -> Option<usize> {
     Some(there_and_back(alloc, store, function)?.curry().len())
 }
@@ -113,7 +114,7 @@ fn values_with_values_inside_are_cast_there_and_back(rt: HostRuntime) -> Result<
     Ok(())
 }
 
-/// A number of the host; unit where there was no room.
+/// Makes a number of the host; unit if the allocation fails.
 fn byte(alloc: Global) -> Dynamic {
     match Dynamic::of(alloc, 5u8) {
         Ok(value) => value,
@@ -126,7 +127,7 @@ fn is_of<T: Variant, U: Variant>(value: &Dynamic, store: &Store) -> bool {
     value.is::<T>(store) && !value.is::<U>(store)
 }
 
-/// Whether a value that isn't read as an int comes back.
+/// Whether a value that can't be read as an int comes back.
 fn is_no_int(alloc: Global, store: &Store, value: Dynamic) -> bool {
     match value.try_cast_result::<INT>(alloc, store) {
         Err(CastError::Mismatch(back)) => is_named(&back, store, "u8"),
@@ -143,13 +144,13 @@ fn a_number_of_the_host_is_no_int(rt: HostRuntime) {
     assert!(rt; is_no_int(rt.alloc(), &store, value));
 }
 
-/// Whether only the type of a text that is never changed in place looks into a value.
+/// Whether a value can only be borrowed as the immutable text type.
 fn is_looked_into(value: &Dynamic, store: &Store) -> bool {
     value.read_lock::<String>(store).is_none()
         && value.read_lock::<ImmutableString>(store).is_some()
 }
 
-/// Whether a text is read of a value as a `String`.
+/// Whether a value can be read as a `String`.
 fn is_read_as_string(alloc: Global, store: &Store, value: Dynamic) -> bool {
     match value.try_cast::<String>(alloc, store) {
         Ok(Some(text)) => text.as_str() == "a",
@@ -175,7 +176,7 @@ fn is_cast_to_one(alloc: Global, store: &Store, value: Dynamic) -> bool {
     matches!(cast_or(alloc, value, store, 5i64), Ok(1))
 }
 
-/// Whether a caller has true in the place of a value that is no boolean.
+/// Whether a caller gets true for a value that isn't a boolean.
 fn is_cast_to_true(alloc: Global, store: &Store, value: Dynamic) -> bool {
     matches!(cast_or(alloc, value, store, true), Ok(true))
 }
@@ -188,7 +189,7 @@ fn a_caller_casts_to_any_type(rt: HostRuntime) {
     assert!(rt; is_cast_to_true(rt.alloc(), &store, holder));
 }
 
-/// The int that a value is cast to, if it is one.
+/// Returns the int that a value is cast to, if it is one.
 fn int_of(alloc: Global, store: &Store, value: Dynamic) -> Option<INT> {
     match cast_or_give_back(alloc, value, store) {
         Ok(found) => found,

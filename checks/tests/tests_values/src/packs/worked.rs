@@ -1,4 +1,4 @@
-//! That calls succeed while memory is there, and what they make of worked values.
+//! Calls succeed if allocations do; and their results for worked values.
 use super::readme::push_held;
 use rhai_packs::{arrays, blobs, ints, maps, texts};
 use rhai_show::display_text;
@@ -8,7 +8,8 @@ use std::alloc::{AllocError, Global};
 
 const LIMITS: Limits = Limits { text: 8, items: 4 };
 
-/// Whether a call is refused for the type of a value, by these names of the type that is wanted and of the one that is there.
+/// Whether a call is refused for the type of a value, with these names of the expected and the
+/// actual type.
 fn is_mismatch(done: Result<(), EvalAltResult>, wanted: &str, found: &str) -> bool {
     match done {
         Err(EvalAltResult::ErrorMismatchDataType(w, f, _)) => {
@@ -18,7 +19,7 @@ fn is_mismatch(done: Result<(), EvalAltResult>, wanted: &str, found: &str) -> bo
     }
 }
 
-/// An array of these ints.
+/// Makes an array of these ints.
 fn array_of(alloc: Global, numbers: &[INT]) -> Result<Array, AllocError> {
     let mut items = Vec::new(alloc);
     for number in numbers {
@@ -27,7 +28,7 @@ fn array_of(alloc: Global, numbers: &[INT]) -> Result<Array, AllocError> {
     Ok(items)
 }
 
-/// Whether these items print so.
+/// Whether these items print like this.
 fn prints(alloc: Global, items: Array, wanted: &str) -> Result<bool, AllocError> {
     let store = Store::new(alloc);
     let text = display_text(alloc, &Dynamic::from_array(items), &store)?;
@@ -93,7 +94,7 @@ fn items_that_repeat_the_one_before_go(rt: HostRuntime) {
     assert!(rt; matches!(repeats_go(rt.alloc()), Ok(true)));
 }
 
-/// An array of these texts.
+/// Makes an array of these texts.
 fn texts_of(alloc: Global, texts: &[&str]) -> Result<Array, AllocError> {
     let mut items = Vec::new(alloc);
     for text in texts {

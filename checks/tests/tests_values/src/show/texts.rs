@@ -1,11 +1,11 @@
-//! Printed text and hash bytes, where a call alone can show it.
+//! Printed text and hash bytes that only a call can show.
 use crate::values::{chain, ring, shared, text_of};
 use rhai_show::{Shown, debug_text, display_text};
 use rhai_value::{Dynamic, Store};
 use std::alloc::Global;
 use std::test::Fail;
 
-/// Whether `{}` prints this of a value.
+/// Whether `{}` formats a value like this.
 fn displays(alloc: Global, value: &Dynamic, store: &Store, wanted: &str) -> bool {
     match display_text(alloc, value, store) {
         Ok(text) => text.as_str() == wanted,
@@ -13,7 +13,7 @@ fn displays(alloc: Global, value: &Dynamic, store: &Store, wanted: &str) -> bool
     }
 }
 
-/// Whether `{:?}` prints this of a value.
+/// Whether `{:?}` formats a value like this.
 fn debugs(alloc: Global, value: &Dynamic, store: &Store, wanted: &str) -> bool {
     match debug_text(alloc, value, store) {
         Ok(text) => text.as_str() == wanted,
@@ -21,7 +21,7 @@ fn debugs(alloc: Global, value: &Dynamic, store: &Store, wanted: &str) -> bool {
     }
 }
 
-/// A line has no line feed, so a text that has one is printed here.
+/// A line contains no line feed, so a text with one is printed here.
 #[test]
 fn a_line_feed_is_quoted(rt: HostRuntime) {
     let alloc = rt.alloc();
@@ -44,7 +44,7 @@ fn a_foreign_holder_prints_as_shared(rt: HostRuntime) {
     assert!(rt; debugs(alloc, &holder, &other, "<shared>"));
 }
 
-/// Whether values are shown in the middle of a text.
+/// Whether values can be formatted in the middle of a text.
 fn is_shown(alloc: Global, value: &Dynamic, store: &Store, text: Shown) -> bool {
     let (Ok(display), Ok(debug)) = (
         Shown::display(alloc, value, store),
@@ -67,7 +67,7 @@ fn values_are_shown_within_texts(rt: HostRuntime) -> Result<(), Fail> {
     Ok(())
 }
 
-/// Whether a value prints as so many bytes.
+/// Whether the printed value has this many bytes.
 fn has_length(alloc: Global, value: &Dynamic, store: &Store, wanted: usize) -> bool {
     match display_text(alloc, value, store) {
         Ok(text) => text.len() == wanted,
@@ -85,7 +85,7 @@ fn a_long_chain_prints_each_holder(rt: HostRuntime) {
     }
 }
 
-/// "<shared>" where the ring closes, and " (shared)" once for each holder.
+/// "<shared>" where the ring is closed, and " (shared)" once for each holder.
 #[test]
 fn a_ring_prints_each_holder(rt: HostRuntime) {
     for (length, wanted) in [(1, 17), (2, 26), (1000, 9008)] {

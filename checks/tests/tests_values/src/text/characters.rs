@@ -1,4 +1,4 @@
-//! Texts, where a call alone can show it.
+//! Texts, in what only a call can show.
 use rhai_text::{EvalAltResult, ImmutableString, Position, quoted_char_into, quoted_text_into};
 use std::alloc::{AllocError, Global};
 use std::hash::{BuildHasher, BuildHasherDefault, FoldHasher};
@@ -48,7 +48,7 @@ fn a_text_hashes_as_its_str(rt: HostRuntime) {
     assert!(rt; is_hashed_as_its_str(alloc, "é€😀"));
 }
 
-/// Whether a text is quoted like this, behind what stands there.
+/// Whether a text is quoted like this, after existing text.
 fn is_quoted(alloc: Global, characters: &str, wanted: &str) -> bool {
     let Ok(text) = ImmutableString::from_str(alloc, characters) else {
         return false;
@@ -59,7 +59,7 @@ fn is_quoted(alloc: Global, characters: &str, wanted: &str) -> bool {
     text.quoted_into(&mut out).is_ok() && out.as_str().strip_prefix('é') == Some(wanted)
 }
 
-/// Whether a character is quoted like this, and the text of this one between quotation marks of its own.
+/// Whether a character is quoted like this, and the text of it between quotation marks of its own.
 fn is_quoted_char(alloc: Global, character: char, wanted: &str, text: &str) -> bool {
     let mut out = String::new(alloc);
     quoted_char_into(character, &mut out).is_ok()
@@ -67,7 +67,7 @@ fn is_quoted_char(alloc: Global, character: char, wanted: &str, text: &str) -> b
         && out.as_str().strip_prefix(wanted) == Some(text)
 }
 
-/// A line has no line feed, so texts that have one are quoted here.
+/// A line contains no line feed, so texts with one are quoted here.
 #[test]
 fn line_feeds_are_quoted(rt: HostRuntime) {
     let alloc = rt.alloc();

@@ -1,9 +1,9 @@
-//! Worked edits of texts, each by its call.
+//! Worked edits of texts, each through its call.
 use rhai_text::ImmutableString;
 use std::alloc::{AllocError, Global};
 use std::test::Fail;
 
-/// Whether a text was made that is this one.
+/// Whether this text was made.
 fn is_made(made: Result<ImmutableString, AllocError>, wanted: &str) -> bool {
     match made {
         Ok(text) => text.as_str() == wanted,
@@ -42,7 +42,7 @@ fn characters_and_slices_are_replaced(rt: HostRuntime) -> Result<(), Fail> {
     Ok(())
 }
 
-/// A text of ASCII and one that isn't, each too long to stand beside its count.
+/// A text of ASCII and one that isn't, each too long to be stored inline.
 const PLAIN: &str = "0123456789abcdefghijklmnopqrstuvwxyz";
 
 const MIXED: &str = "0123456789abcdefghijklmnopqrstuvwxyzé";
@@ -70,7 +70,8 @@ fn characters_have_places(rt: HostRuntime) -> Result<(), Fail> {
     Ok(())
 }
 
-/// What is left of a text behind which another is put, and of the copy of it that shared its bytes.
+/// What is left of a text to which another is appended, and of the copy of it that shared its
+/// bytes.
 fn grown(
     alloc: Global,
     mut grows: ImmutableString,

@@ -1,10 +1,10 @@
-//! Arrays, maps and function pointers: modes and tags inside, and what is moved out.
+//! Arrays, maps and function pointers: modes and tags of what is inside, and moving it out.
 use crate::values::{blob_of, copied, shared, text_of};
 use rhai_text::ImmutableString;
 use rhai_value::{AccessMode, Dynamic, FnPtr, IntoError, Map, Store, Union};
 use std::alloc::Global;
 
-/// An array of this item; unit where there is no room.
+/// Makes an array of this item; unit if the allocation fails.
 fn array_of(alloc: Global, item: Dynamic) -> Dynamic {
     match vec![in alloc; item] {
         Ok(items) => Dynamic::from_array(items),
@@ -12,7 +12,7 @@ fn array_of(alloc: Global, item: Dynamic) -> Dynamic {
     }
 }
 
-/// Puts a value at "a" into a map.
+/// Inserts a value at "a" into a map.
 fn put_at_a(alloc: Global, map: &mut Map, value: Dynamic) -> bool {
     match String::from_str(alloc, "a") {
         Ok(key) => map.insert(key, value).is_ok(),
@@ -20,21 +20,21 @@ fn put_at_a(alloc: Global, map: &mut Map, value: Dynamic) -> bool {
     }
 }
 
-/// A map of "a" to this value; an empty one where there is no room.
+/// Makes a map from "a" to this value; an empty one if the allocation fails.
 fn map_of(alloc: Global, value: Dynamic) -> Dynamic {
     let mut map = Map::new(alloc);
     let _ = put_at_a(alloc, &mut map, value);
     Dynamic::from_map(map)
 }
 
-/// A function pointer with this value curried; without it where there is no room.
+/// Makes a function pointer with this curried value; without it if the allocation fails.
 fn function_of(name: ImmutableString, alloc: Global, value: Dynamic) -> Dynamic {
     let mut pointer = FnPtr::new(name, Vec::new(alloc));
     let _ = pointer.curry_mut().push(value);
     Dynamic::from(pointer)
 }
 
-/// The first value inside another.
+/// Returns the first value inside another.
 fn inside(value: &Dynamic) -> Option<&Dynamic> {
     match value.parts() {
         Union::Array(_, _, items) => items.first(),
@@ -52,7 +52,7 @@ fn has_mode_inside(value: &Dynamic, wanted: AccessMode) -> bool {
     }
 }
 
-/// Whether the value in what is in a map has this mode.
+/// Whether the value inside a value of a map has this mode.
 fn has_mode_in_both(map: &Dynamic, wanted: AccessMode) -> bool {
     match inside(map) {
         Some(array) => has_mode_inside(array, wanted),
@@ -69,7 +69,7 @@ fn a_mode_goes_through_arrays_and_maps(rt: HostRuntime) {
     assert!(rt; has_mode_in_both(&copy, AccessMode::ReadWrite));
 }
 
-/// Whether what is inside what the holder inside a value holds has this mode.
+/// Whether the value inside the held one, inside a value, has this mode.
 fn has_mode_held(value: &Dynamic, store: &Store, wanted: AccessMode) -> bool {
     let Some(holder) = inside(value) else {
         return false;
@@ -89,7 +89,7 @@ fn a_mode_stays_outside_cells(rt: HostRuntime) {
     assert!(rt; has_mode_held(&constant, &store, AccessMode::ReadWrite));
 }
 
-/// Whether the mode of a function pointer stays outside what is curried.
+/// Whether the mode of a function pointer doesn't apply to its curried values.
 fn is_constant_outside(alloc: Global, name: ImmutableString) -> bool {
     let constant = function_of(name, alloc, Dynamic::ONE).into_read_only();
     constant.access_mode() == AccessMode::ReadOnly
@@ -119,7 +119,7 @@ fn copies_keep_the_tags_inside(rt: HostRuntime) {
     assert!(rt; keeps_tag_inside(rt.alloc(), Dynamic::ONE));
 }
 
-/// Whether this text is moved out of a value.
+/// Whether this text can be moved out of a value.
 fn gives_string(alloc: Global, store: &Store, value: Dynamic, wanted: &str) -> bool {
     match value.into_string(alloc, store) {
         Ok(text) => text.as_str() == wanted,
@@ -127,7 +127,7 @@ fn gives_string(alloc: Global, store: &Store, value: Dynamic, wanted: &str) -> b
     }
 }
 
-/// The same, by the type that is never changed in place.
+/// The same, with the immutable text type.
 fn gives_text(alloc: Global, store: &Store, value: Dynamic, wanted: &str) -> bool {
     match value.into_immutable_string(alloc, store) {
         Ok(text) => text.as_str() == wanted,
@@ -167,7 +167,7 @@ fn own_items_are_moved_out_as_they_are(rt: HostRuntime) {
     assert!(rt; gives_item(alloc, &store, holder, AccessMode::ReadWrite));
 }
 
-/// Whether these bytes are moved out of a value.
+/// Whether these bytes can be moved out of a value.
 fn gives_bytes(alloc: Global, store: &Store, value: Dynamic, wanted: &[u8]) -> bool {
     match value.into_blob(alloc, store) {
         Ok(bytes) => bytes.as_slice() == wanted,
@@ -175,7 +175,7 @@ fn gives_bytes(alloc: Global, store: &Store, value: Dynamic, wanted: &[u8]) -> b
     }
 }
 
-/// Whether a value that is no blob is refused by this name.
+/// Whether a value that isn't a blob is refused with this type name.
 fn is_no_blob(alloc: Global, store: &Store, value: Dynamic, wanted: &str) -> bool {
     match value.into_blob(alloc, store) {
         Err(IntoError::Mismatch(name)) => name == wanted,
@@ -195,7 +195,7 @@ fn bytes_are_moved_out(rt: HostRuntime) {
     assert!(rt; is_no_blob(alloc, &store, array, "array"));
 }
 
-/// Whether a value comes apart, is changed and is put together.
+/// Whether a value can be taken apart, changed and put together.
 fn is_changed_apart(mut value: Dynamic) -> bool {
     if let Union::Int(_, _, int) = value.parts_mut() {
         *int = 2;

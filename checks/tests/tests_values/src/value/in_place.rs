@@ -1,9 +1,9 @@
-//! Values that are flattened, shared and written where they stand.
+//! Values that are flattened, shared and written in place.
 use crate::values::{chain, closed, holds, is_shared};
 use rhai_value::{AccessMode, Dynamic, INT, InStore, Part, Store, Union};
 use std::alloc::Global;
 
-/// Whether a value is flattened, and is this int then.
+/// Whether flattening a value results in this int.
 fn flattens_to(alloc: Global, value: &mut Dynamic, store: &Store, wanted: INT) -> bool {
     if value.flatten_in_place(alloc, store).is_err() {
         return false;
@@ -37,12 +37,12 @@ fn what_is_no_open_holder_stays(rt: HostRuntime) {
     assert!(rt; is_shared(&round));
 }
 
-/// Whether a value is a holder of this int once it was shared.
+/// Whether sharing a value results in a holder of this int.
 fn shares(value: &mut Dynamic, store: &mut Store, wanted: INT) -> bool {
     value.share_in_place(store).is_ok() && is_shared(value) && holds(value, store, wanted)
 }
 
-/// Whether the cell of a holder has a holder itself.
+/// Whether the cell of a holder contains a holder itself.
 fn is_held_by_a_holder(value: &Dynamic, store: &Store) -> bool {
     match value.read_whole(store) {
         Some(content) => content.is_shared(),
@@ -59,7 +59,7 @@ fn a_value_is_shared_where_it_stands_and_once(rt: HostRuntime) {
     assert!(rt; !is_held_by_a_holder(&value, &store));
 }
 
-/// Adds one to the int that is held, if one is.
+/// Adds one to the held int, if there is one.
 fn add_one(value: &mut Dynamic, store: &mut Store) {
     if value.as_int(store).is_err() {
         return;
@@ -79,7 +79,7 @@ fn what_is_held_is_written(rt: HostRuntime) {
     }
 }
 
-/// The int that a value itself is, which is then doubled there.
+/// Returns the int that a value itself is, and then doubles it in place.
 fn doubled(value: &mut Dynamic) -> Option<INT> {
     let own = INT::own_mut(value)?;
     *own = own.wrapping_mul(2);

@@ -2,7 +2,7 @@
 use rhai_value::{Dynamic, INT, Map, Union};
 use std::alloc::{AllocError, Global};
 
-/// The key of a number below 1,000: its three digits behind a text.
+/// Makes the key of a number below 1,000: a text followed by its three digits.
 fn key_of(alloc: Global, before: &str, number: u32) -> Result<String, AllocError> {
     let mut key = String::from_str(alloc, before)?;
     for digit in [number / 100 % 10, number / 10 % 10, number % 10] {
@@ -23,7 +23,7 @@ fn int_of(value: &Dynamic) -> INT {
     }
 }
 
-/// Puts the numbers below 300 at their keys, in no order. Says whether each was new.
+/// Inserts the numbers below 300 at their keys, in no order. Returns whether each was new.
 fn is_filled(map: &mut Map, alloc: Global, before: &str) -> Result<bool, AllocError> {
     for place in 0..300 {
         let number = scrambled(place);
@@ -48,7 +48,7 @@ fn has_each(map: &Map, alloc: Global, before: &str, step: u32) -> Result<bool, A
     Ok(number >= 300 && number < 300_u32.wrapping_add(step))
 }
 
-/// Takes out the numbers that aren't even, in no order. Says whether each was there, and is there no more.
+/// Removes the numbers that aren't even, in no order. Returns whether each was there, and is gone.
 fn is_thinned(map: &mut Map, alloc: Global, before: &str) -> Result<bool, AllocError> {
     for place in 0..300 {
         let number = scrambled(place);
@@ -68,7 +68,7 @@ fn is_thinned(map: &mut Map, alloc: Global, before: &str) -> Result<bool, AllocE
     Ok(true)
 }
 
-/// Whether each even number is found, and written over.
+/// Whether each even number is found, and can be overwritten.
 fn is_found(map: &mut Map, alloc: Global, before: &str) -> Result<bool, AllocError> {
     for half in 0..150_u32 {
         let number = half.wrapping_mul(2);
@@ -83,7 +83,7 @@ fn is_found(map: &mut Map, alloc: Global, before: &str) -> Result<bool, AllocErr
     Ok(map.len() == 150)
 }
 
-/// Whether all that is left goes in its order.
+/// Whether everything that is left can be removed in order.
 fn is_emptied(map: &mut Map, alloc: Global, before: &str) -> Result<bool, AllocError> {
     for half in 0..150_u32 {
         let number = half.wrapping_mul(2);
@@ -99,7 +99,7 @@ fn is_emptied(map: &mut Map, alloc: Global, before: &str) -> Result<bool, AllocE
     Ok(map.is_empty())
 }
 
-/// Whether the copy of a map has its entries, and goes on by itself.
+/// Whether the copy of a map has its entries, and is independent.
 fn is_copied(map: Map, alloc: Global, before: &str) -> Result<bool, AllocError> {
     let whole = Dynamic::from_map(map);
     let Union::Map(_, _, copy) = whole.copy(alloc)?.into_parts() else {
@@ -109,7 +109,7 @@ fn is_copied(map: Map, alloc: Global, before: &str) -> Result<bool, AllocError> 
     Ok(has_each(&copy, alloc, before, 2)? && is_emptied(&mut copy, alloc, before)?)
 }
 
-/// All of this of keys that begin with a text.
+/// Tests all of this with keys that begin with a text.
 fn keeps_many(alloc: Global, before: &str) -> Result<bool, AllocError> {
     let mut map = Map::new(alloc);
     if !is_filled(&mut map, alloc, before)? || !has_each(&map, alloc, before, 1)? {

@@ -1,4 +1,4 @@
-//! Maps: each call on small maps, also on keys that were taken out.
+//! Maps: each call on small maps, also on keys that were removed.
 use rhai_value::{Dynamic, INT, Map, Union};
 use std::alloc::Global;
 
@@ -9,7 +9,7 @@ fn int_of(value: &Dynamic) -> INT {
     }
 }
 
-/// Puts an int at a key, and answers the int that was there, or -1; 99 where there is no room.
+/// Inserts an int at a key, and returns the int that was there, or -1; 99 if the allocation fails.
 fn put(map: &mut Map, alloc: Global, key: &str, value: INT) -> INT {
     let Ok(key) = String::from_str(alloc, key) else {
         return 99;
@@ -21,7 +21,7 @@ fn put(map: &mut Map, alloc: Global, key: &str, value: INT) -> INT {
     }
 }
 
-/// Takes a key out, and answers the int that was there, or -1.
+/// Removes a key, and returns the int that was there, or -1.
 fn take(map: &mut Map, key: &str) -> INT {
     match map.remove(key) {
         Some(old) => int_of(&old),
@@ -29,7 +29,7 @@ fn take(map: &mut Map, key: &str) -> INT {
     }
 }
 
-/// Takes the first entry out, and says whether it was this one.
+/// Removes the first entry, and returns whether it was this one.
 fn begins_with(map: &mut Map, alloc: Global, key: &str, value: INT) -> bool {
     match map.pop_first(alloc) {
         Ok(Some((found, item))) => found.as_str() == key && int_of(&item) == value,
@@ -62,7 +62,7 @@ fn has_entries(map: &Map, wanted: &[(&str, INT)]) -> bool {
     entries.next().is_none() && map.len() == wanted.len()
 }
 
-/// Whether the last key and the last value are these, and there are so many entries.
+/// Whether the last key and the last value are these, and there are this many entries.
 fn ends_with(map: &Map, key: &str, value: INT, count: usize) -> bool {
     let is_last = match map.values().last() {
         Some(last) => int_of(last) == value,
@@ -81,7 +81,7 @@ fn keys_rise(rt: HostRuntime) {
     assert!(rt; ends_with(&map, "é", 4, 5));
 }
 
-/// Writes an int over a value that is there.
+/// Overwrites an existing value with an int.
 fn write(map: &mut Map, key: &str, value: INT) -> bool {
     match map.get_mut(key) {
         Some(place) => {
@@ -100,7 +100,7 @@ fn has(map: &Map, key: &str, wanted: INT) -> bool {
     }
 }
 
-/// Whether values are written over where there are any.
+/// Whether values are overwritten if they exist.
 fn is_written_over(map: &mut Map, alloc: Global) -> bool {
     put(map, alloc, "b", 20) == 2
         && write(map, "a", 10)
@@ -115,7 +115,7 @@ fn keys_are_written_over(rt: HostRuntime) {
     assert!(rt; is_written_over(&mut sample(rt.alloc()), rt.alloc()));
 }
 
-/// Whether keys are taken out, and put again among others.
+/// Whether keys can be removed, and inserted again among others.
 fn is_put_again(map: &mut Map, alloc: Global) -> bool {
     take(map, "b") == 2
         && take(map, "b") == -1
@@ -132,7 +132,7 @@ fn is_put_again(map: &mut Map, alloc: Global) -> bool {
         )
 }
 
-/// Whether nothing is left of a map that was cleared, and it takes entries.
+/// Whether nothing is left of a map that was cleared, and it can be filled again.
 fn is_cleared(map: &mut Map, alloc: Global) -> bool {
     map.clear();
     map.is_empty()

@@ -3,7 +3,8 @@ use crate::values::{cell_with, copied, holds, is_locked, is_named, shared};
 use rhai_value::{Dynamic, Store, laws};
 use std::process::Abort;
 
-/// Whether a marked cell is read by its token alone, is marked once, and opens when the mark is gone.
+/// Whether a marked cell can only be read through its token, can only be marked once, and can be
+/// read again when the mark is gone.
 fn is_read_by_its_token(rt: &impl Abort, store: &mut Store, holder: &Dynamic) -> bool {
     let Some(token) = store.mark(holder) else {
         return false;
@@ -24,7 +25,7 @@ fn a_marked_cell_is_read_by_its_token_alone(rt: HostRuntime) {
     assert!(rt; is_read_by_its_token(&rt, &mut store, &holder));
 }
 
-/// Whether the last cell of a chain is marked, and what is written through the token is held.
+/// Whether the last cell of a chain can be marked, and what is written through the token is held.
 fn is_written_by_its_token(store: &mut Store, inner: &Dynamic, outer: &Dynamic) -> bool {
     laws::marks_stay();
     let Some(token) = store.mark_held(outer) else {

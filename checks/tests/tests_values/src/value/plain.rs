@@ -1,4 +1,4 @@
-//! Values, where a call alone can show it.
+//! Values, in what only a call can show.
 use crate::values::{chain, holds, is_locked, is_named, is_shared, ring, shared};
 use rhai_value::{AccessMode, Cell, Dynamic, INT, Path, Store, Union};
 use std::alloc::Global;
@@ -10,7 +10,7 @@ fn a_value_is_small(rt: HostRuntime) {
     assert!(rt; size_of::<Cell>() == 64);
 }
 
-/// Whether a constant is this int, with no tag and no constancy of its own.
+/// Whether a constant is this int, with neither a tag nor read-only mode of its own.
 fn is_int(constant: Dynamic, wanted: INT) -> bool {
     matches!(constant.parts(), Union::Int(0, AccessMode::ReadWrite, n) if *n == wanted)
 }
@@ -42,7 +42,7 @@ fn constants_are_what_they_are_named_for(rt: HostRuntime) {
     assert!(rt; is_int(Dynamic::NEGATIVE_TWO, -2));
 }
 
-/// Whether a cell opens on a path.
+/// Whether a path can enter a cell.
 fn opens(path: &mut Path, store: &Store, holder: &Dynamic) -> bool {
     match path.enter(store, holder) {
         Ok(found) => found.is_some(),
@@ -50,7 +50,7 @@ fn opens(path: &mut Path, store: &Store, holder: &Dynamic) -> bool {
     }
 }
 
-/// Whether a holder opens on a path, and once more where it was left.
+/// Whether a path can enter a holder's cell, and again after leaving it.
 fn opens_once(path: &mut Path, store: &Store, holder: &Dynamic) -> bool {
     if !matches!(path.enter(store, holder), Ok(Some(_))) {
         return false;
@@ -78,7 +78,7 @@ fn a_path_opens_more_cells_than_it_has_room_for(rt: HostRuntime) {
     }
 }
 
-/// Whether a holder is closed to a store that its cell isn't in.
+/// Whether a holder can't be read in a store without its cell.
 fn is_foreign(holder: &Dynamic, store: &Store) -> bool {
     holder.read_whole(store).is_none()
         && holder.held(store).is_none()
@@ -86,7 +86,7 @@ fn is_foreign(holder: &Dynamic, store: &Store) -> bool {
         && is_named(holder, store, "<shared>")
 }
 
-/// Whether no mark is set by a holder.
+/// Whether a holder can't be used to set a mark.
 fn is_not_marked(holder: &Dynamic, store: &mut Store) -> bool {
     match store.mark(holder) {
         None => true,
@@ -97,7 +97,7 @@ fn is_not_marked(holder: &Dynamic, store: &mut Store) -> bool {
     }
 }
 
-/// Whether no mark is set by what a holder holds.
+/// Whether the held value can't be used to set a mark.
 fn is_not_marked_where_held(holder: &Dynamic, store: &mut Store) -> bool {
     match store.mark_held(holder) {
         None => true,
@@ -129,7 +129,7 @@ fn a_long_chain_has_an_end(rt: HostRuntime) {
     }
 }
 
-/// Whether nothing is held by a holder, which is of no type but its own.
+/// Whether a holder holds nothing, and has no type except its own.
 fn holds_nothing(holder: &Dynamic, store: &Store) -> bool {
     holder.held(store).is_none()
         && holder.as_int(store) == Err("<shared>")

@@ -1,4 +1,5 @@
-//! References for writing: what is lent is written, and where nothing is lent all stays.
+//! Mutable references: a borrowed value is written, and if nothing is borrowed everything is
+//! unchanged.
 use crate::values::{
     blob_of, cell_with, chain, closed, copied, holds, is_named, is_shared, shared, text_of,
 };
@@ -6,7 +7,7 @@ use rhai_text::ImmutableString;
 use rhai_value::{AccessMode, Dynamic, INT, Map, Part, Store, Union};
 use std::test::Fail;
 
-/// The name of what is held where no text is lent.
+/// Returns the name of the held type if no text can be borrowed.
 fn name_for_text(value: &mut Dynamic, store: &mut Store) -> &'static str {
     match value.as_immutable_string_mut(store) {
         Ok(_) => "lent",
@@ -14,7 +15,7 @@ fn name_for_text(value: &mut Dynamic, store: &mut Store) -> &'static str {
     }
 }
 
-/// The same of an array.
+/// As `name_for_text`, for an array.
 fn name_for_array(value: &mut Dynamic, store: &mut Store) -> &'static str {
     match value.as_array_mut(store) {
         Ok(_) => "lent",
@@ -22,7 +23,7 @@ fn name_for_array(value: &mut Dynamic, store: &mut Store) -> &'static str {
     }
 }
 
-/// The same of a blob.
+/// As `name_for_text`, for a blob.
 fn name_for_blob(value: &mut Dynamic, store: &mut Store) -> &'static str {
     match value.as_blob_mut(store) {
         Ok(_) => "lent",
@@ -30,7 +31,7 @@ fn name_for_blob(value: &mut Dynamic, store: &mut Store) -> &'static str {
     }
 }
 
-/// The same of a map.
+/// As `name_for_text`, for a map.
 fn name_for_map(value: &mut Dynamic, store: &mut Store) -> &'static str {
     match value.as_map_mut(store) {
         Ok(_) => "lent",
@@ -38,7 +39,7 @@ fn name_for_map(value: &mut Dynamic, store: &mut Store) -> &'static str {
     }
 }
 
-/// Whether nothing is lent of another kind than is held, and its name is told.
+/// Whether no other kind than the held one can be borrowed, and errors have the held type's name.
 fn lends_none(value: &mut Dynamic, store: &mut Store, name: &str) -> bool {
     name_for_text(value, store) == name
         && name_for_array(value, store) == name
@@ -51,7 +52,7 @@ fn is_seven(value: &Dynamic) -> bool {
     matches!(value.parts(), Union::Int(3, AccessMode::ReadOnly, 7))
 }
 
-/// Whether the cell of a holder with tag 4 has that.
+/// Whether the cell of a holder with tag 4 contains that constant.
 fn has_seven(holder: &Dynamic, store: &Store) -> bool {
     match holder.read_whole(store) {
         Some(content) => holder.tag() == 4 && is_seven(content),
@@ -72,7 +73,7 @@ fn nothing_is_lent_of_another_kind(rt: HostRuntime) {
     assert!(rt; has_seven(&holder, &store));
 }
 
-/// Whether a value lends neither its first content nor what it holds.
+/// Whether neither the first content nor the held value can be borrowed.
 fn lends_nothing(value: &mut Dynamic, store: &mut Store) -> bool {
     value.write_whole(store).is_none() && value.held_mut(store).is_none()
 }
@@ -89,7 +90,8 @@ fn nothing_is_lent_of_a_stuck_chain(rt: HostRuntime) {
     assert!(rt; holds(&outer, &store, 1));
 }
 
-/// Whether a value that closes holds nothing, and lends its first content, a holder.
+/// Whether a value with a closed chain holds nothing, but its first content, a holder, can be
+/// borrowed.
 fn lends_first(value: &mut Dynamic, store: &mut Store) -> bool {
     if value.held_mut(store).is_some() {
         return false;
@@ -108,7 +110,7 @@ fn nothing_is_lent_of_a_closed_chain(rt: HostRuntime) {
     assert!(rt; lends_first(&mut holder, &mut store));
 }
 
-/// Writes over the int that is held.
+/// Overwrites the held int.
 fn write_int(value: &mut Dynamic, store: &mut Store, wanted: INT) -> bool {
     match value.as_part_mut::<INT>(store) {
         Ok(int) => {
@@ -119,7 +121,7 @@ fn write_int(value: &mut Dynamic, store: &mut Store, wanted: INT) -> bool {
     }
 }
 
-/// Writes over the text that is held.
+/// Overwrites the held text.
 fn write_text(value: &mut Dynamic, store: &mut Store, text: ImmutableString) -> bool {
     match value.as_immutable_string_mut(store) {
         Ok(held) => {
@@ -130,7 +132,7 @@ fn write_text(value: &mut Dynamic, store: &mut Store, text: ImmutableString) -> 
     }
 }
 
-/// Whether a text of so many bytes is held.
+/// Whether a text of this many bytes is held.
 fn has_bytes(value: &Dynamic, store: &Store, wanted: usize) -> bool {
     match value.as_immutable_string_ref(store) {
         Ok(text) => text.len() == wanted,
@@ -151,7 +153,7 @@ fn what_is_lent_is_written_where_it_is_held(rt: HostRuntime) -> Result<(), Fail>
     Ok(())
 }
 
-/// Writes over the int that is held, which the value or its store lends.
+/// Overwrites the held int, borrowed from the value or its store.
 fn write_lent(value: &mut Dynamic, store: &mut Store, wanted: INT) -> bool {
     let is_own = INT::own(value).is_some();
     match Dynamic::lent_part_mut::<INT>(is_own, value, store) {
@@ -180,7 +182,7 @@ fn a_part_is_lent_of_the_value_or_of_its_store(rt: HostRuntime) {
     assert!(rt; is_seven(&value));
 }
 
-/// Takes the bytes, items or entries out of what is held.
+/// Clears the bytes, items or entries of the held value.
 fn clear(value: &mut Dynamic, store: &mut Store) -> bool {
     if let Ok(bytes) = value.as_blob_mut(store) {
         bytes.clear();

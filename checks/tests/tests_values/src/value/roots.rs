@@ -3,7 +3,7 @@ use crate::values::{chain, copied, holds, shared};
 use rhai_value::{Dynamic, Roots, Store};
 use std::alloc::Global;
 
-/// Makes so many cells that nothing reaches.
+/// Makes this many unreachable cells.
 fn litter(store: &mut Store, count: usize) {
     for _ in 0..count {
         let _ = shared(Dynamic::ONE, store);
@@ -18,7 +18,8 @@ fn root_holds(roots: &Roots, store: &Store, index: usize, wanted: i64) -> bool {
     }
 }
 
-/// Whether values on the stack hold what they held once cells were given back, and a copy made before, which was moved, doesn't.
+/// Whether values on the stack hold the same after a collection, and a copy that isn't on the stack
+/// doesn't.
 fn is_kept(store: &mut Store, roots: &mut Roots, alloc: Global) -> bool {
     litter(store, 3000);
     let value = chain(store, 3);
@@ -41,7 +42,7 @@ fn roots_keep_their_cells(rt: HostRuntime) {
     assert!(rt; is_kept(&mut store, &mut roots, rt.alloc()));
 }
 
-/// Whether nothing is given back while a cell is marked.
+/// Whether a collection does nothing while a cell is marked.
 fn waits(store: &mut Store, roots: &mut Roots) -> bool {
     litter(store, 3000);
     let mut value = chain(store, 1);
@@ -56,7 +57,7 @@ fn nothing_is_collected_while_a_cell_is_marked(rt: HostRuntime) {
     assert!(rt; waits(&mut store, &mut roots));
 }
 
-/// Whether a value is written on the stack, and those above it are dropped.
+/// Whether a value on the stack can be written, and those above it dropped.
 fn is_cut(roots: &mut Roots, store: &Store) -> bool {
     let is_full = roots.push(Dynamic::ONE).is_ok()
         && roots.push(Dynamic::TWO).is_ok()

@@ -1,4 +1,4 @@
-//! What callers write to held values.
+//! Writes of callers to held values.
 use super::callers::{
     overwrite, write_bytes, write_fields, write_first, write_held, write_items, write_text,
 };
@@ -8,22 +8,22 @@ use rhai_value::{Dynamic, InStore, Map, Store};
 use std::alloc::Global;
 use std::test::Fail;
 
-/// Writes an array over what is held.
+/// Overwrites the held value with an array.
 fn put_array(alloc: Global, place: &mut InStore<'_>) -> bool {
     write_held(place, Dynamic::from_array(Vec::new(alloc)))
 }
 
-/// Writes a blob over what is held.
+/// Overwrites the held value with a blob.
 fn put_blob(alloc: Global, place: &mut InStore<'_>) -> bool {
     write_held(place, Dynamic::from_blob(Vec::new(alloc)))
 }
 
-/// Writes a map over what is held.
+/// Overwrites the held value with a map.
 fn put_map(alloc: Global, place: &mut InStore<'_>) -> bool {
     write_held(place, Dynamic::from_map(Map::new(alloc)))
 }
 
-/// Whether each kind of content is written where it is held, and nothing where another kind is.
+/// Whether each kind of content is written if that kind is held, and nothing if another kind is.
 fn is_written(alloc: Global, place: &mut InStore<'_>) -> bool {
     put_array(alloc, place)
         && write_items(place, Vec::new(alloc))
@@ -47,7 +47,7 @@ fn contents_are_written_where_they_are_held(rt: HostRuntime) {
     assert!(rt; is_written(rt.alloc(), &mut place));
 }
 
-/// Whether a text is written over a text, and not over another kind.
+/// Whether a text overwrites a text, and not another kind.
 fn is_text_written(text: ImmutableString, place: &mut InStore<'_>) -> bool {
     write_text(place, text) && is_named(place.value, place.store, "string")
 }
@@ -74,7 +74,7 @@ fn close(store: &mut Store, holder: &mut Dynamic, again: Dynamic) -> bool {
     write_first(&mut place, again)
 }
 
-/// Whether a holder of its own cell has no value to hold, is no lock, and flattens to itself.
+/// Whether a holder of its own cell holds no value, is not locked, and flattens to itself.
 fn is_closed(alloc: Global, store: &Store, holder: Dynamic) -> bool {
     if is_locked(&holder, store) || !is_named(&holder, store, "<shared>") {
         return false;
@@ -94,7 +94,7 @@ fn a_cell_may_hold_its_own_holder(rt: HostRuntime) {
     assert!(rt; is_closed(rt.alloc(), &store, holder));
 }
 
-/// Whether a value of its own was written over.
+/// Whether an unshared value was overwritten.
 fn is_overwritten(store: &mut Store) -> bool {
     let mut value = Dynamic::ONE;
     overwrite(&mut value, store, Dynamic::TRUE);

@@ -1,4 +1,5 @@
-//! Types of Rust through their bound, where a call alone can show it. Each type is cast there and back in `cast`.
+//! Rust types through their trait bound, in what only a call can show. `cast` casts each type there
+//! and back.
 use rhai_text::ImmutableString;
 use rhai_value::{
     Array, Blob, Dynamic, ExclusiveRange, FnPtr, INT, InclusiveRange, Map, TypeId, Union,
@@ -32,12 +33,12 @@ fn types_have_the_names_of_scripts(rt: HostRuntime) {
     assert!(rt; <u8 as Variant>::KIND == TypeId::U8);
 }
 
-/// One more of a value, through its bound; `None` where there is no room.
+/// Duplicates a value, through its bound; `None` if the allocation fails.
 fn again<T: Variant>(x: &T, alloc: Global) -> Option<T> {
     x.duplicate(alloc).ok()
 }
 
-/// Whether a text is duplicated.
+/// Whether a text can be duplicated.
 fn is_duplicated(text: &String, alloc: Global) -> bool {
     match again(text, alloc) {
         Some(same) => same.as_str() == text.as_str(),
@@ -54,7 +55,7 @@ fn duplicates_are_the_same(rt: HostRuntime) -> Result<(), Fail> {
     Ok(())
 }
 
-/// Writes over what a value has of this type.
+/// Overwrites a value as this type.
 fn put<T: Variant>(value: &mut Dynamic, x: T) -> bool {
     match T::view_mut(value) {
         Some(place) => {
@@ -65,7 +66,7 @@ fn put<T: Variant>(value: &mut Dynamic, x: T) -> bool {
     }
 }
 
-/// Whether an int is written, and has the tag of the value, and a whole value has its own.
+/// Whether an int that is written has the tag of the value, and a whole value has its own.
 fn is_written(value: &mut Dynamic) -> bool {
     value.set_tag(3);
     put::<INT>(value, 8)
@@ -75,7 +76,7 @@ fn is_written(value: &mut Dynamic) -> bool {
         && matches!(value.parts(), Union::Unit(0, _, _))
 }
 
-/// Whether a text is written as the one of its types that is never changed in place, and not as the other.
+/// Whether a text can be written as the immutable text type, and not as the other.
 fn is_written_as_text(value: &mut Dynamic, string: String, text: ImmutableString) -> bool {
     String::view(value).is_none()
         && !put::<String>(value, string)
@@ -94,7 +95,7 @@ fn what_is_written_has_the_tag_of_the_value(rt: HostRuntime) -> Result<(), Fail>
     Ok(())
 }
 
-/// The int that comes back where a value isn't read as a byte.
+/// Returns the int that comes back if a value can't be read as a byte.
 fn int_back(alloc: Global, value: Dynamic) -> Option<INT> {
     match <u8 as Variant>::from_dynamic(alloc, value) {
         Err(CastError::Mismatch(value)) => INT::view(&value).copied(),

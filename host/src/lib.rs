@@ -177,7 +177,7 @@ mod world;
 pub use answer::{Answer, ArithmeticFault, Refusal, SizeKind};
 pub use commands::Command;
 pub use engine::{
-    Answers, Arguments, Ast, Call, CallPlace, Engine, EvalError, Found, Function, HostFn, Interrupt, Progress, Run, Scope,
+    Answers, Arguments, Ast, Call, CallPlace, Engine, EvalError, Found, Function, HostFn, Interrupt, Progress, Run, Saved, Scope,
     Variables, Wanted,
 };
 pub use error::Error;

@@ -1,4 +1,4 @@
-//! What a run that waits for a function of the host asks, and what the host answers.
+//! What a run that waits for a host function has to offer, and what the host returns.
 ghost use Rattle.std.specs.Prelude.{◌≡◌};
 ghost use Rattle.rhai_host.specs.Content.{content};
 ghost use Rattle.rhai_host.specs.Engines.{AnswersBytes, AreAnswered, KeepsWorld, OnScripts};
@@ -16,7 +16,7 @@ use rhai_value::{Dynamic, Store};
 use script_engine::{Engine, Unread, read_value};
 use std::alloc::{AllocError, Global};
 
-/// The hash bytes of a value, where there is one that has some.
+/// Returns the hash bytes of a value, if there is a value and it has hash bytes.
 pub(crate) fn value_bytes(
     alloc: Global,
     value: Option<&Dynamic>,
@@ -51,7 +51,7 @@ pub(crate) fn tell_bytes(
     }
 }
 
-/// Answers the hash bytes of an argument that the host's function is called with.
+/// Returns the hash bytes of an argument of the host function being called.
 #[unsafe(no_mangle)]
 pub extern "C" fn rhai_host_script_argument(
     alloc: Global,
@@ -74,7 +74,7 @@ pub extern "C" fn rhai_host_script_argument(
     status
 }
 
-/// Answers the hash bytes of the value that the run came to.
+/// Returns the hash bytes of the run's value.
 #[unsafe(no_mangle)]
 pub extern "C" fn rhai_host_script_value(alloc: Global, handle: &mut Handle, told: &mut Told) -> u32
     ensures { AnswersBytes result (content handle.old) (content handle.new) told.old told.new }
@@ -101,7 +101,8 @@ fn answer(alloc: Global, engine: &mut Engine, bytes: &[u8]) -> u32 {
     }
 }
 
-/// Answers the call of the host's function with the value of these hash bytes.
+/// Passes the value of these hash bytes to the script, as the result of the host function being
+/// called.
 #[unsafe(no_mangle)]
 pub extern "C" fn rhai_host_script_answer(alloc: Global, handle: &mut Handle, value: &[u8]) -> u32
     ensures { OnScripts result (content handle.old) (content handle.new) }
@@ -127,7 +128,8 @@ fn refuse(alloc: Global, kept: &mut Kept, why: &[u8], stop: &mut ScriptStop) -> 
     DONE
 }
 
-/// Refuses the call of the host's function with a text, which the script may catch: it goes on then, and the stop is of kind 1.
+/// Fails the call of the host function with a text, which the script may catch: it continues then,
+/// and the stop is of kind 1.
 #[unsafe(no_mangle)]
 pub extern "C" fn rhai_host_script_refuse(
     alloc: Global,

@@ -1,14 +1,14 @@
 //! What is seen of a run that stands, or that has ended by an error: the functions under way, and the variables in sight of each.
 ghost use Rattle.rhai_host.specs.Content.{content};
-ghost use Rattle.rhai_host.specs.Engines.{AnswersBytes};
+ghost use Rattle.rhai_host.specs.Engines.{AnswersBytes, OnScripts};
 
 use crate::answering::{tell_bytes, value_bytes};
 use crate::handle::Handle;
-use crate::perform::CLOSED;
+use crate::perform::{CLOSED, DONE, NO_COMMAND, OUT_OF_MEMORY};
 use crate::told::Told;
 use rhai_run::Bytes;
 use rhai_text::Position;
-use script_engine::Engine;
+use script_engine::{Engine, Unread};
 use script_run::InSight;
 use std::alloc::{AllocError, Global};
 
@@ -134,6 +134,46 @@ pub extern "C" fn rhai_host_script_variable_value(
     };
     let bytes = value_before(alloc, &kept.engine, function, before);
     let status = tell_bytes(&mut kept, bytes, told);
+    handle.put(kept);
+    status
+}
+
+/// Returns a snapshot: of the active functions with their visible variables while there is a run, otherwise of the variables alone.
+/// `Engine::snapshot` describes the bytes.
+#[unsafe(no_mangle)]
+pub extern "C" fn rhai_host_script_snapshot(
+    alloc: Global,
+    handle: &mut Handle,
+    told: &mut Told,
+) -> u32
+    ensures { AnswersBytes result (content handle.old) (content handle.new) told.old told.new }
+{
+    let Some(mut kept) = handle.take(alloc) else {
+        return CLOSED;
+    };
+    let bytes = match kept.engine.snapshot() {
+        Ok(bytes) => Ok(Some(Bytes::new(bytes))),
+        Err(error) => Err(error),
+    };
+    let status = tell_bytes(&mut kept, bytes, told);
+    handle.put(kept);
+    status
+}
+
+/// Replaces the variables by those of a snapshot without functions, with everything that they share. A run ends, and functions that the host
+/// kept are gone. NO_COMMAND says that the bytes are no such snapshot; then the variables stay.
+#[unsafe(no_mangle)]
+pub extern "C" fn rhai_host_script_restore(alloc: Global, handle: &mut Handle, bytes: &[u8]) -> u32
+    ensures { OnScripts result (content handle.old) (content handle.new) }
+{
+    let Some(mut kept) = handle.take(alloc) else {
+        return CLOSED;
+    };
+    let status = match kept.engine.restore(bytes) {
+        Ok(()) => DONE,
+        Err(Unread::Form) => NO_COMMAND,
+        Err(Unread::Memory) => OUT_OF_MEMORY,
+    };
     handle.put(kept);
     status
 }

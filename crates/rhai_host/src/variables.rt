@@ -1,4 +1,5 @@
-//! The variables of scripts, which live on between runs. While a run stands, they are its own, and none is here.
+//! The variables of scripts, which outlive a run. An unfinished run owns them, and there are none
+//! here.
 ghost use Rattle.std.specs.Prelude.{◌≡◌};
 ghost use Rattle.rhai_host.specs.Content.{content};
 ghost use Rattle.rhai_host.specs.Engines.{AnswersBytes, OnScripts};
@@ -29,7 +30,7 @@ fn declare(alloc: Global, engine: &mut Engine, name: &[u8], value: &[u8]) -> u32
     }
 }
 
-/// Declares a variable with the value of these hash bytes, behind the others.
+/// Declares a variable after the others, with the value of these hash bytes.
 #[unsafe(no_mangle)]
 pub extern "C" fn rhai_host_variable_push(
     alloc: Global,
@@ -61,8 +62,8 @@ fn write(alloc: Global, engine: &mut Engine, number: usize, value: &[u8]) -> u32
     }
 }
 
-/// Writes the value of these hash bytes over that of the variable of this number, the oldest being 0. One that closures share is written for
-/// all of them.
+/// Overwrites the variable of this number, the oldest being 0, with the value of these hash bytes.
+/// If closures share the variable, they see the new value.
 #[unsafe(no_mangle)]
 pub extern "C" fn rhai_host_variable_set(
     alloc: Global,
@@ -80,7 +81,7 @@ pub extern "C" fn rhai_host_variable_set(
     status
 }
 
-/// Ends the variables from this number on.
+/// Drops the variables from this number on.
 #[unsafe(no_mangle)]
 pub extern "C" fn rhai_host_variable_rewind(alloc: Global, handle: &mut Handle, count: usize) -> u32
     ensures { OnScripts result (content handle.old) (content handle.new) }
@@ -93,7 +94,7 @@ pub extern "C" fn rhai_host_variable_rewind(alloc: Global, handle: &mut Handle, 
     DONE
 }
 
-/// Counts the variables, 0 where no world is open.
+/// Returns the number of variables, 0 if no world is open.
 #[unsafe(no_mangle)]
 pub extern "C" fn rhai_host_variable_count(alloc: Global, handle: &mut Handle) -> usize
     ensures { content handle.new ≡ content handle.old }
@@ -117,7 +118,7 @@ fn name_bytes(alloc: Global, engine: &Engine, number: usize) -> Result<Option<By
     }
 }
 
-/// Answers the name of the variable of this number.
+/// Returns the name of the variable of this number.
 #[unsafe(no_mangle)]
 pub extern "C" fn rhai_host_variable_name(
     alloc: Global,
@@ -136,7 +137,7 @@ pub extern "C" fn rhai_host_variable_name(
     status
 }
 
-/// Answers the hash bytes of the value of the variable of this number.
+/// Returns the hash bytes of the value of the variable of this number.
 #[unsafe(no_mangle)]
 pub extern "C" fn rhai_host_variable_value(
     alloc: Global,

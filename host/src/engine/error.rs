@@ -140,6 +140,8 @@ pub enum EvalError {
         /// The active functions, the innermost first.
         calls: Vec<CallPlace>,
     },
+    /// The bytes are no saved scope.
+    NotSaved,
     /// The run had already ended.
     Ended,
     /// The library's handle has another layout than the one this crate was built for.
@@ -165,6 +167,7 @@ impl EvalError {
             | EvalError::NoInt(_)
             | EvalError::NoFunction { .. }
             | EvalError::OtherScope
+            | EvalError::NotSaved
             | EvalError::Ended
             | EvalError::OtherLibrary
             | EvalError::Unexpected => None,
@@ -200,6 +203,7 @@ impl EvalError {
             | EvalError::NoInt(_)
             | EvalError::NoFunction { .. }
             | EvalError::OtherScope
+            | EvalError::NotSaved
             | EvalError::Ended
             | EvalError::OtherLibrary
             | EvalError::Unexpected => &[],
@@ -226,6 +230,7 @@ impl EvalError {
             | EvalError::NoInt(_)
             | EvalError::NoFunction { .. }
             | EvalError::OtherScope
+            | EvalError::NotSaved
             | EvalError::Ended
             | EvalError::OtherLibrary
             | EvalError::Unexpected => {}
@@ -282,6 +287,7 @@ impl fmt::Display for EvalError {
             EvalError::NoFunction { name, arguments } => write!(f, "no function {name} of {arguments} arguments")?,
             EvalError::OtherScope => f.write_str("a function of another scope")?,
             EvalError::OutOfMemory { .. } => f.write_str("out of memory")?,
+            EvalError::NotSaved => f.write_str("no saved scope")?,
             EvalError::Ended => f.write_str("the run has ended")?,
             EvalError::OtherLibrary => f.write_str("another library than this crate was built for")?,
             EvalError::Unexpected => f.write_str("an answer that isn't promised")?,

@@ -14,6 +14,8 @@ unsafe extern "C" {
     fn rhai_host_script_variable(handle: *mut Handle, function: usize, before: usize, number: &mut usize, told: &mut Told)
         -> u32;
     fn rhai_host_script_variable_value(handle: *mut Handle, function: usize, before: usize, told: &mut Told) -> u32;
+    fn rhai_host_script_snapshot(handle: *mut Handle, told: &mut Told) -> u32;
+    fn rhai_host_script_restore(handle: *mut Handle, bytes: *const u8, bytes_len: usize) -> u32;
 }
 
 /// Answers the name of a function under way, and tells where it stands: number 0 runs, or failed, and each is called by the next. The name
@@ -42,4 +44,22 @@ pub fn script_variable_value(handle: &Handle, function: usize, before: usize, to
     // SAFETY: `handle` is zeros or what a call left, and this call's alone: it is no `Sync`, and the library comes back by
     // the doors only. `told` is a whole `Told` that nobody else has. Any `function`, `before` will do.
     unsafe { rhai_host_script_variable_value(handle.lent().at(), function, before, told) }
+}
+
+/// Returns a snapshot: of the active functions with their visible variables while there is a run, otherwise of the variables alone.
+/// `Engine::snapshot` describes the bytes.
+#[inline]
+pub fn script_snapshot(handle: &Handle, told: &mut Told) -> u32 {
+    // SAFETY: `handle` is zeros or what a call left, and this call's alone: it is no `Sync`, and the library comes back by
+    // the doors only. `told` is a whole `Told` that nobody else has.
+    unsafe { rhai_host_script_snapshot(handle.lent().at(), told) }
+}
+
+/// Replaces the variables by those of a snapshot without functions, with everything that they share. A run ends, and functions that the host
+/// kept are gone. NO_COMMAND says that the bytes are no such snapshot; then the variables stay.
+#[inline]
+pub fn script_restore(handle: &Handle, bytes: &[u8]) -> u32 {
+    // SAFETY: `handle` is zeros or what a call left, and this call's alone: it is no `Sync`, and the library comes back by
+    // the doors only. `bytes` is a slice with its own length, and is read.
+    unsafe { rhai_host_script_restore(handle.lent().at(), bytes.as_ptr(), bytes.len()) }
 }

@@ -121,6 +121,35 @@ fn a_closure_is_called_by_its_script_alone(rt: HostRuntime) {
     assert!(rt; is_right == Some(true));
 }
 
+/// Runs a compiled script over a scope, and returns its value, an int.
+fn run_again(scope: &mut Scope, alloc: Global, program: &Program) -> Option<INT> {
+    let mut run = Run::over(alloc, program, &LIMITS, scope).ok()??;
+    let outcome = driven(&mut run, program, 1_000);
+    let value = value_of(&run, &outcome);
+    *scope = run.into_scope(program);
+    value
+}
+
+/// Each run reads the texts of its own script, also where another with as many texts ran before.
+fn texts_are_their_own(alloc: Global) -> Option<bool> {
+    let mut scope = Scope::new(alloc);
+    scope.push("n", Dynamic::from_int(2)).ok()?;
+    let short = compiled_for(alloc, &scope, "(\"abc\" + n).len()")?;
+    let long = compiled_for(alloc, &scope, "(\"abcdef\" + n).len()")?;
+    let none = compiled_for(alloc, &scope, "n")?;
+    let mut found = Vec::new(alloc);
+    for program in [&short, &short, &long, &none, &long, &short] {
+        found.push(run_again(&mut scope, alloc, program)?).ok()?;
+    }
+    Some(found.as_slice() == [4, 4, 7, 2, 7, 4].as_slice() && int_of(&scope, "n") == Some(2))
+}
+
+#[test]
+fn a_run_has_the_texts_of_its_script(rt: HostRuntime) {
+    let are_own = texts_are_their_own(rt.alloc());
+    assert!(rt; are_own == Some(true));
+}
+
 /// A scope with other names than those of the program is unchanged.
 fn other_names_are_refused(alloc: Global) -> Option<bool> {
     let mut scope = Scope::new(alloc);

@@ -1,16 +1,23 @@
-//! Values out of their hash bytes: what `rhai_show` says of a value, a host may say back.
+//! Reads values from their hash bytes: the host passes values in the form in which `rhai_show`
+//! returns them.
 
+use crate::snapshot::{CELL, LABEL};
 use rhai_text::ImmutableString;
-use rhai_value::{Array, Dynamic, ExclusiveRange, FnPtr, Host, INT, InclusiveRange, Map};
+use rhai_value::{
+    AccessMode, Array, Dynamic, ExclusiveRange, FnPtr, Host, INT, InclusiveRange, Map, Store, Tag,
+};
 use std::alloc::{AllocError, AllocFailed, Global};
-use std::str;
+use std::{mem, str};
 
-/// Why bytes are no value.
+/// The kind of an int.
+const INT_KIND: u8 = 4;
+
+/// Why bytes are not a value.
 #[derive(Clone, Copy, Debug, PartialEq, Eq)]
 pub enum Unread {
     /// They are not the hash bytes of one value.
     Form,
-    /// Memory was refused.
+    /// An allocation failed.
     Memory,
 }
 
@@ -28,8 +35,8 @@ impl<T: Drop> From<AllocFailed<T>> for Unread {
 
 /// Bytes that are read from the front.
 #[derive(Drop)]
-struct Bytes<'a> {
-    rest: &'a [u8],
+pub(crate) struct Bytes<'a> {
+    pub(crate) rest: &'a [u8],
 }
 
 impl<'a> Bytes<'a> {
@@ -50,7 +57,7 @@ impl<'a> Bytes<'a> {
         }
     }
 
-    fn byte(&mut self) -> Result<u8, Unread> {
+    pub(crate) fn byte(&mut self) -> Result<u8, Unread> {
         let [byte]: [u8; 1] = self.array()?;
         Ok(byte)
     }
@@ -71,7 +78,7 @@ impl<'a> Bytes<'a> {
         self.take(count)
     }
 
-    fn text(&mut self) -> Result<&'a str, Unread> {
+    pub(crate) fn text(&mut self) -> Result<&'a str, Unread> {
         match str::from_utf8(self.sized()?) {
             Ok(text) => Ok(text),
             Err(_) => Err(Unread::Form),
@@ -79,66 +86,189 @@ impl<'a> Bytes<'a> {
     }
 }
 
-/// What is made of the values inside it.
+/// What the values inside are collected into.
 #[derive(Drop)]
 enum Kind {
     Array,
-    /// With the keys so far.
+    /// With the keys read so far.
     Map(Vec<String>),
     FnPtr(ImmutableString),
 }
 
-/// A value whose inside is read.
+/// The tag and the mode of a value.
+#[derive(Clone, Copy)]
+struct Label {
+    tag: Tag,
+    mode: AccessMode,
+}
+
+/// No tag, and no constant.
+const NO_LABEL: Label = Label {
+    tag: 0,
+    mode: AccessMode::ReadWrite,
+};
+
+/// The cells of a snapshot by their numbers, a holder of each.
+#[derive(Drop)]
+pub(crate) struct Cells {
+    pub(crate) store: Store,
+    pub(crate) holders: Vec<Dynamic>,
+    /// Whether bytes may name cells and labels.
+    are_read: bool,
+}
+
+impl Cells {
+    pub(crate) fn new(alloc: Global, are_read: bool) -> Cells {
+        Cells {
+            store: Store::new(alloc),
+            holders: Vec::new(alloc),
+            are_read,
+        }
+    }
+
+    /// A holder of the cell of a number; the next one is made.
+    fn holder(&mut self, alloc: Global, number: usize) -> Result<Dynamic, Unread> {
+        if !self.are_read || number > self.holders.len() {
+            return Err(Unread::Form);
+        }
+        if number == self.holders.len() {
+            match Dynamic::UNIT.into_shared(&mut self.store) {
+                Ok(holder) => self.holders.push(holder)?,
+                Err(_) => return Err(Unread::Memory),
+            }
+        }
+        match self.holders.get(number) {
+            Some(holder) => Ok(holder.copy(alloc)?),
+            None => Err(Unread::Form),
+        }
+    }
+
+    /// Writes what the cell of a number holds.
+    pub(crate) fn fill(&mut self, number: usize, content: Dynamic) -> Result<(), Unread> {
+        let Some(holder) = self.holders.get_mut(number) else {
+            return Err(Unread::Form);
+        };
+        match holder.held_mut(&mut self.store) {
+            Some(held) => {
+                *held = content;
+                Ok(())
+            }
+            None => Err(Unread::Form),
+        }
+    }
+}
+
+/// A value whose children are being read.
 #[derive(Drop)]
 struct Open {
     kind: Kind,
+    label: Label,
     /// How many values were there before.
     first: usize,
-    /// How many values are inside.
+    /// How many children it has.
     count: usize,
 }
 
-/// What the front of bytes says.
+/// What the first bytes say.
 #[derive(Drop)]
 enum Head {
     Whole(Dynamic),
-    Open(Kind, usize),
+    Open(Kind, Label, usize),
 }
 
-/// Reads a value of its hash bytes. It holds no cell.
-/// Errors: the bytes are not those of one value; memory is refused.
-/// Cost: the number of bytes; memory for the value, and for each value that is inside of others.
+/// Reads a value from its hash bytes. It contains no holders.
+/// Errors: the bytes are not those of one value; an allocation fails.
+/// Cost: the number of bytes; memory for the value, and for each value inside another.
 pub fn read_value(alloc: Global, bytes: &[u8]) -> Result<Dynamic, Unread> {
+    if let Some(number) = int_in(bytes) {
+        return Ok(Dynamic::from_int(number));
+    }
     let mut bytes = Bytes { rest: bytes };
-    let mut open = Vec::new(alloc);
+    let mut cells = Cells::new(alloc, false);
+    let value = read_next(alloc, &mut bytes, &mut cells)?;
+    if bytes.rest.is_empty() {
+        Ok(value)
+    } else {
+        Err(Unread::Form)
+    }
+}
+
+/// Returns the int with these hash bytes, if they are an int's: the most frequent value.
+fn int_in(bytes: &[u8]) -> Option<INT> {
+    let (kind, number) = bytes.split_first()?;
+    if *kind != INT_KIND {
+        return None;
+    }
+    match <[u8; 8]>::try_from(number) {
+        Ok(number) => Some(INT::from_le_bytes(number)),
+        Err(_) => None,
+    }
+}
+
+/// Reads the value at the front.
+pub(crate) fn read_next(
+    alloc: Global,
+    bytes: &mut Bytes,
+    cells: &mut Cells,
+) -> Result<Dynamic, Unread> {
+    match read_head(alloc, bytes, cells)? {
+        Head::Whole(value) => Ok(value),
+        Head::Open(kind, label, count) => {
+            let first = 0;
+            let outer = Open {
+                kind,
+                label,
+                first,
+                count,
+            };
+            read_inside(alloc, bytes, cells, outer)
+        }
+    }
+}
+
+/// Reads a value that contains others. What is left of each level is in a list, so that no nesting
+/// takes stack.
+fn read_inside(
+    alloc: Global,
+    bytes: &mut Bytes,
+    cells: &mut Cells,
+    outer: Open,
+) -> Result<Dynamic, Unread> {
     let mut values = Vec::new(alloc);
-    let steps = bytes.rest.len().saturating_mul(2).saturating_add(2);
+    // (each child takes a byte)
+    values.reserve(outer.count.min(bytes.rest.len()))?;
+    let mut open = Vec::new(alloc);
+    open.push(outer)?;
+    let steps = bytes.rest.len().saturating_mul(2).saturating_add(1);
     for _ in 0..steps {
         if is_whole(&open, &values) {
             if let Some(whole) = open.pop() {
                 let value = made(alloc, whole, &mut values)?;
+                if open.is_empty() {
+                    return Ok(value);
+                }
                 values.push(value)?;
             }
-        } else if open.is_empty() && !values.is_empty() {
-            break;
-        } else {
-            read_key(alloc, &mut bytes, &mut open)?;
-            match read_head(alloc, &mut bytes)? {
-                Head::Whole(value) => values.push(value)?,
-                Head::Open(kind, count) => {
-                    let first = values.len();
-                    open.push(Open { kind, first, count })?;
-                }
+            continue;
+        }
+        read_key(alloc, bytes, &mut open)?;
+        match read_head(alloc, bytes, cells)? {
+            Head::Whole(value) => values.push(value)?,
+            Head::Open(kind, label, count) => {
+                let first = values.len();
+                open.push(Open {
+                    kind,
+                    label,
+                    first,
+                    count,
+                })?;
             }
         }
     }
-    match values.pop() {
-        Some(value) if values.is_empty() && open.is_empty() && bytes.rest.is_empty() => Ok(value),
-        Some(_) | None => Err(Unread::Form),
-    }
+    Err(Unread::Form)
 }
 
-/// Whether all that is inside of the innermost value was read.
+/// Whether all children of the innermost value were read.
 fn is_whole(open: &Vec<Open>, values: &Vec<Dynamic>) -> bool {
     match open.last() {
         Some(open) => values.len().saturating_sub(open.first) >= open.count,
@@ -146,7 +276,7 @@ fn is_whole(open: &Vec<Open>, values: &Vec<Dynamic>) -> bool {
     }
 }
 
-/// Reads the key of the next value, where that stands in a map.
+/// Reads the key of the next value, if that is in a map.
 fn read_key(alloc: Global, bytes: &mut Bytes, open: &mut Vec<Open>) -> Result<(), Unread> {
     if let Some(
         Open {
@@ -160,13 +290,18 @@ fn read_key(alloc: Global, bytes: &mut Bytes, open: &mut Vec<Open>) -> Result<()
     Ok(())
 }
 
-/// Makes a value of the last ones.
+/// Makes a value from the last ones.
 fn made(alloc: Global, whole: Open, values: &mut Vec<Dynamic>) -> Result<Dynamic, Unread> {
-    let Open { kind, first, .. } = whole;
+    let Open {
+        kind,
+        label,
+        first,
+        ..
+    } = whole;
     let inside = last_of(alloc, values, first)?;
-    match kind {
-        Kind::Array => Ok(Dynamic::from_array(inside)),
-        Kind::FnPtr(name) => Ok(Dynamic::from(FnPtr::new(name, inside))),
+    let value = match kind {
+        Kind::Array => Dynamic::from_array(inside),
+        Kind::FnPtr(name) => Dynamic::from(FnPtr::new(name, inside)),
         Kind::Map(keys) => {
             let mut map = Map::new(alloc);
             for (key, value) in keys.into_iter().zip(inside) {
@@ -174,13 +309,17 @@ fn made(alloc: Global, whole: Open, values: &mut Vec<Dynamic>) -> Result<Dynamic
                     return Err(Unread::Memory);
                 }
             }
-            Ok(Dynamic::from_map(map))
+            Dynamic::from_map(map)
         }
-    }
+    };
+    Ok(value.labelled(label.tag, label.mode))
 }
 
-/// Takes off the values from a number on.
+/// Removes the values from a position on.
 fn last_of(alloc: Global, values: &mut Vec<Dynamic>, first: usize) -> Result<Array, Unread> {
+    if first == 0 {
+        return Ok(mem::replace(values, Vec::new(alloc)));
+    }
     let mut last = Array::new(alloc);
     let count = values.len();
     if first < count {
@@ -192,8 +331,47 @@ fn last_of(alloc: Global, values: &mut Vec<Dynamic>, first: usize) -> Result<Arr
     Ok(last)
 }
 
-fn read_head(alloc: Global, bytes: &mut Bytes) -> Result<Head, Unread> {
+/// Reads the label before a value, if there is one.
+fn read_label(bytes: &mut Bytes, cells: &Cells) -> Result<Label, Unread> {
+    match bytes.rest.first() {
+        Some(kind) if *kind == LABEL && cells.are_read => {}
+        Some(_) | None => return Ok(NO_LABEL),
+    }
+    let _kind = bytes.byte()?;
+    let mode = match bytes.byte()? {
+        0 => AccessMode::ReadWrite,
+        1 => AccessMode::ReadOnly,
+        _ => return Err(Unread::Form),
+    };
+    let tag = Tag::from_le_bytes(bytes.array()?);
+    Ok(Label { tag, mode })
+}
+
+#[inline(always)]
+fn read_head(alloc: Global, bytes: &mut Bytes, cells: &mut Cells) -> Result<Head, Unread> {
+    let label = read_label(bytes, cells)?;
     let value = match bytes.byte()? {
+        5 => return Ok(Head::Open(Kind::Array, label, bytes.count()?)),
+        7 => return Ok(Head::Open(Kind::Map(Vec::new(alloc)), label, bytes.count()?)),
+        8 => {
+            let name = ImmutableString::from_str(alloc, bytes.text()?)?;
+            return Ok(Head::Open(Kind::FnPtr(name), label, bytes.count()?));
+        }
+        CELL => cells.holder(alloc, bytes.count()?)?,
+        kind => read_leaf(alloc, bytes, kind)?,
+    };
+    match label {
+        Label {
+            tag: 0,
+            mode: AccessMode::ReadWrite,
+        } => Ok(Head::Whole(value)),
+        Label { tag, mode } => Ok(Head::Whole(value.labelled(tag, mode))),
+    }
+}
+
+/// Reads a value that holds no others, behind its kind.
+fn read_leaf(alloc: Global, bytes: &mut Bytes, kind: u8) -> Result<Dynamic, Unread> {
+    Ok(match kind {
         0 => Dynamic::UNIT,
         1 => Dynamic::from_bool(bytes.byte()? != 0),
         2 => Dynamic::from_text(alloc, bytes.text()?)?,
@@ -201,25 +379,18 @@ fn read_head(alloc: Global, bytes: &mut Bytes) -> Result<Head, Unread> {
             Some(character) => Dynamic::from_char(character),
             None => return Err(Unread::Form),
         },
-        4 => Dynamic::from_int(bytes.int()?),
-        5 => return Ok(Head::Open(Kind::Array, bytes.count()?)),
+        INT_KIND => Dynamic::from_int(bytes.int()?),
         6 => {
             let mut blob = Vec::new(alloc);
             blob.extend_from_slice(bytes.sized()?)?;
             Dynamic::from_blob(blob)
         }
-        7 => return Ok(Head::Open(Kind::Map(Vec::new(alloc)), bytes.count()?)),
-        8 => {
-            let name = ImmutableString::from_str(alloc, bytes.text()?)?;
-            return Ok(Head::Open(Kind::FnPtr(name), bytes.count()?));
-        }
         9 => Dynamic::from(host(bytes)?),
         _ => return Err(Unread::Form),
-    };
-    Ok(Head::Whole(value))
+    })
 }
 
-/// A number or a range of the host's.
+/// Reads a number or a range of the host.
 fn host(bytes: &mut Bytes) -> Result<Host, Unread> {
     match bytes.byte()? {
         0 => Ok(Host::U8(bytes.byte()?)),

@@ -49,15 +49,12 @@ static void int_to_bytes(int64_t n, uint8_t bytes[9]) {
     }
 }
 
-static int64_t int_of_bytes(const uint8_t *bytes, size_t length) {
-    uint64_t n = 0;
-    if (length != 9 || bytes[0] != 4) {
+/* The int that was reported. */
+static int64_t told_int(const RhaiHostTold *told) {
+    if (told->kind != RHAI_HOST_KIND_INT) {
         exit(1);
     }
-    for (int i = 7; i >= 0; i--) {
-        n = n << 8 | bytes[1 + i];
-    }
-    return (int64_t)n;
+    return (int64_t)told->low;
 }
 
 static void world(RhaiHostHandle *handle) {
@@ -83,9 +80,7 @@ static void twice(RhaiHostHandle *handle) {
     RhaiHostTold told = {0};
     uint8_t bytes[9];
     DO(rhai_host_script_argument(handle, 0, &told));
-    uint8_t *argument = answer(handle, told.low);
-    int_to_bytes((int64_t)(2 * (uint64_t)int_of_bytes(argument, told.low)), bytes);
-    free(argument);
+    int_to_bytes((int64_t)(2 * (uint64_t)told_int(&told)), bytes);
     DO(rhai_host_script_answer(handle, bytes, sizeof bytes));
 }
 
@@ -116,9 +111,7 @@ static void script(RhaiHostHandle *handle) {
         free(said);
     } while (stop.kind != 0);
     DO(rhai_host_script_value(handle, &told));
-    uint8_t *value = answer(handle, told.low);
-    printf("the script comes to %lld\n", (long long)int_of_bytes(value, told.low));
-    free(value);
+    printf("the script comes to %lld\n", (long long)told_int(&told));
     DO(rhai_host_script_end(handle));
 }
 

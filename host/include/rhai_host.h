@@ -55,9 +55,9 @@ void rattle_dealloc(void *at);
 #define RHAI_HOST_HANDLE_SIZE 16
 #define RHAI_HOST_HANDLE_ALIGN 8
 
-/* A world with what goes with it, or nothing: an open handle, or a closed one. Memory that is all zero is a
- * closed one. The host gives it room, and looks at no field of it. An open one that is let go is a leak. Its
- * fields are the library's alone. */
+/* A world and what belongs to it, or nothing: a handle is open or closed. Memory that is all zeros is a closed
+ * one. The host provides its memory, and reads no field of it. Dropping an open one leaks it. Its fields are the
+ * library's alone. */
 typedef struct RhaiHostHandle {
     bool is_open;
     void *at;
@@ -68,50 +68,50 @@ RHAI_HOST_ASSERT(RHAI_HOST_ALIGN(RhaiHostHandle) == RHAI_HOST_HANDLE_ALIGN);
 /* What a closed handle begins with. */
 #define RHAI_HOST_CLOSED {false, NULL}
 
-/* Why a script stopped. The answer is what it printed, and behind that what went wrong. */
+/* Why a script stopped. The answer is what it printed, followed by what went wrong, if that isn't empty. */
 typedef struct RhaiHostScriptStop {
-    /* 0 it is done, 1 it did as many operations as it might, 2 it calls the host, 3 a statement is done next, 4
-     * memory was refused, 5 it went wrong, 6 the text is no script, 7 a function that the host called while it is
-     * called itself is done, 8 it went wrong. */
+    /* 0 it is done, 1 it executed as many operations as it might, 2 it calls the host, 3 it is before a statement, 4
+     * an allocation failed, 5 it failed, 6 the text is not a valid script, 7 a function that a host function called
+     * is done, 8 such a function failed. */
     uint32_t kind;
-    /* The number of the host's function that is called; else 0. */
+    /* The number of the host function being called; else 0. */
     uint32_t function;
     /* How many arguments it is called with; else 0. */
     size_t arguments;
-    /* The line where it stands, or of what went wrong, counted from 1; else 0. */
+    /* The line where it is, or where it went wrong, counted from 1; else 0. */
     uint32_t line;
-    /* The place on that line, counted from 1; else 0. */
+    /* The column, counted from 1; else 0. */
     uint32_t column;
-    /* How many operations the run took so far, with those that the room of values counts as. */
+    /* How many operations the run has used so far, including those for the size of values. */
     uint64_t operations;
     /* How many bytes of the answer it printed. */
     size_t printed;
-    /* How many bytes behind these say what went wrong. */
+    /* How many bytes after these say what went wrong. */
     size_t said;
 } RhaiHostScriptStop;
 
-/* How a script ended. The answer is what it printed, and behind that what went wrong. */
+/* How a script ended. The answer is what it printed, followed by what went wrong. */
 typedef struct RhaiHostScriptEnd {
-    /* 0 it ran to its end, 1 the text is no script, 2 it went wrong when it ran. */
+    /* 0 it ran to its end, 1 the text is not a valid script, 2 it failed while running. */
     uint32_t kind;
-    /* The line of what went wrong, counted from 1; else 0. */
+    /* The line where it went wrong, counted from 1; else 0. */
     uint32_t line;
-    /* The place on that line, counted from 1; else 0. */
+    /* The column where it went wrong, counted from 1; else 0. */
     uint32_t column;
     /* How many bytes of the answer it printed. */
     size_t printed;
-    /* How many bytes behind these say what went wrong. */
+    /* How many bytes after these say what went wrong. */
     size_t said;
 } RhaiHostScriptEnd;
 
-/* An answer in numbers. Its text, its bytes and the names of types are fetched by further calls. */
+/* An answer in numbers. Further calls fetch its text, its bytes and the names of types. */
 typedef struct RhaiHostTold {
-    /* 0 done, 1 a truth, 2 a number, 3 a text, 4 bytes, 5 two numbers, 6 nothing, 7 a refusal. */
+    /* 0 done, 1 a boolean, 2 a number, 3 a text, 4 bytes, 5 two numbers, 6 nothing, 7 a refusal. */
     uint32_t kind;
     /* Which refusal; else 0. */
     uint32_t reason;
-    /* A truth as 0 or 1, the lower 64 bits of a number, a length in bytes, the first of two numbers, or which one of
-     * a kind of refusals. */
+    /* A boolean as 0 or 1, the lower 64 bits of a number, a length in bytes, the first of two numbers, or which one
+     * of a kind of refusals. */
     uint64_t low;
     /* The upper 64 bits of a number, the second of two numbers, or the length of a second name. */
     uint64_t high;
@@ -121,13 +121,13 @@ typedef struct RhaiHostTold {
 enum {
     /* The command is done. */
     RHAI_HOST_STATUS_DONE = 0,
-    /* Memory was refused, and nothing has changed. */
+    /* An allocation failed, and nothing has changed. */
     RHAI_HOST_STATUS_OUT_OF_MEMORY = 1,
     /* No world is open. */
     RHAI_HOST_STATUS_CLOSED = 2,
-    /* What was handed over says no command. */
+    /* The input is not a command. */
     RHAI_HOST_STATUS_NO_COMMAND = 3,
-    /* Memory for what a command is made of was refused, and nothing has changed. */
+    /* An allocation for the command's operands failed, and nothing has changed. */
     RHAI_HOST_STATUS_NO_ROOM = 4,
 };
 
@@ -248,16 +248,17 @@ enum {
     RHAI_HOST_OPERATOR_XOR_ASSIGN = 30,
 };
 
-/* Answers the hash bytes of an argument that the host's function is called with. */
+/* Returns an argument of the host function being called: unit, a boolean and an int as they are, and others as
+ * their hash bytes. */
 uint32_t rhai_host_script_argument(RhaiHostHandle *handle, size_t number, RhaiHostTold *told);
 
-/* Answers the hash bytes of the value that the run came to. */
+/* Returns the run's value, as `rhai_host_script_argument` does. */
 uint32_t rhai_host_script_value(RhaiHostHandle *handle, RhaiHostTold *told);
 
-/* Answers the call of the host's function with the value of these hash bytes. */
+/* Passes the value of these hash bytes to the script, as the result of the host function being called. */
 uint32_t rhai_host_script_answer(RhaiHostHandle *handle, const uint8_t *value, size_t value_len);
 
-/* Refuses the call of the host's function with a text, which the script may catch: it goes on then, and the stop
+/* Fails the call of the host function with a text, which the script may catch: it continues then, and the stop
  * is of kind 1. */
 uint32_t rhai_host_script_refuse(
     RhaiHostHandle *handle,
@@ -265,49 +266,49 @@ uint32_t rhai_host_script_refuse(
     size_t why_len,
     RhaiHostScriptStop *stop);
 
-/* Answers the tag of the value at the hand position. */
+/* Returns the tag of the value at the hand position. */
 uint32_t rhai_host_tag(RhaiHostHandle *handle, size_t i, RhaiHostTold *told);
 
-/* Answers whether the value at the hand position is of one of the host's types. */
+/* Returns whether the value at the hand position is of one of the host's types. */
 uint32_t rhai_host_is_variant(RhaiHostHandle *handle, size_t i, RhaiHostTold *told);
 
-/* Answers whether the value at the hand position is a holder. */
+/* Returns whether the value at the hand position is a holder. */
 uint32_t rhai_host_is_shared(RhaiHostHandle *handle, size_t i, RhaiHostTold *told);
 
-/* Answers whether the first content of the value at the hand position is a constant. */
+/* Returns whether the first content of the value at the hand position is a constant. */
 uint32_t rhai_host_is_read_only(RhaiHostHandle *handle, size_t i, RhaiHostTold *told);
 
-/* Answers whether the value at the hand position is, or has inside, a holder of a marked cell. */
+/* Returns whether the value at the hand position is, or contains, a holder of a marked cell. */
 uint32_t rhai_host_is_locked(RhaiHostHandle *handle, size_t i, RhaiHostTold *told);
 
-/* Answers the name of the type that is held at the hand position. */
+/* Returns the name of the type held at the hand position. */
 uint32_t rhai_host_type_name(RhaiHostHandle *handle, size_t i, RhaiHostTold *told);
 
-/* Answers whether the value at the hand position can be hashed. */
+/* Returns whether the value at the hand position can be hashed. */
 uint32_t rhai_host_is_hashable(RhaiHostHandle *handle, size_t i, RhaiHostTold *told);
 
-/* Is done where unit is held at the hand position. */
+/* Succeeds if unit is held at the hand position. */
 uint32_t rhai_host_as_unit(RhaiHostHandle *handle, size_t i, RhaiHostTold *told);
 
-/* Answers the int that is held at the hand position. */
+/* Returns the int held at the hand position. */
 uint32_t rhai_host_as_int(RhaiHostHandle *handle, size_t i, RhaiHostTold *told);
 
-/* Answers the boolean that is held at the hand position. */
+/* Returns the boolean held at the hand position. */
 uint32_t rhai_host_as_bool(RhaiHostHandle *handle, size_t i, RhaiHostTold *told);
 
-/* Answers the character that is held at the hand position, as a text. */
+/* Returns the character held at the hand position, as a text. */
 uint32_t rhai_host_as_char(RhaiHostHandle *handle, size_t i, RhaiHostTold *told);
 
-/* Answers the text of the value at the hand position, as it is displayed. */
+/* Returns the text of the value at the hand position, in display format. */
 uint32_t rhai_host_show(RhaiHostHandle *handle, size_t i, RhaiHostTold *told);
 
-/* Answers the text of the value at the hand position, as it is debugged. */
+/* Returns the text of the value at the hand position, in debug format. */
 uint32_t rhai_host_debug(RhaiHostHandle *handle, size_t i, RhaiHostTold *told);
 
-/* Answers the hash bytes of the value at the hand position. */
+/* Returns the hash bytes of the value at the hand position. */
 uint32_t rhai_host_hash(RhaiHostHandle *handle, size_t i, RhaiHostTold *told);
 
-/* Answers where a slice of a list of this length starts and how many items it has, for a start and a number of
+/* Returns where a slice of a list of this length starts and how many items it has, for a start and a number of
  * items. */
 uint32_t rhai_host_offset(
     RhaiHostHandle *handle,
@@ -316,8 +317,8 @@ uint32_t rhai_host_offset(
     int64_t count,
     RhaiHostTold *told);
 
-/* Answers the place of an item of a list of this length, or nothing; with the flag a negative index counts from
- * the end. */
+/* Returns the position of an item in a list of this length, or nothing; with the flag a negative index counts
+ * from the end. */
 uint32_t rhai_host_index(
     RhaiHostHandle *handle,
     size_t length,
@@ -325,9 +326,9 @@ uint32_t rhai_host_index(
     bool from_end,
     RhaiHostTold *told);
 
-/* Compiles a script for the variables that are there. The functions of the host are a line each: the name, a
- * space and the number of arguments, with ` mut` behind that where it may change the first one; the first
- * function has number 0. A run that stands ends. What is wrong with the text is told as a stop of kind 6. */
+/* Compiles a script for the present variables. The host functions are a line each: the name, a space and the
+ * number of arguments, then ` mut` if it may change the first one; the first function has number 0. An
+ * unfinished run ends. What is wrong with the text is reported as a stop of kind 6. */
 uint32_t rhai_host_script_compile(
     RhaiHostHandle *handle,
     const uint8_t *text,
@@ -336,8 +337,8 @@ uint32_t rhai_host_script_compile(
     size_t names_len,
     RhaiHostScriptStop *stop);
 
-/* Begins a run of the script over the variables, with the largest sizes of texts, arrays and maps, 0 being none,
- * and of calls within each other. Without its body, it has ended at once, and functions may be called. */
+/* Starts a run of the script over the variables, with the largest sizes of texts, arrays and maps, 0 meaning no
+ * limit, and the deepest nesting of calls. Without its body, it has ended at once, and functions can be called. */
 uint32_t rhai_host_script_begin(
     RhaiHostHandle *handle,
     size_t text,
@@ -346,14 +347,14 @@ uint32_t rhai_host_script_begin(
     size_t calls,
     bool with_body);
 
-/* Has the run stop before each statement, or no longer. */
+/* Sets whether the run stops before each statement. */
 uint32_t rhai_host_script_stop_at_statements(RhaiHostHandle *handle, bool stops);
 
-/* Goes on with the run by up to so many operations. */
+/* Continues the run for at most this many operations. */
 uint32_t rhai_host_script_go(RhaiHostHandle *handle, uint64_t operations, RhaiHostScriptStop *stop);
 
-/* Begins a call of a function of the script with these arguments: the hash bytes of an array of them. The
- * script's body is done, and no call stands. */
+/* Starts a call of a function of the script with these arguments: the hash bytes of an array of them. The
+ * script's body has to be done, and no call may be open. */
 uint32_t rhai_host_script_call(
     RhaiHostHandle *handle,
     const uint8_t *name,
@@ -361,71 +362,71 @@ uint32_t rhai_host_script_call(
     const uint8_t *arguments,
     size_t arguments_len);
 
-/* Ends the run, wherever it stands: its variables can be looked at and written then. */
+/* Ends the run, wherever it is: its variables can be read and written then. */
 uint32_t rhai_host_script_end(RhaiHostHandle *handle);
 
-/* Keeps a function of a script, with the cells that it captured, and tells its number: that at a place among the
- * arguments of the host's function that is called (source 0), that which the run or a call within it has just
- * come to (source 1), or that of a variable (source 2). NO_COMMAND says that no function is there. */
+/* Keeps a function of a script, with the cells that it captured, and reports its number: the function in an
+ * argument of the host function being called (source 0), the value that the run or a call within it has just
+ * returned (source 1), or the function in a variable (source 2). NO_COMMAND means that there is no function. */
 uint32_t rhai_host_function_keep(RhaiHostHandle *handle, uint32_t source, size_t at, size_t *number);
 
-/* Keeps a pointer to the function of this name, whether a script has one or not, and tells its number.
- * NO_COMMAND says that the bytes are no text. */
+/* Keeps a pointer to the function with this name, whether a script has one or not, and reports its number.
+ * NO_COMMAND means that the bytes are not a text. */
 uint32_t rhai_host_function_of(RhaiHostHandle *handle, const uint8_t *name, size_t name_len, size_t *number);
 
-/* Keeps the function of this number no more, which another one may have then. NO_COMMAND says that there is
- * none. */
+/* Frees the kept function of this number, which another one may get. NO_COMMAND means that there is none. */
 uint32_t rhai_host_function_let_go(RhaiHostHandle *handle, size_t number);
 
-/* Answers the hash bytes of the kept function of this number: its name, and what it was given ahead. */
+/* Returns the hash bytes of the kept function of this number: its name, and its curried values. */
 uint32_t rhai_host_function_value(RhaiHostHandle *handle, size_t number, RhaiHostTold *told);
 
-/* Answers the call of the host's function with the kept function of this number. NO_COMMAND says that none is
- * called, or that there is no such function. */
+/* Passes the kept function of this number to the script, as the result of the host function being called.
+ * NO_COMMAND means that none is being called, or that there is no such kept function. */
 uint32_t rhai_host_function_answer(RhaiHostHandle *handle, size_t number);
 
-/* Changes the first argument of the host's function that is called to the value of these hash bytes: where the
- * function was compiled with ` mut`, the place that it came from has it once the call is answered. NO_COMMAND
- * says that none is called, or that it takes no argument. */
+/* Replaces the first argument of the host function being called by the value of these hash bytes. If the
+ * function was compiled with ` mut`, the place that the argument came from has the new value once the function
+ * has returned. NO_COMMAND means that no host function is being called, or that it has no arguments. */
 uint32_t rhai_host_script_change(RhaiHostHandle *handle, const uint8_t *value, size_t value_len);
 
-/* Begins a call of a kept function with these arguments: the hash bytes of an array of them. Either a function
- * of the host is called: then the run goes on to a stop of kind 7 or 8, behind which that call stands as before.
- * Or the script's body is done, and no call stands. NO_COMMAND says that neither is so, or that there is no such
- * function of so many arguments. */
+/* Starts a call of a kept function with these arguments: the hash bytes of an array of them. While a host
+ * function is being called, the run continues to a stop of kind 7 or 8, after which that call is open as before.
+ * Otherwise the script's body has to be done, and no call may be open. NO_COMMAND means that neither is the
+ * case, or that no such function takes this many arguments. */
 uint32_t rhai_host_function_call(
     RhaiHostHandle *handle,
     size_t number,
     const uint8_t *arguments,
     size_t arguments_len);
 
-/* Refuses the call of the host's function with the value of these hash bytes, as if the script threw it: the
- * script may catch it and goes on then, and the stop is of kind 1. */
+/* Fails the call of the host function with the value of these hash bytes, as if the script had thrown it: the
+ * script may catch it and continues then, and the stop is of kind 1. */
 uint32_t rhai_host_script_throw(
     RhaiHostHandle *handle,
     const uint8_t *value,
     size_t value_len,
     RhaiHostScriptStop *stop);
 
-/* Takes this many values off the end of the hand, and appends the array of them in order. */
+/* Removes this many values from the end of the hand, and appends an array of them in order. */
 uint32_t rhai_host_make_array(RhaiHostHandle *handle, size_t count, RhaiHostTold *told);
 
 /* Appends a copy of the value at the hand position. */
 uint32_t rhai_host_copy(RhaiHostHandle *handle, size_t i, RhaiHostTold *told);
 
-/* Appends a copy of the value at the hand position without its holders. */
+/* Appends a copy of the value at the hand position, without its holders. */
 uint32_t rhai_host_flatten_clone(RhaiHostHandle *handle, size_t i, RhaiHostTold *told);
 
-/* Moves the value at the hand position to the end, and leaves unit. */
+/* Moves the value at the hand position to the end, and leaves unit in its place. */
 uint32_t rhai_host_take(RhaiHostHandle *handle, size_t i, RhaiHostTold *told);
 
 /* Drops the last value. */
 uint32_t rhai_host_drop(RhaiHostHandle *handle, RhaiHostTold *told);
 
-/* Moves the value at the hand position into a new cell, and leaves a holder of it; a holder stays. */
+/* Moves the value at the hand position into a new cell, and leaves a holder of that cell. A holder is left as it
+ * is. */
 uint32_t rhai_host_share(RhaiHostHandle *handle, size_t i, RhaiHostTold *told);
 
-/* Puts in the place of a holder at the hand position what is held, without its holders. */
+/* Replaces a holder at the hand position with the held value, without its holders. */
 uint32_t rhai_host_flatten(RhaiHostHandle *handle, size_t i, RhaiHostTold *told);
 
 /* Makes the value at the hand position a constant. */
@@ -434,57 +435,55 @@ uint32_t rhai_host_make_read_only(RhaiHostHandle *handle, size_t i, RhaiHostTold
 /* Sets the tag of the value at the hand position. */
 uint32_t rhai_host_set_tag(RhaiHostHandle *handle, size_t i, int32_t tag, RhaiHostTold *told);
 
-/* Writes over the int that is held at the hand position. */
+/* Overwrites the int held at the hand position. */
 uint32_t rhai_host_write_int(RhaiHostHandle *handle, size_t i, int64_t n, RhaiHostTold *told);
 
-/* Writes the value at the second hand position over the first content of the one at the first, and leaves unit
- * at the second. */
+/* Overwrites the first content of the value at the first hand position with the value at the second, and leaves
+ * unit at the second. */
 uint32_t rhai_host_write(RhaiHostHandle *handle, size_t i, size_t j, RhaiHostTold *told);
 
-/* Sets the tag of each value that a scan of the one at the hand position comes to, and answers how many these
- * are. */
+/* Sets the tag of each value that a scan of the hand position visits, and returns how many there are. */
 uint32_t rhai_host_scan_tags(RhaiHostHandle *handle, size_t i, int32_t tag, RhaiHostTold *told);
 
-/* Makes each int 0 that a scan of the value at the hand position comes to, and answers how many values it came
- * to. */
+/* Sets each int that a scan of the hand position visits to 0, and returns how many values it visited. */
 uint32_t rhai_host_scan_zero(RhaiHostHandle *handle, size_t i, RhaiHostTold *told);
 
-/* Makes each holder unit that a scan of the value at the hand position comes to, and answers how many values it
- * came to. */
+/* Replaces each holder that a scan of the hand position visits with unit, and returns how many values it
+ * visited. */
 uint32_t rhai_host_scan_no_share(RhaiHostHandle *handle, size_t i, RhaiHostTold *told);
 
-/* Keeps this many items of each array that a scan of the value at the hand position comes to, and answers how
- * many values it came to. */
+/* Truncates each array that a scan of the hand position visits to this many items, and returns how many values
+ * it visited. */
 uint32_t rhai_host_scan_cut(RhaiHostHandle *handle, size_t i, size_t count, RhaiHostTold *told);
 
-/* Does the command that a line says; `docs/LINES.md` has the lines. */
+/* Executes the command of a line; `docs/LINES.md` has the lines. */
 uint32_t rhai_host_line(RhaiHostHandle *handle, const uint8_t *line, size_t line_len, RhaiHostTold *told);
 
-/* Runs lines on a world of their own, and answers the bytes that they print; the handle's world stays. */
+/* Runs lines on a new world, and returns the bytes that they print; the handle's world is unchanged. */
 uint32_t rhai_host_run_lines(
     RhaiHostHandle *handle,
     const uint8_t *input,
     size_t input_len,
     RhaiHostTold *told);
 
-/* Answers the journal of the commands that lines say: the lines by which they are written, in turn, each with a
- * line feed. */
+/* Returns the journal of the commands in these lines: the lines as the library writes them, in order, each with
+ * a line feed. */
 uint32_t rhai_host_journal(
     RhaiHostHandle *handle,
     const uint8_t *lines,
     size_t lines_len,
     RhaiHostTold *told);
 
-/* Takes as many values off the end of the hand as there are keys, and appends the map of these to those in
- * order; of equal keys the last value stands. */
+/* Removes as many values from the end of the hand as there are keys, and appends the map from the keys to these
+ * values, in order; for duplicate keys the last value counts. */
 uint32_t rhai_host_make_map(RhaiHostHandle *handle, const size_t *keys, size_t keys_len, RhaiHostTold *told);
 
-/* Takes as many values off the end of the hand as there are names, and adds an entry of each name with its
- * value, which may be written. */
+/* Removes as many values from the end of the hand as there are names, and adds a writable entry for each name
+ * and value. */
 uint32_t rhai_host_extend(RhaiHostHandle *handle, const size_t *names, size_t names_len, RhaiHostTold *told);
 
-/* Takes as many values off the end of the hand as there are names, and adds an entry of each name with its
- * value, which is a constant where its flag says so. */
+/* Removes as many values from the end of the hand as there are names, and adds an entry for each name and value;
+ * it is a constant if its flag is set. */
 uint32_t rhai_host_extend_flagged(
     RhaiHostHandle *handle,
     const size_t *names,
@@ -493,7 +492,7 @@ uint32_t rhai_host_extend_flagged(
     size_t constants_len,
     RhaiHostTold *told);
 
-/* Gives the last entry of the name the alias, if it hasn't got it; an empty alias means the name. */
+/* Gives the newest entry with the name this alias, unless it has it; an empty alias means the name itself. */
 uint32_t rhai_host_set_alias(
     RhaiHostHandle *handle,
     size_t name,
@@ -510,126 +509,127 @@ uint32_t rhai_host_put_bool(RhaiHostHandle *handle, bool truth, RhaiHostTold *to
 /* Appends an int. */
 uint32_t rhai_host_put_int(RhaiHostHandle *handle, int64_t n, RhaiHostTold *told);
 
-/* Appends the range from one int to another, without the end. */
+/* Appends the range from one int to another, end excluded. */
 uint32_t rhai_host_put_range(RhaiHostHandle *handle, int64_t start, int64_t end, RhaiHostTold *told);
 
-/* Appends the range from one int to another, with the end. */
+/* Appends the range from one int to another, end included. */
 uint32_t rhai_host_put_range_with_end(RhaiHostHandle *handle, int64_t start, int64_t end, RhaiHostTold *told);
 
-/* Appends a `u8` of the host's. */
+/* Appends a `u8` of the host. */
 uint32_t rhai_host_put_u8(RhaiHostHandle *handle, uint8_t n, RhaiHostTold *told);
 
-/* Appends a `u16` of the host's. */
+/* Appends a `u16` of the host. */
 uint32_t rhai_host_put_u16(RhaiHostHandle *handle, uint16_t n, RhaiHostTold *told);
 
-/* Appends a `u32` of the host's. */
+/* Appends a `u32` of the host. */
 uint32_t rhai_host_put_u32(RhaiHostHandle *handle, uint32_t n, RhaiHostTold *told);
 
-/* Appends a `u64` of the host's. */
+/* Appends a `u64` of the host. */
 uint32_t rhai_host_put_u64(RhaiHostHandle *handle, uint64_t n, RhaiHostTold *told);
 
-/* Appends an `i8` of the host's. */
+/* Appends an `i8` of the host. */
 uint32_t rhai_host_put_i8(RhaiHostHandle *handle, int8_t n, RhaiHostTold *told);
 
-/* Appends an `i16` of the host's. */
+/* Appends an `i16` of the host. */
 uint32_t rhai_host_put_i16(RhaiHostHandle *handle, int16_t n, RhaiHostTold *told);
 
-/* Appends an `i32` of the host's. */
+/* Appends an `i32` of the host. */
 uint32_t rhai_host_put_i32(RhaiHostHandle *handle, int32_t n, RhaiHostTold *told);
 
-/* Takes the mark at this position out of the list, and frees its cell; later marks close up. */
+/* Removes the mark at this position from the list, and unlocks its cell. Later marks move up. */
 uint32_t rhai_host_unmark(RhaiHostHandle *handle, size_t mark, RhaiHostTold *told);
 
-/* Moves the value at the hand position into the cell of the mark at this position, and leaves unit. */
+/* Moves the value at the hand position into the cell of the mark at this position, and leaves unit in its place. */
 uint32_t rhai_host_write_marked(RhaiHostHandle *handle, size_t mark, size_t i, RhaiHostTold *told);
 
-/* Appends a copy of what is in the cell of the mark at this position. */
+/* Appends a copy of the content of the cell of the mark at this position. */
 uint32_t rhai_host_read_marked(RhaiHostHandle *handle, size_t mark, RhaiHostTold *told);
 
-/* Answers the name of a number, as a text. */
+/* Returns the name of a number, as a text. */
 uint32_t rhai_host_name_text(RhaiHostHandle *handle, size_t number, RhaiHostTold *told);
 
-/* Answers the name of the entry at this position, counted from the oldest, as a text, and tells whether the
+/* Returns the name of the entry at this position, counted from the oldest, as a text, and reports whether the
  * entry is a constant. */
 uint32_t rhai_host_entry(RhaiHostHandle *handle, size_t i, bool *is_constant, RhaiHostTold *told);
 
-/* Takes this many values off the end of the hand, and appends the function pointer of the name with these
- * curried in order. */
+/* Removes this many values from the end of the hand, and appends the function pointer of the name with these
+ * values curried in order. */
 uint32_t rhai_host_make_fn(RhaiHostHandle *handle, size_t name, size_t count, RhaiHostTold *told);
 
-/* Moves the value at the hand position into a new entry of the name that may be written, and leaves unit. */
+/* Moves the value at the hand position into a new writable entry with the name, and leaves unit in its place. */
 uint32_t rhai_host_push(RhaiHostHandle *handle, size_t name, size_t i, RhaiHostTold *told);
 
-/* Moves the value at the hand position into a new entry of the name, which is a constant where the value is, and
- * leaves unit. */
+/* Moves the value at the hand position into a new entry with the name, and leaves unit in its place. The entry
+ * is a constant if the value is. */
 uint32_t rhai_host_push_dynamic(RhaiHostHandle *handle, size_t name, size_t i, RhaiHostTold *told);
 
-/* Moves the value at the hand position into a new entry of the name that is a constant, and leaves unit. */
+/* Moves the value at the hand position into a new constant entry with the name, and leaves unit in its place. */
 uint32_t rhai_host_push_constant(RhaiHostHandle *handle, size_t name, size_t i, RhaiHostTold *told);
 
-/* Moves the value at the hand position over the value of the last entry of the name, and leaves unit. */
+/* Replaces the value of the newest entry with the name by the value at the hand position, and leaves unit in its
+ * place. */
 uint32_t rhai_host_set_entry(RhaiHostHandle *handle, size_t name, size_t i, RhaiHostTold *told);
 
-/* Moves the value at the hand position over the value of the last entry of the name, or into a new one where
- * none may be written. */
+/* Moves the value at the hand position into the newest entry with the name, or into a new entry if there is none
+ * or it may not be written. */
 uint32_t rhai_host_set_or_push(RhaiHostHandle *handle, size_t name, size_t i, RhaiHostTold *told);
 
-/* Moves the value at the hand position over the value of the last entry of the name, or into a new one where
- * none is there. */
+/* Moves the value at the hand position into the newest entry with the name, or into a new entry if there is
+ * none. */
 uint32_t rhai_host_set_value(RhaiHostHandle *handle, size_t name, size_t i, RhaiHostTold *told);
 
-/* Answers whether an entry has the name. */
+/* Returns whether an entry has the name. */
 uint32_t rhai_host_contains(RhaiHostHandle *handle, size_t name, RhaiHostTold *told);
 
-/* Answers the position of the last entry of the name, counted from 0, or nothing. */
+/* Returns the position of the newest entry with the name, counted from 0, or nothing. */
 uint32_t rhai_host_search(RhaiHostHandle *handle, size_t name, RhaiHostTold *told);
 
-/* Answers whether the last entry of the name is a constant, or nothing. */
+/* Returns whether the newest entry with the name is a constant, or nothing. */
 uint32_t rhai_host_is_constant(RhaiHostHandle *handle, size_t name, RhaiHostTold *told);
 
-/* Appends a copy of the value of the last entry of the name. */
+/* Appends a copy of the value of the newest entry with the name. */
 uint32_t rhai_host_get(RhaiHostHandle *handle, size_t name, RhaiHostTold *told);
 
-/* Writes over the int that the last entry of the name itself is; or answers nothing. */
+/* Overwrites the int that the newest entry with the name itself is; returns nothing if there is no such int. */
 uint32_t rhai_host_set_ref(RhaiHostHandle *handle, size_t name, int64_t value, RhaiHostTold *told);
 
-/* Answers the aliases of the last entry of the name, each with a line feed. */
+/* Returns the aliases of the newest entry with the name, one a line. */
 uint32_t rhai_host_aliases(RhaiHostHandle *handle, size_t name, RhaiHostTold *told);
 
-/* Opens a world with these limits, 0 being none, and closes the one that was open before. */
+/* Opens a world with these limits, 0 meaning no limit, and closes the one that was open before. */
 uint32_t rhai_host_new(RhaiHostHandle *handle, size_t text, size_t items);
 
 /* Closes the world, if one is open. */
 void rhai_host_close(RhaiHostHandle *handle);
 
-/* Tells whether a world is open. */
+/* Returns whether a world is open. */
 bool rhai_host_is_open(const RhaiHostHandle *handle);
 
-/* Gives a name a number that no other has, by which commands name it. Room for one more is asked for only where
- * no number was given back. */
+/* Assigns a number to a name, which commands use in its place. It only allocates a slot if no freed number is
+ * available. */
 uint32_t rhai_host_name(RhaiHostHandle *handle, const uint8_t *text, size_t text_len, size_t *number);
 
-/* Tells how many values are in the hand, 0 where no world is open. */
+/* Returns how many values are in the hand, 0 where no world is open. */
 size_t rhai_host_hand_len(RhaiHostHandle *handle);
 
-/* Copies the bytes of the last text, bytes or refusal that was answered, or those of its second name, as far as
- * there is room; answers how many it has. */
+/* Copies the bytes of the last text, bytes or refusal that was returned, or those of its second name, as far as
+ * there is room; returns how many there are. */
 size_t rhai_host_answer(RhaiHostHandle *handle, bool second, uint8_t *room, size_t room_len);
 
-/* Takes a number back from a name. It is given out again, in the place of a new one. */
+/* Frees the number of a name. A new name may get it. */
 uint32_t rhai_host_forget_name(RhaiHostHandle *handle, size_t number);
 
-/* Gives back each cell that nothing reaches. */
+/* Frees each unreachable cell. */
 uint32_t rhai_host_collect(RhaiHostHandle *handle);
 
-/* Tells how many bytes a handle takes. */
+/* Returns how many bytes a handle takes. */
 size_t rhai_host_handle_size(void);
 
-/* Tells what the address of a handle is a multiple of. */
+/* Returns the alignment of a handle. */
 size_t rhai_host_handle_align(void);
 
-/* Marks the cell of the holder at the place: from then on it is read and written by the mark alone. The mark
- * goes to the end of the list of marks. */
+/* Locks the cell of the holder at the place: from then on it is read and written only through the mark. Appends
+ * the mark to the list of marks. */
 uint32_t rhai_host_mark(RhaiHostHandle *handle, bool is_entry, size_t at, RhaiHostTold *told);
 
 /* Writes the boolean at the hand position to this bit of the int at the place. */
@@ -651,7 +651,7 @@ uint32_t rhai_host_write_field(
     size_t j,
     RhaiHostTold *told);
 
-/* Writes the int at the hand position to the byte of this index of the blob at the place. */
+/* Writes the int at the hand position to the byte at this index of the blob at the place. */
 uint32_t rhai_host_write_byte(
     RhaiHostHandle *handle,
     bool is_entry,
@@ -660,7 +660,7 @@ uint32_t rhai_host_write_byte(
     size_t j,
     RhaiHostTold *told);
 
-/* Writes the character at the hand position over the one of this index of the text at the place. */
+/* Writes the character at the hand position over the character at this index of the text at the place. */
 uint32_t rhai_host_write_char(
     RhaiHostHandle *handle,
     bool is_entry,
@@ -669,8 +669,8 @@ uint32_t rhai_host_write_char(
     size_t j,
     RhaiHostTold *told);
 
-/* Writes what the value at the hand position prints as over the characters from the first index on, up to the
- * second one, which is replaced too unless the slice is exclusive. */
+/* Replaces the characters from the first index up to the second one with the printed value at the hand position.
+ * The second one is replaced too, unless the slice is exclusive. */
 uint32_t rhai_host_write_slice(
     RhaiHostHandle *handle,
     bool is_entry,
@@ -684,40 +684,39 @@ uint32_t rhai_host_write_slice(
 /* Drops the last entry. */
 uint32_t rhai_host_pop(RhaiHostHandle *handle, RhaiHostTold *told);
 
-/* Keeps as many entries as the number says, the first ones. */
+/* Keeps the oldest entries, as many as the number says, and drops the others. */
 uint32_t rhai_host_rewind(RhaiHostHandle *handle, size_t count, RhaiHostTold *told);
 
 /* Drops all entries. */
 uint32_t rhai_host_clear(RhaiHostHandle *handle, RhaiHostTold *told);
 
-/* Answers how many entries there are. */
+/* Returns how many entries there are. */
 uint32_t rhai_host_len(RhaiHostHandle *handle, RhaiHostTold *told);
 
-/* Answers whether there is no entry. */
+/* Returns whether there are no entries. */
 uint32_t rhai_host_is_empty(RhaiHostHandle *handle, RhaiHostTold *told);
 
-/* Keeps copies of the last entries of each name, the newest first. */
+/* Keeps a copy of the newest entry of each name, newest first. */
 uint32_t rhai_host_keep_visible(RhaiHostHandle *handle, RhaiHostTold *told);
 
-/* Keeps copies of all entries. */
+/* Replaces the scope with a copy of all entries. */
 uint32_t rhai_host_copy_scope(RhaiHostHandle *handle, RhaiHostTold *told);
 
 /* Appends copies of the values of all entries, without their holders. */
 uint32_t rhai_host_entries(RhaiHostHandle *handle, RhaiHostTold *told);
 
-/* Answers the names of the entries, the newest first, each with a line feed, and with `const ` before that of a
- * constant. */
+/* Returns the names of the entries, newest first, one a line, with `const ` before that of a constant. */
 uint32_t rhai_host_names(RhaiHostHandle *handle, RhaiHostTold *told);
 
-/* Answers the text of the scope. */
+/* Returns the text of the scope. */
 uint32_t rhai_host_show_scope(RhaiHostHandle *handle, RhaiHostTold *told);
 
-/* Answers the hash bytes of the scope. */
+/* Returns the hash bytes of the scope. */
 uint32_t rhai_host_hash_scope(RhaiHostHandle *handle, RhaiHostTold *told);
 
-/* Runs a script on values of its own: the largest sizes of texts and of arrays, 0 being none, the operations,
- * and the calls within each other are limited. What it prints is the answer, with what went wrong behind it; the
- * handle's world stays. */
+/* Runs a script on values of its own, with limits on the sizes of texts and of arrays, 0 meaning no limit, on
+ * operations, and on nested calls. What it prints is the answer, followed by what went wrong; the handle's world
+ * is unchanged. */
 uint32_t rhai_host_run_script(
     RhaiHostHandle *handle,
     const uint8_t *script,
@@ -728,9 +727,17 @@ uint32_t rhai_host_run_script(
     size_t calls,
     RhaiHostScriptEnd *end);
 
-/* Answers the name of a function under way, and tells where it stands: number 0 runs, or failed, and each is
- * called by the next. The name is empty for the statements outside of functions, and begins with `anon$` for a
- * closure. NO_COMMAND says that no such function is under way. */
+/* Returns a snapshot: of the active functions with their visible variables while there is a run, otherwise of
+ * the variables alone. `Engine::snapshot` describes the bytes. */
+uint32_t rhai_host_script_snapshot(RhaiHostHandle *handle, RhaiHostTold *told);
+
+/* Returns a snapshot of the world: the byte 2; the entries, the newest first, each behind the byte 1, and 0
+ * after the last one; the values of the hand in the same way; and what each cell holds. */
+uint32_t rhai_host_snapshot(RhaiHostHandle *handle, RhaiHostTold *told);
+
+/* Returns the name of an active function, and reports where it is: number 0 runs, or failed, and each is called
+ * by the next. The name is empty for the statements outside functions, and begins with `anon$` for a closure.
+ * NO_COMMAND means that there is no such function. */
 uint32_t rhai_host_script_function(
     RhaiHostHandle *handle,
     size_t number,
@@ -738,9 +745,9 @@ uint32_t rhai_host_script_function(
     size_t *column,
     RhaiHostTold *told);
 
-/* Answers the name of the newest variable in sight of a function under way that came before the one of this
- * number, and tells its own number: from the largest number on, each leads to the next. NO_COMMAND says that
- * there is none. */
+/* Returns the name of the newest visible variable of an active function before the one of this number, and
+ * reports its own number: starting from the largest number, each leads to the next. NO_COMMAND means that there
+ * is none. */
 uint32_t rhai_host_script_variable(
     RhaiHostHandle *handle,
     size_t function,
@@ -748,18 +755,23 @@ uint32_t rhai_host_script_variable(
     size_t *number,
     RhaiHostTold *told);
 
-/* Answers the hash bytes of the value of that variable. NO_COMMAND says that there is none, or that its value
- * has none. */
+/* Returns the value of that variable, as `rhai_host_script_argument` does. NO_COMMAND means that there is none,
+ * or that its value has no hash bytes. */
 uint32_t rhai_host_script_variable_value(
     RhaiHostHandle *handle,
     size_t function,
     size_t before,
     RhaiHostTold *told);
 
-/* Appends a `u128` of the host's, told by its lower and its upper 64 bits. */
+/* Replaces the variables by those of a snapshot without functions, with everything that they share. A run ends,
+ * and functions that the host kept are freed. NO_COMMAND means that the bytes are no such snapshot; the
+ * variables are unchanged then. */
+uint32_t rhai_host_script_restore(RhaiHostHandle *handle, const uint8_t *bytes, size_t bytes_len);
+
+/* Appends a `u128` of the host, passed as its lower and its upper 64 bits. */
 uint32_t rhai_host_put_u128(RhaiHostHandle *handle, uint64_t low, uint64_t high, RhaiHostTold *told);
 
-/* Appends an `i128` of the host's, told by the lower and the upper 64 bits of its two's complement. */
+/* Appends an `i128` of the host, passed as the lower and the upper 64 bits of its two's complement. */
 uint32_t rhai_host_put_i128(RhaiHostHandle *handle, uint64_t low, uint64_t high, RhaiHostTold *told);
 
 /* Appends a text of these bytes, which are UTF-8. */
@@ -772,23 +784,23 @@ uint32_t rhai_host_put_blob(
     size_t bytes_len,
     RhaiHostTold *told);
 
-/* Appends the character of this number. */
+/* Appends the character with this code. */
 uint32_t rhai_host_put_char(RhaiHostHandle *handle, uint32_t code, RhaiHostTold *told);
 
-/* Appends what the value at the hand position is as this type, copied without its holders. */
+/* Appends the value at the hand position cast to this type, copied without its holders. */
 uint32_t rhai_host_cast(RhaiHostHandle *handle, size_t i, uint32_t kind, RhaiHostTold *told);
 
-/* Answers whether this is the type that is held at the hand position. */
+/* Returns whether this type is held at the hand position. */
 uint32_t rhai_host_is_held(RhaiHostHandle *handle, size_t i, uint32_t kind, RhaiHostTold *told);
 
-/* Answers whether the value at the hand position is of this type: by its constructor, or for a holder by the
- * held type. */
+/* Returns whether the value at the hand position is of this type: by its variant, or for a holder by the held
+ * type. */
 uint32_t rhai_host_is_type(RhaiHostHandle *handle, size_t i, uint32_t kind, RhaiHostTold *told);
 
-/* Appends what the operator answers on the values at the two hand positions. */
+/* Appends the operator's result for the values at the two hand positions. */
 uint32_t rhai_host_binary(RhaiHostHandle *handle, uint32_t operator_, size_t i, size_t j, RhaiHostTold *told);
 
-/* Calls the assignment of the operator on the value at the place and the one at the hand position. */
+/* Applies the operator's assignment to the value at the place and the value at the hand position. */
 uint32_t rhai_host_assign(
     RhaiHostHandle *handle,
     uint32_t operator_,
@@ -797,18 +809,19 @@ uint32_t rhai_host_assign(
     size_t j,
     RhaiHostTold *told);
 
-/* Appends what the value of the last entry of the name is as this type, copied without its holders; or answers
- * nothing. */
+/* Appends the value of the newest entry with the name cast to this type, copied without its holders; returns
+ * nothing if there is no such value. */
 uint32_t rhai_host_get_value(RhaiHostHandle *handle, size_t name, uint32_t kind, RhaiHostTold *told);
 
-/* Appends a copy of what the last entry of the name itself is as this type, by reference; or answers nothing. */
+/* Appends a copy of the newest entry's own value as a reference of this type; returns nothing if there is no
+ * such value. */
 uint32_t rhai_host_get_ref(RhaiHostHandle *handle, size_t name, uint32_t kind, RhaiHostTold *told);
 
-/* Takes the last entry of the name out, and appends what its value is as this type, without its holders; or
- * answers nothing. */
+/* Removes the newest entry with the name, and appends its value cast to this type, without its holders; returns
+ * nothing if there is no such value. */
 uint32_t rhai_host_remove(RhaiHostHandle *handle, size_t name, uint32_t kind, RhaiHostTold *told);
 
-/* Declares a variable with the value of these hash bytes, behind the others. */
+/* Declares a variable after the others, with the value of these hash bytes. */
 uint32_t rhai_host_variable_push(
     RhaiHostHandle *handle,
     const uint8_t *name,
@@ -816,30 +829,30 @@ uint32_t rhai_host_variable_push(
     const uint8_t *value,
     size_t value_len);
 
-/* Writes the value of these hash bytes over that of the variable of this number, the oldest being 0. One that
- * closures share is written for all of them. */
+/* Overwrites the variable of this number, the oldest being 0, with the value of these hash bytes. If closures
+ * share the variable, they see the new value. */
 uint32_t rhai_host_variable_set(
     RhaiHostHandle *handle,
     size_t number,
     const uint8_t *value,
     size_t value_len);
 
-/* Ends the variables from this number on. */
+/* Drops the variables from this number on. */
 uint32_t rhai_host_variable_rewind(RhaiHostHandle *handle, size_t count);
 
-/* Counts the variables, 0 where no world is open. */
+/* Returns the number of variables, 0 if no world is open. */
 size_t rhai_host_variable_count(RhaiHostHandle *handle);
 
-/* Answers the name of the variable of this number. */
+/* Returns the name of the variable of this number. */
 uint32_t rhai_host_variable_name(RhaiHostHandle *handle, size_t number, RhaiHostTold *told);
 
-/* Answers the hash bytes of the value of the variable of this number. */
+/* Returns the value of the variable of this number, as `rhai_host_script_argument` does. */
 uint32_t rhai_host_variable_value(RhaiHostHandle *handle, size_t number, RhaiHostTold *told);
 
 /* Does nothing: its name is a sum of all that is exported, so that a host of other declarations doesn't link. */
-void rhai_host_stamp_2d95b8ef93560ad5(void);
+void rhai_host_stamp_e8e595b8b555eb6c(void);
 
-#define RHAI_HOST_STAMP rhai_host_stamp_2d95b8ef93560ad5
+#define RHAI_HOST_STAMP rhai_host_stamp_e8e595b8b555eb6c
 
 #undef RHAI_HOST_ASSERT
 #undef RHAI_HOST_ALIGN

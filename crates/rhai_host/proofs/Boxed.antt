@@ -1,4 +1,4 @@
--- An address that is held owns what a box at the same types owns.
+-- A held address owns the same resources as a box at the same types.
 use Rattle.std.proofs.Common.{◌≡◌, [], refl}
 use Rattle.std.proofs.lemmas.Bool.{false≢true}
 use mir.Syntax.{impl, tnil, dnil}
@@ -23,7 +23,7 @@ FromLoose = plain (λ _. Loose.the_row Kept.the_row Heap.the_row ghosts)
 abbrev pub FromHeld : Slot 0
 FromHeld = plain (λ _. Held.the_row)
 
--- what is full has a value
+-- a full one has a value
 pub content : (o : Option Kept.the_row.Denot) → is_full o → (x : Kept.the_row.Denot) × (o ≡ Some x)
 content None full = absurd (false≢true full)
 content (Some x) full = (x, refl)

@@ -1,4 +1,4 @@
--- Bytes that are a text, and those that are none.
+-- Bytes that are a text, and those that are not.
 use Rattle.std.proofs.Common.{◌≡◌, ℕ, List, Some, None, refl, sym, ap, ◌∙◌}
 use Rattle.std.specs.Str.{IsUtf8, chars}
 use Rattle.std.proofs.lemmas.Bool.{false_from_ne_true}

@@ -1,4 +1,4 @@
--- How an answer is told in numbers.
+-- How an answer is reported in numbers.
 use Rattle.std.specs.Prelude.{ℕ, ℤ, ◌%◌, ◌/◌, ◌^◌, Bool, true, false, length, encode_utf8_all}
 use Rattle.std.specs.Int.{cast_unsigned, w128}
 use Rattle.rhai_text.specs.declared.error.ArithmeticFault.{ArithmeticFault}
@@ -13,23 +13,23 @@ use Rattle.rhai_run.specs.declared.answer.Refusal.{Refusal}
 use Rattle.rhai_run.specs.declared.answer.Refusal.TheVariants as refusal
 use Rattle.rhai_host.specs.declared.told.Told.{Told}
 
--- what is told: the kind of the answer, the number of the reason, and two words
+-- the report: the kind of the answer, the number of the reason, and two words
 abbrev pub in_numbers : ℕ → ℕ → ℕ → ℕ → Told
 in_numbers kind reason low high = record { kind = kind; reason = reason; low = low; high = high }
 
--- a truth as a number
+-- a boolean as a number
 abbrev pub bit : Bool → ℕ
 bit false = 0
 bit true = 1
 
--- the lower and the upper 64 bits of a number of 128 bits, as two's complement has them
+-- the lower and the upper 64 bits of a 128-bit number in two's complement
 abbrev pub low_word : ℤ → ℕ
 low_word n = cast_unsigned w128 n % 2 ^ 64
 
 abbrev pub high_word : ℤ → ℕ
 high_word n = cast_unsigned w128 n / 2 ^ 64
 
--- the numbers of the faults of a calculation
+-- the numbers of the arithmetic faults
 abbrev pub arithmetic_number : ArithmeticFault → ℕ
 arithmetic_number arithmetic.Overflow = 0
 arithmetic_number arithmetic.DivisionByZero = 1
@@ -41,7 +41,8 @@ abbrev pub size_number : SizeKind → ℕ
 size_number size.Text = 0
 size_number size.Items = 1
 
--- an error: its number, which one of its kind, or how long the names of the wanted and of the found type are
+-- an error: its number, which one of its kind, or the lengths of the names of the expected and the
+-- actual type
 abbrev pub told_fault : EvalAltResult → Told
 told_fault (error.ErrorMismatchDataType wanted found at) = in_numbers 7 13 (length wanted) (length found)
 told_fault (error.ErrorDataRace at) = in_numbers 7 14 0 0
@@ -49,7 +50,7 @@ told_fault (error.ErrorArithmetic why at) = in_numbers 7 15 (arithmetic_number w
 told_fault (error.ErrorDataTooLarge what at) = in_numbers 7 16 (size_number what) 0
 told_fault (error.ErrorMemory e) = in_numbers 7 17 0 0
 
--- a refusal: its number, and how long the name of the type is that is held
+-- a refusal: its number, and the length of the name of the held type
 abbrev pub told_refusal : Refusal → Told
 told_refusal refusal.NoValue = in_numbers 7 0 0 0
 told_refusal refusal.SameValue = in_numbers 7 1 0 0
@@ -66,7 +67,8 @@ told_refusal refusal.NotHashable = in_numbers 7 11 0 0
 told_refusal (refusal.Mismatch name) = in_numbers 7 12 (length name) 0
 told_refusal (refusal.Fault e) = told_fault e
 
--- an answer: its kind, and a truth, the two words of a number, the length of a text in bytes or of bytes, or two numbers
+-- an answer: its kind, and a boolean, the two words of a number, the length in bytes of a text or
+-- of bytes, or two numbers
 abbrev pub told_of : Answer → Told
 told_of answer.Done = in_numbers 0 0 0 0
 told_of (answer.Bool b) = in_numbers 1 0 (bit b) 0
@@ -77,7 +79,8 @@ told_of (answer.Pair m n) = in_numbers 5 0 m n
 told_of answer.Nothing = in_numbers 6 0 0 0
 told_of (answer.Refused why) = told_refusal why
 
--- what is kept after an answer: a text, bytes and a refusal stand in the place of what was kept before, which the others leave
+-- what is kept after an answer: a text, bytes and a refusal replace what was kept before; other
+-- answers leave it
 abbrev pub kept_answer : Answer → Answer → Answer
 kept_answer last answer.Done = last
 kept_answer last (answer.Bool b) = last

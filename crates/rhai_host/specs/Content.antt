@@ -1,8 +1,8 @@
--- What a handle has.
+-- The contents of a handle.
 use Rattle.std.specs.Prelude.{Option}
 use Rattle.rhai_host.specs.declared.handle.Handle.{Handle}
 use Rattle.rhai_host.specs.declared.handle.kept.Kept.{Kept}
 
--- what the world is kept with, where the handle is open
+-- the contents, if the handle is open
 abbrev pub content : Handle → Option Kept
 content handle = handle.held.value

@@ -1,4 +1,4 @@
--- Names that are told as texts.
+-- Names that are returned as texts.
 use Rattle.std.specs.Prelude.{◌≡◌, ℕ, zero, suc, Bool, List, slice_get, Option, None, Some, option_map, IfSome}
 use Rattle.rhai_scope.specs.Items.{Named, shown_raw}
 use Rattle.rhai_host.specs.declared.handle.kept.Kept.{Kept}
@@ -8,7 +8,8 @@ use Rattle.rhai_host.specs.Answers.{told_of}
 use Rattle.rhai_host.specs.Calls.{InWorld, IsClosed, Stays}
 use Rattle.rhai_host.specs.Names.{name_at}
 
--- the answer is the text of these characters, and is told; or memory was refused, or there is no such name, and nothing has changed
+-- the answer is the text of these characters, and is reported; or an allocation failed, or there is
+-- no such name, and nothing has changed
 abbrev pub IsToldText : ℕ → Kept → Kept → Option (List ℕ) → Told → Told → Type 0
 IsToldText status k l None was told = (status ≡ 3) × Stays k l was told
 IsToldText zero k l (Some name) was told = (l.answer ≡ answer.Text name) × (told ≡ told_of l.answer) × (l.world ≡ k.world) × (l.names ≡ k.names)
@@ -20,11 +21,13 @@ abbrev pub TellsName : ℕ → Option Kept → Option Kept → ℕ → Told → 
 TellsName status None new number was told = IsClosed status new was told
 TellsName status (Some k) new number was told = InWorld new (λ l. IsToldText status k l (name_at k number) was told)
 
--- the entry at a position: its name, whether it is a constant, as a holder is where its cell's content is, and its value
+-- the entry at a position: its name, whether it is a constant, where a holder counts as its cell's
+-- content, and its value
 abbrev pub shown_at : Kept → ℕ → Option Named
 shown_at k i = option_map (shown_raw k.world.store) (slice_get k.world.entries i)
 
--- a flag that was so and is so now: where the name is told it says whether the entry is a constant, and else it stays
+-- a flag before and after: if the name is returned, it says whether the entry is a constant,
+-- otherwise it is unchanged
 abbrev pub IsFlag : ℕ → Option Named → Bool → Bool → Type 0
 IsFlag zero o was is = IfSome o (λ e. is ≡ e.1)
 IsFlag (suc n) o was is = is ≡ was

@@ -1,4 +1,4 @@
--- The names that a host has handed over, and places.
+-- The names that a host has passed, and places.
 use Rattle.std.specs.Prelude.{ℕ, List, Option, Some, Bool, true, false, option_map}
 use Rattle.slab.specs.Slab.{Slab, get}
 use Rattle.rhai_host.specs.declared.handle.kept.Kept.{Kept}

@@ -1,4 +1,4 @@
--- What numbers stand for that a host says.
+-- The meaning of numbers that a host passes.
 use Rattle.std.specs.Prelude.{ℕ, ℤ, ◌+◌, ◌*◌, ◌^◌, List, [], ◌∷◌, nat_lt, slice_get, Option, None, Some, if◌then◌else◌}
 use Rattle.std.specs.Int.{cast_signed, w128}
 use Rattle.std.specs.Str.{chars, is_utf8}
@@ -27,17 +27,17 @@ operators = op.Plus ∷ op.Minus ∷ op.Multiply ∷ op.Divide ∷ op.Modulo ∷
 abbrev pub operator_of : ℕ → Option Token
 operator_of number = slice_get operators number
 
--- the characters of bytes, where they are UTF-8
+-- the characters of bytes, if they are UTF-8
 abbrev pub text_of : List ℕ → Option (List ℕ)
 text_of bytes = if is_utf8 bytes then Some (chars bytes) else None
 
--- a number of 128 bits by its lower and its upper 64, without and with a sign
+-- a number of 128 bits from its lower and its upper 64, unsigned and signed
 abbrev pub wide : ℕ → ℕ → ℕ
 wide low high = low + 2 ^ 64 * high
 
 abbrev pub wide_signed : ℕ → ℕ → ℤ
 wide_signed low high = cast_signed w128 (wide low high)
 
--- the character of a number, if it is that of one
+-- the character with a code, if there is one
 abbrev pub char_of : ℕ → Option ℕ
 char_of code = if nat_lt code 55296 then Some code else if nat_lt code 57344 then None else if nat_lt code 1114112 then Some code else None

@@ -1,4 +1,4 @@
--- Calls that open, close and look at a world, and keep names.
+-- Calls that open, close and inspect a world, and keep names.
 use Rattle.std.specs.Prelude.{◌≡◌, ◌≢◌, ℕ, zero, suc, Bool, true, false, List, [], ◌++◌, length, take, drop, encode_utf8_all, Option, None, Some}
 use Rattle.rhai_text.specs.declared.error.EvalAltResult.{EvalAltResult}
 use Rattle.rhai_text.specs.declared.error.EvalAltResult.TheVariants as error
@@ -15,24 +15,27 @@ use Rattle.rhai_host.specs.Calls.{InWorld, IsClosed, Stays, Unchanged}
 use Rattle.rhai_host.specs.Names.{name_at}
 use Rattle.rhai_host.specs.Numbers.{text_of}
 
--- a new world, no name and the answer that all is done, where the world that was open is closed; or memory was refused, and that one stays
+-- a new world, no name and the answer for done, and the world that was open is closed; or an
+-- allocation failed, and that one is unchanged
 abbrev pub Opens : ℕ → Option Kept → Option Kept → Limits → Type 0
 Opens zero old new limits = InWorld new (λ l. (l.world ≡ empty_state limits) × (l.names.slots ≡ []) × (l.answer ≡ answer.Done))
 Opens (suc zero) old new limits = new ≡ old
 Opens (suc (suc n)) old new limits = ⊥
 
--- the table of names with another name at a number, or none; where it has room for one more, it takes none
+-- the table of names with another name at a number, or none; if it has room for one more name, it
+-- doesn't allocate
 pub record IsRenamed (k l : Kept) (number : ℕ) (name : Option (List ℕ)) : Type 0 where
   pub names : Updates k.names l.names number name
   pub room : HasRoomFor k.names 1 → l.names.capacity ≡ k.names.capacity
   pub world : l.world ≡ k.world
   pub answer : l.answer ≡ k.answer
 
--- each number has its name, and all else is the same
+-- each number has its name, and everything else is the same
 abbrev pub AreNamedAlike : Kept → Kept → Type 0
 AreNamedAlike k l = (l.names.slots ≡ k.names.slots) × (l.world ≡ k.world) × (l.answer ≡ k.answer)
 
--- the name got a number that had none; or memory was refused, or the bytes are no text, and no number is told
+-- the name got a number that had none; or an allocation failed, or the bytes are not a text, and no
+-- number is returned
 abbrev pub IsNamed : ℕ → Kept → Kept → Option (List ℕ) → ℕ → ℕ → Type 0
 IsNamed status k l None was number = (status ≡ 3) × Stays k l was number
 IsNamed zero k l (Some name) was number = (name_at k number ≡ None) × IsRenamed k l number (Some name)
@@ -43,7 +46,8 @@ abbrev pub Names : ℕ → Option Kept → Option Kept → List ℕ → ℕ → 
 Names status None new bytes was number = IsClosed status new was number
 Names status (Some k) new bytes was number = InWorld new (λ l. IsNamed status k l (text_of bytes) was number)
 
--- the number names nothing any more, and there is room for a name; or it did name nothing, and nothing has changed
+-- the number no longer has a name, and there is room for one; or it had none, and nothing has
+-- changed
 abbrev pub IsGivenUp : ℕ → Kept → Kept → ℕ → Option (List ℕ) → Type 0
 IsGivenUp status k l number None = (status ≡ 3) × Unchanged k l
 IsGivenUp status k l number (Some name) = (status ≡ 0) × IsRenamed k l number None × HasRoomFor l.names 1
@@ -52,7 +56,7 @@ abbrev pub GivesUp : ℕ → Option Kept → Option Kept → ℕ → Type 0
 GivesUp status None new number = (status ≡ 2) × (new ≡ None)
 GivesUp status (Some k) new number = InWorld new (λ l. IsGivenUp status k l number (name_at k number))
 
--- the names of types in an error, the wanted one and then the one that was found
+-- the names of types in an error: the expected one, then the actual one
 abbrev pub fault_text : EvalAltResult → Bool → List ℕ
 fault_text (error.ErrorMismatchDataType wanted found at) false = wanted
 fault_text (error.ErrorMismatchDataType wanted found at) true = found
@@ -92,21 +96,22 @@ answer_bytes (answer.Int n) second = []
 answer_bytes (answer.Pair m n) second = []
 answer_bytes answer.Nothing second = []
 
--- the same of the answer that is kept in a handle; none where no world is open
+-- the same for the answer that is kept in a handle; none if no world is open
 abbrev pub kept_bytes : Option Kept → Bool → List ℕ
 kept_bytes None second = []
 kept_bytes (Some k) second = answer_bytes k.answer second
 
--- as many as fit are written over the first ones
+-- as many as fit overwrite the first ones
 abbrev pub copied_into : List ℕ → List ℕ → List ℕ
 copied_into bytes room = take (length room) bytes ++ drop (length bytes) room
 
--- how many values the hand has; 0 where no world is open
+-- how many values the hand has; 0 if no world is open
 abbrev pub hand_len : Option Kept → ℕ
 hand_len None = 0
 hand_len (Some k) = length k.world.hand
 
--- cells that nothing reaches are gone; or memory was refused, which is wanted only where there is a cell, and nothing has changed
+-- unreachable cells are freed; or an allocation failed, which can only happen if there is a cell,
+-- and nothing has changed
 abbrev pub IsCollected : ℕ → Kept → Kept → Type 0
 IsCollected zero k l = Collects k.world l.world × (l.names ≡ k.names) × (l.answer ≡ k.answer)
 IsCollected (suc zero) k l = (k.world.store ≢ []) × Unchanged k l

@@ -1,4 +1,4 @@
--- What the address of a boxed world owns.
+-- The resources that the address of a boxed world owns.
 use base.Fml.{Fml, ftrue}
 use base.Stored.{Coded}
 use denote.RawPtr.{Ptr}
@@ -9,7 +9,7 @@ use Rattle.std.specs.declared.alloc.Global.{Global}
 use Rattle.std.specs.contracts.impls.GlobalAllocator.TheImpl.{ghosts}
 use Rattle.rhai_host.specs.contracts.handle.kept.Kept.{the_row}
 
--- the boxed world that lies at p, or nothing
+-- the boxed world at p, or nothing
 abbrev pub held_owns : Global → Ptr → Option the_row.Denot → Fml
 held_owns alloc p None = ftrue
 held_owns alloc p (Some x) = box_owns (ghosts.dealloc_token alloc) the_row p x

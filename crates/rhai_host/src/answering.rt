@@ -1,7 +1,7 @@
-//! What a run that waits for a function of the host asks, and what the host answers.
+//! What a run that waits for a host function has to offer, and what the host returns.
 ghost use Rattle.std.specs.Prelude.{◌≡◌};
 ghost use Rattle.rhai_host.specs.Content.{content};
-ghost use Rattle.rhai_host.specs.Engines.{AnswersBytes, AreAnswered, KeepsWorld, OnScripts};
+ghost use Rattle.rhai_host.specs.Engines.{AnswersValue, AreAnswered, IsReported, KeepsWorld, OnScripts};
 
 use crate::engine::{ScriptStop, tell_step, tell_stop};
 use crate::handle::Handle;
@@ -12,22 +12,76 @@ use crate::told::{Told, told_of};
 use rhai_run::{Answer, Bytes};
 use rhai_show::hashed;
 use rhai_text::Position;
-use rhai_value::{Dynamic, Store};
+use rhai_value::{Dynamic, INT, Store, Union};
 use script_engine::{Engine, Unread, read_value};
 use std::alloc::{AllocError, Global};
 
-/// The hash bytes of a value, where there is one that has some.
-pub(crate) fn value_bytes(
+/// A value as a host reads it: unit, a boolean and an int as they are, and others as their hash
+/// bytes.
+#[derive(Drop)]
+pub(crate) enum Seen {
+    Unit,
+    Bool(bool),
+    Int(INT),
+    Bytes(Bytes),
+}
+
+/// Returns a value as a host reads it; `None` if there is no value, or if it has no hash bytes.
+pub(crate) fn seen_of(
     alloc: Global,
     value: Option<&Dynamic>,
     store: &Store,
-) -> Result<Option<Bytes>, AllocError> {
+) -> Result<Option<Seen>, AllocError> {
     let Some(value) = value else {
         return Ok(None);
     };
-    match hashed(alloc, value, store)? {
-        Some(hashed) => Ok(Some(Bytes::new(hashed.into_bytes(alloc)?))),
-        None => Ok(None),
+    match value.parts() {
+        Union::Unit(_, _, _) => Ok(Some(Seen::Unit)),
+        Union::Bool(_, _, truth) => Ok(Some(Seen::Bool(*truth))),
+        Union::Int(_, _, number) => Ok(Some(Seen::Int(*number))),
+        Union::Str(_, _, _)
+        | Union::Char(_, _, _)
+        | Union::Blob(_, _, _)
+        | Union::Array(_, _, _)
+        | Union::Map(_, _, _)
+        | Union::FnPtr(_, _, _)
+        | Union::Variant(_, _, _)
+        | Union::Shared(_, _, _) => match hashed(alloc, value, store)? {
+            Some(hashed) => Ok(Some(Seen::Bytes(Bytes::new(hashed.into_bytes(alloc)?)))),
+            None => Ok(None),
+        },
+    }
+}
+
+/// Reports a value.
+pub(crate) fn tell_value(
+    kept: &mut Kept,
+    value: Result<Option<Seen>, AllocError>,
+    told: &mut Told,
+) -> u32
+    ensures { IsReported result kept.old kept.new told.old told.new }
+{
+    match value {
+        Ok(Some(Seen::Unit)) => {
+            *told = told_of(&Answer::Done);
+            DONE
+        }
+        Ok(Some(Seen::Bool(truth))) => {
+            *told = told_of(&Answer::Bool(truth));
+            DONE
+        }
+        Ok(Some(Seen::Int(number))) => {
+            *told = told_of(&Answer::Int(i128::from(number)));
+            DONE
+        }
+        Ok(Some(Seen::Bytes(bytes))) => {
+            let answer = Answer::Bytes(bytes);
+            *told = told_of(&answer);
+            kept.answer = answer;
+            DONE
+        }
+        Ok(None) => NO_COMMAND,
+        Err(_) => OUT_OF_MEMORY,
     }
 }
 
@@ -51,7 +105,15 @@ pub(crate) fn tell_bytes(
     }
 }
 
-/// Answers the hash bytes of an argument that the host's function is called with.
+/// Returns the bytes of a text.
+pub(crate) fn text_bytes(alloc: Global, text: &str) -> Result<Option<Bytes>, AllocError> {
+    let mut bytes = Vec::new(alloc);
+    bytes.extend_from_slice(text.as_bytes())?;
+    Ok(Some(Bytes::new(bytes)))
+}
+
+/// Returns an argument of the host function being called: unit, a boolean and an int as they are,
+/// and others as their hash bytes.
 #[unsafe(no_mangle)]
 pub extern "C" fn rhai_host_script_argument(
     alloc: Global,
@@ -59,7 +121,7 @@ pub extern "C" fn rhai_host_script_argument(
     number: usize,
     told: &mut Told,
 ) -> u32
-    ensures { AnswersBytes result (content handle.old) (content handle.new) told.old told.new }
+    ensures { AnswersValue result (content handle.old) (content handle.new) told.old told.new }
 {
     let Some(mut kept) = handle.take(alloc) else {
         return CLOSED;
@@ -68,22 +130,22 @@ pub extern "C" fn rhai_host_script_argument(
         Some(run) => run.argument(number),
         None => None,
     };
-    let bytes = value_bytes(alloc, argument, kept.engine.store());
-    let status = tell_bytes(&mut kept, bytes, told);
+    let value = seen_of(alloc, argument, kept.engine.store());
+    let status = tell_value(&mut kept, value, told);
     handle.put(kept);
     status
 }
 
-/// Answers the hash bytes of the value that the run came to.
+/// Returns the run's value, as `rhai_host_script_argument` does.
 #[unsafe(no_mangle)]
 pub extern "C" fn rhai_host_script_value(alloc: Global, handle: &mut Handle, told: &mut Told) -> u32
-    ensures { AnswersBytes result (content handle.old) (content handle.new) told.old told.new }
+    ensures { AnswersValue result (content handle.old) (content handle.new) told.old told.new }
 {
     let Some(mut kept) = handle.take(alloc) else {
         return CLOSED;
     };
-    let bytes = value_bytes(alloc, Some(kept.engine.value()), kept.engine.store());
-    let status = tell_bytes(&mut kept, bytes, told);
+    let value = seen_of(alloc, Some(kept.engine.value()), kept.engine.store());
+    let status = tell_value(&mut kept, value, told);
     handle.put(kept);
     status
 }
@@ -101,7 +163,8 @@ fn answer(alloc: Global, engine: &mut Engine, bytes: &[u8]) -> u32 {
     }
 }
 
-/// Answers the call of the host's function with the value of these hash bytes.
+/// Passes the value of these hash bytes to the script, as the result of the host function being
+/// called.
 #[unsafe(no_mangle)]
 pub extern "C" fn rhai_host_script_answer(alloc: Global, handle: &mut Handle, value: &[u8]) -> u32
     ensures { OnScripts result (content handle.old) (content handle.new) }
@@ -127,7 +190,8 @@ fn refuse(alloc: Global, kept: &mut Kept, why: &[u8], stop: &mut ScriptStop) -> 
     DONE
 }
 
-/// Refuses the call of the host's function with a text, which the script may catch: it goes on then, and the stop is of kind 1.
+/// Fails the call of the host function with a text, which the script may catch: it continues then,
+/// and the stop is of kind 1.
 #[unsafe(no_mangle)]
 pub extern "C" fn rhai_host_script_refuse(
     alloc: Global,

@@ -1,4 +1,4 @@
-//! What values are, and how they print.
+//! Questions about values, and their printed forms.
 ghost use Rattle.rhai_host.specs.Content.{content};
 ghost use Rattle.rhai_run.specs.declared.command.Command.TheVariants as command;
 ghost use Rattle.rhai_run.specs.declared.command.Question.TheVariants as question;
@@ -10,7 +10,7 @@ use crate::told::Told;
 use rhai_run::Question;
 use std::alloc::Global;
 
-/// Answers the tag of the value at the hand position.
+/// Returns the tag of the value at the hand position.
 #[unsafe(no_mangle)]
 pub extern "C" fn rhai_host_tag(
     alloc: Global,
@@ -23,7 +23,7 @@ pub extern "C" fn rhai_host_tag(
     perform(alloc, handle, told, |world| world.ask(i, &Question::Tag))
 }
 
-/// Answers whether the value at the hand position is of one of the host's types.
+/// Returns whether the value at the hand position is of one of the host's types.
 #[unsafe(no_mangle)]
 pub extern "C" fn rhai_host_is_variant(
     alloc: Global,
@@ -41,7 +41,7 @@ pub extern "C" fn rhai_host_is_variant(
     )
 }
 
-/// Answers whether the value at the hand position is a holder.
+/// Returns whether the value at the hand position is a holder.
 #[unsafe(no_mangle)]
 pub extern "C" fn rhai_host_is_shared(
     alloc: Global,
@@ -54,7 +54,7 @@ pub extern "C" fn rhai_host_is_shared(
     perform(alloc, handle, told, |world| world.ask(i, &Question::Shared))
 }
 
-/// Answers whether the first content of the value at the hand position is a constant.
+/// Returns whether the first content of the value at the hand position is a constant.
 #[unsafe(no_mangle)]
 pub extern "C" fn rhai_host_is_read_only(
     alloc: Global,
@@ -72,7 +72,7 @@ pub extern "C" fn rhai_host_is_read_only(
     )
 }
 
-/// Answers whether the value at the hand position is, or has inside, a holder of a marked cell.
+/// Returns whether the value at the hand position is, or contains, a holder of a marked cell.
 #[unsafe(no_mangle)]
 pub extern "C" fn rhai_host_is_locked(
     alloc: Global,
@@ -85,7 +85,7 @@ pub extern "C" fn rhai_host_is_locked(
     perform(alloc, handle, told, |world| world.ask(i, &Question::Locked))
 }
 
-/// Answers the name of the type that is held at the hand position.
+/// Returns the name of the type held at the hand position.
 #[unsafe(no_mangle)]
 pub extern "C" fn rhai_host_type_name(
     alloc: Global,
@@ -103,7 +103,7 @@ pub extern "C" fn rhai_host_type_name(
     )
 }
 
-/// Answers whether the value at the hand position can be hashed.
+/// Returns whether the value at the hand position can be hashed.
 #[unsafe(no_mangle)]
 pub extern "C" fn rhai_host_is_hashable(
     alloc: Global,
@@ -121,7 +121,7 @@ pub extern "C" fn rhai_host_is_hashable(
     )
 }
 
-/// Is done where unit is held at the hand position.
+/// Succeeds if unit is held at the hand position.
 #[unsafe(no_mangle)]
 pub extern "C" fn rhai_host_as_unit(
     alloc: Global,
@@ -134,7 +134,7 @@ pub extern "C" fn rhai_host_as_unit(
     perform(alloc, handle, told, |world| world.ask(i, &Question::Unit))
 }
 
-/// Answers the int that is held at the hand position.
+/// Returns the int held at the hand position.
 #[unsafe(no_mangle)]
 pub extern "C" fn rhai_host_as_int(
     alloc: Global,
@@ -147,7 +147,7 @@ pub extern "C" fn rhai_host_as_int(
     perform(alloc, handle, told, |world| world.ask(i, &Question::Int))
 }
 
-/// Answers the boolean that is held at the hand position.
+/// Returns the boolean held at the hand position.
 #[unsafe(no_mangle)]
 pub extern "C" fn rhai_host_as_bool(
     alloc: Global,
@@ -160,7 +160,7 @@ pub extern "C" fn rhai_host_as_bool(
     perform(alloc, handle, told, |world| world.ask(i, &Question::Bool))
 }
 
-/// Answers the character that is held at the hand position, as a text.
+/// Returns the character held at the hand position, as a text.
 #[unsafe(no_mangle)]
 pub extern "C" fn rhai_host_as_char(
     alloc: Global,
@@ -173,7 +173,7 @@ pub extern "C" fn rhai_host_as_char(
     perform(alloc, handle, told, |world| world.ask(i, &Question::Char))
 }
 
-/// Answers the text of the value at the hand position, as it is displayed.
+/// Returns the text of the value at the hand position, in display format.
 #[unsafe(no_mangle)]
 pub extern "C" fn rhai_host_show(
     alloc: Global,
@@ -186,7 +186,7 @@ pub extern "C" fn rhai_host_show(
     perform(alloc, handle, told, |world| world.show(i))
 }
 
-/// Answers the text of the value at the hand position, as it is debugged.
+/// Returns the text of the value at the hand position, in debug format.
 #[unsafe(no_mangle)]
 pub extern "C" fn rhai_host_debug(
     alloc: Global,
@@ -199,7 +199,7 @@ pub extern "C" fn rhai_host_debug(
     perform(alloc, handle, told, |world| world.debug(i))
 }
 
-/// Answers the hash bytes of the value at the hand position.
+/// Returns the hash bytes of the value at the hand position.
 #[unsafe(no_mangle)]
 pub extern "C" fn rhai_host_hash(
     alloc: Global,
@@ -212,7 +212,7 @@ pub extern "C" fn rhai_host_hash(
     perform(alloc, handle, told, |world| world.hash(i))
 }
 
-/// Answers where a slice of a list of this length starts and how many items it has, for a start and a number of items.
+/// Returns where a slice of a list of this length starts and how many items it has, for a start and a number of items.
 #[unsafe(no_mangle)]
 pub extern "C" fn rhai_host_offset(
     alloc: Global,
@@ -232,7 +232,8 @@ pub extern "C" fn rhai_host_offset(
     )
 }
 
-/// Answers the place of an item of a list of this length, or nothing; with the flag a negative index counts from the end.
+/// Returns the position of an item in a list of this length, or nothing; with the flag a negative
+/// index counts from the end.
 #[unsafe(no_mangle)]
 pub extern "C" fn rhai_host_index(
     alloc: Global,

@@ -1,4 +1,5 @@
-//! Scripts that a host embeds: compiled for the variables that are there, run over them, and stopped where the host is called.
+//! Scripts that a host embeds: compiled for the present variables, run over them, and stopped where
+//! they call the host.
 ghost use Rattle.std.specs.Prelude.{◌≡◌};
 ghost use Rattle.rhai_host.specs.Content.{content};
 ghost use Rattle.rhai_host.specs.Engines.{KeepsWorld, OnScripts};
@@ -15,30 +16,33 @@ use script_run::{RunLimits, ScriptError};
 use script_syntax::SyntaxError;
 use std::alloc::{AllocError, Global};
 
-/// Why a script stopped. The answer is what it printed, and behind that what went wrong.
+/// Why a script stopped. The answer is what it printed, followed by what went wrong, if that isn't
+/// empty.
 #[repr(C)]
 #[derive(Drop)]
 pub struct ScriptStop {
-    /// 0 it is done, 1 it did as many operations as it might, 2 it calls the host, 3 a statement is done next, 4 memory was refused, 5 it
-    /// went wrong, 6 the text is no script, 7 a function that the host called while it is called itself is done, 8 it went wrong.
+    /// 0 it is done, 1 it executed as many operations as it might, 2 it calls the host, 3 it is
+    /// before a statement, 4 an allocation failed, 5 it failed, 6 the text is not a valid script, 7
+    /// a function that a host function called is done, 8 such a function failed.
     pub kind: u32,
-    /// The number of the host's function that is called; else 0.
+    /// The number of the host function being called; else 0.
     pub function: u32,
     /// How many arguments it is called with; else 0.
     pub arguments: usize,
-    /// The line where it stands, or of what went wrong, counted from 1; else 0.
+    /// The line where it is, or where it went wrong, counted from 1; else 0.
     pub line: u32,
-    /// The place on that line, counted from 1; else 0.
+    /// The column, counted from 1; else 0.
     pub column: u32,
-    /// How many operations the run took so far, with those that the room of values counts as.
+    /// How many operations the run has used so far, including those for the size of values.
     pub operations: u64,
     /// How many bytes of the answer it printed.
     pub printed: usize,
-    /// How many bytes behind these say what went wrong.
+    /// How many bytes after these say what went wrong.
     pub said: usize,
 }
 
-/// Tells a stop of this kind at a place, with what was printed and what is said of it, as far as there is memory for that.
+/// Reports a stop of this kind at a position, with what was printed and the message, as far as the
+/// allocations succeed.
 pub(crate) fn tell_stop(
     kept: &mut Kept,
     stop: &mut ScriptStop,
@@ -68,10 +72,12 @@ pub(crate) fn tell_stop(
         printed,
         said,
     };
-    kept.answer = Answer::Bytes(Bytes::new(text.into_bytes()));
+    if !text.is_empty() {
+        kept.answer = Answer::Bytes(Bytes::new(text.into_bytes()));
+    }
 }
 
-/// Where the run stands.
+/// Returns where the run is.
 fn standing(engine: &Engine) -> Position {
     match (engine.program(), engine.run()) {
         (Some(program), Some(run)) => run.position(program),
@@ -79,7 +85,7 @@ fn standing(engine: &Engine) -> Position {
     }
 }
 
-/// Tells why a run stopped.
+/// Reports why a run stopped.
 pub(crate) fn tell_step(alloc: Global, kept: &mut Kept, stop: &mut ScriptStop, step: Step)
     ensures { KeepsWorld kept.old kept.new }
 {
@@ -108,7 +114,7 @@ pub(crate) fn tell_step(alloc: Global, kept: &mut Kept, stop: &mut ScriptStop, s
     }
 }
 
-/// Tells a stop of this kind by what went wrong, as far as there is memory for that.
+/// Reports a stop of this kind with what went wrong, as far as the allocations succeed.
 fn tell_why(
     kept: &mut Kept,
     stop: &mut ScriptStop,
@@ -124,8 +130,8 @@ fn tell_why(
     }
 }
 
-/// The functions of the host that a text names: a line each, of a name, a space and the number of arguments, with ` mut` behind that where it
-/// changes the first one.
+/// Reads the host functions in a text: a line each, with a name, a space and the number of
+/// arguments, then ` mut` if it changes the first one.
 fn host_names(alloc: Global, text: &str) -> Result<Option<Vec<HostName>>, AllocError> {
     let mut names = Vec::new(alloc);
     for line in text.lines() {
@@ -149,7 +155,7 @@ fn host_names(alloc: Global, text: &str) -> Result<Option<Vec<HostName>>, AllocE
     Ok(Some(names))
 }
 
-/// Tells why a text isn't compiled; `false` where memory was refused.
+/// Reports why a text can't be compiled; returns `false` if an allocation failed.
 fn tell_error(alloc: Global, kept: &mut Kept, stop: &mut ScriptStop, error: ScriptError) -> bool
     ensures { KeepsWorld kept.old kept.new }
 {
@@ -199,9 +205,10 @@ fn compile(alloc: Global, kept: &mut Kept, text: &[u8], names: &[u8], stop: &mut
     }
 }
 
-/// Compiles a script for the variables that are there. The functions of the host are a line each: the name, a space and the number of
-/// arguments, with ` mut` behind that where it may change the first one; the first function has number 0. A run that stands ends. What is wrong
-/// with the text is told as a stop of kind 6.
+/// Compiles a script for the present variables. The host functions are a line each: the name, a
+/// space and the number of arguments, then ` mut` if it may change the first one; the first
+/// function has number 0. An unfinished run ends. What is wrong with the text is reported as a stop
+/// of kind 6.
 #[unsafe(no_mangle)]
 pub extern "C" fn rhai_host_script_compile(
     alloc: Global,
@@ -220,8 +227,9 @@ pub extern "C" fn rhai_host_script_compile(
     status
 }
 
-/// Begins a run of the script over the variables, with the largest sizes of texts, arrays and maps, 0 being none, and of calls within each
-/// other. Without its body, it has ended at once, and functions may be called.
+/// Starts a run of the script over the variables, with the largest sizes of texts, arrays and maps,
+/// 0 meaning no limit, and the deepest nesting of calls. Without its body, it has ended at once,
+/// and functions can be called.
 #[unsafe(no_mangle)]
 pub extern "C" fn rhai_host_script_begin(
     alloc: Global,
@@ -253,7 +261,7 @@ pub extern "C" fn rhai_host_script_begin(
     status
 }
 
-/// Has the run stop before each statement, or no longer.
+/// Sets whether the run stops before each statement.
 #[unsafe(no_mangle)]
 pub extern "C" fn rhai_host_script_stop_at_statements(
     alloc: Global,
@@ -270,7 +278,7 @@ pub extern "C" fn rhai_host_script_stop_at_statements(
     DONE
 }
 
-/// Goes on with the run by up to so many operations.
+/// Continues the run for at most this many operations.
 #[unsafe(no_mangle)]
 pub extern "C" fn rhai_host_script_go(
     alloc: Global,
@@ -308,8 +316,8 @@ fn call(alloc: Global, engine: &mut Engine, name: &[u8], arguments: &[u8]) -> u3
     }
 }
 
-/// Begins a call of a function of the script with these arguments: the hash bytes of an array of them. The script's body is done, and no
-/// call stands.
+/// Starts a call of a function of the script with these arguments: the hash bytes of an array of
+/// them. The script's body has to be done, and no call may be open.
 #[unsafe(no_mangle)]
 pub extern "C" fn rhai_host_script_call(
     alloc: Global,
@@ -327,7 +335,7 @@ pub extern "C" fn rhai_host_script_call(
     status
 }
 
-/// Ends the run, wherever it stands: its variables can be looked at and written then.
+/// Ends the run, wherever it is: its variables can be read and written then.
 #[unsafe(no_mangle)]
 pub extern "C" fn rhai_host_script_end(alloc: Global, handle: &mut Handle) -> u32
     ensures { OnScripts result (content handle.old) (content handle.new) }

@@ -1,8 +1,9 @@
-//! Functions of scripts that the host keeps, each by a number: they are called while a function of the host is called, or once a script's body is done.
+//! Functions of scripts that the host keeps, each by a number: they can be called while a host
+//! function is being called, or once a script's body is done.
 ghost use Rattle.rhai_host.specs.Content.{content};
-ghost use Rattle.rhai_host.specs.Engines.{AnswersBytes, KeepsWorld, OnScripts};
+ghost use Rattle.rhai_host.specs.Engines.{AnswersValue, KeepsWorld, OnScripts};
 
-use crate::answering::{tell_bytes, value_bytes};
+use crate::answering::{seen_of, tell_value};
 use crate::engine::{ScriptStop, tell_step, tell_stop};
 use crate::handle::Handle;
 use crate::handle::kept::Kept;
@@ -30,7 +31,7 @@ fn keep_named(engine: &mut Engine, name: &[u8], number: &mut usize) -> u32 {
     }
 }
 
-/// Tells the number of a function that is kept.
+/// Reports the number of a kept function.
 fn tell_kept(kept: Result<Option<usize>, AllocError>, number: &mut usize) -> u32 {
     match kept {
         Ok(Some(found)) => {
@@ -42,9 +43,10 @@ fn tell_kept(kept: Result<Option<usize>, AllocError>, number: &mut usize) -> u32
     }
 }
 
-/// Keeps a function of a script, with the cells that it captured, and tells its number: that at a place among the arguments of the host's
-/// function that is called (source 0), that which the run or a call within it has just come to (source 1), or that of a variable (source 2).
-/// NO_COMMAND says that no function is there.
+/// Keeps a function of a script, with the cells that it captured, and reports its number: the
+/// function in an argument of the host function being called (source 0), the value that the run or
+/// a call within it has just returned (source 1), or the function in a variable (source 2).
+/// NO_COMMAND means that there is no function.
 #[unsafe(no_mangle)]
 pub extern "C" fn rhai_host_function_keep(
     alloc: Global,
@@ -63,7 +65,8 @@ pub extern "C" fn rhai_host_function_keep(
     status
 }
 
-/// Keeps a pointer to the function of this name, whether a script has one or not, and tells its number. NO_COMMAND says that the bytes are no text.
+/// Keeps a pointer to the function with this name, whether a script has one or not, and reports its
+/// number. NO_COMMAND means that the bytes are not a text.
 #[unsafe(no_mangle)]
 pub extern "C" fn rhai_host_function_of(
     alloc: Global,
@@ -81,7 +84,8 @@ pub extern "C" fn rhai_host_function_of(
     status
 }
 
-/// Keeps the function of this number no more, which another one may have then. NO_COMMAND says that there is none.
+/// Frees the kept function of this number, which another one may get. NO_COMMAND means that there
+/// is none.
 #[unsafe(no_mangle)]
 pub extern "C" fn rhai_host_function_let_go(
     alloc: Global,
@@ -102,7 +106,7 @@ pub extern "C" fn rhai_host_function_let_go(
     status
 }
 
-/// Answers the hash bytes of the kept function of this number: its name, and what it was given ahead.
+/// Returns the hash bytes of the kept function of this number: its name, and its curried values.
 #[unsafe(no_mangle)]
 pub extern "C" fn rhai_host_function_value(
     alloc: Global,
@@ -110,19 +114,19 @@ pub extern "C" fn rhai_host_function_value(
     number: usize,
     told: &mut Told,
 ) -> u32
-    ensures { AnswersBytes result (content handle.old) (content handle.new) told.old told.new }
+    ensures { AnswersValue result (content handle.old) (content handle.new) told.old told.new }
 {
     let Some(mut kept) = handle.take(alloc) else {
         return CLOSED;
     };
-    let bytes = value_bytes(alloc, kept.engine.kept(number), kept.engine.store());
-    let status = tell_bytes(&mut kept, bytes, told);
+    let value = seen_of(alloc, kept.engine.kept(number), kept.engine.store());
+    let status = tell_value(&mut kept, value, told);
     handle.put(kept);
     status
 }
 
-/// Answers the call of the host's function with the kept function of this number. NO_COMMAND says that none is called, or that there is no such
-/// function.
+/// Passes the kept function of this number to the script, as the result of the host function being
+/// called. NO_COMMAND means that none is being called, or that there is no such kept function.
 #[unsafe(no_mangle)]
 pub extern "C" fn rhai_host_function_answer(
     alloc: Global,
@@ -157,8 +161,10 @@ fn change(alloc: Global, engine: &mut Engine, value: &[u8]) -> u32 {
     }
 }
 
-/// Changes the first argument of the host's function that is called to the value of these hash bytes: where the function was compiled with
-/// ` mut`, the place that it came from has it once the call is answered. NO_COMMAND says that none is called, or that it takes no argument.
+/// Replaces the first argument of the host function being called by the value of these hash bytes.
+/// If the function was compiled with ` mut`, the place that the argument came from has the new
+/// value once the function has returned. NO_COMMAND means that no host function is being called, or
+/// that it has no arguments.
 #[unsafe(no_mangle)]
 pub extern "C" fn rhai_host_script_change(alloc: Global, handle: &mut Handle, value: &[u8]) -> u32
     ensures { OnScripts result (content handle.old) (content handle.new) }
@@ -187,9 +193,10 @@ fn call(alloc: Global, engine: &mut Engine, number: usize, arguments: &[u8]) -> 
     }
 }
 
-/// Begins a call of a kept function with these arguments: the hash bytes of an array of them. Either a function of the host is called: then the
-/// run goes on to a stop of kind 7 or 8, behind which that call stands as before. Or the script's body is done, and no call stands.
-/// NO_COMMAND says that neither is so, or that there is no such function of so many arguments.
+/// Starts a call of a kept function with these arguments: the hash bytes of an array of them. While
+/// a host function is being called, the run continues to a stop of kind 7 or 8, after which that
+/// call is open as before. Otherwise the script's body has to be done, and no call may be open.
+/// NO_COMMAND means that neither is the case, or that no such function takes this many arguments.
 #[unsafe(no_mangle)]
 pub extern "C" fn rhai_host_function_call(
     alloc: Global,
@@ -222,8 +229,8 @@ fn throw(alloc: Global, kept: &mut Kept, value: &[u8], stop: &mut ScriptStop) ->
     DONE
 }
 
-/// Refuses the call of the host's function with the value of these hash bytes, as if the script threw it: the script may catch it and goes on
-/// then, and the stop is of kind 1.
+/// Fails the call of the host function with the value of these hash bytes, as if the script had
+/// thrown it: the script may catch it and continues then, and the stop is of kind 1.
 #[unsafe(no_mangle)]
 pub extern "C" fn rhai_host_script_throw(
     alloc: Global,

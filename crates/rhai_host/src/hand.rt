@@ -1,4 +1,4 @@
-//! Values in the hand: made of others, copied, changed, dropped.
+//! Values in the hand: made from others, copied, changed, dropped.
 ghost use Rattle.rhai_host.specs.Content.{content};
 ghost use Rattle.rhai_run.specs.declared.command.Command.TheVariants as command;
 ghost use Rattle.rhai_run.specs.declared.command.Scanner.TheVariants as scanner;
@@ -10,7 +10,7 @@ use crate::told::Told;
 use rhai_run::Scanner;
 use std::alloc::Global;
 
-/// Takes this many values off the end of the hand, and appends the array of them in order.
+/// Removes this many values from the end of the hand, and appends an array of them in order.
 #[unsafe(no_mangle)]
 pub extern "C" fn rhai_host_make_array(
     alloc: Global,
@@ -36,7 +36,7 @@ pub extern "C" fn rhai_host_copy(
     perform(alloc, handle, told, |world| world.copy(i))
 }
 
-/// Appends a copy of the value at the hand position without its holders.
+/// Appends a copy of the value at the hand position, without its holders.
 #[unsafe(no_mangle)]
 pub extern "C" fn rhai_host_flatten_clone(
     alloc: Global,
@@ -49,7 +49,7 @@ pub extern "C" fn rhai_host_flatten_clone(
     perform(alloc, handle, told, |world| world.flatten_clone(i))
 }
 
-/// Moves the value at the hand position to the end, and leaves unit.
+/// Moves the value at the hand position to the end, and leaves unit in its place.
 #[unsafe(no_mangle)]
 pub extern "C" fn rhai_host_take(
     alloc: Global,
@@ -70,7 +70,8 @@ pub extern "C" fn rhai_host_drop(alloc: Global, handle: &mut Handle, told: &mut 
     perform(alloc, handle, told, |world| world.drop_last())
 }
 
-/// Moves the value at the hand position into a new cell, and leaves a holder of it; a holder stays.
+/// Moves the value at the hand position into a new cell, and leaves a holder of that cell. A holder
+/// is left as it is.
 #[unsafe(no_mangle)]
 pub extern "C" fn rhai_host_share(
     alloc: Global,
@@ -83,7 +84,7 @@ pub extern "C" fn rhai_host_share(
     perform(alloc, handle, told, |world| world.share(i))
 }
 
-/// Puts in the place of a holder at the hand position what is held, without its holders.
+/// Replaces a holder at the hand position with the held value, without its holders.
 #[unsafe(no_mangle)]
 pub extern "C" fn rhai_host_flatten(
     alloc: Global,
@@ -123,7 +124,7 @@ pub extern "C" fn rhai_host_set_tag(
     perform(alloc, handle, told, |world| world.set_tag(i, tag))
 }
 
-/// Writes over the int that is held at the hand position.
+/// Overwrites the int held at the hand position.
 #[unsafe(no_mangle)]
 pub extern "C" fn rhai_host_write_int(
     alloc: Global,
@@ -137,7 +138,8 @@ pub extern "C" fn rhai_host_write_int(
     perform(alloc, handle, told, |world| world.write_int(i, n))
 }
 
-/// Writes the value at the second hand position over the first content of the one at the first, and leaves unit at the second.
+/// Overwrites the first content of the value at the first hand position with the value at the
+/// second, and leaves unit at the second.
 #[unsafe(no_mangle)]
 pub extern "C" fn rhai_host_write(
     alloc: Global,
@@ -151,7 +153,8 @@ pub extern "C" fn rhai_host_write(
     perform(alloc, handle, told, |world| world.write(i, j))
 }
 
-/// Sets the tag of each value that a scan of the one at the hand position comes to, and answers how many these are.
+/// Sets the tag of each value that a scan of the hand position visits, and returns how many there
+/// are.
 #[unsafe(no_mangle)]
 pub extern "C" fn rhai_host_scan_tags(
     alloc: Global,
@@ -170,7 +173,8 @@ pub extern "C" fn rhai_host_scan_tags(
     )
 }
 
-/// Makes each int 0 that a scan of the value at the hand position comes to, and answers how many values it came to.
+/// Sets each int that a scan of the hand position visits to 0, and returns how many values it
+/// visited.
 #[unsafe(no_mangle)]
 pub extern "C" fn rhai_host_scan_zero(
     alloc: Global,
@@ -183,7 +187,8 @@ pub extern "C" fn rhai_host_scan_zero(
     perform(alloc, handle, told, |world| world.scan(i, Scanner::Zero))
 }
 
-/// Makes each holder unit that a scan of the value at the hand position comes to, and answers how many values it came to.
+/// Replaces each holder that a scan of the hand position visits with unit, and returns how many
+/// values it visited.
 #[unsafe(no_mangle)]
 pub extern "C" fn rhai_host_scan_no_share(
     alloc: Global,
@@ -196,7 +201,8 @@ pub extern "C" fn rhai_host_scan_no_share(
     perform(alloc, handle, told, |world| world.scan(i, Scanner::NoShare))
 }
 
-/// Keeps this many items of each array that a scan of the value at the hand position comes to, and answers how many values it came to.
+/// Truncates each array that a scan of the hand position visits to this many items, and returns how
+/// many values it visited.
 #[unsafe(no_mangle)]
 pub extern "C" fn rhai_host_scan_cut(
     alloc: Global,

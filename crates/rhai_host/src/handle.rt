@@ -1,4 +1,4 @@
-//! The handle by which a host in C or Rust keeps a world.
+//! The handle in which a host in C or Rust keeps a world.
 
 pub mod address;
 pub mod kept;
@@ -12,9 +12,10 @@ use crate::handle::kept::Kept;
 use std::alloc::Global;
 use std::mem::{align_of, replace, size_of};
 
-/// A world with what goes with it, or nothing: an open handle, or a closed one. Memory that is all zero is a closed one.
+/// A world and what belongs to it, or nothing: a handle is open or closed. Memory that is all zeros
+/// is a closed one.
 ///
-/// The host gives it room, and looks at no field of it. An open one that is let go is a leak.
+/// The host provides its memory, and reads no field of it. Dropping an open one leaks it.
 #[repr(C)]
 #[derive(Drop)]
 pub struct Handle {
@@ -38,7 +39,7 @@ impl Handle {
         }
     }
 
-    /// Tells whether a world is there.
+    /// Returns whether the handle has a world.
     #[inline(always)]
     pub fn is_open(&self) -> bool
         ensures { result ≡ has (content self.now) }
@@ -46,21 +47,21 @@ impl Handle {
         self.is_open
     }
 
-    /// Tells how many bytes a handle takes.
+    /// Returns how many bytes a handle takes.
     pub fn size() -> usize
         ensures { result ≡ 16 }
     {
         size_of::<Handle>()
     }
 
-    /// Tells what the address of a handle is a multiple of.
+    /// Returns the alignment of a handle.
     pub fn align() -> usize
         ensures { result ≡ 8 }
     {
         align_of::<Handle>()
     }
 
-    /// Takes out what is kept, and leaves the handle closed.
+    /// Takes the contents out, and leaves the handle closed.
     #[inline(always)]
     pub fn take(&mut self, alloc: Global) -> Option<Box<Kept>>
         ensures kept { option_map (λ b. b.value) result ≡ content self.old }
@@ -73,7 +74,7 @@ impl Handle {
         Some(held.into_box())
     }
 
-    /// Opens a closed handle with this: what an open one had would be a leak.
+    /// Opens a closed handle with these contents; the contents of an open one would leak.
     #[inline(always)]
     pub fn put(&mut self, kept: Box<Kept>)
         requires { content self.old ≡ None }

@@ -20,6 +20,7 @@ mod perform;
 pub mod placed;
 pub mod scope;
 pub mod scripts;
+pub mod snapshots;
 pub mod stamp;
 pub mod standing;
 pub mod texts;

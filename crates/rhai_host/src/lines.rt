@@ -1,4 +1,4 @@
-//! Commands that lines say, runs over lines, and journals.
+//! Commands as lines, runs over lines, and journals.
 ghost use Rattle.std.specs.Prelude.{◌≡◌, ◌<◌, IfOk, OnErr, length};
 ghost use Rattle.rhai_host.specs.Content.{content};
 ghost use Rattle.rhai_lines.specs.Verbs.{command_of};
@@ -32,7 +32,7 @@ fn said(alloc: Global, kept: &mut Kept, line: &[u8], told: &mut Told) -> u32
     }
 }
 
-/// Does the command that a line says; `docs/LINES.md` has the lines.
+/// Executes the command of a line; `docs/LINES.md` has the lines.
 #[unsafe(no_mangle)]
 pub extern "C" fn rhai_host_line(
     alloc: Global,
@@ -50,7 +50,7 @@ pub extern "C" fn rhai_host_line(
     status
 }
 
-/// What the lines print; no line wants no memory.
+/// Returns what the lines print; without lines it doesn't allocate.
 fn output_of(alloc: Global, input: &[u8]) -> Result<Vec<u8>, AllocError>
     ensures ok { IfOk result (λ v. v.items ≡ output new_world input.now) }
     ensures err { OnErr result (0 < length input.now) }
@@ -80,7 +80,8 @@ fn run_kept(alloc: Global, kept: &mut Kept, input: &[u8], told: &mut Told) -> u3
     }
 }
 
-/// Runs lines on a world of their own, and answers the bytes that they print; the handle's world stays.
+/// Runs lines on a new world, and returns the bytes that they print; the handle's world is
+/// unchanged.
 #[unsafe(no_mangle)]
 pub extern "C" fn rhai_host_run_lines(
     alloc: Global,
@@ -98,7 +99,7 @@ pub extern "C" fn rhai_host_run_lines(
     status
 }
 
-/// Answers the lines of these commands.
+/// Returns the lines of these commands as the answer.
 fn written(alloc: Global, kept: &mut Kept, commands: &[Command], told: &mut Told) -> u32
     ensures { IsWritten result kept.old kept.new commands.now told.old told.new }
 {
@@ -124,7 +125,8 @@ fn journaled(alloc: Global, kept: &mut Kept, lines: &[u8], told: &mut Told) -> u
     }
 }
 
-/// Answers the journal of the commands that lines say: the lines by which they are written, in turn, each with a line feed.
+/// Returns the journal of the commands in these lines: the lines as the library writes them, in
+/// order, each with a line feed.
 #[unsafe(no_mangle)]
 pub extern "C" fn rhai_host_journal(
     alloc: Global,

@@ -18,7 +18,7 @@ use rhai_text::ImmutableString;
 use slab::Slab;
 use std::alloc::{AllocError, Global};
 
-/// Copies of the names of the numbers, where each has one.
+/// Copies the names with these numbers, if each number has one.
 fn listed(
     alloc: Global,
     names: &Slab<ImmutableString>,
@@ -39,7 +39,7 @@ fn listed(
     Ok(Some(found))
 }
 
-/// The same with a flag to each.
+/// As `listed`, with a flag for each.
 fn flagged(
     alloc: Global,
     names: &Slab<ImmutableString>,
@@ -83,7 +83,8 @@ fn made_map(alloc: Global, kept: &mut Kept, keys: &[usize], told: &mut Told) -> 
     }
 }
 
-/// Takes as many values off the end of the hand as there are keys, and appends the map of these to those in order; of equal keys the last value stands.
+/// Removes as many values from the end of the hand as there are keys, and appends the map from the
+/// keys to these values, in order; for duplicate keys the last value counts.
 #[unsafe(no_mangle)]
 pub extern "C" fn rhai_host_make_map(
     alloc: Global,
@@ -118,7 +119,8 @@ fn extended(alloc: Global, kept: &mut Kept, names: &[usize], told: &mut Told) ->
     }
 }
 
-/// Takes as many values off the end of the hand as there are names, and adds an entry of each name with its value, which may be written.
+/// Removes as many values from the end of the hand as there are names, and adds a writable entry
+/// for each name and value.
 #[unsafe(no_mangle)]
 pub extern "C" fn rhai_host_extend(
     alloc: Global,
@@ -159,7 +161,8 @@ fn extended_flagged(
     }
 }
 
-/// Takes as many values off the end of the hand as there are names, and adds an entry of each name with its value, which is a constant where its flag says so.
+/// Removes as many values from the end of the hand as there are names, and adds an entry for each
+/// name and value; it is a constant if its flag is set.
 #[unsafe(no_mangle)]
 pub extern "C" fn rhai_host_extend_flagged(
     alloc: Global,
@@ -190,7 +193,8 @@ fn aliased(alloc: Global, handle: &mut Handle, name: usize, alias: &str, told: &
     )
 }
 
-/// Gives the last entry of the name the alias, if it hasn't got it; an empty alias means the name.
+/// Gives the newest entry with the name this alias, unless it has it; an empty alias means the name
+/// itself.
 #[unsafe(no_mangle)]
 pub extern "C" fn rhai_host_set_alias(
     alloc: Global,

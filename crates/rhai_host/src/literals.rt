@@ -51,7 +51,7 @@ pub extern "C" fn rhai_host_put_int(
     perform(alloc, handle, told, |world| world.put(&Literal::Int(n)))
 }
 
-/// Appends the range from one int to another, without the end.
+/// Appends the range from one int to another, end excluded.
 #[unsafe(no_mangle)]
 pub extern "C" fn rhai_host_put_range(
     alloc: Global,
@@ -70,7 +70,7 @@ pub extern "C" fn rhai_host_put_range(
     )
 }
 
-/// Appends the range from one int to another, with the end.
+/// Appends the range from one int to another, end included.
 #[unsafe(no_mangle)]
 pub extern "C" fn rhai_host_put_range_with_end(
     alloc: Global,
@@ -89,7 +89,7 @@ pub extern "C" fn rhai_host_put_range_with_end(
     )
 }
 
-/// Appends a `u8` of the host's.
+/// Appends a `u8` of the host.
 #[unsafe(no_mangle)]
 pub extern "C" fn rhai_host_put_u8(
     alloc: Global,
@@ -107,7 +107,7 @@ pub extern "C" fn rhai_host_put_u8(
     )
 }
 
-/// Appends a `u16` of the host's.
+/// Appends a `u16` of the host.
 #[unsafe(no_mangle)]
 pub extern "C" fn rhai_host_put_u16(
     alloc: Global,
@@ -125,7 +125,7 @@ pub extern "C" fn rhai_host_put_u16(
     )
 }
 
-/// Appends a `u32` of the host's.
+/// Appends a `u32` of the host.
 #[unsafe(no_mangle)]
 pub extern "C" fn rhai_host_put_u32(
     alloc: Global,
@@ -143,7 +143,7 @@ pub extern "C" fn rhai_host_put_u32(
     )
 }
 
-/// Appends a `u64` of the host's.
+/// Appends a `u64` of the host.
 #[unsafe(no_mangle)]
 pub extern "C" fn rhai_host_put_u64(
     alloc: Global,
@@ -161,7 +161,7 @@ pub extern "C" fn rhai_host_put_u64(
     )
 }
 
-/// Appends an `i8` of the host's.
+/// Appends an `i8` of the host.
 #[unsafe(no_mangle)]
 pub extern "C" fn rhai_host_put_i8(
     alloc: Global,
@@ -179,7 +179,7 @@ pub extern "C" fn rhai_host_put_i8(
     )
 }
 
-/// Appends an `i16` of the host's.
+/// Appends an `i16` of the host.
 #[unsafe(no_mangle)]
 pub extern "C" fn rhai_host_put_i16(
     alloc: Global,
@@ -197,7 +197,7 @@ pub extern "C" fn rhai_host_put_i16(
     )
 }
 
-/// Appends an `i32` of the host's.
+/// Appends an `i32` of the host.
 #[unsafe(no_mangle)]
 pub extern "C" fn rhai_host_put_i32(
     alloc: Global,

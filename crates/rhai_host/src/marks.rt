@@ -8,7 +8,7 @@ use crate::perform::perform;
 use crate::told::Told;
 use std::alloc::Global;
 
-/// Takes the mark at this position out of the list, and frees its cell; later marks close up.
+/// Removes the mark at this position from the list, and unlocks its cell. Later marks move up.
 #[unsafe(no_mangle)]
 pub extern "C" fn rhai_host_unmark(
     alloc: Global,
@@ -21,7 +21,8 @@ pub extern "C" fn rhai_host_unmark(
     perform(alloc, handle, told, |world| world.unmark(mark))
 }
 
-/// Moves the value at the hand position into the cell of the mark at this position, and leaves unit.
+/// Moves the value at the hand position into the cell of the mark at this position, and leaves unit
+/// in its place.
 #[unsafe(no_mangle)]
 pub extern "C" fn rhai_host_write_marked(
     alloc: Global,
@@ -35,7 +36,7 @@ pub extern "C" fn rhai_host_write_marked(
     perform(alloc, handle, told, |world| world.write_marked(mark, i))
 }
 
-/// Appends a copy of what is in the cell of the mark at this position.
+/// Appends a copy of the content of the cell of the mark at this position.
 #[unsafe(no_mangle)]
 pub extern "C" fn rhai_host_read_marked(
     alloc: Global,

@@ -1,4 +1,4 @@
-//! The texts of names: of one that has a number, and of an entry of the scope.
+//! The texts of names: of a name by its number, and of an entry of the scope.
 ghost use Rattle.std.specs.Prelude.{◌≡◌, option_map};
 ghost use Rattle.rhai_host.specs.Content.{content};
 ghost use Rattle.rhai_host.specs.NameTexts.{IsFlag, IsToldText, TellsEntry, TellsName, shown_at};
@@ -24,7 +24,7 @@ fn tell_name(alloc: Global, kept: &mut Kept, number: usize, told: &mut Told) -> 
     DONE
 }
 
-/// Answers the name of a number, as a text.
+/// Returns the name of a number, as a text.
 #[unsafe(no_mangle)]
 pub extern "C" fn rhai_host_name_text(
     alloc: Global,
@@ -64,7 +64,8 @@ fn tell_entry(
     DONE
 }
 
-/// Answers the name of the entry at this position, counted from the oldest, as a text, and tells whether the entry is a constant.
+/// Returns the name of the entry at this position, counted from the oldest, as a text, and reports
+/// whether the entry is a constant.
 #[unsafe(no_mangle)]
 pub extern "C" fn rhai_host_entry(
     alloc: Global,

@@ -1,4 +1,4 @@
-//! Commands with a name, which is told by its number.
+//! Commands with a name, which is passed by its number.
 ghost use Rattle.std.specs.Prelude.{option_map};
 ghost use Rattle.rhai_host.specs.Content.{content};
 ghost use Rattle.rhai_run.specs.declared.command.Command.TheVariants as command;
@@ -10,7 +10,8 @@ use crate::perform::perform_named;
 use crate::told::Told;
 use std::alloc::Global;
 
-/// Takes this many values off the end of the hand, and appends the function pointer of the name with these curried in order.
+/// Removes this many values from the end of the hand, and appends the function pointer of the name
+/// with these values curried in order.
 #[unsafe(no_mangle)]
 pub extern "C" fn rhai_host_make_fn(
     alloc: Global,
@@ -30,7 +31,8 @@ pub extern "C" fn rhai_host_make_fn(
     )
 }
 
-/// Moves the value at the hand position into a new entry of the name that may be written, and leaves unit.
+/// Moves the value at the hand position into a new writable entry with the name, and leaves unit in
+/// its place.
 #[unsafe(no_mangle)]
 pub extern "C" fn rhai_host_push(
     alloc: Global,
@@ -44,7 +46,8 @@ pub extern "C" fn rhai_host_push(
     perform_named(alloc, handle, name, told, |world, name| world.push(name, i))
 }
 
-/// Moves the value at the hand position into a new entry of the name, which is a constant where the value is, and leaves unit.
+/// Moves the value at the hand position into a new entry with the name, and leaves unit in its
+/// place. The entry is a constant if the value is.
 #[unsafe(no_mangle)]
 pub extern "C" fn rhai_host_push_dynamic(
     alloc: Global,
@@ -64,7 +67,8 @@ pub extern "C" fn rhai_host_push_dynamic(
     )
 }
 
-/// Moves the value at the hand position into a new entry of the name that is a constant, and leaves unit.
+/// Moves the value at the hand position into a new constant entry with the name, and leaves unit in
+/// its place.
 #[unsafe(no_mangle)]
 pub extern "C" fn rhai_host_push_constant(
     alloc: Global,
@@ -84,7 +88,8 @@ pub extern "C" fn rhai_host_push_constant(
     )
 }
 
-/// Moves the value at the hand position over the value of the last entry of the name, and leaves unit.
+/// Replaces the value of the newest entry with the name by the value at the hand position, and
+/// leaves unit in its place.
 #[unsafe(no_mangle)]
 pub extern "C" fn rhai_host_set_entry(
     alloc: Global,
@@ -104,7 +109,8 @@ pub extern "C" fn rhai_host_set_entry(
     )
 }
 
-/// Moves the value at the hand position over the value of the last entry of the name, or into a new one where none may be written.
+/// Moves the value at the hand position into the newest entry with the name, or into a new entry if
+/// there is none or it may not be written.
 #[unsafe(no_mangle)]
 pub extern "C" fn rhai_host_set_or_push(
     alloc: Global,
@@ -124,7 +130,8 @@ pub extern "C" fn rhai_host_set_or_push(
     )
 }
 
-/// Moves the value at the hand position over the value of the last entry of the name, or into a new one where none is there.
+/// Moves the value at the hand position into the newest entry with the name, or into a new entry if
+/// there is none.
 #[unsafe(no_mangle)]
 pub extern "C" fn rhai_host_set_value(
     alloc: Global,
@@ -144,7 +151,7 @@ pub extern "C" fn rhai_host_set_value(
     )
 }
 
-/// Answers whether an entry has the name.
+/// Returns whether an entry has the name.
 #[unsafe(no_mangle)]
 pub extern "C" fn rhai_host_contains(
     alloc: Global,
@@ -163,7 +170,7 @@ pub extern "C" fn rhai_host_contains(
     )
 }
 
-/// Answers the position of the last entry of the name, counted from 0, or nothing.
+/// Returns the position of the newest entry with the name, counted from 0, or nothing.
 #[unsafe(no_mangle)]
 pub extern "C" fn rhai_host_search(
     alloc: Global,
@@ -176,7 +183,7 @@ pub extern "C" fn rhai_host_search(
     perform_named(alloc, handle, name, told, |world, name| world.search(name))
 }
 
-/// Answers whether the last entry of the name is a constant, or nothing.
+/// Returns whether the newest entry with the name is a constant, or nothing.
 #[unsafe(no_mangle)]
 pub extern "C" fn rhai_host_is_constant(
     alloc: Global,
@@ -195,7 +202,7 @@ pub extern "C" fn rhai_host_is_constant(
     )
 }
 
-/// Appends a copy of the value of the last entry of the name.
+/// Appends a copy of the value of the newest entry with the name.
 #[unsafe(no_mangle)]
 pub extern "C" fn rhai_host_get(
     alloc: Global,
@@ -208,7 +215,8 @@ pub extern "C" fn rhai_host_get(
     perform_named(alloc, handle, name, told, |world, name| world.get(name))
 }
 
-/// Writes over the int that the last entry of the name itself is; or answers nothing.
+/// Overwrites the int that the newest entry with the name itself is; returns nothing if there is no
+/// such int.
 #[unsafe(no_mangle)]
 pub extern "C" fn rhai_host_set_ref(
     alloc: Global,
@@ -228,7 +236,7 @@ pub extern "C" fn rhai_host_set_ref(
     )
 }
 
-/// Answers the aliases of the last entry of the name, each with a line feed.
+/// Returns the aliases of the newest entry with the name, one a line.
 #[unsafe(no_mangle)]
 pub extern "C" fn rhai_host_aliases(
     alloc: Global,

@@ -1,4 +1,4 @@
-//! Names that the host has handed over, and places.
+//! Names that the host has passed, and places.
 ghost use Rattle.std.specs.Prelude.{◌≡◌, option_map};
 ghost use Rattle.rhai_run.specs.Places.{place_of};
 ghost use Rattle.rhai_host.specs.Names.{place_in};
@@ -7,7 +7,7 @@ use rhai_run::PlaceRef;
 use rhai_text::ImmutableString;
 use slab::Slab;
 
-/// A place: a hand position, or the last entry of the name of a number.
+/// Returns a place: a hand position, or the newest entry with the name of this number.
 #[inline(always)]
 pub(crate) fn place_in(
     names: &Slab<ImmutableString>,

@@ -87,14 +87,14 @@ fn operator_in(operators: &[Token], number: usize) -> Option<Token>
     }
 }
 
-/// The type of a number.
+/// Returns the type of a number.
 pub(crate) fn type_of(number: u32) -> Option<TypeId>
     ensures { result ≡ type_of number }
 {
     type_in(&TYPES, number as usize)
 }
 
-/// The operator of a number.
+/// Returns the operator of a number.
 pub(crate) fn operator_of(number: u32) -> Option<Token>
     ensures { result ≡ operator_of number }
 {

@@ -1,4 +1,4 @@
-//! Worlds are opened, closed and looked at, and names are kept.
+//! Opens, closes and inspects worlds, and keeps names.
 ghost use Rattle.std.specs.Prelude.{◌≡◌, None, Some, true, false, length};
 ghost use Rattle.rhai_host.specs.Content.{content};
 ghost use Rattle.rhai_host.specs.Owned.{has};
@@ -17,7 +17,7 @@ use slab::Slab;
 use std::alloc::Global;
 use std::cmp::min;
 
-/// Opens a world with these limits, 0 being none, and closes the one that was open before.
+/// Opens a world with these limits, 0 meaning no limit, and closes the one that was open before.
 #[unsafe(no_mangle)]
 pub extern "C" fn rhai_host_new(
     alloc: Global,
@@ -51,7 +51,7 @@ pub extern "C" fn rhai_host_close(alloc: Global, handle: &mut Handle)
     drop(handle.take(alloc));
 }
 
-/// Tells whether a world is open.
+/// Returns whether a world is open.
 #[unsafe(no_mangle)]
 pub extern "C" fn rhai_host_is_open(handle: &Handle) -> bool
     ensures { result ≡ has (content handle.now) }
@@ -82,7 +82,8 @@ fn named(alloc: Global, kept: &mut Kept, text: &[u8], number: &mut usize) -> u32
     }
 }
 
-/// Gives a name a number that no other has, by which commands name it. Room for one more is asked for only where no number was given back.
+/// Assigns a number to a name, which commands use in its place. It only allocates a slot if no
+/// freed number is available.
 #[unsafe(no_mangle)]
 pub extern "C" fn rhai_host_name(
     alloc: Global,
@@ -100,7 +101,7 @@ pub extern "C" fn rhai_host_name(
     status
 }
 
-/// Tells how many values are in the hand, 0 where no world is open.
+/// Returns how many values are in the hand, 0 where no world is open.
 #[unsafe(no_mangle)]
 pub extern "C" fn rhai_host_hand_len(alloc: Global, handle: &mut Handle) -> usize
     ensures count { result ≡ hand_len (content handle.old) }
@@ -204,8 +205,8 @@ fn copy_into(bytes: &[u8], room: &mut [u8])
     room[..count].copy_from_slice(&bytes[..count]);
 }
 
-/// Copies the bytes of the last text, bytes or refusal that was answered, or those of its second name, as far as there is room; answers how
-/// many it has.
+/// Copies the bytes of the last text, bytes or refusal that was returned, or those of its second
+/// name, as far as there is room; returns how many there are.
 #[unsafe(no_mangle)]
 pub extern "C" fn rhai_host_answer(
     alloc: Global,
@@ -236,7 +237,7 @@ fn given_up(kept: &mut Kept, number: usize) -> u32
     }
 }
 
-/// Takes a number back from a name. It is given out again, in the place of a new one.
+/// Frees the number of a name. A new name may get it.
 #[unsafe(no_mangle)]
 pub extern "C" fn rhai_host_forget_name(alloc: Global, handle: &mut Handle, number: usize) -> u32
     ensures { GivesUp result (content handle.old) (content handle.new) number }
@@ -259,7 +260,7 @@ fn collected(kept: &mut Kept) -> u32
     }
 }
 
-/// Gives back each cell that nothing reaches.
+/// Frees each unreachable cell.
 #[unsafe(no_mangle)]
 pub extern "C" fn rhai_host_collect(alloc: Global, handle: &mut Handle) -> u32
     ensures { CollectsKept result (content handle.old) (content handle.new) }
@@ -272,7 +273,7 @@ pub extern "C" fn rhai_host_collect(alloc: Global, handle: &mut Handle) -> u32
     status
 }
 
-/// Tells how many bytes a handle takes.
+/// Returns how many bytes a handle takes.
 #[unsafe(no_mangle)]
 pub extern "C" fn rhai_host_handle_size() -> usize
     ensures { result ≡ 16 }
@@ -280,7 +281,7 @@ pub extern "C" fn rhai_host_handle_size() -> usize
     Handle::size()
 }
 
-/// Tells what the address of a handle is a multiple of.
+/// Returns the alignment of a handle.
 #[unsafe(no_mangle)]
 pub extern "C" fn rhai_host_handle_align() -> usize
     ensures { result ≡ 8 }

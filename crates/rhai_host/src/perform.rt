@@ -1,4 +1,4 @@
-//! One command in the world of a handle.
+//! Executes one command in the world of a handle.
 ghost use Rattle.std.specs.Prelude.{◌≡◌, ◌<◌, ℕ, List, Option, None, option_map};
 ghost use Rattle.std.specs.Fn.{FnOnceReturnsAtMut};
 ghost use Rattle.rhai_host.specs.Content.{content};
@@ -26,16 +26,17 @@ use std::alloc::{AllocError, Global};
 
 /// The command is done.
 pub(crate) const DONE: u32 = 0;
-/// Memory was refused, and nothing has changed.
+/// An allocation failed, and nothing has changed.
 pub(crate) const OUT_OF_MEMORY: u32 = 1;
 /// No world is open.
 pub(crate) const CLOSED: u32 = 2;
-/// What was handed over says no command.
+/// The input is not a command.
 pub(crate) const NO_COMMAND: u32 = 3;
-/// Memory for what a command is made of was refused, and nothing has changed.
+/// An allocation for the command's operands failed, and nothing has changed.
 pub(crate) const NO_ROOM: u32 = 4;
 
-/// Tells an answer, and keeps what numbers don't tell of it. Not inlined, so that a call that is most often done stays short.
+/// Reports an answer in numbers, and keeps the rest of it. Not inlined, so that the calls that
+/// succeed most often are short.
 #[inline(never)]
 pub(crate) fn keep(last: &mut Answer, answer: Answer, told: &mut Told)
     ensures kept { last.new ≡ kept_answer last.old answer }
@@ -50,15 +51,17 @@ pub(crate) fn keep(last: &mut Answer, answer: Answer, told: &mut Told)
     }
 }
 
-/// What a method of the world gives. It is the result of a command; that it is one only its implementation knows, so that methods may be handed over as closures.
+/// The return value of a method of the world. It is the result of a command; only its
+/// implementation knows that it is one, so that methods can be passed as closures.
 pub(crate) trait Reply {
     ghost use Rattle.rhai_run.specs.Outcome.{Outcome};
     ghost use Rattle.rhai_run.specs.State.{State};
 
-    /// That it is given for the outcome of a command, by a method that leads from one state to another.
+    /// That it is the value for this outcome of a command, returned by a method that leads from one
+    /// state to another.
     ghost is_for: { Self → State → State → Outcome → Type 0 };
 
-    /// Tells it, and keeps what numbers don't tell of it.
+    /// Reports it in numbers, and keeps the rest of it.
     fn tell(self, last: &mut Answer, told: &mut Told) -> u32
         ensures { (w v : State) (o : Outcome) → is_for self w v o → Replies result w v last.old last.new told.old told.new o };
 }
@@ -86,7 +89,7 @@ impl Reply for Result<Answer, AllocError> {
     }
 }
 
-/// Calls a method of the world that is kept.
+/// Calls a method of the world in these contents.
 #[inline(always)]
 fn perform_in<R: Reply, F: FnOnce(&mut World) -> R>(
     kept: &mut Kept,
@@ -139,7 +142,7 @@ fn placed_in<R: Reply, F: FnOnce(&mut World, PlaceRef<'_>) -> R>(
     done.tell(&mut kept.answer, told)
 }
 
-/// Calls a method of the world, where one is open.
+/// Calls a method of the world, if one is open.
 #[inline(always)]
 pub(crate) fn perform<R: Reply, F: FnOnce(&mut World) -> R>(
     alloc: Global,
@@ -158,7 +161,7 @@ pub(crate) fn perform<R: Reply, F: FnOnce(&mut World) -> R>(
     status
 }
 
-/// The same with the name of a number.
+/// As `perform`, with the name of a number.
 #[inline(always)]
 pub(crate) fn perform_named<R: Reply, F: FnOnce(&mut World, &ImmutableString) -> R>(
     alloc: Global,
@@ -179,7 +182,7 @@ pub(crate) fn perform_named<R: Reply, F: FnOnce(&mut World, &ImmutableString) ->
     status
 }
 
-/// The same with a place: a hand position, or the last entry of the name of a number.
+/// As `perform`, with a place: a hand position, or the newest entry with the name of a number.
 #[inline(always)]
 pub(crate) fn perform_at<R: Reply, F: FnOnce(&mut World, PlaceRef<'_>) -> R>(
     alloc: Global,
@@ -201,7 +204,7 @@ pub(crate) fn perform_at<R: Reply, F: FnOnce(&mut World, PlaceRef<'_>) -> R>(
     status
 }
 
-/// Says that there is no command.
+/// Returns that there is no command.
 pub(crate) fn no_command(handle: &Handle) -> u32
     ensures said { (told : Told) → PerformsIf result (content handle.now) (content handle.now) told told (λ _. None) }
     ensures status { result < 4 }
@@ -209,7 +212,7 @@ pub(crate) fn no_command(handle: &Handle) -> u32
     if handle.is_open() { NO_COMMAND } else { CLOSED }
 }
 
-/// Says that there is no memory for a value that is put.
+/// Returns that the allocation of a new value failed.
 pub(crate) fn out_of_memory(handle: &Handle) -> u32
     ensures put { (told : Told) (l : Literal) → Performs result (content handle.now) (content handle.now) told told (command.Put l) }
 {

@@ -1,4 +1,4 @@
-//! Commands on a place: a hand position, or the last entry of the name of a number.
+//! Commands on a place: a hand position, or the newest entry with the name of a number.
 ghost use Rattle.std.specs.Prelude.{option_map};
 ghost use Rattle.rhai_host.specs.Content.{content};
 ghost use Rattle.rhai_run.specs.declared.command.Command.TheVariants as command;
@@ -10,7 +10,8 @@ use crate::perform::perform_at;
 use crate::told::Told;
 use std::alloc::Global;
 
-/// Marks the cell of the holder at the place: from then on it is read and written by the mark alone. The mark goes to the end of the list of marks.
+/// Locks the cell of the holder at the place: from then on it is read and written only through the
+/// mark. Appends the mark to the list of marks.
 #[unsafe(no_mangle)]
 pub extern "C" fn rhai_host_mark(
     alloc: Global,
@@ -78,7 +79,7 @@ pub extern "C" fn rhai_host_write_field(
     )
 }
 
-/// Writes the int at the hand position to the byte of this index of the blob at the place.
+/// Writes the int at the hand position to the byte at this index of the blob at the place.
 #[unsafe(no_mangle)]
 pub extern "C" fn rhai_host_write_byte(
     alloc: Global,
@@ -101,7 +102,8 @@ pub extern "C" fn rhai_host_write_byte(
     )
 }
 
-/// Writes the character at the hand position over the one of this index of the text at the place.
+/// Writes the character at the hand position over the character at this index of the text at the
+/// place.
 #[unsafe(no_mangle)]
 pub extern "C" fn rhai_host_write_char(
     alloc: Global,
@@ -124,7 +126,8 @@ pub extern "C" fn rhai_host_write_char(
     )
 }
 
-/// Writes what the value at the hand position prints as over the characters from the first index on, up to the second one, which is replaced too unless the slice is exclusive.
+/// Replaces the characters from the first index up to the second one with the printed value at the
+/// hand position. The second one is replaced too, unless the slice is exclusive.
 #[unsafe(no_mangle)]
 pub extern "C" fn rhai_host_write_slice(
     alloc: Global,

@@ -16,7 +16,7 @@ pub extern "C" fn rhai_host_pop(alloc: Global, handle: &mut Handle, told: &mut T
     perform(alloc, handle, told, |world| world.pop())
 }
 
-/// Keeps as many entries as the number says, the first ones.
+/// Keeps the oldest entries, as many as the number says, and drops the others.
 #[unsafe(no_mangle)]
 pub extern "C" fn rhai_host_rewind(
     alloc: Global,
@@ -37,7 +37,7 @@ pub extern "C" fn rhai_host_clear(alloc: Global, handle: &mut Handle, told: &mut
     perform(alloc, handle, told, |world| world.clear())
 }
 
-/// Answers how many entries there are.
+/// Returns how many entries there are.
 #[unsafe(no_mangle)]
 pub extern "C" fn rhai_host_len(alloc: Global, handle: &mut Handle, told: &mut Told) -> u32
     ensures { Performs result (content handle.old) (content handle.new) told.old told.new command.Len }
@@ -45,7 +45,7 @@ pub extern "C" fn rhai_host_len(alloc: Global, handle: &mut Handle, told: &mut T
     perform(alloc, handle, told, |world| world.len())
 }
 
-/// Answers whether there is no entry.
+/// Returns whether there are no entries.
 #[unsafe(no_mangle)]
 pub extern "C" fn rhai_host_is_empty(alloc: Global, handle: &mut Handle, told: &mut Told) -> u32
     ensures { Performs result (content handle.old) (content handle.new) told.old told.new command.IsEmpty }
@@ -53,7 +53,7 @@ pub extern "C" fn rhai_host_is_empty(alloc: Global, handle: &mut Handle, told: &
     perform(alloc, handle, told, |world| world.is_empty())
 }
 
-/// Keeps copies of the last entries of each name, the newest first.
+/// Keeps a copy of the newest entry of each name, newest first.
 #[unsafe(no_mangle)]
 pub extern "C" fn rhai_host_keep_visible(alloc: Global, handle: &mut Handle, told: &mut Told) -> u32
     ensures { Performs result (content handle.old) (content handle.new) told.old told.new command.KeepVisible }
@@ -61,7 +61,7 @@ pub extern "C" fn rhai_host_keep_visible(alloc: Global, handle: &mut Handle, tol
     perform(alloc, handle, told, |world| world.keep_visible())
 }
 
-/// Keeps copies of all entries.
+/// Replaces the scope with a copy of all entries.
 #[unsafe(no_mangle)]
 pub extern "C" fn rhai_host_copy_scope(alloc: Global, handle: &mut Handle, told: &mut Told) -> u32
     ensures { Performs result (content handle.old) (content handle.new) told.old told.new command.CopyScope }
@@ -77,7 +77,8 @@ pub extern "C" fn rhai_host_entries(alloc: Global, handle: &mut Handle, told: &m
     perform(alloc, handle, told, |world| world.entries())
 }
 
-/// Answers the names of the entries, the newest first, each with a line feed, and with `const ` before that of a constant.
+/// Returns the names of the entries, newest first, one a line, with `const ` before that of a
+/// constant.
 #[unsafe(no_mangle)]
 pub extern "C" fn rhai_host_names(alloc: Global, handle: &mut Handle, told: &mut Told) -> u32
     ensures { Performs result (content handle.old) (content handle.new) told.old told.new command.Names }
@@ -85,7 +86,7 @@ pub extern "C" fn rhai_host_names(alloc: Global, handle: &mut Handle, told: &mut
     perform(alloc, handle, told, |world| world.names())
 }
 
-/// Answers the text of the scope.
+/// Returns the text of the scope.
 #[unsafe(no_mangle)]
 pub extern "C" fn rhai_host_show_scope(alloc: Global, handle: &mut Handle, told: &mut Told) -> u32
     ensures { Performs result (content handle.old) (content handle.new) told.old told.new command.ShowScope }
@@ -93,7 +94,7 @@ pub extern "C" fn rhai_host_show_scope(alloc: Global, handle: &mut Handle, told:
     perform(alloc, handle, told, |world| world.show_scope())
 }
 
-/// Answers the hash bytes of the scope.
+/// Returns the hash bytes of the scope.
 #[unsafe(no_mangle)]
 pub extern "C" fn rhai_host_hash_scope(alloc: Global, handle: &mut Handle, told: &mut Told) -> u32
     ensures { Performs result (content handle.old) (content handle.new) told.old told.new command.HashScope }

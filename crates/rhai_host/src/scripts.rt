@@ -14,26 +14,26 @@ use script_run::{ScriptError, ScriptLimits, run_script};
 use script_syntax::SyntaxError;
 use std::alloc::{AllocError, Global};
 
-/// What is said of a script that is too large.
+/// The message for a script that is too large.
 const TOO_LARGE: &str = "the script is too large";
 
-/// How a script ended. The answer is what it printed, and behind that what went wrong.
+/// How a script ended. The answer is what it printed, followed by what went wrong.
 #[repr(C)]
 #[derive(Drop)]
 pub struct ScriptEnd {
-    /// 0 it ran to its end, 1 the text is no script, 2 it went wrong when it ran.
+    /// 0 it ran to its end, 1 the text is not a valid script, 2 it failed while running.
     pub kind: u32,
-    /// The line of what went wrong, counted from 1; else 0.
+    /// The line where it went wrong, counted from 1; else 0.
     pub line: u32,
-    /// The place on that line, counted from 1; else 0.
+    /// The column where it went wrong, counted from 1; else 0.
     pub column: u32,
     /// How many bytes of the answer it printed.
     pub printed: usize,
-    /// How many bytes behind these say what went wrong.
+    /// How many bytes after these say what went wrong.
     pub said: usize,
 }
 
-/// How a script ended, with the text that is the answer.
+/// How a script ended, with the text for the answer.
 #[derive(Drop)]
 struct Ended {
     end: ScriptEnd,
@@ -56,7 +56,7 @@ fn end_at(kind: u32, place: Position, printed: String, why: &str) -> Result<Ende
     Ok(Ended { end, text })
 }
 
-/// What is told of a run that ended so, and printed this.
+/// Reports how a run ended that printed this.
 fn told_end(
     alloc: Global,
     done: Result<(), ScriptError>,
@@ -104,8 +104,9 @@ fn run_kept(
     }
 }
 
-/// Runs a script on values of its own: the largest sizes of texts and of arrays, 0 being none, the operations, and the calls within each
-/// other are limited. What it prints is the answer, with what went wrong behind it; the handle's world stays.
+/// Runs a script on values of its own, with limits on the sizes of texts and of arrays, 0 meaning
+/// no limit, on operations, and on nested calls. What it prints is the answer, followed by what
+/// went wrong; the handle's world is unchanged.
 #[unsafe(no_mangle)]
 pub extern "C" fn rhai_host_run_script(
     alloc: Global,

@@ -2,4 +2,4 @@
 
 /// Does nothing: its name is a sum of all that is exported, so that a host of other declarations doesn't link.
 #[unsafe(no_mangle)]
-pub extern "C" fn rhai_host_stamp_2d95b8ef93560ad5() {}
+pub extern "C" fn rhai_host_stamp_e8e595b8b555eb6c() {}

@@ -1,29 +1,23 @@
-//! What is seen of a run that stands, or that has ended by an error: the functions under way, and the variables in sight of each.
+//! A look at a paused or failed run: the active functions, and the visible variables of each.
 ghost use Rattle.rhai_host.specs.Content.{content};
-ghost use Rattle.rhai_host.specs.Engines.{AnswersBytes};
+ghost use Rattle.rhai_host.specs.Engines.{AnswersBytes, AnswersValue, OnScripts};
 
-use crate::answering::{tell_bytes, value_bytes};
+use crate::answering::{Seen, seen_of, tell_bytes, tell_value, text_bytes};
 use crate::handle::Handle;
-use crate::perform::CLOSED;
+use crate::perform::{CLOSED, DONE, NO_COMMAND, OUT_OF_MEMORY};
 use crate::told::Told;
 use rhai_run::Bytes;
-use rhai_text::Position;
-use script_engine::Engine;
+use script_engine::{Engine, Unread};
 use script_run::InSight;
 use std::alloc::{AllocError, Global};
 
-fn text_bytes(alloc: Global, text: &str) -> Result<Option<Bytes>, AllocError> {
-    let mut bytes = Vec::new(alloc);
-    bytes.extend_from_slice(text.as_bytes())?;
-    Ok(Some(Bytes::new(bytes)))
-}
-
-/// The name of a function under way, and where it stands.
+/// Returns the name of an active function, and reports where it is.
 fn function_at(
     alloc: Global,
     engine: &Engine,
     number: usize,
-    place: &mut Position,
+    line: &mut usize,
+    column: &mut usize,
 ) -> Result<Option<Bytes>, AllocError> {
     let (Some(program), Some(run)) = (engine.program(), engine.run()) else {
         return Ok(None);
@@ -31,12 +25,14 @@ fn function_at(
     let Some(frame) = run.frame(program, number) else {
         return Ok(None);
     };
-    *place = frame.position;
+    *line = frame.position.line() as usize;
+    *column = frame.position.position() as usize;
     text_bytes(alloc, frame.name)
 }
 
-/// Answers the name of a function under way, and tells where it stands: number 0 runs, or failed, and each is called by the next. The name
-/// is empty for the statements outside of functions, and begins with `anon$` for a closure. NO_COMMAND says that no such function is under way.
+/// Returns the name of an active function, and reports where it is: number 0 runs, or failed, and
+/// each is called by the next. The name is empty for the statements outside functions, and begins
+/// with `anon$` for a closure. NO_COMMAND means that there is no such function.
 #[unsafe(no_mangle)]
 pub extern "C" fn rhai_host_script_function(
     alloc: Global,
@@ -51,16 +47,13 @@ pub extern "C" fn rhai_host_script_function(
     let Some(mut kept) = handle.take(alloc) else {
         return CLOSED;
     };
-    let mut place = Position::NONE;
-    let bytes = function_at(alloc, &kept.engine, number, &mut place);
-    *line = place.line() as usize;
-    *column = place.position() as usize;
+    let bytes = function_at(alloc, &kept.engine, number, line, column);
     let status = tell_bytes(&mut kept, bytes, told);
     handle.put(kept);
     status
 }
 
-/// The newest variable in sight of a function under way before one of a number.
+/// Returns the newest visible variable of an active function before the one of this number.
 fn variable_before(engine: &Engine, function: usize, before: usize) -> Option<InSight<'_, '_>> {
     match (engine.program(), engine.run()) {
         (Some(program), Some(run)) => run.variable(program, function, before),
@@ -84,8 +77,9 @@ fn name_before(
     }
 }
 
-/// Answers the name of the newest variable in sight of a function under way that came before the one of this number, and tells its own number:
-/// from the largest number on, each leads to the next. NO_COMMAND says that there is none.
+/// Returns the name of the newest visible variable of an active function before the one of this
+/// number, and reports its own number: starting from the largest number, each leads to the next.
+/// NO_COMMAND means that there is none.
 #[unsafe(no_mangle)]
 pub extern "C" fn rhai_host_script_variable(
     alloc: Global,
@@ -111,14 +105,15 @@ fn value_before(
     engine: &Engine,
     function: usize,
     before: usize,
-) -> Result<Option<Bytes>, AllocError> {
+) -> Result<Option<Seen>, AllocError> {
     match variable_before(engine, function, before) {
-        Some(variable) => value_bytes(alloc, Some(variable.value), engine.store()),
+        Some(variable) => seen_of(alloc, Some(variable.value), engine.store()),
         None => Ok(None),
     }
 }
 
-/// Answers the hash bytes of the value of that variable. NO_COMMAND says that there is none, or that its value has none.
+/// Returns the value of that variable, as `rhai_host_script_argument` does. NO_COMMAND means that
+/// there is none, or that its value has no hash bytes.
 #[unsafe(no_mangle)]
 pub extern "C" fn rhai_host_script_variable_value(
     alloc: Global,
@@ -127,13 +122,32 @@ pub extern "C" fn rhai_host_script_variable_value(
     before: usize,
     told: &mut Told,
 ) -> u32
-    ensures { AnswersBytes result (content handle.old) (content handle.new) told.old told.new }
+    ensures { AnswersValue result (content handle.old) (content handle.new) told.old told.new }
 {
     let Some(mut kept) = handle.take(alloc) else {
         return CLOSED;
     };
-    let bytes = value_before(alloc, &kept.engine, function, before);
-    let status = tell_bytes(&mut kept, bytes, told);
+    let value = value_before(alloc, &kept.engine, function, before);
+    let status = tell_value(&mut kept, value, told);
+    handle.put(kept);
+    status
+}
+
+/// Replaces the variables by those of a snapshot without functions, with everything that they
+/// share. A run ends, and functions that the host kept are freed. NO_COMMAND means that the bytes
+/// are no such snapshot; the variables are unchanged then.
+#[unsafe(no_mangle)]
+pub extern "C" fn rhai_host_script_restore(alloc: Global, handle: &mut Handle, bytes: &[u8]) -> u32
+    ensures { OnScripts result (content handle.old) (content handle.new) }
+{
+    let Some(mut kept) = handle.take(alloc) else {
+        return CLOSED;
+    };
+    let status = match kept.engine.restore(bytes) {
+        Ok(()) => DONE,
+        Err(Unread::Form) => NO_COMMAND,
+        Err(Unread::Memory) => OUT_OF_MEMORY,
+    };
     handle.put(kept);
     status
 }

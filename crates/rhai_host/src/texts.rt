@@ -1,4 +1,4 @@
-//! New values of bytes, of characters, and of numbers that take two words.
+//! New values from bytes, from characters, and from numbers of two words.
 ghost use Rattle.std.specs.Prelude.{◌≡◌, Some, IfOk, OnErr, option_map};
 ghost use Rattle.std.specs.Str.{chars};
 ghost use Rattle.rhai_host.specs.Content.{content};
@@ -16,7 +16,7 @@ use rhai_text::ImmutableString;
 use rhai_value::Host;
 use std::alloc::{AllocError, Global};
 
-/// Appends a `u128` of the host's, told by its lower and its upper 64 bits.
+/// Appends a `u128` of the host, passed as its lower and its upper 64 bits.
 #[unsafe(no_mangle)]
 pub extern "C" fn rhai_host_put_u128(
     alloc: Global,
@@ -36,7 +36,8 @@ pub extern "C" fn rhai_host_put_u128(
     )
 }
 
-/// Appends an `i128` of the host's, told by the lower and the upper 64 bits of its two's complement.
+/// Appends an `i128` of the host, passed as the lower and the upper 64 bits of its two's
+/// complement.
 #[unsafe(no_mangle)]
 pub extern "C" fn rhai_host_put_i128(
     alloc: Global,
@@ -56,7 +57,7 @@ pub extern "C" fn rhai_host_put_i128(
     )
 }
 
-/// The bytes as a text, if they are one.
+/// Returns the bytes as a text, if they are valid UTF-8.
 pub(crate) fn text_in(bytes: &[u8]) -> Option<&str>
     ensures { option_map (λ t. chars t.now) result ≡ text_of bytes.now }
 {
@@ -66,7 +67,7 @@ pub(crate) fn text_in(bytes: &[u8]) -> Option<&str>
     }
 }
 
-/// The text of bytes, if they are one.
+/// Makes a text of bytes, if they are valid UTF-8.
 pub(crate) fn text_of(alloc: Global, bytes: &[u8]) -> Result<Option<ImmutableString>, AllocError>
     ensures text { IfOk result (λ o. o ≡ text_of bytes.now) }
     ensures err { OnErr result (text_of bytes.now ≡ Some (chars bytes.now)) }
@@ -132,7 +133,7 @@ fn char_of(code: u32) -> Option<char>
     char::from_u32(code)
 }
 
-/// Appends the character of this number.
+/// Appends the character with this code.
 #[unsafe(no_mangle)]
 pub extern "C" fn rhai_host_put_char(
     alloc: Global,

@@ -1,19 +1,20 @@
-//! How an answer is told in numbers.
+//! How an answer is reported in numbers.
 ghost use Rattle.std.specs.Prelude.{◌≡◌};
 ghost use Rattle.rhai_host.specs.Answers.{told_of, told_refusal, told_fault, arithmetic_number, size_number, bit, in_numbers, low_word, high_word};
 
 use rhai_run::{Answer, Refusal};
 use rhai_text::{ArithmeticFault, EvalAltResult, SizeKind};
 
-/// An answer in numbers. Its text, its bytes and the names of types are fetched by further calls.
+/// An answer in numbers. Further calls fetch its text, its bytes and the names of types.
 #[repr(C)]
 #[derive(Drop)]
 pub struct Told {
-    /// 0 done, 1 a truth, 2 a number, 3 a text, 4 bytes, 5 two numbers, 6 nothing, 7 a refusal.
+    /// 0 done, 1 a boolean, 2 a number, 3 a text, 4 bytes, 5 two numbers, 6 nothing, 7 a refusal.
     pub kind: u32,
     /// Which refusal; else 0.
     pub reason: u32,
-    /// A truth as 0 or 1, the lower 64 bits of a number, a length in bytes, the first of two numbers, or which one of a kind of refusals.
+    /// A boolean as 0 or 1, the lower 64 bits of a number, a length in bytes, the first of two
+    /// numbers, or which one of a kind of refusals.
     pub low: u64,
     /// The upper 64 bits of a number, the second of two numbers, or the length of a second name.
     pub high: u64,
@@ -98,7 +99,7 @@ fn told_number(n: i128) -> Told
     in_numbers(2, 0, low as u64, high as u64)
 }
 
-/// Tells an answer in numbers.
+/// Converts an answer to numbers.
 #[inline(always)]
 pub(crate) fn told_of(answer: &Answer) -> Told
     ensures { result ≡ told_of answer.now }

@@ -1,4 +1,4 @@
-//! Commands with a type or an operator, which are told by their numbers.
+//! Commands with a type or an operator, which are passed by their numbers.
 ghost use Rattle.std.specs.Prelude.{option_and_then, option_map};
 ghost use Rattle.rhai_host.specs.Content.{content};
 ghost use Rattle.rhai_run.specs.declared.command.Command.TheVariants as command;
@@ -16,7 +16,7 @@ use rhai_text::Token;
 use rhai_value::TypeId;
 use std::alloc::Global;
 
-/// Appends what the value at the hand position is as this type, copied without its holders.
+/// Appends the value at the hand position cast to this type, copied without its holders.
 #[unsafe(no_mangle)]
 pub extern "C" fn rhai_host_cast(
     alloc: Global,
@@ -33,7 +33,7 @@ pub extern "C" fn rhai_host_cast(
     }
 }
 
-/// Answers whether this is the type that is held at the hand position.
+/// Returns whether this type is held at the hand position.
 #[unsafe(no_mangle)]
 pub extern "C" fn rhai_host_is_held(
     alloc: Global,
@@ -55,7 +55,8 @@ pub extern "C" fn rhai_host_is_held(
     }
 }
 
-/// Answers whether the value at the hand position is of this type: by its constructor, or for a holder by the held type.
+/// Returns whether the value at the hand position is of this type: by its variant, or for a holder
+/// by the held type.
 #[unsafe(no_mangle)]
 pub extern "C" fn rhai_host_is_type(
     alloc: Global,
@@ -77,7 +78,7 @@ pub extern "C" fn rhai_host_is_type(
     }
 }
 
-/// Appends what the operator answers on the values at the two hand positions.
+/// Appends the operator's result for the values at the two hand positions.
 #[unsafe(no_mangle)]
 pub extern "C" fn rhai_host_binary(
     alloc: Global,
@@ -116,7 +117,7 @@ fn assign(
     )
 }
 
-/// Calls the assignment of the operator on the value at the place and the one at the hand position.
+/// Applies the operator's assignment to the value at the place and the value at the hand position.
 #[unsafe(no_mangle)]
 pub extern "C" fn rhai_host_assign(
     alloc: Global,
@@ -147,7 +148,8 @@ fn get_value(alloc: Global, handle: &mut Handle, name: usize, kind: TypeId, told
     )
 }
 
-/// Appends what the value of the last entry of the name is as this type, copied without its holders; or answers nothing.
+/// Appends the value of the newest entry with the name cast to this type, copied without its
+/// holders; returns nothing if there is no such value.
 #[unsafe(no_mangle)]
 pub extern "C" fn rhai_host_get_value(
     alloc: Global,
@@ -176,7 +178,8 @@ fn get_ref(alloc: Global, handle: &mut Handle, name: usize, kind: TypeId, told: 
     )
 }
 
-/// Appends a copy of what the last entry of the name itself is as this type, by reference; or answers nothing.
+/// Appends a copy of the newest entry's own value as a reference of this type; returns nothing if
+/// there is no such value.
 #[unsafe(no_mangle)]
 pub extern "C" fn rhai_host_get_ref(
     alloc: Global,
@@ -205,7 +208,8 @@ fn remove(alloc: Global, handle: &mut Handle, name: usize, kind: TypeId, told: &
     )
 }
 
-/// Takes the last entry of the name out, and appends what its value is as this type, without its holders; or answers nothing.
+/// Removes the newest entry with the name, and appends its value cast to this type, without its
+/// holders; returns nothing if there is no such value.
 #[unsafe(no_mangle)]
 pub extern "C" fn rhai_host_remove(
     alloc: Global,

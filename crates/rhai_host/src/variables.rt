@@ -1,9 +1,10 @@
-//! The variables of scripts, which live on between runs. While a run stands, they are its own, and none is here.
+//! The variables of scripts, which outlive a run. An unfinished run owns them, and there are none
+//! here.
 ghost use Rattle.std.specs.Prelude.{◌≡◌};
 ghost use Rattle.rhai_host.specs.Content.{content};
-ghost use Rattle.rhai_host.specs.Engines.{AnswersBytes, OnScripts};
+ghost use Rattle.rhai_host.specs.Engines.{AnswersBytes, AnswersValue, OnScripts};
 
-use crate::answering::{tell_bytes, value_bytes};
+use crate::answering::{seen_of, tell_bytes, tell_value, text_bytes};
 use crate::handle::Handle;
 use crate::perform::{CLOSED, DONE, NO_COMMAND, OUT_OF_MEMORY};
 use crate::texts::text_in;
@@ -29,7 +30,7 @@ fn declare(alloc: Global, engine: &mut Engine, name: &[u8], value: &[u8]) -> u32
     }
 }
 
-/// Declares a variable with the value of these hash bytes, behind the others.
+/// Declares a variable after the others, with the value of these hash bytes.
 #[unsafe(no_mangle)]
 pub extern "C" fn rhai_host_variable_push(
     alloc: Global,
@@ -61,8 +62,8 @@ fn write(alloc: Global, engine: &mut Engine, number: usize, value: &[u8]) -> u32
     }
 }
 
-/// Writes the value of these hash bytes over that of the variable of this number, the oldest being 0. One that closures share is written for
-/// all of them.
+/// Overwrites the variable of this number, the oldest being 0, with the value of these hash bytes.
+/// If closures share the variable, they see the new value.
 #[unsafe(no_mangle)]
 pub extern "C" fn rhai_host_variable_set(
     alloc: Global,
@@ -80,7 +81,7 @@ pub extern "C" fn rhai_host_variable_set(
     status
 }
 
-/// Ends the variables from this number on.
+/// Drops the variables from this number on.
 #[unsafe(no_mangle)]
 pub extern "C" fn rhai_host_variable_rewind(alloc: Global, handle: &mut Handle, count: usize) -> u32
     ensures { OnScripts result (content handle.old) (content handle.new) }
@@ -93,7 +94,7 @@ pub extern "C" fn rhai_host_variable_rewind(alloc: Global, handle: &mut Handle, 
     DONE
 }
 
-/// Counts the variables, 0 where no world is open.
+/// Returns the number of variables, 0 if no world is open.
 #[unsafe(no_mangle)]
 pub extern "C" fn rhai_host_variable_count(alloc: Global, handle: &mut Handle) -> usize
     ensures { content handle.new ≡ content handle.old }
@@ -108,16 +109,12 @@ pub extern "C" fn rhai_host_variable_count(alloc: Global, handle: &mut Handle) -
 
 fn name_bytes(alloc: Global, engine: &Engine, number: usize) -> Result<Option<Bytes>, AllocError> {
     match engine.scope().names().get(number) {
-        Some(name) => {
-            let mut bytes = Vec::new(alloc);
-            bytes.extend_from_slice(name.as_str().as_bytes())?;
-            Ok(Some(Bytes::new(bytes)))
-        }
+        Some(name) => text_bytes(alloc, name.as_str()),
         None => Ok(None),
     }
 }
 
-/// Answers the name of the variable of this number.
+/// Returns the name of the variable of this number.
 #[unsafe(no_mangle)]
 pub extern "C" fn rhai_host_variable_name(
     alloc: Global,
@@ -136,7 +133,7 @@ pub extern "C" fn rhai_host_variable_name(
     status
 }
 
-/// Answers the hash bytes of the value of the variable of this number.
+/// Returns the value of the variable of this number, as `rhai_host_script_argument` does.
 #[unsafe(no_mangle)]
 pub extern "C" fn rhai_host_variable_value(
     alloc: Global,
@@ -144,14 +141,14 @@ pub extern "C" fn rhai_host_variable_value(
     number: usize,
     told: &mut Told,
 ) -> u32
-    ensures { AnswersBytes result (content handle.old) (content handle.new) told.old told.new }
+    ensures { AnswersValue result (content handle.old) (content handle.new) told.old told.new }
 {
     let Some(mut kept) = handle.take(alloc) else {
         return CLOSED;
     };
-    let value = kept.engine.scope().get(number);
-    let bytes = value_bytes(alloc, value, kept.engine.store());
-    let status = tell_bytes(&mut kept, bytes, told);
+    let variable = kept.engine.scope().get(number);
+    let value = seen_of(alloc, variable, kept.engine.store());
+    let status = tell_value(&mut kept, value, told);
     handle.put(kept);
     status
 }

@@ -6,13 +6,13 @@
 pub enum Status {
     /// The command is done.
     Done = 0,
-    /// Memory was refused, and nothing has changed.
+    /// An allocation failed, and nothing has changed.
     OutOfMemory = 1,
     /// No world is open.
     Closed = 2,
-    /// What was handed over says no command.
+    /// The input is not a command.
     NoCommand = 3,
-    /// Memory for what a command is made of was refused, and nothing has changed.
+    /// An allocation for the command's operands failed, and nothing has changed.
     NoRoom = 4,
 }
 

@@ -1,4 +1,4 @@
-//! The address of what is kept.
+//! The address of the contents.
 ghost use Rattle.std.specs.Prelude.{◌≡◌, ℕ, Option, Some, None};
 ghost use Rattle.rhai_host.specs.declared.handle.kept.Kept.{Kept};
 ghost use Rattle.rhai_host.specs.Owned.{held_owns, is_full, kept_coded};
@@ -9,7 +9,8 @@ use std::alloc::Global;
 use std::marker::Model;
 use std::ptr::null_mut;
 
-/// The address of a box, or of none. It owns the box; its type names none that C may not see.
+/// The address of a box, or of none. It owns the box; its type contains no type that C must not
+/// see.
 #[repr(C)]
 #[derive(Drop)]
 pub struct Held {
@@ -23,7 +24,7 @@ impl Model for Held {
 }
 
 impl Held {
-    /// Is of no box.
+    /// Makes an address without a box.
     #[inline(always)]
     pub fn none(alloc: Global) -> Held
         ensures { result.value ≡ None }
@@ -39,7 +40,7 @@ impl Held {
         Held { at, alloc }
     }
 
-    /// Takes the box over.
+    /// Takes ownership of the box.
     #[inline(always)]
     pub fn of_box(kept: Box<Kept>) -> Held
         ensures { result.value ≡ Some kept.value }
@@ -47,7 +48,7 @@ impl Held {
         Held::of(Loose::of(kept))
     }
 
-    /// Gives the box back.
+    /// Returns the box.
     #[inline(always)]
     pub fn into_box(self) -> Box<Kept>
         requires { is_full self.value }

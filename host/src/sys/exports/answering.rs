@@ -11,7 +11,8 @@ unsafe extern "C" {
     fn rhai_host_script_refuse(handle: *mut Handle, why: *const u8, why_len: usize, stop: &mut ScriptStop) -> u32;
 }
 
-/// Answers the hash bytes of an argument that the host's function is called with.
+/// Returns an argument of the host function being called: unit, a boolean and an int as they are,
+/// and others as their hash bytes.
 #[inline]
 pub fn script_argument(handle: &Handle, number: usize, told: &mut Told) -> u32 {
     // SAFETY: `handle` is zeros or what a call left, and this call's alone: it is no `Sync`, and the library comes back by
@@ -19,7 +20,7 @@ pub fn script_argument(handle: &Handle, number: usize, told: &mut Told) -> u32 {
     unsafe { rhai_host_script_argument(handle.lent().at(), number, told) }
 }
 
-/// Answers the hash bytes of the value that the run came to.
+/// Returns the run's value, as `rhai_host_script_argument` does.
 #[inline]
 pub fn script_value(handle: &Handle, told: &mut Told) -> u32 {
     // SAFETY: `handle` is zeros or what a call left, and this call's alone: it is no `Sync`, and the library comes back by
@@ -27,7 +28,8 @@ pub fn script_value(handle: &Handle, told: &mut Told) -> u32 {
     unsafe { rhai_host_script_value(handle.lent().at(), told) }
 }
 
-/// Answers the call of the host's function with the value of these hash bytes.
+/// Passes the value of these hash bytes to the script, as the result of the host function being
+/// called.
 #[inline]
 pub fn script_answer(handle: &Handle, value: &[u8]) -> u32 {
     // SAFETY: `handle` is zeros or what a call left, and this call's alone: it is no `Sync`, and the library comes back by
@@ -35,7 +37,8 @@ pub fn script_answer(handle: &Handle, value: &[u8]) -> u32 {
     unsafe { rhai_host_script_answer(handle.lent().at(), value.as_ptr(), value.len()) }
 }
 
-/// Refuses the call of the host's function with a text, which the script may catch: it goes on then, and the stop is of kind 1.
+/// Fails the call of the host function with a text, which the script may catch: it continues then,
+/// and the stop is of kind 1.
 #[inline]
 pub fn script_refuse(handle: &Handle, why: &[u8], stop: &mut ScriptStop) -> u32 {
     // SAFETY: `handle` is zeros or what a call left, and this call's alone: it is no `Sync`, and the library comes back by

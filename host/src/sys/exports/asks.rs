@@ -22,7 +22,7 @@ unsafe extern "C" {
     fn rhai_host_index(handle: *mut Handle, length: usize, index: i64, from_end: bool, told: &mut Told) -> u32;
 }
 
-/// Answers the tag of the value at the hand position.
+/// Returns the tag of the value at the hand position.
 #[inline]
 pub fn tag(handle: &Handle, i: usize, told: &mut Told) -> u32 {
     // SAFETY: `handle` is zeros or what a call left, and this call's alone: it is no `Sync`, and the library comes back by
@@ -30,7 +30,7 @@ pub fn tag(handle: &Handle, i: usize, told: &mut Told) -> u32 {
     unsafe { rhai_host_tag(handle.lent().at(), i, told) }
 }
 
-/// Answers whether the value at the hand position is of one of the host's types.
+/// Returns whether the value at the hand position is of one of the host's types.
 #[inline]
 pub fn is_variant(handle: &Handle, i: usize, told: &mut Told) -> u32 {
     // SAFETY: `handle` is zeros or what a call left, and this call's alone: it is no `Sync`, and the library comes back by
@@ -38,7 +38,7 @@ pub fn is_variant(handle: &Handle, i: usize, told: &mut Told) -> u32 {
     unsafe { rhai_host_is_variant(handle.lent().at(), i, told) }
 }
 
-/// Answers whether the value at the hand position is a holder.
+/// Returns whether the value at the hand position is a holder.
 #[inline]
 pub fn is_shared(handle: &Handle, i: usize, told: &mut Told) -> u32 {
     // SAFETY: `handle` is zeros or what a call left, and this call's alone: it is no `Sync`, and the library comes back by
@@ -46,7 +46,7 @@ pub fn is_shared(handle: &Handle, i: usize, told: &mut Told) -> u32 {
     unsafe { rhai_host_is_shared(handle.lent().at(), i, told) }
 }
 
-/// Answers whether the first content of the value at the hand position is a constant.
+/// Returns whether the first content of the value at the hand position is a constant.
 #[inline]
 pub fn is_read_only(handle: &Handle, i: usize, told: &mut Told) -> u32 {
     // SAFETY: `handle` is zeros or what a call left, and this call's alone: it is no `Sync`, and the library comes back by
@@ -54,7 +54,7 @@ pub fn is_read_only(handle: &Handle, i: usize, told: &mut Told) -> u32 {
     unsafe { rhai_host_is_read_only(handle.lent().at(), i, told) }
 }
 
-/// Answers whether the value at the hand position is, or has inside, a holder of a marked cell.
+/// Returns whether the value at the hand position is, or contains, a holder of a marked cell.
 #[inline]
 pub fn is_locked(handle: &Handle, i: usize, told: &mut Told) -> u32 {
     // SAFETY: `handle` is zeros or what a call left, and this call's alone: it is no `Sync`, and the library comes back by
@@ -62,7 +62,7 @@ pub fn is_locked(handle: &Handle, i: usize, told: &mut Told) -> u32 {
     unsafe { rhai_host_is_locked(handle.lent().at(), i, told) }
 }
 
-/// Answers the name of the type that is held at the hand position.
+/// Returns the name of the type held at the hand position.
 #[inline]
 pub fn type_name(handle: &Handle, i: usize, told: &mut Told) -> u32 {
     // SAFETY: `handle` is zeros or what a call left, and this call's alone: it is no `Sync`, and the library comes back by
@@ -70,7 +70,7 @@ pub fn type_name(handle: &Handle, i: usize, told: &mut Told) -> u32 {
     unsafe { rhai_host_type_name(handle.lent().at(), i, told) }
 }
 
-/// Answers whether the value at the hand position can be hashed.
+/// Returns whether the value at the hand position can be hashed.
 #[inline]
 pub fn is_hashable(handle: &Handle, i: usize, told: &mut Told) -> u32 {
     // SAFETY: `handle` is zeros or what a call left, and this call's alone: it is no `Sync`, and the library comes back by
@@ -78,7 +78,7 @@ pub fn is_hashable(handle: &Handle, i: usize, told: &mut Told) -> u32 {
     unsafe { rhai_host_is_hashable(handle.lent().at(), i, told) }
 }
 
-/// Is done where unit is held at the hand position.
+/// Succeeds if unit is held at the hand position.
 #[inline]
 pub fn as_unit(handle: &Handle, i: usize, told: &mut Told) -> u32 {
     // SAFETY: `handle` is zeros or what a call left, and this call's alone: it is no `Sync`, and the library comes back by
@@ -86,7 +86,7 @@ pub fn as_unit(handle: &Handle, i: usize, told: &mut Told) -> u32 {
     unsafe { rhai_host_as_unit(handle.lent().at(), i, told) }
 }
 
-/// Answers the int that is held at the hand position.
+/// Returns the int held at the hand position.
 #[inline]
 pub fn as_int(handle: &Handle, i: usize, told: &mut Told) -> u32 {
     // SAFETY: `handle` is zeros or what a call left, and this call's alone: it is no `Sync`, and the library comes back by
@@ -94,7 +94,7 @@ pub fn as_int(handle: &Handle, i: usize, told: &mut Told) -> u32 {
     unsafe { rhai_host_as_int(handle.lent().at(), i, told) }
 }
 
-/// Answers the boolean that is held at the hand position.
+/// Returns the boolean held at the hand position.
 #[inline]
 pub fn as_bool(handle: &Handle, i: usize, told: &mut Told) -> u32 {
     // SAFETY: `handle` is zeros or what a call left, and this call's alone: it is no `Sync`, and the library comes back by
@@ -102,7 +102,7 @@ pub fn as_bool(handle: &Handle, i: usize, told: &mut Told) -> u32 {
     unsafe { rhai_host_as_bool(handle.lent().at(), i, told) }
 }
 
-/// Answers the character that is held at the hand position, as a text.
+/// Returns the character held at the hand position, as a text.
 #[inline]
 pub fn as_char(handle: &Handle, i: usize, told: &mut Told) -> u32 {
     // SAFETY: `handle` is zeros or what a call left, and this call's alone: it is no `Sync`, and the library comes back by
@@ -110,7 +110,7 @@ pub fn as_char(handle: &Handle, i: usize, told: &mut Told) -> u32 {
     unsafe { rhai_host_as_char(handle.lent().at(), i, told) }
 }
 
-/// Answers the text of the value at the hand position, as it is displayed.
+/// Returns the text of the value at the hand position, in display format.
 #[inline]
 pub fn show(handle: &Handle, i: usize, told: &mut Told) -> u32 {
     // SAFETY: `handle` is zeros or what a call left, and this call's alone: it is no `Sync`, and the library comes back by
@@ -118,7 +118,7 @@ pub fn show(handle: &Handle, i: usize, told: &mut Told) -> u32 {
     unsafe { rhai_host_show(handle.lent().at(), i, told) }
 }
 
-/// Answers the text of the value at the hand position, as it is debugged.
+/// Returns the text of the value at the hand position, in debug format.
 #[inline]
 pub fn debug(handle: &Handle, i: usize, told: &mut Told) -> u32 {
     // SAFETY: `handle` is zeros or what a call left, and this call's alone: it is no `Sync`, and the library comes back by
@@ -126,7 +126,7 @@ pub fn debug(handle: &Handle, i: usize, told: &mut Told) -> u32 {
     unsafe { rhai_host_debug(handle.lent().at(), i, told) }
 }
 
-/// Answers the hash bytes of the value at the hand position.
+/// Returns the hash bytes of the value at the hand position.
 #[inline]
 pub fn hash(handle: &Handle, i: usize, told: &mut Told) -> u32 {
     // SAFETY: `handle` is zeros or what a call left, and this call's alone: it is no `Sync`, and the library comes back by
@@ -134,7 +134,7 @@ pub fn hash(handle: &Handle, i: usize, told: &mut Told) -> u32 {
     unsafe { rhai_host_hash(handle.lent().at(), i, told) }
 }
 
-/// Answers where a slice of a list of this length starts and how many items it has, for a start and a number of items.
+/// Returns where a slice of a list of this length starts and how many items it has, for a start and a number of items.
 #[inline]
 pub fn offset(handle: &Handle, length: usize, start: i64, count: i64, told: &mut Told) -> u32 {
     // SAFETY: `handle` is zeros or what a call left, and this call's alone: it is no `Sync`, and the library comes back by
@@ -142,7 +142,8 @@ pub fn offset(handle: &Handle, length: usize, start: i64, count: i64, told: &mut
     unsafe { rhai_host_offset(handle.lent().at(), length, start, count, told) }
 }
 
-/// Answers the place of an item of a list of this length, or nothing; with the flag a negative index counts from the end.
+/// Returns the position of an item in a list of this length, or nothing; with the flag a negative
+/// index counts from the end.
 #[inline]
 pub fn index(handle: &Handle, length: usize, index: i64, from_end: bool, told: &mut Told) -> u32 {
     // SAFETY: `handle` is zeros or what a call left, and this call's alone: it is no `Sync`, and the library comes back by

@@ -2,26 +2,28 @@
 
 use crate::sys::Handle;
 
-/// Why a script stopped. The answer is what it printed, and behind that what went wrong.
+/// Why a script stopped. The answer is what it printed, followed by what went wrong, if that isn't
+/// empty.
 #[repr(C)]
 #[derive(Clone, Copy, Debug, Default)]
 pub struct ScriptStop {
-    /// 0 it is done, 1 it did as many operations as it might, 2 it calls the host, 3 a statement is done next, 4 memory was refused, 5 it
-    /// went wrong, 6 the text is no script, 7 a function that the host called while it is called itself is done, 8 it went wrong.
+    /// 0 it is done, 1 it executed as many operations as it might, 2 it calls the host, 3 it is
+    /// before a statement, 4 an allocation failed, 5 it failed, 6 the text is not a valid script, 7
+    /// a function that a host function called is done, 8 such a function failed.
     pub kind: u32,
-    /// The number of the host's function that is called; else 0.
+    /// The number of the host function being called; else 0.
     pub function: u32,
     /// How many arguments it is called with; else 0.
     pub arguments: usize,
-    /// The line where it stands, or of what went wrong, counted from 1; else 0.
+    /// The line where it is, or where it went wrong, counted from 1; else 0.
     pub line: u32,
-    /// The place on that line, counted from 1; else 0.
+    /// The column, counted from 1; else 0.
     pub column: u32,
-    /// How many operations the run took so far, with those that the room of values counts as.
+    /// How many operations the run has used so far, including those for the size of values.
     pub operations: u64,
     /// How many bytes of the answer it printed.
     pub printed: usize,
-    /// How many bytes behind these say what went wrong.
+    /// How many bytes after these say what went wrong.
     pub said: usize,
 }
 
@@ -54,9 +56,10 @@ unsafe extern "C" {
     fn rhai_host_script_end(handle: *mut Handle) -> u32;
 }
 
-/// Compiles a script for the variables that are there. The functions of the host are a line each: the name, a space and the number of
-/// arguments, with ` mut` behind that where it may change the first one; the first function has number 0. A run that stands ends. What is wrong
-/// with the text is told as a stop of kind 6.
+/// Compiles a script for the present variables. The host functions are a line each: the name, a
+/// space and the number of arguments, then ` mut` if it may change the first one; the first
+/// function has number 0. An unfinished run ends. What is wrong with the text is reported as a stop
+/// of kind 6.
 #[inline]
 pub fn script_compile(handle: &Handle, text: &[u8], names: &[u8], stop: &mut ScriptStop) -> u32 {
     // SAFETY: `handle` is zeros or what a call left, and this call's alone: it is no `Sync`, and the library comes back by
@@ -65,8 +68,9 @@ pub fn script_compile(handle: &Handle, text: &[u8], names: &[u8], stop: &mut Scr
     unsafe { rhai_host_script_compile(handle.lent().at(), text.as_ptr(), text.len(), names.as_ptr(), names.len(), stop) }
 }
 
-/// Begins a run of the script over the variables, with the largest sizes of texts, arrays and maps, 0 being none, and of calls within each
-/// other. Without its body, it has ended at once, and functions may be called.
+/// Starts a run of the script over the variables, with the largest sizes of texts, arrays and maps,
+/// 0 meaning no limit, and the deepest nesting of calls. Without its body, it has ended at once,
+/// and functions can be called.
 #[inline]
 pub fn script_begin(handle: &Handle, text: usize, items: usize, entries: usize, calls: usize, with_body: bool) -> u32 {
     // SAFETY: `handle` is zeros or what a call left, and this call's alone: it is no `Sync`, and the library comes back by
@@ -74,7 +78,7 @@ pub fn script_begin(handle: &Handle, text: usize, items: usize, entries: usize, 
     unsafe { rhai_host_script_begin(handle.lent().at(), text, items, entries, calls, with_body) }
 }
 
-/// Has the run stop before each statement, or no longer.
+/// Sets whether the run stops before each statement.
 #[inline]
 pub fn script_stop_at_statements(handle: &Handle, stops: bool) -> u32 {
     // SAFETY: `handle` is zeros or what a call left, and this call's alone: it is no `Sync`, and the library comes back by
@@ -82,7 +86,7 @@ pub fn script_stop_at_statements(handle: &Handle, stops: bool) -> u32 {
     unsafe { rhai_host_script_stop_at_statements(handle.lent().at(), stops) }
 }
 
-/// Goes on with the run by up to so many operations.
+/// Continues the run for at most this many operations.
 #[inline]
 pub fn script_go(handle: &Handle, operations: u64, stop: &mut ScriptStop) -> u32 {
     // SAFETY: `handle` is zeros or what a call left, and this call's alone: it is no `Sync`, and the library comes back by
@@ -90,8 +94,8 @@ pub fn script_go(handle: &Handle, operations: u64, stop: &mut ScriptStop) -> u32
     unsafe { rhai_host_script_go(handle.lent().at(), operations, stop) }
 }
 
-/// Begins a call of a function of the script with these arguments: the hash bytes of an array of them. The script's body is done, and no
-/// call stands.
+/// Starts a call of a function of the script with these arguments: the hash bytes of an array of
+/// them. The script's body has to be done, and no call may be open.
 #[inline]
 pub fn script_call(handle: &Handle, name: &[u8], arguments: &[u8]) -> u32 {
     // SAFETY: `handle` is zeros or what a call left, and this call's alone: it is no `Sync`, and the library comes back by
@@ -100,7 +104,7 @@ pub fn script_call(handle: &Handle, name: &[u8], arguments: &[u8]) -> u32 {
     unsafe { rhai_host_script_call(handle.lent().at(), name.as_ptr(), name.len(), arguments.as_ptr(), arguments.len()) }
 }
 
-/// Ends the run, wherever it stands: its variables can be looked at and written then.
+/// Ends the run, wherever it is: its variables can be read and written then.
 #[inline]
 pub fn script_end(handle: &Handle) -> u32 {
     // SAFETY: `handle` is zeros or what a call left, and this call's alone: it is no `Sync`, and the library comes back by

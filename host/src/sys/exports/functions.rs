@@ -15,9 +15,10 @@ unsafe extern "C" {
     fn rhai_host_script_throw(handle: *mut Handle, value: *const u8, value_len: usize, stop: &mut ScriptStop) -> u32;
 }
 
-/// Keeps a function of a script, with the cells that it captured, and tells its number: that at a place among the arguments of the host's
-/// function that is called (source 0), that which the run or a call within it has just come to (source 1), or that of a variable (source 2).
-/// NO_COMMAND says that no function is there.
+/// Keeps a function of a script, with the cells that it captured, and reports its number: the
+/// function in an argument of the host function being called (source 0), the value that the run or
+/// a call within it has just returned (source 1), or the function in a variable (source 2).
+/// NO_COMMAND means that there is no function.
 #[inline]
 pub fn function_keep(handle: &Handle, source: u32, at: usize, number: &mut usize) -> u32 {
     // SAFETY: `handle` is zeros or what a call left, and this call's alone: it is no `Sync`, and the library comes back by
@@ -25,7 +26,8 @@ pub fn function_keep(handle: &Handle, source: u32, at: usize, number: &mut usize
     unsafe { rhai_host_function_keep(handle.lent().at(), source, at, number) }
 }
 
-/// Keeps a pointer to the function of this name, whether a script has one or not, and tells its number. NO_COMMAND says that the bytes are no text.
+/// Keeps a pointer to the function with this name, whether a script has one or not, and reports its
+/// number. NO_COMMAND means that the bytes are not a text.
 #[inline]
 pub fn function_of(handle: &Handle, name: &[u8], number: &mut usize) -> u32 {
     // SAFETY: `handle` is zeros or what a call left, and this call's alone: it is no `Sync`, and the library comes back by
@@ -33,7 +35,8 @@ pub fn function_of(handle: &Handle, name: &[u8], number: &mut usize) -> u32 {
     unsafe { rhai_host_function_of(handle.lent().at(), name.as_ptr(), name.len(), number) }
 }
 
-/// Keeps the function of this number no more, which another one may have then. NO_COMMAND says that there is none.
+/// Frees the kept function of this number, which another one may get. NO_COMMAND means that there
+/// is none.
 #[inline]
 pub fn function_let_go(handle: &Handle, number: usize) -> u32 {
     // SAFETY: `handle` is zeros or what a call left, and this call's alone: it is no `Sync`, and the library comes back by
@@ -41,7 +44,7 @@ pub fn function_let_go(handle: &Handle, number: usize) -> u32 {
     unsafe { rhai_host_function_let_go(handle.lent().at(), number) }
 }
 
-/// Answers the hash bytes of the kept function of this number: its name, and what it was given ahead.
+/// Returns the hash bytes of the kept function of this number: its name, and its curried values.
 #[inline]
 pub fn function_value(handle: &Handle, number: usize, told: &mut Told) -> u32 {
     // SAFETY: `handle` is zeros or what a call left, and this call's alone: it is no `Sync`, and the library comes back by
@@ -49,8 +52,8 @@ pub fn function_value(handle: &Handle, number: usize, told: &mut Told) -> u32 {
     unsafe { rhai_host_function_value(handle.lent().at(), number, told) }
 }
 
-/// Answers the call of the host's function with the kept function of this number. NO_COMMAND says that none is called, or that there is no such
-/// function.
+/// Passes the kept function of this number to the script, as the result of the host function being
+/// called. NO_COMMAND means that none is being called, or that there is no such kept function.
 #[inline]
 pub fn function_answer(handle: &Handle, number: usize) -> u32 {
     // SAFETY: `handle` is zeros or what a call left, and this call's alone: it is no `Sync`, and the library comes back by
@@ -58,8 +61,10 @@ pub fn function_answer(handle: &Handle, number: usize) -> u32 {
     unsafe { rhai_host_function_answer(handle.lent().at(), number) }
 }
 
-/// Changes the first argument of the host's function that is called to the value of these hash bytes: where the function was compiled with
-/// ` mut`, the place that it came from has it once the call is answered. NO_COMMAND says that none is called, or that it takes no argument.
+/// Replaces the first argument of the host function being called by the value of these hash bytes.
+/// If the function was compiled with ` mut`, the place that the argument came from has the new
+/// value once the function has returned. NO_COMMAND means that no host function is being called, or
+/// that it has no arguments.
 #[inline]
 pub fn script_change(handle: &Handle, value: &[u8]) -> u32 {
     // SAFETY: `handle` is zeros or what a call left, and this call's alone: it is no `Sync`, and the library comes back by
@@ -67,9 +72,10 @@ pub fn script_change(handle: &Handle, value: &[u8]) -> u32 {
     unsafe { rhai_host_script_change(handle.lent().at(), value.as_ptr(), value.len()) }
 }
 
-/// Begins a call of a kept function with these arguments: the hash bytes of an array of them. Either a function of the host is called: then the
-/// run goes on to a stop of kind 7 or 8, behind which that call stands as before. Or the script's body is done, and no call stands.
-/// NO_COMMAND says that neither is so, or that there is no such function of so many arguments.
+/// Starts a call of a kept function with these arguments: the hash bytes of an array of them. While
+/// a host function is being called, the run continues to a stop of kind 7 or 8, after which that
+/// call is open as before. Otherwise the script's body has to be done, and no call may be open.
+/// NO_COMMAND means that neither is the case, or that no such function takes this many arguments.
 #[inline]
 pub fn function_call(handle: &Handle, number: usize, arguments: &[u8]) -> u32 {
     // SAFETY: `handle` is zeros or what a call left, and this call's alone: it is no `Sync`, and the library comes back by
@@ -77,8 +83,8 @@ pub fn function_call(handle: &Handle, number: usize, arguments: &[u8]) -> u32 {
     unsafe { rhai_host_function_call(handle.lent().at(), number, arguments.as_ptr(), arguments.len()) }
 }
 
-/// Refuses the call of the host's function with the value of these hash bytes, as if the script threw it: the script may catch it and goes on
-/// then, and the stop is of kind 1.
+/// Fails the call of the host function with the value of these hash bytes, as if the script had
+/// thrown it: the script may catch it and continues then, and the stop is of kind 1.
 #[inline]
 pub fn script_throw(handle: &Handle, value: &[u8], stop: &mut ScriptStop) -> u32 {
     // SAFETY: `handle` is zeros or what a call left, and this call's alone: it is no `Sync`, and the library comes back by

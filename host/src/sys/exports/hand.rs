@@ -21,7 +21,7 @@ unsafe extern "C" {
     fn rhai_host_scan_cut(handle: *mut Handle, i: usize, count: usize, told: &mut Told) -> u32;
 }
 
-/// Takes this many values off the end of the hand, and appends the array of them in order.
+/// Removes this many values from the end of the hand, and appends an array of them in order.
 #[inline]
 pub fn make_array(handle: &Handle, count: usize, told: &mut Told) -> u32 {
     // SAFETY: `handle` is zeros or what a call left, and this call's alone: it is no `Sync`, and the library comes back by
@@ -37,7 +37,7 @@ pub fn copy(handle: &Handle, i: usize, told: &mut Told) -> u32 {
     unsafe { rhai_host_copy(handle.lent().at(), i, told) }
 }
 
-/// Appends a copy of the value at the hand position without its holders.
+/// Appends a copy of the value at the hand position, without its holders.
 #[inline]
 pub fn flatten_clone(handle: &Handle, i: usize, told: &mut Told) -> u32 {
     // SAFETY: `handle` is zeros or what a call left, and this call's alone: it is no `Sync`, and the library comes back by
@@ -45,7 +45,7 @@ pub fn flatten_clone(handle: &Handle, i: usize, told: &mut Told) -> u32 {
     unsafe { rhai_host_flatten_clone(handle.lent().at(), i, told) }
 }
 
-/// Moves the value at the hand position to the end, and leaves unit.
+/// Moves the value at the hand position to the end, and leaves unit in its place.
 #[inline]
 pub fn take(handle: &Handle, i: usize, told: &mut Told) -> u32 {
     // SAFETY: `handle` is zeros or what a call left, and this call's alone: it is no `Sync`, and the library comes back by
@@ -61,7 +61,8 @@ pub fn drop(handle: &Handle, told: &mut Told) -> u32 {
     unsafe { rhai_host_drop(handle.lent().at(), told) }
 }
 
-/// Moves the value at the hand position into a new cell, and leaves a holder of it; a holder stays.
+/// Moves the value at the hand position into a new cell, and leaves a holder of that cell. A holder
+/// is left as it is.
 #[inline]
 pub fn share(handle: &Handle, i: usize, told: &mut Told) -> u32 {
     // SAFETY: `handle` is zeros or what a call left, and this call's alone: it is no `Sync`, and the library comes back by
@@ -69,7 +70,7 @@ pub fn share(handle: &Handle, i: usize, told: &mut Told) -> u32 {
     unsafe { rhai_host_share(handle.lent().at(), i, told) }
 }
 
-/// Puts in the place of a holder at the hand position what is held, without its holders.
+/// Replaces a holder at the hand position with the held value, without its holders.
 #[inline]
 pub fn flatten(handle: &Handle, i: usize, told: &mut Told) -> u32 {
     // SAFETY: `handle` is zeros or what a call left, and this call's alone: it is no `Sync`, and the library comes back by
@@ -93,7 +94,7 @@ pub fn set_tag(handle: &Handle, i: usize, tag: i32, told: &mut Told) -> u32 {
     unsafe { rhai_host_set_tag(handle.lent().at(), i, tag, told) }
 }
 
-/// Writes over the int that is held at the hand position.
+/// Overwrites the int held at the hand position.
 #[inline]
 pub fn write_int(handle: &Handle, i: usize, n: i64, told: &mut Told) -> u32 {
     // SAFETY: `handle` is zeros or what a call left, and this call's alone: it is no `Sync`, and the library comes back by
@@ -101,7 +102,8 @@ pub fn write_int(handle: &Handle, i: usize, n: i64, told: &mut Told) -> u32 {
     unsafe { rhai_host_write_int(handle.lent().at(), i, n, told) }
 }
 
-/// Writes the value at the second hand position over the first content of the one at the first, and leaves unit at the second.
+/// Overwrites the first content of the value at the first hand position with the value at the
+/// second, and leaves unit at the second.
 #[inline]
 pub fn write(handle: &Handle, i: usize, j: usize, told: &mut Told) -> u32 {
     // SAFETY: `handle` is zeros or what a call left, and this call's alone: it is no `Sync`, and the library comes back by
@@ -109,7 +111,8 @@ pub fn write(handle: &Handle, i: usize, j: usize, told: &mut Told) -> u32 {
     unsafe { rhai_host_write(handle.lent().at(), i, j, told) }
 }
 
-/// Sets the tag of each value that a scan of the one at the hand position comes to, and answers how many these are.
+/// Sets the tag of each value that a scan of the hand position visits, and returns how many there
+/// are.
 #[inline]
 pub fn scan_tags(handle: &Handle, i: usize, tag: i32, told: &mut Told) -> u32 {
     // SAFETY: `handle` is zeros or what a call left, and this call's alone: it is no `Sync`, and the library comes back by
@@ -117,7 +120,8 @@ pub fn scan_tags(handle: &Handle, i: usize, tag: i32, told: &mut Told) -> u32 {
     unsafe { rhai_host_scan_tags(handle.lent().at(), i, tag, told) }
 }
 
-/// Makes each int 0 that a scan of the value at the hand position comes to, and answers how many values it came to.
+/// Sets each int that a scan of the hand position visits to 0, and returns how many values it
+/// visited.
 #[inline]
 pub fn scan_zero(handle: &Handle, i: usize, told: &mut Told) -> u32 {
     // SAFETY: `handle` is zeros or what a call left, and this call's alone: it is no `Sync`, and the library comes back by
@@ -125,7 +129,8 @@ pub fn scan_zero(handle: &Handle, i: usize, told: &mut Told) -> u32 {
     unsafe { rhai_host_scan_zero(handle.lent().at(), i, told) }
 }
 
-/// Makes each holder unit that a scan of the value at the hand position comes to, and answers how many values it came to.
+/// Replaces each holder that a scan of the hand position visits with unit, and returns how many
+/// values it visited.
 #[inline]
 pub fn scan_no_share(handle: &Handle, i: usize, told: &mut Told) -> u32 {
     // SAFETY: `handle` is zeros or what a call left, and this call's alone: it is no `Sync`, and the library comes back by
@@ -133,7 +138,8 @@ pub fn scan_no_share(handle: &Handle, i: usize, told: &mut Told) -> u32 {
     unsafe { rhai_host_scan_no_share(handle.lent().at(), i, told) }
 }
 
-/// Keeps this many items of each array that a scan of the value at the hand position comes to, and answers how many values it came to.
+/// Truncates each array that a scan of the hand position visits to this many items, and returns how
+/// many values it visited.
 #[inline]
 pub fn scan_cut(handle: &Handle, i: usize, count: usize, told: &mut Told) -> u32 {
     // SAFETY: `handle` is zeros or what a call left, and this call's alone: it is no `Sync`, and the library comes back by

@@ -9,7 +9,7 @@ unsafe extern "C" {
     fn rhai_host_journal(handle: *mut Handle, lines: *const u8, lines_len: usize, told: &mut Told) -> u32;
 }
 
-/// Does the command that a line says; `docs/LINES.md` has the lines.
+/// Executes the command of a line; `docs/LINES.md` has the lines.
 #[inline]
 pub fn line(handle: &Handle, line: &[u8], told: &mut Told) -> u32 {
     // SAFETY: `handle` is zeros or what a call left, and this call's alone: it is no `Sync`, and the library comes back by
@@ -17,7 +17,8 @@ pub fn line(handle: &Handle, line: &[u8], told: &mut Told) -> u32 {
     unsafe { rhai_host_line(handle.lent().at(), line.as_ptr(), line.len(), told) }
 }
 
-/// Runs lines on a world of their own, and answers the bytes that they print; the handle's world stays.
+/// Runs lines on a new world, and returns the bytes that they print; the handle's world is
+/// unchanged.
 #[inline]
 pub fn run_lines(handle: &Handle, input: &[u8], told: &mut Told) -> u32 {
     // SAFETY: `handle` is zeros or what a call left, and this call's alone: it is no `Sync`, and the library comes back by
@@ -25,7 +26,8 @@ pub fn run_lines(handle: &Handle, input: &[u8], told: &mut Told) -> u32 {
     unsafe { rhai_host_run_lines(handle.lent().at(), input.as_ptr(), input.len(), told) }
 }
 
-/// Answers the journal of the commands that lines say: the lines by which they are written, in turn, each with a line feed.
+/// Returns the journal of the commands in these lines: the lines as the library writes them, in
+/// order, each with a line feed.
 #[inline]
 pub fn journal(handle: &Handle, lines: &[u8], told: &mut Told) -> u32 {
     // SAFETY: `handle` is zeros or what a call left, and this call's alone: it is no `Sync`, and the library comes back by

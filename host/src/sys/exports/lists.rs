@@ -17,7 +17,8 @@ unsafe extern "C" {
     fn rhai_host_set_alias(handle: *mut Handle, name: usize, alias: *const u8, alias_len: usize, told: &mut Told) -> u32;
 }
 
-/// Takes as many values off the end of the hand as there are keys, and appends the map of these to those in order; of equal keys the last value stands.
+/// Removes as many values from the end of the hand as there are keys, and appends the map from the
+/// keys to these values, in order; for duplicate keys the last value counts.
 #[inline]
 pub fn make_map(handle: &Handle, keys: &[usize], told: &mut Told) -> u32 {
     // SAFETY: `handle` is zeros or what a call left, and this call's alone: it is no `Sync`, and the library comes back by
@@ -25,7 +26,8 @@ pub fn make_map(handle: &Handle, keys: &[usize], told: &mut Told) -> u32 {
     unsafe { rhai_host_make_map(handle.lent().at(), keys.as_ptr(), keys.len(), told) }
 }
 
-/// Takes as many values off the end of the hand as there are names, and adds an entry of each name with its value, which may be written.
+/// Removes as many values from the end of the hand as there are names, and adds a writable entry
+/// for each name and value.
 #[inline]
 pub fn extend(handle: &Handle, names: &[usize], told: &mut Told) -> u32 {
     // SAFETY: `handle` is zeros or what a call left, and this call's alone: it is no `Sync`, and the library comes back by
@@ -33,7 +35,8 @@ pub fn extend(handle: &Handle, names: &[usize], told: &mut Told) -> u32 {
     unsafe { rhai_host_extend(handle.lent().at(), names.as_ptr(), names.len(), told) }
 }
 
-/// Takes as many values off the end of the hand as there are names, and adds an entry of each name with its value, which is a constant where its flag says so.
+/// Removes as many values from the end of the hand as there are names, and adds an entry for each
+/// name and value; it is a constant if its flag is set.
 #[inline]
 pub fn extend_flagged(handle: &Handle, names: &[usize], constants: &[bool], told: &mut Told) -> u32 {
     // SAFETY: `handle` is zeros or what a call left, and this call's alone: it is no `Sync`, and the library comes back by
@@ -44,7 +47,8 @@ pub fn extend_flagged(handle: &Handle, names: &[usize], constants: &[bool], told
     }
 }
 
-/// Gives the last entry of the name the alias, if it hasn't got it; an empty alias means the name.
+/// Gives the newest entry with the name this alias, unless it has it; an empty alias means the name
+/// itself.
 #[inline]
 pub fn set_alias(handle: &Handle, name: usize, alias: &[u8], told: &mut Told) -> u32 {
     // SAFETY: `handle` is zeros or what a call left, and this call's alone: it is no `Sync`, and the library comes back by

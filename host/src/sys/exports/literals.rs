@@ -42,7 +42,7 @@ pub fn put_int(handle: &Handle, n: i64, told: &mut Told) -> u32 {
     unsafe { rhai_host_put_int(handle.lent().at(), n, told) }
 }
 
-/// Appends the range from one int to another, without the end.
+/// Appends the range from one int to another, end excluded.
 #[inline]
 pub fn put_range(handle: &Handle, start: i64, end: i64, told: &mut Told) -> u32 {
     // SAFETY: `handle` is zeros or what a call left, and this call's alone: it is no `Sync`, and the library comes back by
@@ -50,7 +50,7 @@ pub fn put_range(handle: &Handle, start: i64, end: i64, told: &mut Told) -> u32 
     unsafe { rhai_host_put_range(handle.lent().at(), start, end, told) }
 }
 
-/// Appends the range from one int to another, with the end.
+/// Appends the range from one int to another, end included.
 #[inline]
 pub fn put_range_with_end(handle: &Handle, start: i64, end: i64, told: &mut Told) -> u32 {
     // SAFETY: `handle` is zeros or what a call left, and this call's alone: it is no `Sync`, and the library comes back by
@@ -58,7 +58,7 @@ pub fn put_range_with_end(handle: &Handle, start: i64, end: i64, told: &mut Told
     unsafe { rhai_host_put_range_with_end(handle.lent().at(), start, end, told) }
 }
 
-/// Appends a `u8` of the host's.
+/// Appends a `u8` of the host.
 #[inline]
 pub fn put_u8(handle: &Handle, n: u8, told: &mut Told) -> u32 {
     // SAFETY: `handle` is zeros or what a call left, and this call's alone: it is no `Sync`, and the library comes back by
@@ -66,7 +66,7 @@ pub fn put_u8(handle: &Handle, n: u8, told: &mut Told) -> u32 {
     unsafe { rhai_host_put_u8(handle.lent().at(), n, told) }
 }
 
-/// Appends a `u16` of the host's.
+/// Appends a `u16` of the host.
 #[inline]
 pub fn put_u16(handle: &Handle, n: u16, told: &mut Told) -> u32 {
     // SAFETY: `handle` is zeros or what a call left, and this call's alone: it is no `Sync`, and the library comes back by
@@ -74,7 +74,7 @@ pub fn put_u16(handle: &Handle, n: u16, told: &mut Told) -> u32 {
     unsafe { rhai_host_put_u16(handle.lent().at(), n, told) }
 }
 
-/// Appends a `u32` of the host's.
+/// Appends a `u32` of the host.
 #[inline]
 pub fn put_u32(handle: &Handle, n: u32, told: &mut Told) -> u32 {
     // SAFETY: `handle` is zeros or what a call left, and this call's alone: it is no `Sync`, and the library comes back by
@@ -82,7 +82,7 @@ pub fn put_u32(handle: &Handle, n: u32, told: &mut Told) -> u32 {
     unsafe { rhai_host_put_u32(handle.lent().at(), n, told) }
 }
 
-/// Appends a `u64` of the host's.
+/// Appends a `u64` of the host.
 #[inline]
 pub fn put_u64(handle: &Handle, n: u64, told: &mut Told) -> u32 {
     // SAFETY: `handle` is zeros or what a call left, and this call's alone: it is no `Sync`, and the library comes back by
@@ -90,7 +90,7 @@ pub fn put_u64(handle: &Handle, n: u64, told: &mut Told) -> u32 {
     unsafe { rhai_host_put_u64(handle.lent().at(), n, told) }
 }
 
-/// Appends an `i8` of the host's.
+/// Appends an `i8` of the host.
 #[inline]
 pub fn put_i8(handle: &Handle, n: i8, told: &mut Told) -> u32 {
     // SAFETY: `handle` is zeros or what a call left, and this call's alone: it is no `Sync`, and the library comes back by
@@ -98,7 +98,7 @@ pub fn put_i8(handle: &Handle, n: i8, told: &mut Told) -> u32 {
     unsafe { rhai_host_put_i8(handle.lent().at(), n, told) }
 }
 
-/// Appends an `i16` of the host's.
+/// Appends an `i16` of the host.
 #[inline]
 pub fn put_i16(handle: &Handle, n: i16, told: &mut Told) -> u32 {
     // SAFETY: `handle` is zeros or what a call left, and this call's alone: it is no `Sync`, and the library comes back by
@@ -106,7 +106,7 @@ pub fn put_i16(handle: &Handle, n: i16, told: &mut Told) -> u32 {
     unsafe { rhai_host_put_i16(handle.lent().at(), n, told) }
 }
 
-/// Appends an `i32` of the host's.
+/// Appends an `i32` of the host.
 #[inline]
 pub fn put_i32(handle: &Handle, n: i32, told: &mut Told) -> u32 {
     // SAFETY: `handle` is zeros or what a call left, and this call's alone: it is no `Sync`, and the library comes back by

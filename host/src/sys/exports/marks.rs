@@ -9,7 +9,7 @@ unsafe extern "C" {
     fn rhai_host_read_marked(handle: *mut Handle, mark: usize, told: &mut Told) -> u32;
 }
 
-/// Takes the mark at this position out of the list, and frees its cell; later marks close up.
+/// Removes the mark at this position from the list, and unlocks its cell. Later marks move up.
 #[inline]
 pub fn unmark(handle: &Handle, mark: usize, told: &mut Told) -> u32 {
     // SAFETY: `handle` is zeros or what a call left, and this call's alone: it is no `Sync`, and the library comes back by
@@ -17,7 +17,8 @@ pub fn unmark(handle: &Handle, mark: usize, told: &mut Told) -> u32 {
     unsafe { rhai_host_unmark(handle.lent().at(), mark, told) }
 }
 
-/// Moves the value at the hand position into the cell of the mark at this position, and leaves unit.
+/// Moves the value at the hand position into the cell of the mark at this position, and leaves unit
+/// in its place.
 #[inline]
 pub fn write_marked(handle: &Handle, mark: usize, i: usize, told: &mut Told) -> u32 {
     // SAFETY: `handle` is zeros or what a call left, and this call's alone: it is no `Sync`, and the library comes back by
@@ -25,7 +26,7 @@ pub fn write_marked(handle: &Handle, mark: usize, i: usize, told: &mut Told) -> 
     unsafe { rhai_host_write_marked(handle.lent().at(), mark, i, told) }
 }
 
-/// Appends a copy of what is in the cell of the mark at this position.
+/// Appends a copy of the content of the cell of the mark at this position.
 #[inline]
 pub fn read_marked(handle: &Handle, mark: usize, told: &mut Told) -> u32 {
     // SAFETY: `handle` is zeros or what a call left, and this call's alone: it is no `Sync`, and the library comes back by

@@ -8,7 +8,7 @@ unsafe extern "C" {
     fn rhai_host_entry(handle: *mut Handle, i: usize, is_constant: &mut bool, told: &mut Told) -> u32;
 }
 
-/// Answers the name of a number, as a text.
+/// Returns the name of a number, as a text.
 #[inline]
 pub fn name_text(handle: &Handle, number: usize, told: &mut Told) -> u32 {
     // SAFETY: `handle` is zeros or what a call left, and this call's alone: it is no `Sync`, and the library comes back by
@@ -16,7 +16,8 @@ pub fn name_text(handle: &Handle, number: usize, told: &mut Told) -> u32 {
     unsafe { rhai_host_name_text(handle.lent().at(), number, told) }
 }
 
-/// Answers the name of the entry at this position, counted from the oldest, as a text, and tells whether the entry is a constant.
+/// Returns the name of the entry at this position, counted from the oldest, as a text, and reports
+/// whether the entry is a constant.
 #[inline]
 pub fn entry(handle: &Handle, i: usize, is_constant: &mut bool, told: &mut Told) -> u32 {
     // SAFETY: `handle` is zeros or what a call left, and this call's alone: it is no `Sync`, and the library comes back by

@@ -19,7 +19,8 @@ unsafe extern "C" {
     fn rhai_host_aliases(handle: *mut Handle, name: usize, told: &mut Told) -> u32;
 }
 
-/// Takes this many values off the end of the hand, and appends the function pointer of the name with these curried in order.
+/// Removes this many values from the end of the hand, and appends the function pointer of the name
+/// with these values curried in order.
 #[inline]
 pub fn make_fn(handle: &Handle, name: usize, count: usize, told: &mut Told) -> u32 {
     // SAFETY: `handle` is zeros or what a call left, and this call's alone: it is no `Sync`, and the library comes back by
@@ -27,7 +28,8 @@ pub fn make_fn(handle: &Handle, name: usize, count: usize, told: &mut Told) -> u
     unsafe { rhai_host_make_fn(handle.lent().at(), name, count, told) }
 }
 
-/// Moves the value at the hand position into a new entry of the name that may be written, and leaves unit.
+/// Moves the value at the hand position into a new writable entry with the name, and leaves unit in
+/// its place.
 #[inline]
 pub fn push(handle: &Handle, name: usize, i: usize, told: &mut Told) -> u32 {
     // SAFETY: `handle` is zeros or what a call left, and this call's alone: it is no `Sync`, and the library comes back by
@@ -35,7 +37,8 @@ pub fn push(handle: &Handle, name: usize, i: usize, told: &mut Told) -> u32 {
     unsafe { rhai_host_push(handle.lent().at(), name, i, told) }
 }
 
-/// Moves the value at the hand position into a new entry of the name, which is a constant where the value is, and leaves unit.
+/// Moves the value at the hand position into a new entry with the name, and leaves unit in its
+/// place. The entry is a constant if the value is.
 #[inline]
 pub fn push_dynamic(handle: &Handle, name: usize, i: usize, told: &mut Told) -> u32 {
     // SAFETY: `handle` is zeros or what a call left, and this call's alone: it is no `Sync`, and the library comes back by
@@ -43,7 +46,8 @@ pub fn push_dynamic(handle: &Handle, name: usize, i: usize, told: &mut Told) -> 
     unsafe { rhai_host_push_dynamic(handle.lent().at(), name, i, told) }
 }
 
-/// Moves the value at the hand position into a new entry of the name that is a constant, and leaves unit.
+/// Moves the value at the hand position into a new constant entry with the name, and leaves unit in
+/// its place.
 #[inline]
 pub fn push_constant(handle: &Handle, name: usize, i: usize, told: &mut Told) -> u32 {
     // SAFETY: `handle` is zeros or what a call left, and this call's alone: it is no `Sync`, and the library comes back by
@@ -51,7 +55,8 @@ pub fn push_constant(handle: &Handle, name: usize, i: usize, told: &mut Told) ->
     unsafe { rhai_host_push_constant(handle.lent().at(), name, i, told) }
 }
 
-/// Moves the value at the hand position over the value of the last entry of the name, and leaves unit.
+/// Replaces the value of the newest entry with the name by the value at the hand position, and
+/// leaves unit in its place.
 #[inline]
 pub fn set_entry(handle: &Handle, name: usize, i: usize, told: &mut Told) -> u32 {
     // SAFETY: `handle` is zeros or what a call left, and this call's alone: it is no `Sync`, and the library comes back by
@@ -59,7 +64,8 @@ pub fn set_entry(handle: &Handle, name: usize, i: usize, told: &mut Told) -> u32
     unsafe { rhai_host_set_entry(handle.lent().at(), name, i, told) }
 }
 
-/// Moves the value at the hand position over the value of the last entry of the name, or into a new one where none may be written.
+/// Moves the value at the hand position into the newest entry with the name, or into a new entry if
+/// there is none or it may not be written.
 #[inline]
 pub fn set_or_push(handle: &Handle, name: usize, i: usize, told: &mut Told) -> u32 {
     // SAFETY: `handle` is zeros or what a call left, and this call's alone: it is no `Sync`, and the library comes back by
@@ -67,7 +73,8 @@ pub fn set_or_push(handle: &Handle, name: usize, i: usize, told: &mut Told) -> u
     unsafe { rhai_host_set_or_push(handle.lent().at(), name, i, told) }
 }
 
-/// Moves the value at the hand position over the value of the last entry of the name, or into a new one where none is there.
+/// Moves the value at the hand position into the newest entry with the name, or into a new entry if
+/// there is none.
 #[inline]
 pub fn set_value(handle: &Handle, name: usize, i: usize, told: &mut Told) -> u32 {
     // SAFETY: `handle` is zeros or what a call left, and this call's alone: it is no `Sync`, and the library comes back by
@@ -75,7 +82,7 @@ pub fn set_value(handle: &Handle, name: usize, i: usize, told: &mut Told) -> u32
     unsafe { rhai_host_set_value(handle.lent().at(), name, i, told) }
 }
 
-/// Answers whether an entry has the name.
+/// Returns whether an entry has the name.
 #[inline]
 pub fn contains(handle: &Handle, name: usize, told: &mut Told) -> u32 {
     // SAFETY: `handle` is zeros or what a call left, and this call's alone: it is no `Sync`, and the library comes back by
@@ -83,7 +90,7 @@ pub fn contains(handle: &Handle, name: usize, told: &mut Told) -> u32 {
     unsafe { rhai_host_contains(handle.lent().at(), name, told) }
 }
 
-/// Answers the position of the last entry of the name, counted from 0, or nothing.
+/// Returns the position of the newest entry with the name, counted from 0, or nothing.
 #[inline]
 pub fn search(handle: &Handle, name: usize, told: &mut Told) -> u32 {
     // SAFETY: `handle` is zeros or what a call left, and this call's alone: it is no `Sync`, and the library comes back by
@@ -91,7 +98,7 @@ pub fn search(handle: &Handle, name: usize, told: &mut Told) -> u32 {
     unsafe { rhai_host_search(handle.lent().at(), name, told) }
 }
 
-/// Answers whether the last entry of the name is a constant, or nothing.
+/// Returns whether the newest entry with the name is a constant, or nothing.
 #[inline]
 pub fn is_constant(handle: &Handle, name: usize, told: &mut Told) -> u32 {
     // SAFETY: `handle` is zeros or what a call left, and this call's alone: it is no `Sync`, and the library comes back by
@@ -99,7 +106,7 @@ pub fn is_constant(handle: &Handle, name: usize, told: &mut Told) -> u32 {
     unsafe { rhai_host_is_constant(handle.lent().at(), name, told) }
 }
 
-/// Appends a copy of the value of the last entry of the name.
+/// Appends a copy of the value of the newest entry with the name.
 #[inline]
 pub fn get(handle: &Handle, name: usize, told: &mut Told) -> u32 {
     // SAFETY: `handle` is zeros or what a call left, and this call's alone: it is no `Sync`, and the library comes back by
@@ -107,7 +114,8 @@ pub fn get(handle: &Handle, name: usize, told: &mut Told) -> u32 {
     unsafe { rhai_host_get(handle.lent().at(), name, told) }
 }
 
-/// Writes over the int that the last entry of the name itself is; or answers nothing.
+/// Overwrites the int that the newest entry with the name itself is; returns nothing if there is no
+/// such int.
 #[inline]
 pub fn set_ref(handle: &Handle, name: usize, value: i64, told: &mut Told) -> u32 {
     // SAFETY: `handle` is zeros or what a call left, and this call's alone: it is no `Sync`, and the library comes back by
@@ -115,7 +123,7 @@ pub fn set_ref(handle: &Handle, name: usize, value: i64, told: &mut Told) -> u32
     unsafe { rhai_host_set_ref(handle.lent().at(), name, value, told) }
 }
 
-/// Answers the aliases of the last entry of the name, each with a line feed.
+/// Returns the aliases of the newest entry with the name, one a line.
 #[inline]
 pub fn aliases(handle: &Handle, name: usize, told: &mut Told) -> u32 {
     // SAFETY: `handle` is zeros or what a call left, and this call's alone: it is no `Sync`, and the library comes back by

@@ -15,7 +15,7 @@ unsafe extern "C" {
     fn rhai_host_handle_align() -> usize;
 }
 
-/// Opens a world with these limits, 0 being none, and closes the one that was open before.
+/// Opens a world with these limits, 0 meaning no limit, and closes the one that was open before.
 #[inline]
 pub fn new(handle: &Handle, text: usize, items: usize) -> u32 {
     // SAFETY: `handle` is zeros or what a call left, and this call's alone: it is no `Sync`, and the library comes back by
@@ -31,7 +31,7 @@ pub fn close(handle: &Handle) {
     unsafe { rhai_host_close(handle.lent().at()) }
 }
 
-/// Tells whether a world is open.
+/// Returns whether a world is open.
 #[inline]
 pub fn is_open(handle: &Handle) -> bool {
     // SAFETY: `handle` is zeros or what a call left, and this call's alone: it is no `Sync`, and the library comes back by
@@ -39,7 +39,8 @@ pub fn is_open(handle: &Handle) -> bool {
     unsafe { rhai_host_is_open(handle.lent().at()) }
 }
 
-/// Gives a name a number that no other has, by which commands name it. Room for one more is asked for only where no number was given back.
+/// Assigns a number to a name, which commands use in its place. It only allocates a slot if no
+/// freed number is available.
 #[inline]
 pub fn name(handle: &Handle, text: &[u8], number: &mut usize) -> u32 {
     // SAFETY: `handle` is zeros or what a call left, and this call's alone: it is no `Sync`, and the library comes back by
@@ -47,7 +48,7 @@ pub fn name(handle: &Handle, text: &[u8], number: &mut usize) -> u32 {
     unsafe { rhai_host_name(handle.lent().at(), text.as_ptr(), text.len(), number) }
 }
 
-/// Tells how many values are in the hand, 0 where no world is open.
+/// Returns how many values are in the hand, 0 where no world is open.
 #[inline]
 pub fn hand_len(handle: &Handle) -> usize {
     // SAFETY: `handle` is zeros or what a call left, and this call's alone: it is no `Sync`, and the library comes back by
@@ -55,8 +56,8 @@ pub fn hand_len(handle: &Handle) -> usize {
     unsafe { rhai_host_hand_len(handle.lent().at()) }
 }
 
-/// Copies the bytes of the last text, bytes or refusal that was answered, or those of its second name, as far as there is room; answers how
-/// many it has.
+/// Copies the bytes of the last text, bytes or refusal that was returned, or those of its second
+/// name, as far as there is room; returns how many there are.
 #[inline]
 pub fn answer(handle: &Handle, second: bool, room: &mut [u8]) -> usize {
     // SAFETY: `handle` is zeros or what a call left, and this call's alone: it is no `Sync`, and the library comes back by
@@ -64,7 +65,7 @@ pub fn answer(handle: &Handle, second: bool, room: &mut [u8]) -> usize {
     unsafe { rhai_host_answer(handle.lent().at(), second, room.as_mut_ptr(), room.len()) }
 }
 
-/// Takes a number back from a name. It is given out again, in the place of a new one.
+/// Frees the number of a name. A new name may get it.
 #[inline]
 pub fn forget_name(handle: &Handle, number: usize) -> u32 {
     // SAFETY: `handle` is zeros or what a call left, and this call's alone: it is no `Sync`, and the library comes back by
@@ -72,7 +73,7 @@ pub fn forget_name(handle: &Handle, number: usize) -> u32 {
     unsafe { rhai_host_forget_name(handle.lent().at(), number) }
 }
 
-/// Gives back each cell that nothing reaches.
+/// Frees each unreachable cell.
 #[inline]
 pub fn collect(handle: &Handle) -> u32 {
     // SAFETY: `handle` is zeros or what a call left, and this call's alone: it is no `Sync`, and the library comes back by
@@ -80,14 +81,14 @@ pub fn collect(handle: &Handle) -> u32 {
     unsafe { rhai_host_collect(handle.lent().at()) }
 }
 
-/// Tells how many bytes a handle takes.
+/// Returns how many bytes a handle takes.
 #[inline]
 pub fn handle_size() -> usize {
     // SAFETY: It takes nothing.
     unsafe { rhai_host_handle_size() }
 }
 
-/// Tells what the address of a handle is a multiple of.
+/// Returns the alignment of a handle.
 #[inline]
 pub fn handle_align() -> usize {
     // SAFETY: It takes nothing.

@@ -29,7 +29,8 @@ unsafe extern "C" {
     ) -> u32;
 }
 
-/// Marks the cell of the holder at the place: from then on it is read and written by the mark alone. The mark goes to the end of the list of marks.
+/// Locks the cell of the holder at the place: from then on it is read and written only through the
+/// mark. Appends the mark to the list of marks.
 #[inline]
 pub fn mark(handle: &Handle, is_entry: bool, at: usize, told: &mut Told) -> u32 {
     // SAFETY: `handle` is zeros or what a call left, and this call's alone: it is no `Sync`, and the library comes back by
@@ -53,7 +54,7 @@ pub fn write_field(handle: &Handle, is_entry: bool, at: usize, mask: i64, shift:
     unsafe { rhai_host_write_field(handle.lent().at(), is_entry, at, mask, shift, j, told) }
 }
 
-/// Writes the int at the hand position to the byte of this index of the blob at the place.
+/// Writes the int at the hand position to the byte at this index of the blob at the place.
 #[inline]
 pub fn write_byte(handle: &Handle, is_entry: bool, at: usize, index: usize, j: usize, told: &mut Told) -> u32 {
     // SAFETY: `handle` is zeros or what a call left, and this call's alone: it is no `Sync`, and the library comes back by
@@ -61,7 +62,8 @@ pub fn write_byte(handle: &Handle, is_entry: bool, at: usize, index: usize, j: u
     unsafe { rhai_host_write_byte(handle.lent().at(), is_entry, at, index, j, told) }
 }
 
-/// Writes the character at the hand position over the one of this index of the text at the place.
+/// Writes the character at the hand position over the character at this index of the text at the
+/// place.
 #[inline]
 pub fn write_char(handle: &Handle, is_entry: bool, at: usize, index: usize, j: usize, told: &mut Told) -> u32 {
     // SAFETY: `handle` is zeros or what a call left, and this call's alone: it is no `Sync`, and the library comes back by
@@ -69,7 +71,8 @@ pub fn write_char(handle: &Handle, is_entry: bool, at: usize, index: usize, j: u
     unsafe { rhai_host_write_char(handle.lent().at(), is_entry, at, index, j, told) }
 }
 
-/// Writes what the value at the hand position prints as over the characters from the first index on, up to the second one, which is replaced too unless the slice is exclusive.
+/// Replaces the characters from the first index up to the second one with the printed value at the
+/// hand position. The second one is replaced too, unless the slice is exclusive.
 #[inline]
 #[allow(clippy::too_many_arguments)]
 pub fn write_slice(

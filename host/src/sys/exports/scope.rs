@@ -25,7 +25,7 @@ pub fn pop(handle: &Handle, told: &mut Told) -> u32 {
     unsafe { rhai_host_pop(handle.lent().at(), told) }
 }
 
-/// Keeps as many entries as the number says, the first ones.
+/// Keeps the oldest entries, as many as the number says, and drops the others.
 #[inline]
 pub fn rewind(handle: &Handle, count: usize, told: &mut Told) -> u32 {
     // SAFETY: `handle` is zeros or what a call left, and this call's alone: it is no `Sync`, and the library comes back by
@@ -41,7 +41,7 @@ pub fn clear(handle: &Handle, told: &mut Told) -> u32 {
     unsafe { rhai_host_clear(handle.lent().at(), told) }
 }
 
-/// Answers how many entries there are.
+/// Returns how many entries there are.
 #[inline]
 pub fn len(handle: &Handle, told: &mut Told) -> u32 {
     // SAFETY: `handle` is zeros or what a call left, and this call's alone: it is no `Sync`, and the library comes back by
@@ -49,7 +49,7 @@ pub fn len(handle: &Handle, told: &mut Told) -> u32 {
     unsafe { rhai_host_len(handle.lent().at(), told) }
 }
 
-/// Answers whether there is no entry.
+/// Returns whether there are no entries.
 #[inline]
 pub fn is_empty(handle: &Handle, told: &mut Told) -> u32 {
     // SAFETY: `handle` is zeros or what a call left, and this call's alone: it is no `Sync`, and the library comes back by
@@ -57,7 +57,7 @@ pub fn is_empty(handle: &Handle, told: &mut Told) -> u32 {
     unsafe { rhai_host_is_empty(handle.lent().at(), told) }
 }
 
-/// Keeps copies of the last entries of each name, the newest first.
+/// Keeps a copy of the newest entry of each name, newest first.
 #[inline]
 pub fn keep_visible(handle: &Handle, told: &mut Told) -> u32 {
     // SAFETY: `handle` is zeros or what a call left, and this call's alone: it is no `Sync`, and the library comes back by
@@ -65,7 +65,7 @@ pub fn keep_visible(handle: &Handle, told: &mut Told) -> u32 {
     unsafe { rhai_host_keep_visible(handle.lent().at(), told) }
 }
 
-/// Keeps copies of all entries.
+/// Replaces the scope with a copy of all entries.
 #[inline]
 pub fn copy_scope(handle: &Handle, told: &mut Told) -> u32 {
     // SAFETY: `handle` is zeros or what a call left, and this call's alone: it is no `Sync`, and the library comes back by
@@ -81,7 +81,8 @@ pub fn entries(handle: &Handle, told: &mut Told) -> u32 {
     unsafe { rhai_host_entries(handle.lent().at(), told) }
 }
 
-/// Answers the names of the entries, the newest first, each with a line feed, and with `const ` before that of a constant.
+/// Returns the names of the entries, newest first, one a line, with `const ` before that of a
+/// constant.
 #[inline]
 pub fn names(handle: &Handle, told: &mut Told) -> u32 {
     // SAFETY: `handle` is zeros or what a call left, and this call's alone: it is no `Sync`, and the library comes back by
@@ -89,7 +90,7 @@ pub fn names(handle: &Handle, told: &mut Told) -> u32 {
     unsafe { rhai_host_names(handle.lent().at(), told) }
 }
 
-/// Answers the text of the scope.
+/// Returns the text of the scope.
 #[inline]
 pub fn show_scope(handle: &Handle, told: &mut Told) -> u32 {
     // SAFETY: `handle` is zeros or what a call left, and this call's alone: it is no `Sync`, and the library comes back by
@@ -97,7 +98,7 @@ pub fn show_scope(handle: &Handle, told: &mut Told) -> u32 {
     unsafe { rhai_host_show_scope(handle.lent().at(), told) }
 }
 
-/// Answers the hash bytes of the scope.
+/// Returns the hash bytes of the scope.
 #[inline]
 pub fn hash_scope(handle: &Handle, told: &mut Told) -> u32 {
     // SAFETY: `handle` is zeros or what a call left, and this call's alone: it is no `Sync`, and the library comes back by

@@ -2,19 +2,19 @@
 
 use crate::sys::Handle;
 
-/// How a script ended. The answer is what it printed, and behind that what went wrong.
+/// How a script ended. The answer is what it printed, followed by what went wrong.
 #[repr(C)]
 #[derive(Clone, Copy, Debug, Default)]
 pub struct ScriptEnd {
-    /// 0 it ran to its end, 1 the text is no script, 2 it went wrong when it ran.
+    /// 0 it ran to its end, 1 the text is not a valid script, 2 it failed while running.
     pub kind: u32,
-    /// The line of what went wrong, counted from 1; else 0.
+    /// The line where it went wrong, counted from 1; else 0.
     pub line: u32,
-    /// The place on that line, counted from 1; else 0.
+    /// The column where it went wrong, counted from 1; else 0.
     pub column: u32,
     /// How many bytes of the answer it printed.
     pub printed: usize,
-    /// How many bytes behind these say what went wrong.
+    /// How many bytes after these say what went wrong.
     pub said: usize,
 }
 
@@ -31,8 +31,9 @@ unsafe extern "C" {
     ) -> u32;
 }
 
-/// Runs a script on values of its own: the largest sizes of texts and of arrays, 0 being none, the operations, and the calls within each
-/// other are limited. What it prints is the answer, with what went wrong behind it; the handle's world stays.
+/// Runs a script on values of its own, with limits on the sizes of texts and of arrays, 0 meaning
+/// no limit, on operations, and on nested calls. What it prints is the answer, followed by what
+/// went wrong; the handle's world is unchanged.
 #[inline]
 pub fn run_script(
     handle: &Handle,

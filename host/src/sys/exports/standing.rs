@@ -14,10 +14,12 @@ unsafe extern "C" {
     fn rhai_host_script_variable(handle: *mut Handle, function: usize, before: usize, number: &mut usize, told: &mut Told)
         -> u32;
     fn rhai_host_script_variable_value(handle: *mut Handle, function: usize, before: usize, told: &mut Told) -> u32;
+    fn rhai_host_script_restore(handle: *mut Handle, bytes: *const u8, bytes_len: usize) -> u32;
 }
 
-/// Answers the name of a function under way, and tells where it stands: number 0 runs, or failed, and each is called by the next. The name
-/// is empty for the statements outside of functions, and begins with `anon$` for a closure. NO_COMMAND says that no such function is under way.
+/// Returns the name of an active function, and reports where it is: number 0 runs, or failed, and
+/// each is called by the next. The name is empty for the statements outside functions, and begins
+/// with `anon$` for a closure. NO_COMMAND means that there is no such function.
 #[inline]
 pub fn script_function(handle: &Handle, number: usize, line: &mut usize, column: &mut usize, told: &mut Told) -> u32 {
     // SAFETY: `handle` is zeros or what a call left, and this call's alone: it is no `Sync`, and the library comes back by
@@ -26,8 +28,9 @@ pub fn script_function(handle: &Handle, number: usize, line: &mut usize, column:
     unsafe { rhai_host_script_function(handle.lent().at(), number, line, column, told) }
 }
 
-/// Answers the name of the newest variable in sight of a function under way that came before the one of this number, and tells its own number:
-/// from the largest number on, each leads to the next. NO_COMMAND says that there is none.
+/// Returns the name of the newest visible variable of an active function before the one of this
+/// number, and reports its own number: starting from the largest number, each leads to the next.
+/// NO_COMMAND means that there is none.
 #[inline]
 pub fn script_variable(handle: &Handle, function: usize, before: usize, number: &mut usize, told: &mut Told) -> u32 {
     // SAFETY: `handle` is zeros or what a call left, and this call's alone: it is no `Sync`, and the library comes back by
@@ -36,10 +39,21 @@ pub fn script_variable(handle: &Handle, function: usize, before: usize, number: 
     unsafe { rhai_host_script_variable(handle.lent().at(), function, before, number, told) }
 }
 
-/// Answers the hash bytes of the value of that variable. NO_COMMAND says that there is none, or that its value has none.
+/// Returns the value of that variable, as `rhai_host_script_argument` does. NO_COMMAND means that
+/// there is none, or that its value has no hash bytes.
 #[inline]
 pub fn script_variable_value(handle: &Handle, function: usize, before: usize, told: &mut Told) -> u32 {
     // SAFETY: `handle` is zeros or what a call left, and this call's alone: it is no `Sync`, and the library comes back by
     // the doors only. `told` is a whole `Told` that nobody else has. Any `function`, `before` will do.
     unsafe { rhai_host_script_variable_value(handle.lent().at(), function, before, told) }
+}
+
+/// Replaces the variables by those of a snapshot without functions, with everything that they
+/// share. A run ends, and functions that the host kept are freed. NO_COMMAND means that the bytes
+/// are no such snapshot; the variables are unchanged then.
+#[inline]
+pub fn script_restore(handle: &Handle, bytes: &[u8]) -> u32 {
+    // SAFETY: `handle` is zeros or what a call left, and this call's alone: it is no `Sync`, and the library comes back by
+    // the doors only. `bytes` is a slice with its own length, and is read.
+    unsafe { rhai_host_script_restore(handle.lent().at(), bytes.as_ptr(), bytes.len()) }
 }

@@ -11,7 +11,7 @@ unsafe extern "C" {
     fn rhai_host_put_char(handle: *mut Handle, code: u32, told: &mut Told) -> u32;
 }
 
-/// Appends a `u128` of the host's, told by its lower and its upper 64 bits.
+/// Appends a `u128` of the host, passed as its lower and its upper 64 bits.
 #[inline]
 pub fn put_u128(handle: &Handle, low: u64, high: u64, told: &mut Told) -> u32 {
     // SAFETY: `handle` is zeros or what a call left, and this call's alone: it is no `Sync`, and the library comes back by
@@ -19,7 +19,8 @@ pub fn put_u128(handle: &Handle, low: u64, high: u64, told: &mut Told) -> u32 {
     unsafe { rhai_host_put_u128(handle.lent().at(), low, high, told) }
 }
 
-/// Appends an `i128` of the host's, told by the lower and the upper 64 bits of its two's complement.
+/// Appends an `i128` of the host, passed as the lower and the upper 64 bits of its two's
+/// complement.
 #[inline]
 pub fn put_i128(handle: &Handle, low: u64, high: u64, told: &mut Told) -> u32 {
     // SAFETY: `handle` is zeros or what a call left, and this call's alone: it is no `Sync`, and the library comes back by
@@ -43,7 +44,7 @@ pub fn put_blob(handle: &Handle, bytes: &[u8], told: &mut Told) -> u32 {
     unsafe { rhai_host_put_blob(handle.lent().at(), bytes.as_ptr(), bytes.len(), told) }
 }
 
-/// Appends the character of this number.
+/// Appends the character with this code.
 #[inline]
 pub fn put_char(handle: &Handle, code: u32, told: &mut Told) -> u32 {
     // SAFETY: `handle` is zeros or what a call left, and this call's alone: it is no `Sync`, and the library comes back by

@@ -14,7 +14,7 @@ unsafe extern "C" {
     fn rhai_host_remove(handle: *mut Handle, name: usize, kind: u32, told: &mut Told) -> u32;
 }
 
-/// Appends what the value at the hand position is as this type, copied without its holders.
+/// Appends the value at the hand position cast to this type, copied without its holders.
 #[inline]
 pub fn cast(handle: &Handle, i: usize, kind: u32, told: &mut Told) -> u32 {
     // SAFETY: `handle` is zeros or what a call left, and this call's alone: it is no `Sync`, and the library comes back by
@@ -22,7 +22,7 @@ pub fn cast(handle: &Handle, i: usize, kind: u32, told: &mut Told) -> u32 {
     unsafe { rhai_host_cast(handle.lent().at(), i, kind, told) }
 }
 
-/// Answers whether this is the type that is held at the hand position.
+/// Returns whether this type is held at the hand position.
 #[inline]
 pub fn is_held(handle: &Handle, i: usize, kind: u32, told: &mut Told) -> u32 {
     // SAFETY: `handle` is zeros or what a call left, and this call's alone: it is no `Sync`, and the library comes back by
@@ -30,7 +30,8 @@ pub fn is_held(handle: &Handle, i: usize, kind: u32, told: &mut Told) -> u32 {
     unsafe { rhai_host_is_held(handle.lent().at(), i, kind, told) }
 }
 
-/// Answers whether the value at the hand position is of this type: by its constructor, or for a holder by the held type.
+/// Returns whether the value at the hand position is of this type: by its variant, or for a holder
+/// by the held type.
 #[inline]
 pub fn is_type(handle: &Handle, i: usize, kind: u32, told: &mut Told) -> u32 {
     // SAFETY: `handle` is zeros or what a call left, and this call's alone: it is no `Sync`, and the library comes back by
@@ -38,7 +39,7 @@ pub fn is_type(handle: &Handle, i: usize, kind: u32, told: &mut Told) -> u32 {
     unsafe { rhai_host_is_type(handle.lent().at(), i, kind, told) }
 }
 
-/// Appends what the operator answers on the values at the two hand positions.
+/// Appends the operator's result for the values at the two hand positions.
 #[inline]
 pub fn binary(handle: &Handle, operator: u32, i: usize, j: usize, told: &mut Told) -> u32 {
     // SAFETY: `handle` is zeros or what a call left, and this call's alone: it is no `Sync`, and the library comes back by
@@ -46,7 +47,7 @@ pub fn binary(handle: &Handle, operator: u32, i: usize, j: usize, told: &mut Tol
     unsafe { rhai_host_binary(handle.lent().at(), operator, i, j, told) }
 }
 
-/// Calls the assignment of the operator on the value at the place and the one at the hand position.
+/// Applies the operator's assignment to the value at the place and the value at the hand position.
 #[inline]
 pub fn assign(handle: &Handle, operator: u32, is_entry: bool, at: usize, j: usize, told: &mut Told) -> u32 {
     // SAFETY: `handle` is zeros or what a call left, and this call's alone: it is no `Sync`, and the library comes back by
@@ -54,7 +55,8 @@ pub fn assign(handle: &Handle, operator: u32, is_entry: bool, at: usize, j: usiz
     unsafe { rhai_host_assign(handle.lent().at(), operator, is_entry, at, j, told) }
 }
 
-/// Appends what the value of the last entry of the name is as this type, copied without its holders; or answers nothing.
+/// Appends the value of the newest entry with the name cast to this type, copied without its
+/// holders; returns nothing if there is no such value.
 #[inline]
 pub fn get_value(handle: &Handle, name: usize, kind: u32, told: &mut Told) -> u32 {
     // SAFETY: `handle` is zeros or what a call left, and this call's alone: it is no `Sync`, and the library comes back by
@@ -62,7 +64,8 @@ pub fn get_value(handle: &Handle, name: usize, kind: u32, told: &mut Told) -> u3
     unsafe { rhai_host_get_value(handle.lent().at(), name, kind, told) }
 }
 
-/// Appends a copy of what the last entry of the name itself is as this type, by reference; or answers nothing.
+/// Appends a copy of the newest entry's own value as a reference of this type; returns nothing if
+/// there is no such value.
 #[inline]
 pub fn get_ref(handle: &Handle, name: usize, kind: u32, told: &mut Told) -> u32 {
     // SAFETY: `handle` is zeros or what a call left, and this call's alone: it is no `Sync`, and the library comes back by
@@ -70,7 +73,8 @@ pub fn get_ref(handle: &Handle, name: usize, kind: u32, told: &mut Told) -> u32 
     unsafe { rhai_host_get_ref(handle.lent().at(), name, kind, told) }
 }
 
-/// Takes the last entry of the name out, and appends what its value is as this type, without its holders; or answers nothing.
+/// Removes the newest entry with the name, and appends its value cast to this type, without its
+/// holders; returns nothing if there is no such value.
 #[inline]
 pub fn remove(handle: &Handle, name: usize, kind: u32, told: &mut Told) -> u32 {
     // SAFETY: `handle` is zeros or what a call left, and this call's alone: it is no `Sync`, and the library comes back by

@@ -12,7 +12,7 @@ unsafe extern "C" {
     fn rhai_host_variable_value(handle: *mut Handle, number: usize, told: &mut Told) -> u32;
 }
 
-/// Declares a variable with the value of these hash bytes, behind the others.
+/// Declares a variable after the others, with the value of these hash bytes.
 #[inline]
 pub fn variable_push(handle: &Handle, name: &[u8], value: &[u8]) -> u32 {
     // SAFETY: `handle` is zeros or what a call left, and this call's alone: it is no `Sync`, and the library comes back by
@@ -21,8 +21,8 @@ pub fn variable_push(handle: &Handle, name: &[u8], value: &[u8]) -> u32 {
     unsafe { rhai_host_variable_push(handle.lent().at(), name.as_ptr(), name.len(), value.as_ptr(), value.len()) }
 }
 
-/// Writes the value of these hash bytes over that of the variable of this number, the oldest being 0. One that closures share is written for
-/// all of them.
+/// Overwrites the variable of this number, the oldest being 0, with the value of these hash bytes.
+/// If closures share the variable, they see the new value.
 #[inline]
 pub fn variable_set(handle: &Handle, number: usize, value: &[u8]) -> u32 {
     // SAFETY: `handle` is zeros or what a call left, and this call's alone: it is no `Sync`, and the library comes back by
@@ -30,7 +30,7 @@ pub fn variable_set(handle: &Handle, number: usize, value: &[u8]) -> u32 {
     unsafe { rhai_host_variable_set(handle.lent().at(), number, value.as_ptr(), value.len()) }
 }
 
-/// Ends the variables from this number on.
+/// Drops the variables from this number on.
 #[inline]
 pub fn variable_rewind(handle: &Handle, count: usize) -> u32 {
     // SAFETY: `handle` is zeros or what a call left, and this call's alone: it is no `Sync`, and the library comes back by
@@ -38,7 +38,7 @@ pub fn variable_rewind(handle: &Handle, count: usize) -> u32 {
     unsafe { rhai_host_variable_rewind(handle.lent().at(), count) }
 }
 
-/// Counts the variables, 0 where no world is open.
+/// Returns the number of variables, 0 if no world is open.
 #[inline]
 pub fn variable_count(handle: &Handle) -> usize {
     // SAFETY: `handle` is zeros or what a call left, and this call's alone: it is no `Sync`, and the library comes back by
@@ -46,7 +46,7 @@ pub fn variable_count(handle: &Handle) -> usize {
     unsafe { rhai_host_variable_count(handle.lent().at()) }
 }
 
-/// Answers the name of the variable of this number.
+/// Returns the name of the variable of this number.
 #[inline]
 pub fn variable_name(handle: &Handle, number: usize, told: &mut Told) -> u32 {
     // SAFETY: `handle` is zeros or what a call left, and this call's alone: it is no `Sync`, and the library comes back by
@@ -54,7 +54,7 @@ pub fn variable_name(handle: &Handle, number: usize, told: &mut Told) -> u32 {
     unsafe { rhai_host_variable_name(handle.lent().at(), number, told) }
 }
 
-/// Answers the hash bytes of the value of the variable of this number.
+/// Returns the value of the variable of this number, as `rhai_host_script_argument` does.
 #[inline]
 pub fn variable_value(handle: &Handle, number: usize, told: &mut Told) -> u32 {
     // SAFETY: `handle` is zeros or what a call left, and this call's alone: it is no `Sync`, and the library comes back by

@@ -1,4 +1,5 @@
--- `into_loose` moves an address and a handle; there is a value, and what it owns goes with them.
+-- `into_loose` moves an address and a handle; there is a value, and what it owns is moved with
+-- them.
 use Rattle.std.proofs.Common.{List, [], ◌∷◌, ◌++◌, refl, sym, subst}
 use mir.Val.{Val}
 use base.Logic.{SProp, ent, id⊢}

@@ -1,4 +1,4 @@
--- `none_at` puts an address and a handle together, and owns nothing but the handle.
+-- `none_at` joins an address and a handle, and owns nothing except the handle.
 use Rattle.std.proofs.Common.{◌≡◌, ◌&&◌, T, true, false, List, [], ◌∷◌, ◌++◌, refl, sym, ap, ◌∙◌, subst}
 use mir.Val.{Val, vstruct, vcons, vnil, has_ty, WT}
 use base.Logic.{SProp, ent, emp, id⊢}

@@ -1,4 +1,4 @@
--- `of` moves an address and a handle, and what lies at the address goes with them.
+-- `of` moves an address and a handle, and what is at the address is moved with them.
 use Rattle.std.proofs.Common.{List, [], ◌∷◌, ◌++◌, refl, sym, subst}
 use mir.Val.{Val}
 use base.Logic.{SProp, ent, emp, id⊢}

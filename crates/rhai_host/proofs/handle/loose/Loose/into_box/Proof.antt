@@ -1,4 +1,4 @@
--- `into_box` makes the box again by a call, from the two parts and what lies at the address.
+-- `into_box` makes the box again by a call, from the two parts and what is at the address.
 use Rattle.std.proofs.Common.{◌≡◌, T, List, [], ◌∷◌, ◌++◌, refl, sym, ap, subst}
 use mir.Syntax.{a_type, dcons, dnil}
 use mir.MapTy.{inst_fn}
@@ -53,7 +53,8 @@ into_box_spec 𝓤 𝓛 𝓜 𝓡 wired Row A LT LA g d dt da allocator drops_t 
     let Runs : List Val → SProp 𝓤 = λ vs. WpFn 𝓤 𝓛.H 𝓣.C 𝓣.Λ fn vs (W.post y) in
     qed 𝓛 ((tokens ⊛ ‵ (fsep ((B E).own_val boxed y.0.4.0) ftrue)) ∷ lives ∷ []) ∵ split ! $ move ! (1 ∷ []) $ fsplit ! $
     box_out E ! boxed y.0.4.0 (λ b o h at_b words fits.
-    -- [the value; the right to free; the handle; nothing; the tokens; how long the parameters live]
+    -- [the value; the right to free; the handle; nothing; the tokens; the lifetimes of the
+    -- parameters]
     let two = word E h b o in
     suffices ! (Runs (two ∷ [])) (subst (λ (vs : List Val). ent 𝓤 (Runs (two ∷ [])) (Runs (vs ++ []))) (sym words) (id⊢ 𝓤 _)) $
     enter ! _ _ _ _ _ $ alloc_all ! (λ ls. pass_all ! refl (box_typed E h b o fits, tt) $

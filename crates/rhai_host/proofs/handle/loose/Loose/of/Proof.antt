@@ -1,4 +1,4 @@
--- `of` takes a box apart by a call, and what lies at its address goes with the two parts.
+-- `of` takes a box apart by a call, and what is at its address is moved with the two parts.
 use Rattle.std.proofs.Common.{◌≡◌, List, [], ◌∷◌, ◌++◌, refl, sym, subst}
 use mir.Syntax.{a_type, dcons, dnil}
 use mir.MapTy.{inst_fn}
@@ -58,7 +58,7 @@ of_spec 𝓤 𝓛 𝓜 𝓡 wired T A LT LA g d dt da allocator drops_t drops_a 
     suffices ! (Runs (whole_box ∷ [])) (subst (λ (vs : List Val). ent 𝓤 (Runs (whole_box ∷ [])) (Runs (vs ++ []))) (sym words) (id⊢ 𝓤 _)) $
     enter ! _ _ _ _ _ $ alloc_all ! (λ ls. pass_all ! refl (box_typed E h b o fits, tt) $
     sets ! (of_opd ! (get ! refl)) refl (box_typed E h b o fits) $
-    -- [the box; nothing; the tokens; how long the parameters live]
+    -- [the box; nothing; the tokens; the lifetimes of the parameters]
     let z : Apart.Ghost = ((κs, qs, tt, (v, tt), (whole_box ∷ [], tt)), tt) in
     fjoin ! $ move ! (1 ∷ 0 ∷ []) $ join ! $ join ! $ use1 𝓛 (raw (Apart.pre z)) (id⊢ 𝓤 _) $
     calls_at ! (fm 𝓛 𝓜 𝓡) Apart is_met z (and_then ! (get ! refl) (no_more !)) (λ u.

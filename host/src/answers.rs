@@ -3,6 +3,7 @@ use crate::answer::{Answer, ArithmeticFault, Refusal, SizeKind};
 use crate::error::{done, Error};
 use crate::sys::numbers::{Arithmetic, Kind, Reason, Size, Status};
 use crate::sys::{self, Told};
+use crate::value::Value;
 use crate::world::World;
 
 /// Whether the call is done and its result is of this kind.
@@ -71,6 +72,18 @@ impl World {
     pub(crate) fn text(&self, status: u32, told: &Told) -> Result<String, Error> {
         self.expect(Kind::Text, status, told)?;
         self.text_of(false, told.low)
+    }
+
+    /// Returns the value of a script.
+    #[inline]
+    pub(crate) fn script_value(&self, status: u32, told: &Told) -> Result<Value, Error> {
+        match self.answer(status, told)? {
+            Answer::Done => Ok(Value::Unit),
+            Answer::Bool(truth) => Ok(Value::Bool(truth)),
+            Answer::Int(n) => i64::try_from(n).map(Value::Int).map_err(|_| Error::Unexpected),
+            Answer::Bytes(bytes) => Value::from_bytes(&bytes),
+            Answer::Text(_) | Answer::Pair(_, _) | Answer::Nothing => Err(Error::Unexpected),
+        }
     }
 
     pub(crate) fn bytes(&self, status: u32, told: &Told) -> Result<Vec<u8>, Error> {

@@ -6,7 +6,9 @@ mod function;
 mod functions;
 mod keeping;
 mod run;
+mod saved;
 mod scope;
+mod sizes;
 mod standing;
 mod variables;
 mod watch;
@@ -17,6 +19,7 @@ pub use error::{CallPlace, EvalError};
 pub use function::{Found, Function};
 pub use functions::{Answers, Arguments, HostFn, Wanted};
 pub use run::{Progress, Run};
+pub use saved::Saved;
 pub use scope::Scope;
 pub use variables::Variables;
 pub use watch::Interrupt;
@@ -26,7 +29,6 @@ use functions::{Given, Refused, Registered, Unread};
 use std::any::Any;
 use std::fmt;
 use std::io::Write;
-use std::num::NonZeroUsize;
 use std::sync::atomic::{AtomicU64, Ordering};
 use watch::Watch;
 
@@ -100,7 +102,8 @@ impl Engine {
 
     /// Registers a function with this name and up to six parameters. Functions of one name are told
     /// apart by their number of parameters; a later one with the same number replaces an earlier
-    /// one. A call finds functions of the script first, then these, then those of the packages.
+    /// one. A call finds functions of the script first, then these, then those of the packages. A
+    /// name that scripts can't write, such as `+`, is never called.
     ///
     /// Parameters and results may be integers of any type, `bool`, `char`, `String`, `()`, `Option`
     /// with unit as `None`, vectors and arrays, maps by `String`, ranges, and
@@ -145,6 +148,19 @@ impl Engine {
     }
 
     /// Sets the callback for what scripts print; it is called once a line.
+    ///
+    /// ```
+    /// use rhai_world::{Engine, EvalError};
+    /// use std::sync::{Arc, Mutex};
+    ///
+    /// let lines = Arc::new(Mutex::new(Vec::new()));
+    /// let kept = Arc::clone(&lines);
+    /// let mut engine = Engine::new();
+    /// engine.on_print(move |line| kept.lock().expect("no panic").push(line.to_owned()));
+    /// engine.run("print(1 + 1); debug(\"two\");")?;
+    /// assert_eq!(*lines.lock().expect("no panic"), ["2", "\"two\""]);
+    /// # Ok::<(), EvalError>(())
+    /// ```
     pub fn on_print(&mut self, print: impl Fn(&str) + Send + Sync + 'static) -> &mut Engine {
         self.print = Some(Box::new(print));
         self
@@ -152,55 +168,22 @@ impl Engine {
 
     /// Sets a callback that runs before each statement of a script, with its line and column.
     /// Scripts run slower with it.
-    pub fn on_statement(&mut self, call: impl Fn(u32, u32) + Send + Sync + 'static) -> &mut Engine {
-        self.at_statement = Some(Box::new(call));
-        self
-    }
-
-    /// Limits how deep calls may nest.
-    pub fn set_max_call_levels(&mut self, calls: usize) -> &mut Engine {
-        self.calls = calls;
-        self
-    }
-
-    /// Limits the bytes of a script's texts; 0 means no limit.
-    pub fn set_max_string_size(&mut self, bytes: usize) -> &mut Engine {
-        self.limits = self.limits.with_text(NonZeroUsize::new(bytes));
-        self
-    }
-
-    /// Limits the items of a script's arrays and the bytes of its blobs; 0 means no limit.
-    pub fn set_max_array_size(&mut self, items: usize) -> &mut Engine {
-        self.limits = self.limits.with_items(NonZeroUsize::new(items));
-        self
-    }
-
-    /// Limits the entries of a script's maps; 0 means no limit.
-    pub fn set_max_map_size(&mut self, entries: usize) -> &mut Engine {
-        self.entries = entries;
-        self
-    }
-
-    /// Limits the bytes of memory that a scope may hold while a script is compiled or runs over it;
-    /// 0 means no limit. A run that needs more ends with [`EvalError::OutOfMemory`], which no
-    /// script can catch. The variables keep their values, and the program may read and write them
-    /// without that limit. The scope keeps the stack that a run allocated.
-    /// [`World::set_max_memory`](crate::World::set_max_memory) says how bytes are counted; memory
-    /// of the program's own functions isn't.
     ///
     /// ```
-    /// use rhai_world::{Engine, EvalError, Scope};
+    /// use rhai_world::{Engine, EvalError};
+    /// use std::sync::atomic::{AtomicU32, Ordering};
+    /// use std::sync::Arc;
     ///
+    /// let last = Arc::new(AtomicU32::new(0));
+    /// let kept = Arc::clone(&last);
     /// let mut engine = Engine::new();
-    /// engine.set_max_memory(1_000_000);
-    /// let mut scope = Scope::new()?;
-    /// let run = engine.run_with_scope(&mut scope, "let n = 7; let all = []; loop { all.push(n); }");
-    /// assert!(matches!(run, Err(EvalError::OutOfMemory { line: 1, .. })));
-    /// assert_eq!(scope.get::<i64>("n"), Some(7));
+    /// engine.on_statement(move |line, _column| kept.store(line, Ordering::Relaxed));
+    /// engine.run("let x = 1;\nx += 1;\n\nx;")?;
+    /// assert_eq!(last.load(Ordering::Relaxed), 4);
     /// # Ok::<(), EvalError>(())
     /// ```
-    pub fn set_max_memory(&mut self, bytes: usize) -> &mut Engine {
-        self.limits = self.limits.with_memory(NonZeroUsize::new(bytes));
+    pub fn on_statement(&mut self, call: impl Fn(u32, u32) + Send + Sync + 'static) -> &mut Engine {
+        self.at_statement = Some(Box::new(call));
         self
     }
 
@@ -311,6 +294,22 @@ impl Engine {
 
     /// Starts a run that calls a function of a script at its end, as `call_fn` does, for execution
     /// in pieces.
+    ///
+    /// ```
+    /// use rhai_world::{Engine, EvalError, Progress, Scope, Value};
+    ///
+    /// let engine = Engine::new();
+    /// let ast = engine.compile("fn count(to) { let n = 0; while n < to { n += 1; } n }")?;
+    /// let mut scope = Scope::new()?;
+    /// let mut run = engine.start_fn(&mut scope, &ast, "count", (1_000,))?;
+    /// let counted = loop {
+    ///     if let Progress::Done(value) = run.go(100)? {
+    ///         break value;
+    ///     }
+    /// };
+    /// assert_eq!(counted, Value::Int(1_000));
+    /// # Ok::<(), EvalError>(())
+    /// ```
     pub fn start_fn<'a>(
         &'a self,
         scope: &'a mut Scope,

@@ -35,6 +35,7 @@
 //! | `Scope::new` | [`Scope::new`](crate::Scope::new), which can fail to allocate |
 //! | `push`, `set_value`, `get_value` | [`push`](crate::Scope::push), [`set`](crate::Scope::set), [`get`](crate::Scope::get) or [`try_get`](crate::Scope::try_get) |
 //! | `contains`, `len`, `is_empty`, `clear`, `rewind`, `iter` | the same |
+//! | `clone`, and `Serialize` with the feature `serde` | [`save`](crate::Scope::save), and [`Saved::restore`](crate::Saved::restore), also on another thread |
 //! | `push_constant`, `is_constant`, `remove`, `set_alias` | missing: the library offers them only for the scope of a [`World`](crate::World) |
 //! | `Dynamic` | [`Value`](crate::Value), which shares nothing |
 //! | `EvalAltResult`, `ParseError`, `Position` | [`EvalError`](crate::EvalError), with [`position`](crate::EvalError::position) and [`calls`](crate::EvalError::calls) |

@@ -61,6 +61,8 @@
 //! # Ok::<(), EvalError>(())
 //! ```
 //!
+//! [`Scope::save`] makes plain data of a scope, for a file or another thread.
+//!
 //! An error has a name, a position and the active functions, for the program and for the author of the
 //! script:
 //!
@@ -168,6 +170,7 @@ mod memory;
 mod names;
 mod render;
 mod script;
+mod snapshot;
 mod spelling;
 #[allow(missing_docs)]
 mod sys;
@@ -177,7 +180,7 @@ mod world;
 pub use answer::{Answer, ArithmeticFault, Refusal, SizeKind};
 pub use commands::Command;
 pub use engine::{
-    Answers, Arguments, Ast, Call, CallPlace, Engine, EvalError, Found, Function, HostFn, Interrupt, Progress, Run, Scope,
+    Answers, Arguments, Ast, Call, CallPlace, Engine, EvalError, Found, Function, HostFn, Interrupt, Progress, Run, Saved, Scope,
     Variables, Wanted,
 };
 pub use error::Error;
@@ -188,6 +191,7 @@ pub use looks::{Entries, Entry, Hand};
 pub use memory::Memory;
 pub use names::{Name, Place};
 pub use script::{Script, ScriptError};
+pub use snapshot::{Seen, SeenCall, SeenFields, SeenItems, SeenVariables, Shape, Snapshot};
 #[cfg(feature = "faults")]
 pub use sys::refuse;
 pub use value::{Array, Fields, FromItem, IntoItem, Map, Misfit, NoIntError, TryFromValueError, Value};

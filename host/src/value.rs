@@ -2,13 +2,13 @@
 mod array;
 mod builder;
 mod convert;
-mod head;
+pub(crate) mod head;
 mod integers;
 mod items;
 mod map;
 mod misfit;
 mod put;
-mod read;
+pub(crate) mod read;
 mod shed;
 mod show;
 mod walk;

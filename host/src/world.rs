@@ -171,6 +171,7 @@ pub(crate) fn copied(text: &str) -> Result<String, Error> {
 impl Drop for World {
     fn drop(&mut self) {
         sys::close(&self.handle);
+        debug_assert_eq!(self.memory().held, 0, "a closed world holds memory");
     }
 }
 

@@ -270,3 +270,41 @@ fn a_run_that_is_dropped_gives_its_variables_back() -> Result<(), EvalError> {
     assert_eq!((scope.get::<i64>("a"), scope.get::<i64>("b")), (Some(7), Some(2)));
     Ok(())
 }
+
+#[test]
+fn a_value_that_contains_itself_is_an_error_of_its_own() -> Result<(), EvalError> {
+    let engine = engine();
+    let mut scope = Scope::new()?;
+    let ast = engine.compile("let a = [1]; let f = || a.len(); a.push(f); let n = f.call(); f")?;
+    let f: Function = engine.eval_ast_with_scope(&mut scope, &ast)?;
+    assert_eq!((f.call::<i64>(&engine, &mut scope, &ast, ()), scope.get::<i64>("n")), (Ok(2), Some(2)));
+    assert_eq!(scope.value("a"), Err(EvalError::ContainsItself));
+    assert_eq!(scope.try_get::<Array>("a"), Err(EvalError::ContainsItself));
+    assert_eq!(scope.iter().filter(|variable| *variable == Err(EvalError::ContainsItself)).count(), 2);
+    assert_eq!(engine.eval_with_scope::<Value>(&mut scope, "a"), Err(EvalError::ContainsItself));
+    let text = "try { each(a, |x| x) } catch (e) { e }";
+    assert_eq!(engine.eval_with_scope::<String>(&mut scope, text)?, "argument 1 contains itself");
+    let fault = engine.run_with_scope(&mut scope, "let x = 1;\napply(|x| x, a)").unwrap_err();
+    assert!(
+        matches!(&fault, EvalError::Runtime { message, line: 2, .. } if message == "argument 2 contains itself"),
+        "{fault:?}"
+    );
+    // (the result of the call contains itself, and the program may go on without it)
+    let text = "let a = [1]; a.push(|| a.len()); try { apply(|x| a, 1) } catch (e) { e }";
+    assert_eq!(engine.eval::<String>(text)?, EvalError::ContainsItself.to_string());
+    let wrong = f.call::<i64>(&engine, &mut scope, &ast, (1, 2)).unwrap_err();
+    assert!(matches!(&wrong, EvalError::NoFunction { name, arguments: 2 } if name.starts_with("anon$")), "{wrong:?}");
+    Ok(())
+}
+
+#[test]
+fn a_name_that_no_script_can_write_is_never_called() -> Result<(), EvalError> {
+    for name in ["", " ", "a b", "\n", "x 0\ny", "x 0 mut\n", "1x", "\u{e9}", "+", "if", "x\r", "a\tb"] {
+        let mut engine = Engine::new();
+        engine.register_fn("before", || 1).register_fn(name, || 2).register_fn(name, |_n: i64| 3).register_fn("after", || 4);
+        assert_eq!(engine.eval::<i64>("before() * 10 + after()")?, 14, "{name:?}");
+        let missing = engine.run("y()").unwrap_err();
+        assert!(matches!(missing, EvalError::Runtime { line: 1, column: 1, .. }), "{name:?}: {missing:?}");
+    }
+    Ok(())
+}

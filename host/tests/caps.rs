@@ -1,5 +1,5 @@
 //! Limits on memory.
-use rhai_world::{Engine, Error, EvalError, Limits, Operator, Scope, Script, ScriptError, Value, World};
+use rhai_world::{Call, Engine, Error, EvalError, Function, Limits, Operator, Scope, Script, ScriptError, Value, World};
 use std::num::NonZeroUsize;
 
 const MEGABYTE: usize = 1 << 20;
@@ -130,4 +130,56 @@ fn scripts_alone() {
         assert!(matches!(found, Err(ScriptError::Fault { .. } | ScriptError::OutOfMemory)), "{bomb}: {found:?}");
     }
     assert_eq!(Script::run("print(1)", 1_000, limits).as_deref(), Ok("1\n"));
+}
+
+/// A script whose functions the program calls, and which calls functions of the program in every way: with an argument that is changed,
+/// one that fails, and one that calls a function back, which calls the program.
+const CALLED_BACK: &str = "
+    let words = []; each([1, 2, 3], |n| { total += n; words.add(`word number ` + n); });
+    try { each([4], |n| each([n], |m| { throw m + words.len(); })); } catch (why) { total += why; }
+    let all = #{words: [words, words], text: `another text that is longer`}; all.words[1].add(all.text);
+    try { fail(all.text + all.text); } catch (why) { all.why = why; }
+    let f = same(|n| { total += n; echo(all).words[1].len() }); f.call(total) * 1000 + total";
+
+#[test]
+fn each_cap_ends_a_program_that_calls_back_or_not() -> Result<(), EvalError> {
+    let mut engine = Engine::new();
+    engine
+        .register_fn("each", |call: &mut Call, items: Vec<i64>, f: Function| -> Result<(), EvalError> {
+            items.into_iter().try_for_each(|item| call.call(&f, (item,)))
+        })
+        .register_fn("add", |words: &mut Vec<String>, word: String| words.push(word))
+        .register_fn("fail", |why: String| Err::<(), _>(why))
+        .register_fn("same", |f: Function| f)
+        .register_fn("echo", |value: Value| value);
+    let ast = engine.compile_with_scope(&Scope::of([("total", 0)])?, &CALLED_BACK.replace('`', "\""))?;
+    let (mut done, mut refused) = (0, 0);
+    for bytes in (16..80_000).step_by(112) {
+        let mut scope = Scope::of([("total", 0)])?;
+        // (of the items 1, 2 and 3 the total is 6; with 4 and three words 13; twice that in the end, where four words are in the copy)
+        match engine.set_max_memory(bytes).eval_ast_with_scope::<i64>(&mut scope, &ast) {
+            Ok(value) => done += usize::from(value == 4_026),
+            Err(EvalError::OutOfMemory { .. }) => refused += 1,
+            Err(error) => panic!("{bytes} bytes: {error:?}"),
+        }
+        assert!(matches!(scope.get::<i64>("total"), Some(0 | 1 | 3 | 6 | 13 | 26)), "{bytes} bytes");
+        scope.clear()?;
+        scope.push("total", 0)?;
+        assert_eq!(engine.set_max_memory(0).eval_ast_with_scope::<i64>(&mut scope, &ast)?, 4_026, "after {bytes} bytes");
+    }
+    assert!(done > 100 && refused > 100, "{done} were done, {refused} were refused");
+    Ok(())
+}
+
+#[test]
+fn a_refused_argument_has_its_place() -> Result<(), EvalError> {
+    let mut engine = Engine::new();
+    engine.register_fn("see", |_value: Value| ()).set_max_memory(1 << 20);
+    let mut scope = Scope::new()?;
+    // (what closures share is in the argument once for each of two closures at each of 40 levels)
+    let text = "let x = 1; for i in 0..40 { let y = x; x = [|| y, || y]; }\nlet n = 7;\ntry { see(x); } catch { n = 8; }";
+    let refused = engine.run_with_scope(&mut scope, text).unwrap_err();
+    assert!(matches!(refused, EvalError::OutOfMemory { line: 3, column: 7, .. }), "{refused:?}");
+    assert_eq!(scope.get::<i64>("n"), Some(7));
+    Ok(())
 }

@@ -133,8 +133,8 @@ fn prints_come_a_line_at_a_time() -> Result<(), EvalError> {
     let lines = Arc::new(Mutex::new(Vec::new()));
     let kept = Arc::clone(&lines);
     engine.on_print(move |line| kept.lock().unwrap().push(line.to_owned()));
-    engine.run("print(1); print(\"two\"); for i in 0..2 { print(i); }")?;
-    assert_eq!(*lines.lock().unwrap(), ["1", "two", "0", "1"]);
+    engine.run("print(1); print(\"two\"); debug(\"two\"); for i in 0..2 { print(i); }")?;
+    assert_eq!(*lines.lock().unwrap(), ["1", "two", "\"two\"", "0", "1"]);
     Ok(())
 }
 

@@ -1,8 +1,8 @@
 //! Each allocation failing in turn, and all from one on.
 #![cfg(feature = "faults")]
 use rhai_world::{
-    refuse, Answer, Call, Command, Engine, Error, EvalError, Function, Journal, Limits, Name, Operator, Place, Scope, Script,
-    ScriptError, Type, World,
+    refuse, Answer, Call, Command, Engine, Error, EvalError, Function, Journal, Limits, Name, Operator, Place, Progress, Scope,
+    Script, ScriptError, Type, World,
 };
 
 fn script(x: Name) -> Vec<Command> {
@@ -260,4 +260,79 @@ fn functions_in_the_programs_hands() {
         }
     }
     assert!(stopped > asked, "{stopped} of {}", 2 * asked);
+}
+
+/// Makes variables that share places.
+const SHARED: &str = "
+    let words = [`a word that is longer than twenty-four bytes`]; let add = |word| { words.push(word); total += 1; };
+    let fields = #{add: add, count: || total}; add.call(`another word that is longer than others`);";
+
+#[test]
+fn saved_scopes() {
+    let engine = Engine::new();
+    let mut scope = Scope::of([("total", 0)]).unwrap();
+    engine.run_with_scope(&mut scope, &SHARED.replace('`', "\"")).unwrap();
+    let (expected, saving) = refuse(u64::MAX, false, || scope.save());
+    let saved = expected.clone().unwrap();
+    let (restored, restoring) = refuse(u64::MAX, false, || saved.restore());
+    assert_eq!((restored.unwrap().save(), saving > 1, restoring > 10), (expected.clone(), true, true));
+    let mut stopped = 0;
+    for nth in 0..saving.max(restoring) {
+        for lasts in [false, true] {
+            let (found, _) = refuse(nth, lasts, || scope.save());
+            stopped += u64::from(matches!(found, Err(EvalError::OutOfMemory { .. })));
+            assert!(found == expected || matches!(found, Err(EvalError::OutOfMemory { .. })), "request {nth}: {found:?}");
+            assert_eq!(scope.save(), expected, "after request {nth}");
+            let (found, _) = refuse(nth, lasts, || saved.restore());
+            stopped += u64::from(matches!(found, Err(EvalError::OutOfMemory { .. })));
+            assert!(matches!(found, Ok(_) | Err(EvalError::OutOfMemory { .. })), "request {nth}: {found:?}");
+            assert!(found.is_err() || found.unwrap().save() == expected, "request {nth}");
+        }
+    }
+    assert!(stopped > saving + restoring, "{stopped} of {}", 2 * (saving + restoring));
+}
+
+#[test]
+fn a_paused_run_is_looked_into() {
+    let engine = Engine::new();
+    let text = "fn f(words) {\n    let more = words + words;\n    more.len()\n}\nlet words = [`a word that is longer than twenty-four bytes`];\nf(words)";
+    let ast = engine.compile(&text.replace('`', "\"")).unwrap();
+    let mut scope = Scope::new().unwrap();
+    let mut run = engine.start(&mut scope, &ast).unwrap();
+    run.stop_at_statements(true).unwrap();
+    while !matches!(run.go(1_000).unwrap(), Progress::Statement { line: 3, .. }) {}
+    let (expected, asked) = refuse(u64::MAX, false, || (run.calls(), run.variables(0), run.variables(1)));
+    assert_eq!((expected.0.len(), expected.1.as_ref().map(Vec::len), expected.2.as_ref().map(Vec::len)), (2, Ok(2), Ok(1)));
+    let is_refused = |found: &Result<_, _>| matches!(found, Err(EvalError::OutOfMemory { .. }));
+    for nth in 0..asked {
+        for lasts in [false, true] {
+            let ((calls, inner, outer), _) = refuse(nth, lasts, || (run.calls(), run.variables(0), run.variables(1)));
+            assert!(expected.0.starts_with(&calls), "request {nth}: {calls:?}");
+            assert!(inner == expected.1 || is_refused(&inner), "request {nth}: {inner:?}");
+            assert!(outer == expected.2 || is_refused(&outer), "request {nth}: {outer:?}");
+            assert!(calls != expected.0 || is_refused(&inner) || is_refused(&outer), "request {nth}");
+            assert_eq!((run.calls(), run.variables(0), run.variables(1)), expected, "after request {nth}");
+        }
+    }
+    assert_eq!(run.go(1_000), Ok(Progress::Done(2.into())));
+}
+
+#[test]
+fn no_script_catches_a_failed_allocation() {
+    let mut engine = Engine::new();
+    engine.register_fn("by_name", |call: &mut Call, name: String, n: i64| call.call_fn::<i64>(&name, (n,)));
+    engine.register_fn("apply", |call: &mut Call, f: Function| call.call::<i64>(&f, ()));
+    let text = "fn one(p) { p + 1 } let n = 0; try { n = by_name(`one`, 1); } catch { }
+        try { apply(|| { throw [`thrown`]; }) } catch (e) { if type_of(e) == `string` { 0 } else { n } }";
+    let ast = engine.compile(&text.replace('`', "\"")).unwrap();
+    let run = |scope: &mut Scope| engine.eval_ast_with_scope::<i64>(scope, &ast);
+    let (expected, asked) = refuse(u64::MAX, false, || run(&mut Scope::new().unwrap()));
+    assert_eq!(expected, Ok(2));
+    for nth in 0..asked {
+        for lasts in [false, true] {
+            let mut scope = Scope::new().unwrap();
+            let (found, _) = refuse(nth, lasts, || run(&mut scope));
+            assert!(matches!(found, Ok(2) | Err(EvalError::OutOfMemory { .. })), "request {nth}: {found:?}");
+        }
+    }
 }

@@ -1,5 +1,7 @@
 //! Runs in pieces.
-use rhai_world::{Array, Engine, EvalError, Progress, Scope, Value};
+mod common;
+
+use rhai_world::{Array, Engine, EvalError, Progress, Saved, Scope, Value};
 use std::panic::{catch_unwind, AssertUnwindSafe};
 use std::sync::{Arc, Mutex};
 
@@ -192,5 +194,63 @@ fn a_run_that_stands_shows_its_functions_and_their_variables() -> Result<(), Eva
     assert_eq!(calls, [(4, false), (6, true)]);
     while !matches!(run.go(1_000)?, Progress::Done(_)) {}
     assert_eq!((run.calls().len(), run.variables(0)?.len()), (0, 0));
+    Ok(())
+}
+
+#[test]
+fn a_saved_scope_has_all_that_its_values_share() -> Result<(), EvalError> {
+    let engine = Engine::new();
+    let text = "
+        if step == 0 {
+            let a = [1, #{b: 2}];
+            list = a;
+            add = |x| { total += x; total };
+            same = || total;
+            loop_of = [];
+            let holder = || loop_of;
+            loop_of.push(holder);
+        } else {
+            found = add.call(40) + same.call();
+        }";
+    let ast = engine.compile(text)?;
+    let mut scope = Scope::new()?;
+    for name in ["list", "add", "same", "loop_of", "found"] {
+        scope.push(name, ())?;
+    }
+    scope.push("step", 0)?.push("total", 1)?;
+    engine.run_ast_with_scope(&mut scope, &ast)?;
+    let saved = scope.save()?;
+    assert_eq!(saved, Saved::from_bytes(saved.as_bytes().to_vec()));
+    for _ in 0..2 {
+        let mut again = saved.restore()?;
+        assert_eq!(again.save()?, saved);
+        assert_eq!(again.names()?, scope.names()?);
+        again.set("step", 1)?;
+        engine.run_ast_with_scope(&mut again, &ast)?;
+        assert_eq!((again.get::<i64>("found"), again.get::<i64>("total")), (Some(82), Some(41)));
+        assert_eq!(again.value("list")?, scope.value("list")?);
+    }
+    assert_eq!(scope.get::<i64>("total"), Some(1));
+    for cut in 0..saved.as_bytes().len() {
+        let part = Saved::from_bytes(saved.as_bytes()[..cut].to_vec());
+        assert!(matches!(part.restore(), Err(EvalError::NotSaved)), "{cut}");
+    }
+    Ok(())
+}
+
+#[test]
+fn many_shared_places_and_deep_values_are_saved() -> Result<(), EvalError> {
+    let engine = Engine::new();
+    let count = common::levels() / 50;
+    let text = format!(
+        "for i in 0..{count} {{ let x = i; all.push(|| x); all.push(|| x); }}
+        for i in 0..2_000 {{ deep = [deep]; }}"
+    );
+    let mut scope = Scope::of([("all", Value::Array(Array::default())), ("deep", Value::Unit)])?;
+    engine.run_with_scope(&mut scope, &text)?;
+    let saved = scope.save()?;
+    let again = saved.restore()?;
+    assert_eq!(again.save()?, saved);
+    assert_eq!(again.value("deep")?, scope.value("deep")?);
     Ok(())
 }

@@ -1,5 +1,5 @@
 //! What ends a run from outside: time, output, interrupts, and the program.
-use rhai_world::{Engine, EvalError, Progress, Scope, Value};
+use rhai_world::{Call, Engine, EvalError, Function, Progress, Scope, Value};
 use std::sync::atomic::{AtomicU64, Ordering};
 use std::sync::{mpsc, Arc, Mutex};
 use std::time::Duration;
@@ -167,5 +167,43 @@ fn output_is_handed_on_as_it_comes() -> Result<(), EvalError> {
     });
     engine.run("print(1); let n = 0; while n < 10_000 { n += 1; }")?;
     assert_eq!(missing.load(Ordering::Relaxed), 0);
+    Ok(())
+}
+
+#[test]
+fn a_pull_acts_within_1024_operations() -> Result<(), EvalError> {
+    let mut engine = Engine::new();
+    let (interrupt, pulled) = (engine.interrupt(), Arc::new(AtomicU64::new(0)));
+    let kept = Arc::clone(&pulled);
+    engine.on_progress(move |operations| {
+        if operations > 5_000 && kept.compare_exchange(0, operations, Ordering::Relaxed, Ordering::Relaxed).is_ok() {
+            interrupt.pull();
+        }
+        None
+    });
+    let mut scope = Scope::new()?;
+    let ast = engine.compile(ENDLESS)?;
+    let mut run = engine.start(&mut scope, &ast)?;
+    assert!(matches!(run.go(u64::MAX), Err(EvalError::Interrupted { line: 2, .. })));
+    let since = run.operations() - pulled.load(Ordering::Relaxed);
+    assert!(since <= 1_024, "{since}");
+    drop(run);
+    is_whole(&mut scope)
+}
+
+#[test]
+fn time_and_output_are_limited_within_calls_back() -> Result<(), EvalError> {
+    let mut engine = Engine::new();
+    let lines = lines_of(&mut engine);
+    engine.register_fn("swallow", |call: &mut Call, f: Function| call.call::<Value>(&f, ()).is_ok());
+    engine.set_max_output(6);
+    let mut scope = Scope::new()?;
+    let text = "let n = 7; swallow(|| { swallow(|| { try { loop { print(n); } } catch { } }); n = 8; }); n = 9;";
+    let error = engine.run_with_scope(&mut scope, text).unwrap_err();
+    assert!(matches!(error, EvalError::TooMuchOutput { line: 1, .. }), "{error:?}");
+    assert_eq!((lines.lock().unwrap().len(), scope.get::<i64>("n")), (3, Some(7)));
+    engine.set_max_output(0).set_max_time(Duration::from_millis(30));
+    let error = engine.run("swallow(|| { try { loop { } } catch { } }); loop { }").unwrap_err();
+    assert!(matches!(error, EvalError::TooMuchTime { line: 1, column: 1..=30, .. }), "{error:?}");
     Ok(())
 }

@@ -1,9 +1,9 @@
 //! What the types promise besides their calls: which can go to other threads, which can be keys,
 //! and how they are formatted.
 use rhai_world::{
-    Answer, ArithmeticFault, Array, Ast, Command, Engine, Entries, Entry, Error, EvalError, Interrupt, Journal, Limits, Map,
-    Memory, Misfit, Name, NoIntError, Operator, Place, Progress, Refusal, Script, ScriptError, SizeKind, TryFromValueError, Type,
-    Value,
+    Answer, ArithmeticFault, Array, Ast, CallPlace, Command, Engine, Entries, Entry, Error, EvalError, Function, Interrupt,
+    Journal, Limits, Map, Memory, Misfit, Name, NoIntError, Operator, Place, Progress, Refusal, Saved, Script, ScriptError,
+    SizeKind, TryFromValueError, Type, Value,
 };
 use std::collections::HashSet;
 use std::hash::Hash;
@@ -39,9 +39,12 @@ fn all_but_a_world_go_to_other_threads_and_are_keys() {
     is_a_key::<Misfit>();
     is_a_key::<NoIntError>();
     is_a_key::<Progress>();
+    is_a_key::<CallPlace>();
+    is_a_key::<Saved>();
     is_a_key::<TryFromValueError>();
     goes_to_threads::<Ast>();
     goes_to_threads::<Engine>();
+    goes_to_threads::<Function>();
     goes_to_threads::<Entries>();
     goes_to_threads::<Interrupt>();
 }

@@ -59,11 +59,16 @@ impl Call<'_> {
         self.used.refused = None;
         match done {
             Ok(None) => match T::found(&Found::new(self.scope, Standing::Value)) {
-                Err(error @ EvalError::Mismatch(_)) => Err(error),
+                Err(error @ (EvalError::Mismatch(_) | EvalError::ContainsItself)) => Err(error),
                 found => found.map_err(|error| self.ends(error)),
             },
             Ok(Some(error)) => {
-                self.used.refused = self.scope.last_value().ok().map(|value| (error.to_string(), value));
+                match self.scope.last_value() {
+                    Ok(value) => self.used.refused = Some((error.to_string(), value)),
+                    // (then the script catches the text of the error)
+                    Err(EvalError::ContainsItself) => {}
+                    Err(ended) => return Err(self.ends(ended)),
+                }
                 Err(error)
             }
             Err(error) => Err(self.ends(error)),
@@ -80,7 +85,7 @@ impl Call<'_> {
     ///
     /// Errors: those of `call`.
     pub fn call_fn<T: Wanted>(&mut self, name: &str, arguments: impl Arguments) -> Result<T, EvalError> {
-        let function = self.scope.function(name)?;
+        let function = self.scope.function(name).map_err(|error| self.ends(error))?;
         self.call(&function, arguments)
     }
 
@@ -104,6 +109,7 @@ impl Call<'_> {
         match T::found(&Found::new(self.scope, Standing::Argument(number))) {
             Ok(argument) => Ok(argument),
             Err(EvalError::Mismatch(error)) => Err(Refused::Thrown(error.said(&format!("argument {}", number + 1), "is"))),
+            Err(EvalError::ContainsItself) => Err(Refused::Thrown(format!("argument {} contains itself", number + 1))),
             Err(error) => Err(Refused::Ends(error)),
         }
     }

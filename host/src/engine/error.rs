@@ -51,7 +51,7 @@ pub enum EvalError {
     },
     /// The script failed while running, and nothing in it caught the error.
     Runtime {
-        /// What went wrong.
+        /// What went wrong; empty if no memory was left for the message.
         message: String,
         /// The line where it went wrong.
         line: u32,
@@ -120,6 +120,9 @@ pub enum EvalError {
     },
     /// The value can't be converted to the requested type.
     Mismatch(TryFromValueError),
+    /// The value contains itself, by what closures share: it can't be taken out of its scope. As an argument of a host function it is an
+    /// error that the script may catch.
+    ContainsItself,
     /// A number that the program passed doesn't fit an int.
     NoInt(NoIntError),
     /// The script has no function with this name and number of arguments.
@@ -140,6 +143,8 @@ pub enum EvalError {
         /// The active functions, the innermost first.
         calls: Vec<CallPlace>,
     },
+    /// The bytes are no saved scope.
+    NotSaved,
     /// The run had already ended.
     Ended,
     /// The library's handle has another layout than the one this crate was built for.
@@ -162,9 +167,11 @@ impl EvalError {
             | EvalError::Terminated { line, column, .. }
             | EvalError::OutOfMemory { line, column, .. } => (*line > 0).then_some((*line, *column)),
             EvalError::Mismatch(_)
+            | EvalError::ContainsItself
             | EvalError::NoInt(_)
             | EvalError::NoFunction { .. }
             | EvalError::OtherScope
+            | EvalError::NotSaved
             | EvalError::Ended
             | EvalError::OtherLibrary
             | EvalError::Unexpected => None,
@@ -197,12 +204,21 @@ impl EvalError {
             | EvalError::OutOfMemory { calls, .. } => calls,
             EvalError::Syntax { .. }
             | EvalError::Mismatch(_)
+            | EvalError::ContainsItself
             | EvalError::NoInt(_)
             | EvalError::NoFunction { .. }
             | EvalError::OtherScope
+            | EvalError::NotSaved
             | EvalError::Ended
             | EvalError::OtherLibrary
             | EvalError::Unexpected => &[],
+        }
+    }
+
+    /// Adds the place where the run is to a failed allocation outside the script's own operations, such as for an argument.
+    pub(super) fn note_place(&mut self, at: (u32, u32)) {
+        if let EvalError::OutOfMemory { line: line @ 0, column, .. } = self {
+            (*line, *column) = at;
         }
     }
 
@@ -223,9 +239,11 @@ impl EvalError {
             }
             EvalError::Syntax { .. }
             | EvalError::Mismatch(_)
+            | EvalError::ContainsItself
             | EvalError::NoInt(_)
             | EvalError::NoFunction { .. }
             | EvalError::OtherScope
+            | EvalError::NotSaved
             | EvalError::Ended
             | EvalError::OtherLibrary
             | EvalError::Unexpected => {}
@@ -278,10 +296,12 @@ impl fmt::Display for EvalError {
             EvalError::Terminated { reason: Value::Text(reason), .. } => write!(f, "terminated: {reason}")?,
             EvalError::Terminated { reason, .. } => write!(f, "terminated: {reason:?}")?,
             EvalError::Mismatch(error) => error.fmt(f)?,
+            EvalError::ContainsItself => f.write_str("the value contains itself")?,
             EvalError::NoInt(error) => error.fmt(f)?,
             EvalError::NoFunction { name, arguments } => write!(f, "no function {name} of {arguments} arguments")?,
             EvalError::OtherScope => f.write_str("a function of another scope")?,
             EvalError::OutOfMemory { .. } => f.write_str("out of memory")?,
+            EvalError::NotSaved => f.write_str("no saved scope")?,
             EvalError::Ended => f.write_str("the run has ended")?,
             EvalError::OtherLibrary => f.write_str("another library than this crate was built for")?,
             EvalError::Unexpected => f.write_str("an answer that isn't promised")?,

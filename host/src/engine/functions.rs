@@ -275,9 +275,11 @@ impl Registered {
         self.name == other.name && self.parameters == other.parameters
     }
 
-    /// Returns the line that names it for the library.
+    /// Returns the line that names it for the library. In it a space ends a name, and a line feed ends the line; no script can write a name
+    /// that contains either.
     pub(crate) fn line(&self) -> String {
-        format!("{} {}{}\n", self.name, self.parameters, if self.changes { " mut" } else { "" })
+        let name = self.name.replace([' ', '\n'], "?");
+        format!("{name} {}{}\n", self.parameters, if self.changes { " mut" } else { "" })
     }
 
     /// Calls it; returns the panic if it panics.

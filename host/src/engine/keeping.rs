@@ -61,8 +61,7 @@ impl Scope {
     pub(super) fn call_function(&mut self, function: &Function, arguments: Vec<Value>) -> Result<(), EvalError> {
         let number = function.number(&self.ledger)?;
         let count = arguments.len();
-        let arguments = Value::from(arguments).to_bytes()?;
-        match done(sys::function_call(&self.world.handle, number, &arguments)) {
+        match done(sys::function_call(&self.world.handle, number, &Value::list_bytes(&arguments)?)) {
             Ok(()) => Ok(()),
             Err(Error::NoCommand) => Err(EvalError::NoFunction { name: self.function_name(number)?, arguments: count }),
             Err(error) => Err(error.into()),
@@ -75,12 +74,15 @@ impl Scope {
         Ok(done(sys::function_answer(&self.world.handle, number))?)
     }
 
+    /// Returns the name of a kept function; only the beginning of a closure's if what it captured contains the closure.
     fn function_name(&self, number: usize) -> Result<String, EvalError> {
         let mut told = Told::default();
         let status = sys::function_value(&self.world.handle, number, &mut told);
-        match Value::from_bytes(&self.world.bytes(status, &told)?)? {
-            Value::FnPtr(name, _) => Ok(name),
-            _ => Err(EvalError::Unexpected),
+        match self.value_told(status, &told) {
+            Ok(Value::FnPtr(name, _)) => Ok(name),
+            Ok(_) => Err(EvalError::Unexpected),
+            Err(EvalError::ContainsItself) => Ok("anon$".to_owned()),
+            Err(error) => Err(error),
         }
     }
 }

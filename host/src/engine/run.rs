@@ -130,6 +130,7 @@ impl<'a> Run<'a> {
         let mut gone = self.advance(self.used.operations.saturating_add(operations));
         self.used.end_piece();
         if let Err(error) = &mut gone {
+            error.note_place((self.used.line, self.used.column));
             error.note_calls(|| self.scope.calls_under_way(MOST_CALLS));
         }
         match gone {
@@ -174,7 +175,8 @@ impl<'a> Run<'a> {
         self.scope.memory()
     }
 
-    /// Returns the active functions of the script, the innermost first; the last is the script itself.
+    /// Returns the active functions of the script, the innermost first; the last is the script itself, or the function of
+    /// [`start_fn`](Engine::start_fn) once that is called. If an allocation fails, the list ends early.
     ///
     /// ```
     /// use rhai_world::{Engine, EvalError, Progress, Scope, Value};
@@ -195,10 +197,17 @@ impl<'a> Run<'a> {
         self.scope.calls_under_way(usize::MAX)
     }
 
+    /// Returns the active function with this number in [`calls`](Run::calls), without listing the
+    /// others. There is one with number `n` if more than `n` functions are active.
+    pub fn call_at(&self, number: usize) -> Option<CallPlace> {
+        self.scope.calls_under_way_from(number).next()
+    }
+
     /// Returns the visible variables of an active function, given by its number in [`calls`](Run::calls), with their values: from the newest
-    /// to the oldest, so that a shadowed one comes after the one that shadows it. The list is empty if there is no such function.
+    /// to the oldest, so that a shadowed one comes after the one that shadows it. The list is empty if there is no such function. `this` isn't
+    /// listed, and while a method is called, the place whose value it has as `this` is `()`.
     ///
-    /// Errors: an allocation fails; `EvalError::Unexpected` if a value contains itself.
+    /// Errors: an allocation fails; `EvalError::ContainsItself`.
     pub fn variables(&self, call: usize) -> Result<Vec<(String, Value)>, EvalError> {
         self.scope.variables_in_sight(call)
     }
@@ -206,6 +215,10 @@ impl<'a> Run<'a> {
 
 /// How it continues.
 impl Run<'_> {
+    pub(crate) fn scope(&self) -> &Scope {
+        self.scope
+    }
+
     /// Continues until it has used this many operations, is done, or has to stop.
     fn advance<T: Wanted>(&mut self, until: u64) -> Result<Came<T>, EvalError> {
         loop {

@@ -13,7 +13,7 @@ use std::sync::Arc;
 /// Variables that outlive a run, with everything that closures share. A later one hides an earlier
 /// one of the same name.
 ///
-/// It stays on the thread that made it. Only the script that made a closure can call it, in another
+/// It stays on the thread that made it; [`save`](Scope::save) makes plain data of it for another one. Only the script that made a closure can call it, in another
 /// run of the same text; for another script there is no such function.
 ///
 /// ```
@@ -26,6 +26,11 @@ use std::sync::Arc;
 /// assert_eq!(scope.get::<i64>("total"), Some(5));
 /// assert_eq!(scope.names()?, ["total", "add"]);
 /// # Ok::<(), EvalError>(())
+/// ```
+///
+/// ```compile_fail,E0277
+/// let mut scope = rhai_world::Scope::new().unwrap();
+/// std::thread::spawn(move || scope.clear());
 /// ```
 pub struct Scope {
     pub(super) world: World,
@@ -77,8 +82,8 @@ impl Scope {
     ///
     /// Errors: an allocation fails; a number doesn't fit an int. The variable isn't declared then.
     pub fn push(&mut self, name: &str, value: impl TryInto<Value, Error: Into<EvalError>>) -> Result<&mut Scope, EvalError> {
-        let bytes = value.try_into().map_err(Into::into)?.to_bytes()?;
-        done(sys::variable_push(&self.world.handle, name.as_bytes(), &bytes))?;
+        let value = value.try_into().map_err(Into::into)?;
+        done(value.with_bytes(|bytes| sys::variable_push(&self.world.handle, name.as_bytes(), bytes))?)?;
         Ok(self)
     }
 
@@ -89,8 +94,8 @@ impl Scope {
         let Some(number) = self.find(name)? else {
             return self.push(name, value);
         };
-        let bytes = value.try_into().map_err(Into::into)?.to_bytes()?;
-        done(sys::variable_set(&self.world.handle, number, &bytes))?;
+        let value = value.try_into().map_err(Into::into)?;
+        done(value.with_bytes(|bytes| sys::variable_set(&self.world.handle, number, bytes))?)?;
         Ok(self)
     }
 
@@ -103,7 +108,7 @@ impl Scope {
     /// Returns the value of the newest variable with the name, converted to a Rust type; `Ok(None)`
     /// if there is no such variable.
     ///
-    /// Errors: `EvalError::Mismatch` if the value isn't of that type; an allocation fails.
+    /// Errors: `EvalError::Mismatch` if the value isn't of that type; `EvalError::ContainsItself`; an allocation fails.
     ///
     /// ```
     /// use rhai_world::{EvalError, Scope};
@@ -122,6 +127,11 @@ impl Scope {
     }
 
     /// Returns the value of the newest variable with the name, if there is one.
+    ///
+    /// Errors: `EvalError::ContainsItself`; an allocation fails.
+    ///
+    /// Cost: what closures share is copied once for each closure that shares it. A script can make a value whose copy is much larger than the
+    /// scope; [`Engine::set_max_memory`] limits such copies only during a run.
     pub fn value(&self, name: &str) -> Result<Option<Value>, EvalError> {
         match self.find(name)? {
             Some(number) => self.value_at(number).map(Some),
@@ -133,7 +143,16 @@ impl Scope {
     pub(crate) fn value_at(&self, number: usize) -> Result<Value, EvalError> {
         let mut told = Told::default();
         let status = sys::variable_value(&self.world.handle, number, &mut told);
-        Ok(Value::from_bytes(&self.world.bytes(status, &told)?)?)
+        self.value_told(status, &told)
+    }
+
+    /// Returns the value of an answer; fails if it contains itself.
+    pub(super) fn value_told(&self, status: u32, told: &Told) -> Result<Value, EvalError> {
+        match done(status) {
+            Ok(()) => Ok(self.world.script_value(status, told)?),
+            Err(Error::NoCommand) => Err(EvalError::ContainsItself),
+            Err(error) => Err(error.into()),
+        }
     }
 
     /// Returns the number of variables.
@@ -236,8 +255,7 @@ impl Scope {
     /// Starts a call of a function of the script.
     pub(crate) fn call(&mut self, name: &str, arguments: Vec<Value>) -> Result<(), EvalError> {
         let count = arguments.len();
-        let arguments = Value::from(arguments).to_bytes()?;
-        match done(sys::script_call(&self.world.handle, name.as_bytes(), &arguments)) {
+        match done(sys::script_call(&self.world.handle, name.as_bytes(), &Value::list_bytes(&arguments)?)) {
             Ok(()) => Ok(()),
             Err(Error::NoCommand) => Err(EvalError::NoFunction { name: name.to_owned(), arguments: count }),
             Err(error) => Err(error.into()),
@@ -277,19 +295,19 @@ impl Scope {
     pub(crate) fn last_value(&self) -> Result<Value, EvalError> {
         let mut told = Told::default();
         let status = sys::script_value(&self.world.handle, &mut told);
-        Ok(Value::from_bytes(&self.world.bytes(status, &told)?)?)
+        self.value_told(status, &told)
     }
 
     /// Returns an argument of the registered function being called.
     pub(crate) fn argument(&self, number: usize) -> Result<Value, EvalError> {
         let mut told = Told::default();
         let status = sys::script_argument(&self.world.handle, number, &mut told);
-        Ok(Value::from_bytes(&self.world.bytes(status, &told)?)?)
+        self.value_told(status, &told)
     }
 
     /// Passes a value to the script that called a registered function.
     pub(crate) fn answer(&mut self, value: &Value) -> Result<(), EvalError> {
-        Ok(done(sys::script_answer(&self.world.handle, &value.to_bytes()?))?)
+        Ok(done(value.with_bytes(|bytes| sys::script_answer(&self.world.handle, bytes))?)?)
     }
 
     /// Fails the call of a registered function: either the script catches the error and continues,
@@ -303,13 +321,13 @@ impl Scope {
     /// Fails the call with a value, as if the script had thrown it.
     pub(crate) fn throw(&mut self, value: &Value) -> Result<Went, EvalError> {
         let mut stop = ScriptStop::default();
-        done(sys::script_throw(&self.world.handle, &value.to_bytes()?, &mut stop))?;
+        done(value.with_bytes(|bytes| sys::script_throw(&self.world.handle, bytes, &mut stop))?)?;
         self.went(&stop)
     }
 
     /// Replaces the first argument of the registered function being called.
     pub(crate) fn change(&mut self, value: &Value) -> Result<(), EvalError> {
-        Ok(done(sys::script_change(&self.world.handle, &value.to_bytes()?))?)
+        Ok(done(value.with_bytes(|bytes| sys::script_change(&self.world.handle, bytes))?)?)
     }
 
     /// Ends the run, if there is one: the scope has its variables back, without a limit on memory.

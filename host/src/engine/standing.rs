@@ -7,7 +7,12 @@ use crate::value::Value;
 impl Scope {
     /// Returns the active functions, the innermost first, at most this many; fewer if an allocation fails.
     pub(super) fn calls_under_way(&self, most: usize) -> Vec<CallPlace> {
-        (0..most).map_while(|number| self.call_under_way(number).ok().flatten()).collect()
+        self.calls_under_way_from(0).take(most).collect()
+    }
+
+    /// Iterates over the active functions from this number on.
+    pub(super) fn calls_under_way_from(&self, first: usize) -> impl Iterator<Item = CallPlace> + '_ {
+        (first..usize::MAX).map_while(|number| self.call_under_way(number).ok().flatten())
     }
 
     fn call_under_way(&self, number: usize) -> Result<Option<CallPlace>, EvalError> {
@@ -30,8 +35,7 @@ impl Scope {
                 return Ok(variables);
             };
             let status = sys::script_variable_value(&self.world.handle, function, before, &mut told);
-            let value = Value::from_bytes(&self.world.bytes(status, &told)?)?;
-            variables.push((name, value));
+            variables.push((name, self.value_told(status, &told)?));
             before = number;
         }
     }

@@ -6,7 +6,7 @@ use std::iter::FusedIterator;
 /// The variables of a scope with their names, oldest first. A later one hides an earlier one of the
 /// same name from scripts.
 ///
-/// Errors: an allocation fails for one of them.
+/// Errors: an allocation fails for one of them; `EvalError::ContainsItself`.
 #[derive(Clone, Debug)]
 pub struct Variables<'a> {
     scope: &'a Scope,

@@ -25,8 +25,8 @@ impl Value {
 }
 
 /// Hash bytes being read.
-struct Reader<'a> {
-    bytes: &'a [u8],
+pub(crate) struct Reader<'a> {
+    pub(crate) bytes: &'a [u8],
 }
 
 impl<'a> Reader<'a> {
@@ -41,7 +41,13 @@ impl<'a> Reader<'a> {
     }
 
     fn head(&mut self) -> Option<Head<'a>> {
-        Some(Head::Leaf(match self.byte()? {
+        let kind = self.byte()?;
+        self.head_of(kind)
+    }
+
+    /// Reads the rest of a head, behind the byte of its kind.
+    pub(crate) fn head_of(&mut self, kind: u8) -> Option<Head<'a>> {
+        Some(Head::Leaf(match kind {
             0 => Leaf::Unit,
             1 => Leaf::Bool(self.byte()? != 0),
             2 => Leaf::Text(self.text()?),
@@ -73,7 +79,7 @@ impl<'a> Reader<'a> {
         })
     }
 
-    fn text(&mut self) -> Option<&'a str> {
+    pub(crate) fn text(&mut self) -> Option<&'a str> {
         std::str::from_utf8(self.sized()?).ok()
     }
 
@@ -86,16 +92,16 @@ impl<'a> Reader<'a> {
         Some(i64::from_le_bytes(self.array()?))
     }
 
-    fn count(&mut self) -> Option<usize> {
+    pub(crate) fn count(&mut self) -> Option<usize> {
         usize::try_from(u64::from_le_bytes(self.array()?)).ok()
     }
 
-    fn byte(&mut self) -> Option<u8> {
+    pub(crate) fn byte(&mut self) -> Option<u8> {
         let [byte] = self.array()?;
         Some(byte)
     }
 
-    fn array<const N: usize>(&mut self) -> Option<[u8; N]> {
+    pub(crate) fn array<const N: usize>(&mut self) -> Option<[u8; N]> {
         self.take(N)?.try_into().ok()
     }
 

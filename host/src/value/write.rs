@@ -7,28 +7,59 @@ impl Value {
     /// Returns the bytes of this value.
     pub(crate) fn to_bytes(&self) -> Result<Vec<u8>, Error> {
         let mut out = Vec::new();
-        let mut open: Vec<Children<'_>> = Vec::new();
-        let mut next = Some(self);
-        loop {
-            if let Some(value) = next.take() {
-                add_head(&mut out, value.head())?;
-                if value.has_inside() {
-                    open.try_reserve(1)?;
-                    open.push(value.children());
-                }
+        add_value(&mut out, self)?;
+        Ok(out)
+    }
+
+    /// Passes the bytes of this value on. Unit, a boolean and an int need no allocation.
+    pub(crate) fn with_bytes<T>(&self, call: impl FnOnce(&[u8]) -> T) -> Result<T, Error> {
+        Ok(match self {
+            Value::Unit => call(&[0]),
+            Value::Bool(truth) => call(&[1, u8::from(*truth)]),
+            Value::Int(n) => {
+                let mut bytes = [4; INT_BYTES];
+                bytes[1..].copy_from_slice(&n.to_le_bytes());
+                call(&bytes)
             }
-            let Some(children) = open.last_mut() else { return Ok(out) };
-            let has_keys = matches!(children, Children::Fields(_));
-            match children.next() {
-                Some((key, value)) => {
-                    if has_keys {
-                        add_sized(&mut out, key.as_bytes())?;
-                    }
-                    next = Some(value);
+            other => call(&other.to_bytes()?),
+        })
+    }
+
+    /// Returns the bytes of an array of these values.
+    pub(crate) fn list_bytes(values: &[Value]) -> Result<Vec<u8>, Error> {
+        let mut out = Vec::new();
+        out.try_reserve(INT_BYTES * (values.len() + 1))?;
+        add_count(&mut out, &[5], values.len())?;
+        values.iter().try_for_each(|value| add_value(&mut out, value))?;
+        Ok(out)
+    }
+}
+
+/// How many bytes an int takes, and the head of an array.
+const INT_BYTES: usize = 9;
+
+fn add_value(out: &mut Vec<u8>, value: &Value) -> Result<(), Error> {
+    let mut open: Vec<Children<'_>> = Vec::new();
+    let mut next = Some(value);
+    loop {
+        if let Some(value) = next.take() {
+            add_head(out, value.head())?;
+            if value.has_inside() {
+                open.try_reserve(1)?;
+                open.push(value.children());
+            }
+        }
+        let Some(children) = open.last_mut() else { return Ok(()) };
+        let has_keys = matches!(children, Children::Fields(_));
+        match children.next() {
+            Some((key, value)) => {
+                if has_keys {
+                    add_sized(out, key.as_bytes())?;
                 }
-                None => {
-                    open.pop();
-                }
+                next = Some(value);
+            }
+            None => {
+                open.pop();
             }
         }
     }

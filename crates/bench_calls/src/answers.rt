@@ -1,4 +1,4 @@
-//! Answers, each on a line behind its key.
+//! Answers, each on a line after its key.
 
 use crate::dump::{add_dump, add_quoted};
 use rhai_text::{ArithmeticFault, EvalAltResult, Position, SizeKind};
@@ -9,7 +9,7 @@ use std::alloc::{AllocError, Global};
 #[derive(Drop)]
 pub struct Answers {
     pub text: String,
-    /// The last value that was kept, to be looked at once more.
+    /// The last value that was kept, to be written once more.
     pub last: Dynamic,
 }
 
@@ -21,7 +21,7 @@ impl Answers {
         }
     }
 
-    /// All that was said.
+    /// Returns everything that was written.
     pub fn into_text(self) -> String {
         let Answers { text, last: _ } = self;
         text
@@ -72,7 +72,7 @@ impl Answers {
         self.end()
     }
 
-    /// Says a value, and keeps it.
+    /// Writes a value, and keeps it.
     pub fn say_kept(&mut self, key: &str, s: &Store, value: Dynamic) -> Result<(), AllocError> {
         self.say_value(key, s, &value)?;
         self.last = value;
@@ -91,7 +91,7 @@ impl Answers {
         self.end()
     }
 
-    /// Says an error; that memory was refused is this call's own error.
+    /// Writes an error. A failed allocation is this call's own error instead.
     pub fn say_fault(&mut self, error: &EvalAltResult) -> Result<(), AllocError> {
         match error {
             EvalAltResult::ErrorMismatchDataType(wanted, found, pos) => {

@@ -1,4 +1,4 @@
-//! Questions that leave the value as it is.
+//! Calls that don't change the value.
 
 use crate::desk::Desk;
 use crate::dump::{add_dump, add_items_dump, add_map_dump, add_quoted};

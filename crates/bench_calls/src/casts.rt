@@ -1,4 +1,4 @@
-//! Casts, by the 22 types.
+//! Casts, for the 22 types.
 
 use crate::desk::Desk;
 use rhai_cast::{DynamicCast, is_castable};
@@ -7,7 +7,7 @@ use rhai_value::{Array, Blob, Dynamic, ExclusiveRange, FnPtr, InclusiveRange, In
 use rhai_variant::{CastError, Variant};
 use std::alloc::AllocError;
 
-/// Says what is made of a value of Rust.
+/// Writes the value that is made from a Rust value.
 pub fn say_made<T: Variant>(desk: &mut Desk, key: &str, x: T) -> Result<(), AllocError> {
     match Dynamic::of(desk.alloc, x) {
         Ok(value) => desk.answers.say_value(key, &desk.store, &value),
@@ -29,7 +29,8 @@ fn duplicated<T: Variant>(desk: &Desk, x: Option<&T>) -> Result<Option<T>, Alloc
     }
 }
 
-/// Lends what the value itself has of the type, to write, and writes over it what the second value is as one of the type.
+/// Borrows the value itself mutably as the type, and overwrites it with the second value cast to
+/// the type.
 fn written_over<T: Variant>(
     desk: &mut Desk,
     x: &mut Dynamic,

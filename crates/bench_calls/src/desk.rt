@@ -1,4 +1,4 @@
-//! What a recipe works on: values, and the cells that they hold.
+//! The values that a recipe works on, and the cells that they hold.
 
 use crate::answers::Answers;
 use crate::asks::ask;
@@ -17,7 +17,7 @@ use rhai_value::{AccessMode, Array, Dynamic, FnPtr, Map, Store};
 use std::alloc::{AllocError, Global};
 use std::mem::ManuallyDrop;
 
-/// How deep the values of a recipe may be; what lies below is unit.
+/// How deep the values of a recipe may be; anything below is unit.
 const LEVELS: u32 = 32;
 
 #[derive(Drop)]
@@ -29,7 +29,7 @@ pub struct Desk<'a> {
     pub answers: Answers,
 }
 
-/// Values by their recipes.
+/// Values from recipes.
 impl<'a> Desk<'a> {
     #[cycle(make)]
     fn values(&mut self, levels: u32) -> Result<Array, AllocError> {
@@ -56,7 +56,7 @@ impl<'a> Desk<'a> {
         Ok(Dynamic::from_map(map))
     }
 
-    /// A holder of a new cell, also where the content is a holder.
+    /// Makes a holder of a new cell, even if the content is a holder.
     #[cycle(make)]
     fn holder(&mut self, levels: u32) -> Result<Dynamic, AllocError> {
         let content = self.value_within(levels)?;
@@ -127,15 +127,15 @@ impl<'a> Desk<'a> {
         }
     }
 
-    /// A value by its recipe.
+    /// Reads a value from its recipe.
     pub fn value(&mut self) -> Result<Dynamic, AllocError> {
         self.value_within(LEVELS)
     }
 }
 
-/// Cells before the call, and all that is left behind it.
+/// Cells before the call, and everything left after it.
 impl<'a> Desk<'a> {
-    /// Writes values over the contents of cells.
+    /// Overwrites the contents of cells with values.
     fn write_cells(&mut self) -> Result<(), AllocError> {
         let count = self.recipe.count();
         for _ in 0..count {
@@ -157,7 +157,8 @@ impl<'a> Desk<'a> {
         };
         match token {
             Some(token) => {
-                // SAFETY: a token is a number, and its store goes with the recipe, so nothing is left over.
+                // SAFETY: a token is a number, and its store is dropped with the recipe, so nothing
+                // leaks.
                 let _unspent = unsafe { ManuallyDrop::new_unchecked(token) };
             }
             None => {}
@@ -176,7 +177,8 @@ impl<'a> Desk<'a> {
         Ok(())
     }
 
-    /// Tags the content of each cell anew, and says all values again, which tells which cells their holders have.
+    /// Gives the content of each cell a new tag, and writes all values again, which shows which
+    /// cells their holders refer to.
     fn say_again(&mut self, x: &Dynamic, y: &Dynamic) -> Result<(), AllocError> {
         let mut tag = 5000_i32;
         for holder in &mut self.cells {
@@ -210,7 +212,8 @@ impl<'a> Desk<'a> {
         }
     }
 
-    /// Calls, and says all that is left; with `keep` the cells too, and which holder has which.
+    /// Makes the call, and writes everything that is left; with `keep` also the cells, and which
+    /// holder refers to which.
     fn call_and_tell(&mut self, keep: bool) -> Result<(), AllocError> {
         let mut x = self.value()?;
         let mut y = self.value()?;

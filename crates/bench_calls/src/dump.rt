@@ -1,12 +1,13 @@
-//! The text of a value that shows all of it: tags, modes and cells too.
+//! The text of a value that shows everything: tags, modes and cells too.
 
 use rhai_value::{AccessMode, Dynamic, FnPtr, Host, Map, Store, Union};
 use std::alloc::AllocError;
 
-/// How many levels of a value are told; below stands `deep`, also where a cell has a holder of itself.
+/// How many levels of a value are written; `deep` stands for those below, also if a cell contains a
+/// holder of itself.
 const LEVELS: u32 = 12;
 
-/// Adds a text in quotes; what can't be seen is written by its number.
+/// Adds a text in quotes; invisible characters are written by their codes.
 pub fn add_quoted(out: &mut String, text: &str) -> Result<(), AllocError> {
     out.push('"')?;
     for character in text.chars() {
@@ -157,18 +158,18 @@ fn add_value(out: &mut String, s: &Store, value: &Dynamic, levels: u32) -> Resul
     }
 }
 
-/// Adds all of a value.
+/// Adds the dump of a value.
 pub fn add_dump(out: &mut String, s: &Store, value: &Dynamic) -> Result<(), AllocError> {
     add_value(out, s, value, LEVELS)
 }
 
-/// Adds all of some items.
+/// Adds the dump of items.
 pub fn add_items_dump(out: &mut String, s: &Store, items: &[Dynamic]) -> Result<(), AllocError> {
     out.push_str("array ")?;
     add_items(out, s, items, LEVELS)
 }
 
-/// Adds all of a map.
+/// Adds the dump of a map.
 pub fn add_map_dump(out: &mut String, s: &Store, map: &Map) -> Result<(), AllocError> {
     add_map(out, s, map, LEVELS)
 }

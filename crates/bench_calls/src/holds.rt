@@ -1,11 +1,12 @@
-//! Calls on what a value holds at the end of its chain: lent, marked, and written over where it is an int.
+//! Calls on the held value: borrowed, marked, and overwritten if it is an int.
 
 use crate::desk::Desk;
 use rhai_value::Dynamic;
 use rhai_value::laws::marks_stay;
 use std::alloc::AllocError;
 
-/// Marks the cell of what is held, says all that is seen meanwhile, and writes the second value into the cell where that is asked.
+/// Marks the cell of the held value, writes what is visible meanwhile, and writes the second value
+/// to the cell if requested.
 fn marked(desk: &mut Desk, x: &Dynamic, y: &mut Dynamic, writes: bool) -> Result<(), AllocError> {
     marks_stay();
     let Some(token) = desk.store.mark_held(x) else {
@@ -19,7 +20,7 @@ fn marked(desk: &mut Desk, x: &Dynamic, y: &mut Dynamic, writes: bool) -> Result
     said
 }
 
-/// Looks at what is held, or works on it, in one of the ways.
+/// Reads the held value, or changes it, in one of the ways.
 pub fn hold_call(desk: &mut Desk, x: &mut Dynamic, y: &mut Dynamic) -> Result<(), AllocError> {
     let way = desk.recipe.byte();
     let int = desk.recipe.int();

@@ -1,4 +1,5 @@
-//! Reads recipes of values and calls from standard input, and writes what the calls make of them: `beside/` compares it with the release.
+//! Reads recipes of values and calls from standard input, and writes the results of the calls:
+//! `beside/` compares them with the release.
 #![tactic(auto)]
 
 mod answers;
@@ -21,11 +22,11 @@ use std::alloc::{AllocError, Global};
 use std::io;
 use std::io::{Read, Write};
 
-/// Fills a buffer; false where the input ends first.
+/// Fills a buffer; returns `false` if the input ends before.
 fn fill<R: Read>(reader: &mut R, buffer: &mut [u8]) -> io::Result<bool> {
     let mut done = 0_usize;
     let wanted = buffer.len();
-    // A read that isn't the last one gives a byte at least.
+    // Every read except the last one returns at least one byte.
     for _read in 0..wanted {
         if done >= wanted {
             return Ok(true);
@@ -42,7 +43,7 @@ fn fill<R: Read>(reader: &mut R, buffer: &mut [u8]) -> io::Result<bool> {
     Ok(done >= wanted)
 }
 
-/// The four bytes at a place as a number.
+/// Reads the four bytes at a position as a number.
 fn size_at(bytes: &[u8], at: usize) -> usize {
     let mut size = 0_usize;
     for i in 0..4_usize {
@@ -60,7 +61,7 @@ fn add_size(out: &mut Vec<u8>, size: usize) -> Result<(), AllocError> {
     Ok(())
 }
 
-/// The answers to the recipes of a batch, each behind its size.
+/// The answers to the recipes of a batch, each after its size.
 fn answer_all(alloc: Global, batch: &[u8]) -> Result<Vec<u8>, AllocError> {
     let mut out = Vec::new(alloc);
     let mut at = 0_usize;

@@ -1,4 +1,4 @@
-//! Arrays and maps that are made of Rust's collections, by the 22 types.
+//! Arrays and maps made from Rust's collections, for the 22 types.
 
 use crate::desk::Desk;
 use crate::dump::{add_dump, add_quoted};
@@ -22,7 +22,7 @@ fn items_as<T: Variant>(desk: &Desk, x: &Dynamic) -> Result<Vec<T>, AllocError> 
     Ok(made)
 }
 
-/// The entries of a map whose values can be cast to the type, in a table.
+/// The entries of a map whose values can be cast to the type, in a hash map.
 fn table_as<T: Variant>(desk: &Desk, x: &Dynamic) -> Result<HashMap<String, T>, AllocError> {
     let mut made = HashMap::new(desk.alloc);
     if let Ok(map) = x.as_map_ref(&desk.store) {
@@ -41,7 +41,7 @@ fn table_as<T: Variant>(desk: &Desk, x: &Dynamic) -> Result<HashMap<String, T>, 
     Ok(made)
 }
 
-/// The same in an ordered map.
+/// As `table_as`, in an ordered map.
 fn ordered_as<T: Variant>(desk: &Desk, x: &Dynamic) -> Result<BTreeMap<String, T>, AllocError> {
     let mut made = BTreeMap::new(desk.alloc);
     if let Ok(map) = x.as_map_ref(&desk.store) {
@@ -73,7 +73,7 @@ fn keys(desk: &Desk, x: &Dynamic) -> Result<HashSet<String>, AllocError> {
     Ok(made)
 }
 
-/// The same in an ordered set.
+/// As `keys`, in an ordered set.
 fn ordered_keys(desk: &Desk, x: &Dynamic) -> Result<BTreeSet<String>, AllocError> {
     let mut made = BTreeSet::new(desk.alloc);
     if let Ok(map) = x.as_map_ref(&desk.store) {
@@ -97,7 +97,7 @@ fn made_as<T: Variant>(desk: &Desk, x: &Dynamic, way: u8) -> Result<Dynamic, All
     }
 }
 
-/// Says the entries of a map as they are moved out.
+/// Writes the entries of a map as they are moved out.
 fn say_moved(desk: &mut Desk, x: &Dynamic) -> Result<(), AllocError> {
     if !is_castable::<Map>(x, &desk.store) {
         return desk.answers.say("moved", "none");
@@ -113,7 +113,8 @@ fn say_moved(desk: &mut Desk, x: &Dynamic) -> Result<(), AllocError> {
     Ok(())
 }
 
-/// Makes an array of an array's items, or a map of a map's entries or keys, by way of a collection of Rust.
+/// Makes an array from an array's items, or a map from a map's entries or keys, through a Rust
+/// collection.
 pub fn make_call(desk: &mut Desk, x: &Dynamic) -> Result<(), AllocError> {
     let kind = desk.recipe.byte();
     let way = desk.recipe.byte();

@@ -1,4 +1,4 @@
-//! Texts and hashes; copies, holders taken off or put on, contents moved out.
+//! Texts and hashes; copies, holders added or removed, contents moved out.
 
 ghost use Rattle.std.specs.Prelude.{◌≡◌, ◌+◌, ◌-◌, ◌^◌, min, pos, is_some, if◌then◌else◌};
 ghost use Rattle.rhai_value.specs.Parts.{with_int};
@@ -13,7 +13,7 @@ use rhai_text::ImmutableString;
 use rhai_value::{AccessMode, Dynamic, INT, IntoError, Part, Visitor};
 use std::alloc::AllocError;
 
-/// Makes each int 0.
+/// Sets each int to 0.
 #[derive(Drop)]
 struct Zeros {
     visits: u64,
@@ -32,7 +32,7 @@ impl Visitor for Zeros {
     }
 }
 
-/// Makes each holder unit.
+/// Replaces each holder with unit.
 #[derive(Drop)]
 struct Unshared {
     visits: u64,
@@ -51,7 +51,7 @@ impl Visitor for Unshared {
     }
 }
 
-/// Whether two values have one hash.
+/// Whether two values have the same hash.
 fn same_hash(desk: &mut Desk, x: &Dynamic, y: &Dynamic) -> Result<(), AllocError> {
     let first = hashed(desk.alloc, x, &desk.store)?;
     let second = hashed(desk.alloc, y, &desk.store)?;
@@ -63,7 +63,7 @@ fn same_hash(desk: &mut Desk, x: &Dynamic, y: &Dynamic) -> Result<(), AllocError
     }
 }
 
-/// Says the hash bytes of a value.
+/// Writes the hash bytes of a value.
 fn say_hash(desk: &mut Desk, key: &str, value: &Dynamic) -> Result<(), AllocError> {
     match hashed(desk.alloc, value, &desk.store)? {
         Some(hashed) => {

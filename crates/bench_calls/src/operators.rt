@@ -70,7 +70,7 @@ fn call(
     }
 }
 
-/// An operator on two values.
+/// Applies an operator to two values.
 pub fn operate(desk: &mut Desk, x: &mut Dynamic, y: &mut Dynamic) -> Result<(), AllocError> {
     let op = token(desk.recipe.byte());
     let _by_content = desk.recipe.byte();
@@ -80,7 +80,8 @@ pub fn operate(desk: &mut Desk, x: &mut Dynamic, y: &mut Dynamic) -> Result<(), 
     call(desk, row, &limits, x, y)
 }
 
-/// The row of an assignment, looked up for the first content of the first value or for the value itself.
+/// Looks up the row of an assignment, for the first content of the first value or for the value
+/// itself.
 fn assignment(s: &Store, op: Token, by_content: bool, x: &Dynamic, y: &Dynamic) -> Option<FnBuiltin>
     ensures { IfSome result (λ row. Suits row s.now x.now y.now) }
 {
@@ -94,7 +95,7 @@ fn assignment(s: &Store, op: Token, by_content: bool, x: &Dynamic, y: &Dynamic) 
     }
 }
 
-/// The row of an assignment by what both values hold, where that is two texts.
+/// Looks up the row of an assignment for two held texts.
 fn of_texts(s: &Store, op: Token, x: &Dynamic, y: &Dynamic) -> Option<FnBuiltin>
     ensures { IfSome result (λ row. Suits row s.now x.now y.now) }
 {
@@ -108,7 +109,7 @@ fn of_texts(s: &Store, op: Token, x: &Dynamic, y: &Dynamic) -> Option<FnBuiltin>
     }
 }
 
-/// An assignment.
+/// Does an assignment.
 pub fn assign(desk: &mut Desk, x: &mut Dynamic, y: &mut Dynamic) -> Result<(), AllocError> {
     let op = token(desk.recipe.byte());
     let way = desk.recipe.byte();

@@ -1,4 +1,4 @@
-//! Places in lists, and parts of values that are written back.
+//! Positions in lists, and parts of values that are written back.
 ghost use Rattle.std.specs.Prelude.{IfSome};
 ghost use Rattle.rhai_target.specs.Target.{HasPart, IsMarkedIn};
 
@@ -23,7 +23,7 @@ pub fn offsets(desk: &mut Desk) -> Result<(), AllocError> {
     }
 }
 
-/// A part of a value, by two numbers.
+/// A part of a value, given by two numbers.
 #[derive(Clone, Copy)]
 pub struct Piece {
     kind: u8,
@@ -116,7 +116,7 @@ fn characters<'x>(
     })
 }
 
-/// The part of a value, where the value has it.
+/// Borrows the part of a value, if the value has it.
 pub fn part<'x>(
     piece: Piece,
     s: &Store,

@@ -1,4 +1,4 @@
-//! Scripts of calls on a scope.
+//! Sequences of calls on a scope.
 ghost use Rattle.std.specs.Prelude.{◌≡◌, None, false, IfSome};
 ghost use Rattle.std.specs.Str.{chars};
 ghost use Rattle.rhai_scope.specs.Lookup.{value_named};
@@ -13,7 +13,7 @@ use rhai_value::{Array, Blob, Dynamic, ExclusiveRange, FnPtr, InclusiveRange, Ma
 use rhai_variant::Variant;
 use std::alloc::AllocError;
 
-/// Whether the last entry of a name has a holder.
+/// Whether the newest entry with a name is a holder.
 fn is_holder(scope: &Scope, name: &str) -> bool
     ensures { result ≡ false → IfSome (value_named (chars name.now) scope.now) (λ t. cell_of t ≡ None) }
 {
@@ -23,7 +23,7 @@ fn is_holder(scope: &Scope, name: &str) -> bool
     }
 }
 
-/// What a scope has of a name as a type, by reference.
+/// Writes a scope's value of a name as a type, by reference.
 fn by_reference<T: Variant>(desk: &mut Desk, scope: &Scope, name: &str) -> Result<(), AllocError> {
     if is_holder(scope, name) {
         return desk.answers.say("get_value_ref", "shared");
@@ -37,7 +37,7 @@ fn by_reference<T: Variant>(desk: &mut Desk, scope: &Scope, name: &str) -> Resul
     }
 }
 
-/// The same, to write.
+/// The same by mutable reference.
 fn by_place<T: Variant>(desk: &mut Desk, scope: &mut Scope, name: &str) -> Result<(), AllocError> {
     if is_holder(scope, name) {
         return desk.answers.say("get_value_mut", "shared");
@@ -51,7 +51,7 @@ fn by_place<T: Variant>(desk: &mut Desk, scope: &mut Scope, name: &str) -> Resul
     }
 }
 
-/// What a scope has of a name as a type, by one of the four calls.
+/// Writes a scope's value of a name as a type, through one of the four calls.
 fn typed<T: Variant>(
     desk: &mut Desk,
     scope: &mut Scope,
@@ -251,7 +251,7 @@ fn say_iter(desk: &mut Desk, scope: &Scope) -> Result<(), AllocError> {
     Ok(())
 }
 
-/// Says the entries as they are moved out.
+/// Writes the entries as they are moved out.
 fn say_moved(desk: &mut Desk, scope: Scope) -> Result<(), AllocError> {
     for (name, value, aliases) in scope {
         desk.answers.key("moved")?;

@@ -1,4 +1,4 @@
-//! Targets: what they are, what is written to them, and how they are spent.
+//! Targets: their properties, writes to them, and how they are spent.
 ghost use Rattle.rhai_target.specs.Target.{IsMarkedIn};
 
 use crate::answers::Answers;
@@ -36,7 +36,7 @@ fn take(
     }
 }
 
-/// Tags what a target refers to, where it is a reference.
+/// Tags the value that a target refers to, if it is a reference.
 fn tag(answers: &mut Answers, m: &mut Store, target: Target<'_>) -> Result<(), AllocError>
     requires { IsMarkedIn m.old target }
 {
@@ -49,7 +49,7 @@ fn tag(answers: &mut Answers, m: &mut Store, target: Target<'_>) -> Result<(), A
     }
 }
 
-/// Makes a target one of its own value.
+/// Makes an owned target.
 fn own(
     alloc: Global,
     answers: &mut Answers,
@@ -71,7 +71,7 @@ fn own(
     }
 }
 
-/// Says what a target is, writes a value to it where the way says so, and spends it.
+/// Writes what a target is, writes a value to it if the variant says so, and spends it.
 fn with_target(
     desk: &mut Desk,
     mut target: Target<'_>,

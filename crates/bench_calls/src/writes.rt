@@ -1,4 +1,4 @@
-//! Writes through a value: over the first content, or over what is held.
+//! Writes through a value: to the first content, or to the held value.
 
 use crate::desk::Desk;
 use rhai_text::ImmutableString;

@@ -1,4 +1,4 @@
-//! Arrays and what is walked as a tree.
+//! Arrays, and values that are walked as trees.
 
 use crate::given::{ints, keys, map_of, nested, sixteen};
 use rhai_show::{debug_text, display_text};

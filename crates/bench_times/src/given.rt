@@ -13,7 +13,7 @@ pub(crate) fn ints(alloc: Global, n: usize) -> Result<Dynamic, AllocError> {
     Ok(Dynamic::from_array(items))
 }
 
-/// Arrays of ten in arrays of ten, as deep as is said.
+/// Arrays of ten arrays of ten, and so on, of this many levels.
 pub(crate) fn nested(alloc: Global, levels: usize) -> Result<Dynamic, AllocError> {
     let mut value = Dynamic::from_int(7);
     for _ in 0..levels {
@@ -26,7 +26,7 @@ pub(crate) fn nested(alloc: Global, levels: usize) -> Result<Dynamic, AllocError
     Ok(value)
 }
 
-/// Units, to be written over.
+/// Units, to be overwritten.
 pub(crate) fn slots(alloc: Global) -> Result<Vec<Dynamic>, AllocError> {
     let mut slots = Vec::with_capacity(alloc, 64)?;
     for _ in 0..64 {
@@ -35,7 +35,7 @@ pub(crate) fn slots(alloc: Global) -> Result<Vec<Dynamic>, AllocError> {
     Ok(slots)
 }
 
-/// Ints of 64 places.
+/// Sixty-four ints.
 pub(crate) fn sixty_four(alloc: Global) -> Result<Vec<Dynamic>, AllocError> {
     let mut values = Vec::with_capacity(alloc, 64)?;
     for i in 0..64 {
@@ -65,7 +65,7 @@ pub(crate) fn mixed(alloc: Global, store: &mut Store) -> Result<Vec<Dynamic>, Al
     Ok(values)
 }
 
-/// The ints in cells, a cell each.
+/// Ints in cells, one each.
 pub(crate) fn holders(alloc: Global, store: &mut Store) -> Result<Vec<Dynamic>, AllocError> {
     let mut values = Vec::with_capacity(alloc, 64)?;
     for i in 0..64 {
@@ -88,7 +88,7 @@ pub(crate) fn sum_of(values: &[Dynamic], store: &Store) -> u64 {
     sum
 }
 
-/// Keys in a scattered order, which begin alike.
+/// Keys in a scattered order, with the same beginning.
 pub(crate) fn keys(alloc: Global, front: &str, count: u32) -> Result<Vec<String>, AllocError> {
     let mut keys = Vec::with_capacity(alloc, count as usize)?;
     for i in 0..count {
@@ -114,7 +114,7 @@ pub(crate) fn map_of(alloc: Global, keys: &[String]) -> Result<Map, AllocError> 
     Ok(map)
 }
 
-/// Sixteen texts of this length, which differ in the last characters.
+/// Sixteen texts of this length, which differ in their last characters.
 pub(crate) fn sixteen(alloc: Global, length: usize) -> Result<Vec<ImmutableString>, AllocError> {
     let mut texts = Vec::with_capacity(alloc, 16)?;
     for i in 0..16 {

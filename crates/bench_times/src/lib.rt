@@ -1,6 +1,6 @@
 //! Workloads over script values, which `beside/bench` times beside the same workloads over rhai's own values.
 //!
-//! Each takes a number of rounds and answers a checksum, which is compared.
+//! Each takes a number of iterations and returns a checksum, which is compared.
 #![tactic(auto)]
 
 mod arrays;
@@ -218,7 +218,7 @@ fn walked(alloc: Global, which: u32, n: usize) -> Result<u64, AllocError> {
     }
 }
 
-/// Runs a workload; all ones where memory is refused.
+/// Runs a workload; all ones if an allocation fails.
 #[unsafe(no_mangle)]
 pub extern "C" fn rattle_workload(alloc: Global, which: u32, n: usize) -> u64 {
     match values(alloc, which, n) {
@@ -227,7 +227,7 @@ pub extern "C" fn rattle_workload(alloc: Global, which: u32, n: usize) -> u64 {
     }
 }
 
-/// Applies commands one by one; all ones where memory is refused.
+/// Applies commands one by one; all ones if an allocation fails.
 #[unsafe(no_mangle)]
 pub extern "C" fn rattle_apply(alloc: Global, kind: u32, n: usize) -> u64 {
     match worlds::apply_all(alloc, kind, n) {
@@ -236,7 +236,7 @@ pub extern "C" fn rattle_apply(alloc: Global, kind: u32, n: usize) -> u64 {
     }
 }
 
-/// Runs commands as a list; all ones where memory is refused.
+/// Runs commands as a list; all ones if an allocation fails.
 #[unsafe(no_mangle)]
 pub extern "C" fn rattle_run(alloc: Global, kind: u32, n: usize) -> u64 {
     match worlds::run_all(alloc, kind, n) {

@@ -14,7 +14,7 @@ pub(crate) fn insert(alloc: Global, n: usize, front: &str, count: u32) -> Result
     Ok(sum)
 }
 
-/// Puts values at texts, of which the map makes the keys.
+/// Sets values for texts, from which the map makes keys.
 #[inline(never)]
 pub(crate) fn set(alloc: Global, n: usize, count: u32) -> Result<u64, AllocError> {
     let keys = keys(alloc, "key", count)?;

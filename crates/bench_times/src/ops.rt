@@ -10,7 +10,7 @@ use std::alloc::{AllocError, Global};
 
 const UNLIMITED: Limits = Limits { text: 0, items: 0 };
 
-/// What an operator answers; unit where it has no row or refuses.
+/// Applies an operator; returns unit if it has no row or fails.
 #[inline(always)]
 fn operate(op: Token, alloc: Global, m: &mut Store, x: &mut Dynamic, y: &mut Dynamic) -> Dynamic {
     let Some(row) = get_builtin_binary_op_fn(&op, x, y, m) else {
@@ -23,7 +23,7 @@ fn operate(op: Token, alloc: Global, m: &mut Store, x: &mut Dynamic, y: &mut Dyn
     }
 }
 
-/// Does an assignment, and answers whether it was done.
+/// Does an assignment, and returns whether it was done.
 #[inline(always)]
 fn assign(op: Token, alloc: Global, m: &mut Store, x: &mut Dynamic, y: &mut Dynamic) -> bool {
     let Some(row) = get_builtin_op_assignment_fn(&op, x, y) else {
@@ -33,7 +33,7 @@ fn assign(op: Token, alloc: Global, m: &mut Store, x: &mut Dynamic, y: &mut Dyna
     row.call(alloc, m, &UNLIMITED, x, y).is_ok()
 }
 
-/// Looks up four operators in turn on these values, each with the next one.
+/// Looks up four operators in rotation for these values, each with the next one.
 #[inline(never)]
 pub(crate) fn lookups(store: &Store, values: &[Dynamic], n: usize) -> u64 {
     let ops = [
@@ -57,7 +57,7 @@ pub(crate) fn lookups(store: &Store, values: &[Dynamic], n: usize) -> u64 {
     sum
 }
 
-/// An operator on the values of two lists.
+/// Applies an operator to the values of two lists.
 fn on_all(op: Token, alloc: Global, xs: &mut Vec<Dynamic>, ys: &mut Vec<Dynamic>, n: usize) -> u64 {
     let mut store = Store::new(alloc);
     let mut sum = 0_u64;
@@ -107,7 +107,7 @@ pub(crate) fn on_texts(
     Ok(on_all(op, alloc, &mut xs, &mut ys, n))
 }
 
-/// A sum in which each addition takes the answer of the last.
+/// A sum in which each addition takes the previous result.
 #[inline(never)]
 pub(crate) fn add_chain(alloc: Global, n: usize) -> Result<u64, AllocError> {
     let mut store = Store::new(alloc);
@@ -139,7 +139,7 @@ pub(crate) fn assign_ints(alloc: Global, n: usize) -> Result<u64, AllocError> {
     Ok(sum_of(&sums, &store))
 }
 
-/// The same value put a hundred thousand times behind a text that starts empty.
+/// Appends the same value a hundred thousand times to a text that starts empty.
 fn append(alloc: Global, more: &Dynamic, n: usize) -> Result<u64, AllocError> {
     let mut store = Store::new(alloc);
     let mut sum = 0_u64;
@@ -156,19 +156,19 @@ fn append(alloc: Global, more: &Dynamic, n: usize) -> Result<u64, AllocError> {
     Ok(sum)
 }
 
-/// Five characters, a hundred thousand times.
+/// Appends five characters, a hundred thousand times.
 #[inline(never)]
 pub(crate) fn append_text(alloc: Global, n: usize) -> Result<u64, AllocError> {
     append(alloc, &Dynamic::from_text(alloc, "abcde")?, n)
 }
 
-/// A character, a hundred thousand times.
+/// Appends a character, a hundred thousand times.
 #[inline(never)]
 pub(crate) fn append_char(alloc: Global, n: usize) -> Result<u64, AllocError> {
     append(alloc, &Dynamic::from_char('a'), n)
 }
 
-/// A thousand ints onto an array or a blob that starts empty.
+/// Pushes a thousand ints onto an array or a blob that starts empty.
 #[inline(never)]
 pub(crate) fn push_1000(alloc: Global, to_blob: bool, n: usize) -> Result<u64, AllocError> {
     let mut store = Store::new(alloc);
@@ -194,7 +194,7 @@ pub(crate) fn push_1000(alloc: Global, to_blob: bool, n: usize) -> Result<u64, A
     Ok(sum)
 }
 
-/// Ten items onto an array or a blob that starts empty, a hundred times.
+/// Appends ten items to an array or a blob that starts empty, a hundred times.
 #[inline(never)]
 pub(crate) fn append_1000(alloc: Global, to_blob: bool, n: usize) -> Result<u64, AllocError> {
     let mut store = Store::new(alloc);

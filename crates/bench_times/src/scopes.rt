@@ -32,7 +32,7 @@ pub(crate) fn push_rewind(alloc: Global, n: usize) -> Result<u64, AllocError> {
     Ok(sum)
 }
 
-/// The same with names that are texts already.
+/// As `push`, with names that are texts already.
 #[inline(never)]
 pub(crate) fn push_entries(alloc: Global, n: usize) -> Result<u64, AllocError> {
     let names = variables(alloc, 10)?;
@@ -71,7 +71,7 @@ pub(crate) fn push_pop(alloc: Global, n: usize) -> Result<u64, AllocError> {
     Ok(sum)
 }
 
-/// Gets the entry at a place and the one beside it in turn.
+/// Gets the entry at a position and the one beside it in turn.
 #[inline(never)]
 pub(crate) fn get(alloc: Global, n: usize, count: u32, place: usize) -> Result<u64, AllocError> {
     let store = Store::new(alloc);

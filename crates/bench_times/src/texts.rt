@@ -169,7 +169,7 @@ pub(crate) fn with_char(alloc: Global, n: usize) -> Result<u64, AllocError> {
     Ok(sum)
 }
 
-/// Counts the characters of a thousand.
+/// Counts the characters of a text of a thousand.
 #[inline(never)]
 pub(crate) fn char_count(alloc: Global, n: usize) -> Result<u64, AllocError> {
     let texts = sixteen(alloc, 1000)?;
@@ -182,7 +182,7 @@ pub(crate) fn char_count(alloc: Global, n: usize) -> Result<u64, AllocError> {
     Ok(sum)
 }
 
-/// Reads the character in the middle of a thousand.
+/// Reads the character in the middle of a text of a thousand.
 #[inline(never)]
 pub(crate) fn char_at(alloc: Global, n: usize) -> Result<u64, AllocError> {
     let texts = sixteen(alloc, 1000)?;

@@ -9,7 +9,7 @@ use rhai_value::{Dynamic, INT, Map, Part, Store, Visitor};
 use std::alloc::{AllocError, Global};
 use std::hash::{DefaultHasher, Hasher};
 
-/// Rhai feeds the hasher as it goes.
+/// Hashes a value; rhai feeds the hasher as it walks.
 fn hashes(alloc: Global, value: &Dynamic, n: usize) -> Result<u64, AllocError> {
     let store = Store::new(alloc);
     let mut sum = 0_u64;
@@ -64,7 +64,7 @@ pub(crate) fn hash_maps(alloc: Global, n: usize) -> Result<u64, AllocError> {
     hashes(alloc, &Dynamic::from_map(outer), n)
 }
 
-/// Counts, and makes each int 0.
+/// Counts values, and sets each int to 0.
 #[derive(Drop)]
 struct Zeros {
     visits: u64,
@@ -150,7 +150,7 @@ pub(crate) fn from_vec(alloc: Global, n: usize) -> Result<u64, AllocError> {
     Ok(sum)
 }
 
-/// The array is made anew each time.
+/// The array is made again each time.
 #[inline(never)]
 pub(crate) fn typed_array(alloc: Global, n: usize) -> Result<u64, AllocError> {
     let store = Store::new(alloc);

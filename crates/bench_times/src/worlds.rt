@@ -4,7 +4,7 @@ use rhai_run::{Answer, Command, Literal, Place, Question, World, apply, run};
 use rhai_text::{ImmutableString, Limits, Token};
 use std::alloc::{AllocError, Global};
 
-/// A list of commands, which leaves the hand as it was.
+/// Makes a list of commands that leaves the hand unchanged.
 fn commands(alloc: Global, kind: u32) -> Result<Vec<Command>, AllocError> {
     let mut commands = Vec::with_capacity(alloc, 1792)?;
     for i in 0..256 {

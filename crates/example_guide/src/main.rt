@@ -47,7 +47,7 @@ fn write_captured(alloc: Global, captured: &mut Dynamic, store: &mut Store) -> R
     }
 }
 
-/// A variable that a closure shares, seen from both sides.
+/// Shows a variable that a closure shares, from both sides.
 fn share(rt: &(impl Print + AllocGlobal), scope: &mut Scope, store: &mut Store) -> Result<()> {
     let alloc = rt.alloc();
     declare(scope, "a", one_two_three(alloc)?)?;
@@ -61,7 +61,7 @@ fn share(rt: &(impl Print + AllocGlobal), scope: &mut Scope, store: &mut Store) 
     }
 }
 
-/// An operator, and a character of a text.
+/// Applies an operator, and reads a character of a text.
 fn compute(rt: &(impl Print + AllocGlobal), store: &mut Store) -> Result<()> {
     let alloc = rt.alloc();
     let (x, y) = (Dynamic::from_int(6), Dynamic::from_int(40));
@@ -75,7 +75,7 @@ fn compute(rt: &(impl Print + AllocGlobal), store: &mut Store) -> Result<()> {
     Ok(())
 }
 
-/// Ten thousand cells that are let go at once, and one that a value on the stack keeps.
+/// Drops ten thousand cells at once, and keeps one that a value on the stack refers to.
 fn let_go(rt: &(impl Print + AllocGlobal), store: &mut Store) -> Result<()> {
     let alloc = rt.alloc();
     let mut roots = Roots::new(alloc);

@@ -1,4 +1,4 @@
-//! The steps of the guide, a function each.
+//! The steps of the guide, one function each.
 ghost use Rattle.std.specs.Prelude.{◌≡◌, ◌⊎◌, [], Err, IfErr, IfOk, IfSome, IsOk, MatchOption, None, OnErr, OnOk, Some, false, option_map, string_bytes, true};
 ghost use Rattle.std.specs.Str.{chars};
 ghost use Rattle.rhai_ops.specs.AssignTable.{assign_row};
@@ -27,8 +27,8 @@ use rhai_text::{EvalAltResult, Limits, Position, Token};
 use rhai_value::{Dynamic, INT, PlaceError, Roots, Step, Store};
 use std::alloc::{AllocError, Global};
 
-/// Prints a value.
-/// Errors: memory for the text is refused.
+/// Formats a value.
+/// Errors: the allocation of the text fails.
 pub fn show(alloc: Global, value: &Dynamic, store: &Store) -> Result<String, AllocError>
     ensures { IfOk result (λ t. chars (string_bytes t) ≡ printed store.now [] value.now Display) }
 {
@@ -36,7 +36,7 @@ pub fn show(alloc: Global, value: &Dynamic, store: &Store) -> Result<String, All
 }
 
 /// Declares a variable: `let name = value`.
-/// Errors: memory for the entry is refused, and the scope is as it was.
+/// Errors: the allocation of the entry fails; the scope is unchanged.
 pub fn declare(scope: &mut Scope, name: &str, value: Dynamic) -> Result<(), AllocError>
     ensures ok { OnOk result (scope.new ≡ pushed (mode_of value) (chars name.now) value scope.old) }
     ensures err { OnErr result (scope.new ≡ scope.old) }
@@ -44,8 +44,8 @@ pub fn declare(scope: &mut Scope, name: &str, value: Dynamic) -> Result<(), Allo
     scope.push_dynamic(name, value)
 }
 
-/// Reads a variable: a copy of its value, without holders. `None` where nothing has the name.
-/// Errors: memory for the copy is refused.
+/// Reads a variable: a copy of its value, without holders. `None` if no variable has the name.
+/// Errors: the allocation of the copy fails.
 pub fn read(
     alloc: Global,
     scope: &Scope,
@@ -61,8 +61,8 @@ pub fn read(
     }
 }
 
-/// Answers `x op y`, or `None` where the operator isn't built in for these two.
-/// Errors: what the row refuses, or memory for its value is refused.
+/// Returns `x op y`, or `None` if the operator isn't built in for these two.
+/// Errors: those of the row, or the allocation of the result fails.
 pub fn operate(
     op: Token,
     alloc: Global,
@@ -82,8 +82,9 @@ pub fn operate(
     Ok(Some(row.call_ref(alloc, store, limits, x, y)?))
 }
 
-/// Captures a variable: from now on it and the answer are holders of one cell. `None` where nothing has the name.
-/// Errors: memory for the cell or the holder is refused.
+/// Captures a variable: from now on it and the result are holders of one cell. `None` if no
+/// variable has the name.
+/// Errors: the allocation of the cell or the holder fails.
 pub fn capture(
     alloc: Global,
     scope: &mut Scope,
@@ -103,8 +104,8 @@ pub fn capture(
     Ok(Some(scope.at(i).copy(alloc)?))
 }
 
-/// Writes at a place: `a[i].f = other`, where `a` may be captured.
-/// Errors: the step that leads nowhere and why, and all is as it was.
+/// Writes to a place: `a[i].f = other`, where `a` may be captured.
+/// Errors: the step that leads nowhere and why; everything is unchanged.
 pub fn set_at(
     value: &mut Dynamic,
     store: &mut Store,
@@ -118,8 +119,9 @@ pub fn set_at(
     value.put_at(store, steps, other)
 }
 
-/// Does `x op y`, as `x += y`. `Ok(false)` where the operator isn't built in for these two.
-/// Errors: what the row refuses, or memory for its value is refused; all is as it was.
+/// Does `x op y` for an assigning operator, such as `x += y`. `Ok(false)` if the operator isn't
+/// built in for these two.
+/// Errors: those of the row, or the allocation of the result fails; everything is unchanged.
 pub fn assign(
     op: Token,
     alloc: Global,
@@ -143,8 +145,9 @@ pub fn assign(
     Ok(true)
 }
 
-/// Does the same at a place: `a[i].f += y`.
-/// Errors: the step that leads nowhere and why, and all is as it was; inside of `Ok` those of `assign`.
+/// Does the same to a place: `a[i].f += y`.
+/// Errors: the step that leads nowhere and why, and everything is unchanged; inside `Ok` those of
+/// `assign`.
 pub fn assign_at(
     op: Token,
     alloc: Global,
@@ -161,8 +164,8 @@ pub fn assign_at(
     })
 }
 
-/// Writes a character of a text: `s[i] = 'c'`. `Ok(false)` where there is none at the index.
-/// Errors: memory for the text is refused, and all is as it was.
+/// Writes a character of a text: `s[i] = 'c'`. `Ok(false)` if there is none at the index.
+/// Errors: the allocation of the text fails; everything is unchanged.
 pub fn set_char(
     alloc: Global,
     text: &mut Dynamic,
@@ -181,8 +184,8 @@ pub fn set_char(
     Ok(true)
 }
 
-/// Gives back the cells that no value on the stack reaches, where it is time to.
-/// Errors: memory for the search is refused, and all is as it was.
+/// Frees the cells that no value on the stack reaches, if a collection is due.
+/// Errors: an allocation of the search fails; everything is unchanged.
 pub fn tidy(roots: &mut Roots, store: &mut Store) -> Result<(), AllocError>
     ensures ok { OnOk result (((roots.new ≡ roots.old) × (store.new ≡ store.old)) ⊎ AreCollected roots.old store.old roots.new store.new) }
     ensures err { OnErr result ((roots.new ≡ roots.old) × (store.new ≡ store.old)) }

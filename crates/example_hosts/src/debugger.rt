@@ -1,5 +1,5 @@
-//! Steps through commands over a world of script values, a line each, and shows the world behind each: the scope, the values of the
-//! hand, and which of them are closed by a mark.
+//! Steps through commands over a world of script values, a line each, and shows the world after
+//! each: the scope, the values of the hand, and which of them a mark locks.
 
 use anyhow::Result;
 use rhai_lines::{command, write_answer};
@@ -29,7 +29,7 @@ fn show_scope(rt: &(impl Print + AllocGlobal), world: &mut World) -> Result<()> 
     Ok(())
 }
 
-/// Does a command and prints its answer and the world behind it.
+/// Executes a command and prints its answer and the world after it.
 fn step(rt: &(impl Print + AllocGlobal), world: &mut World, line: &str) -> Result<()> {
     println!(rt; "> {line}")?;
     let Some(command) = command(rt.alloc(), line.as_bytes())? else {

@@ -1,4 +1,4 @@
-// The journal of a host: the commands that it did, and what they answered.
+// The journal of a host: the commands that it executed, and their answers.
 ghost use Rattle.std.specs.Prelude.{◌≡◌, ◌++◌, ◌∷◌, [], IfOk, IfSome, OnOk};
 ghost use Rattle.rhai_lines.specs.Output.{output_of_commands, new_world};
 
@@ -6,7 +6,7 @@ use rhai_lines::{LinesFault, journal, run_lines};
 use rhai_run::Command;
 use std::alloc::{AllocError, Global};
 
-/// The commands that a host did, and the answers as they were printed.
+/// The commands that a host executed, and the answers as they were printed.
 #[derive(Drop)]
 pub struct Journal {
     pub commands: Vec<Command>,
@@ -14,7 +14,7 @@ pub struct Journal {
 }
 
 impl Journal {
-    /// No command.
+    /// Makes an empty journal.
     pub fn new(alloc: Global) -> Journal
         ensures commands { result.commands.items ≡ [] }
         ensures answers { result.answers.items ≡ [] }
@@ -25,7 +25,7 @@ impl Journal {
         }
     }
 
-    /// Keeps a command that was done, with its answer.
+    /// Records a command that was executed, with its answer.
     pub fn keep(&mut self, command: Command, answer: &[u8]) -> Result<(), AllocError>
         ensures commands { OnOk result (self.new.commands.items ≡ self.old.commands.items ++ command ∷ []) }
         ensures answers { OnOk result (self.new.answers.items ≡ self.old.answers.items ++ answer.now) }
@@ -35,7 +35,7 @@ impl Journal {
         Ok(())
     }
 
-    /// What a new world answers to the commands; nothing where one of them has no line.
+    /// Returns what a new world answers to the commands; `None` if one of them has no line.
     pub fn replayed(&self, alloc: Global) -> Result<Option<Vec<u8>>, LinesFault>
         ensures { IfOk result (λ o. IfSome o (λ out. out.items ≡ output_of_commands new_world self.now.commands.items)) }
     {

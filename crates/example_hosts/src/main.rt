@@ -1,5 +1,6 @@
-//! Two hosts over a world of script values, which do the commands of standard input, a line each. The first argument picks one:
-//! `session` or `debugger`; without it both do all lines, one after the other.
+//! Two hosts over a world of script values, which execute commands from standard input, a line
+//! each. The first argument picks one: `session` or `debugger`; without it both execute all lines,
+//! one after the other.
 #![tactic(auto)]
 
 mod debugger;
@@ -14,7 +15,7 @@ use rhai_text::Limits;
 use std::rt::Env;
 use std::{env, io};
 
-/// Has the session do lines on a world of its own.
+/// Runs the session on lines, with a world of its own.
 fn run_session(rt: &(impl Print + AllocGlobal), lines: &str) -> Result<()> {
     let mut world = World::new(rt.alloc(), Limits { text: 0, items: 0 });
     let outcome = host(rt, &mut world, lines);
@@ -22,7 +23,7 @@ fn run_session(rt: &(impl Print + AllocGlobal), lines: &str) -> Result<()> {
     outcome
 }
 
-/// Has the debugger do lines on a world of its own.
+/// Runs the debugger on lines, with a world of its own.
 fn run_debugger(rt: &(impl Print + AllocGlobal), lines: &str) -> Result<()> {
     let mut world = World::new(rt.alloc(), Limits { text: 0, items: 0 });
     let outcome = debug(rt, &mut world, lines);
@@ -30,7 +31,7 @@ fn run_debugger(rt: &(impl Print + AllocGlobal), lines: &str) -> Result<()> {
     outcome
 }
 
-/// Has the hosts that the first argument picks do lines.
+/// Runs the hosts that the first argument picks on lines.
 fn run(rt: &(impl Print + Env + AllocGlobal), lines: &str) -> Result<()> {
     let picked = match env::args(rt)?.nth(1) {
         Some(word) => word,

@@ -1,12 +1,13 @@
-//! A host that keeps one world of script values between runs. It does commands, a line each; an empty line ends a run, after which it
-//! collects the cells that nothing reaches. The line `replay` does all commands again on a new world.
+//! A host that keeps one world of script values between runs. It executes commands, a line each; an
+//! empty line ends a run, after which it collects unreachable cells. The line `replay` executes all
+//! commands again on a new world.
 
 use crate::journal::Journal;
 use anyhow::Result;
 use rhai_lines::{command, write_answer};
 use rhai_run::{World, apply};
 
-/// Does the command of a line, prints its answer, and keeps both.
+/// Executes the command of a line, prints its answer, and records both.
 fn do_line(
     rt: &(impl Print + AllocGlobal),
     world: &mut World,
@@ -26,7 +27,7 @@ fn do_line(
     Ok(())
 }
 
-/// Says whether a new world answers the same to all commands.
+/// Prints whether a new world answers the same to all commands.
 fn replay(rt: &(impl Print + AllocGlobal), journal: &Journal) -> Result<()> {
     let count = journal.commands.len();
     match journal.replayed(rt.alloc())? {
@@ -39,7 +40,7 @@ fn replay(rt: &(impl Print + AllocGlobal), journal: &Journal) -> Result<()> {
     Ok(())
 }
 
-/// Does lines on a world.
+/// Executes lines on a world.
 pub(crate) fn host(rt: &(impl Print + AllocGlobal), world: &mut World, lines: &str) -> Result<()> {
     let mut journal = Journal::new(rt.alloc());
     let mut runs = 0u64;

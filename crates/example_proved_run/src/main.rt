@@ -1,4 +1,5 @@
-//! Runs scripts of `example_proved`, and prints what their variables hold then, or why they were refused.
+//! Runs scripts of `example_proved`, and prints the final values of their variables, or why they
+//! failed.
 #![tactic(auto)]
 
 use anyhow::{Result, bail};

@@ -1,4 +1,4 @@
--- A value can be cast exactly where something is read of it without its holders.
+-- A value can be cast exactly if its flat value can be read as the type.
 use Rattle.std.proofs.Common.{◌≡◌, List, [], is_some, refl, ap, ◌∙◌}
 use Rattle.rhai_value.specs.declared.cells.store.Cell.{Cell}
 use Rattle.rhai_value.specs.declared.value.type_id.TypeId.{TypeId}
@@ -11,7 +11,7 @@ use Rattle.rhai_variant.proofs.ForCallers.{read_by_type}
 use Rattle.rhai_cast.specs.Casts.{is_castable}
 use Rattle.rhai_cast.proofs.FlatValues.{flat_type, flattened_type}
 
--- something is read of a value of the type that is held exactly where one that holds it can be cast
+-- a value of the held type can be read exactly if one that holds the type can be cast
 castable_is : (k : TypeId) (t : Tree) (e : End) → tree_type t ≡ end_type e → is_some (read k t) ≡ is_castable k e
 castable_is id.Dynamic t e same = refl
 castable_is k t e same = read_by_type k t refl ∙ ap (is_type (held_type k)) same

@@ -1,4 +1,4 @@
--- Values without their holders: their type, and that they have no holders to take off.
+-- Flat values: their type, and that flattening doesn't change them.
 use Rattle.std.proofs.Common.{◌≡◌, ℕ, ℤ, zero, suc, Bool, true, false, List, [], ◌∷◌, length, Option, Some, None, refl, sym, ap, ◌∙◌, unwrap_or}
 use Rattle.rhai_value.specs.declared.value.access_mode.AccessMode.{AccessMode}
 use Rattle.rhai_value.specs.declared.value.access_mode.AccessMode.TheVariants.{ReadWrite}
@@ -15,7 +15,7 @@ use Rattle.rhai_value.proofs.ForCallers.{walk_opens}
 abbrev IsUnread : List Cell → Tree → Type 0
 IsUnread s v = (c : ℕ) × (g : ℤ) × (m : AccessMode) × (v ≡ node (holder c) g m) × (at s c ≡ None)
 
--- what is held is no holder, and a chain is stuck at a holder that can't be read
+-- a held value isn't a holder, and a chain is stuck at a holder that can't be read
 abbrev IsSettled : List Cell → End → Type 0
 IsSettled s (held site v) = cell_of v ≡ None
 IsSettled s (stuck v) = IsUnread s v
@@ -95,7 +95,7 @@ flattened_type s (node (branch k ts) g m) = sym (ap end_type (opens s (node (bra
 flattened_type s (node (fields fs) g m) = sym (ap end_type (opens s (node (fields fs) g m)))
 flattened_type s (node (holder c) g m) = flattened_end s (at s c) (end s [] (node (holder c) g m)) (node (holder c) g m) refl (settled s (node (holder c) g m)) (unread_end s c g m)
 
--- ---- flat copies stay as they are
+-- ---- flattening flat copies changes nothing
 
 own_stays : (s : List Cell) (v : Tree) → cell_of v ≡ None → flattened s (copy v) ≡ copy v
 own_stays s (node (leaf l) g m) h = refl

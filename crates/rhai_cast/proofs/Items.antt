@@ -1,4 +1,4 @@
--- Items that are read one after another, and where they come from.
+-- Items read one after another, and their sources.
 use Rattle.std.proofs.Common.{◌≡◌, ℕ, Bool, true, false, ◌||◌, List, [], ◌∷◌, ◌++◌, length, map, Option, Some, None, option_map, is_some, refl, sym, ap, ◌∙◌}
 use Rattle.std.proofs.lemmas.List.{append_assoc, map-append}
 use Rattle.std.specs.Option.{option_or}
@@ -31,7 +31,7 @@ read_more tree k s xs x t ts is = joined tree xs x (read_all k s ts) ∙ ap (λ 
 pub unread_more : (k : TypeId) (s : List Cell) (x : Tree) (t : Tree) (ts : Trees) → Some x ≡ read k (flattened s t) → first_unread k s ts ≡ first_unread k s (tree_then t ts)
 unread_more k s x t ts is = ap (λ o. unread_or o t (first_unread k s ts)) is
 
--- ---- an item of which nothing is read
+-- ---- an item that can't be read
 
 pub none_read : (k : TypeId) (s : List Cell) (t : Tree) (ts : Trees) → None ≡ read k (flattened s t) → read_all k s (tree_then t ts) ≡ None
 none_read k s t ts is = sym (ap (λ o. with_front o (read_all k s ts)) is)
@@ -42,7 +42,7 @@ unread_here k s t ts is = sym (ap (λ o. unread_or o t (first_unread k s ts)) is
 pub mapped_none : {A B : Type 0} (f : A → B) (o : Option A) → o ≡ None → option_map f o ≡ None
 mapped_none f o e = ap (option_map f) e
 
--- ---- what an array and a blob are read of
+-- ---- the sources of an array and a blob
 
 pub own_end_type : (s : List Cell) (t : Tree) → is_some (cell_of t) ≡ false → end_type (end s [] t) ≡ tree_type t
 own_end_type s (node (leaf l) g m) h = ap end_type (opens s (node (leaf l) g m))
@@ -76,7 +76,7 @@ blob_held (held site v) bs h = blob_alone v bs h
 blob_held (stuck v) bs h = cc
 blob_held closed bs h = cc
 
--- bytes are those of a blob, and of the type of a byte
+-- bytes come from a blob, and the type is that of a byte
 blob_there : (o : Option (List ℕ)) (xs : List Tree) → Some xs ≡ option_map (map byte_tree) o → (bs : List ℕ) × (o ≡ Some bs)
 blob_there None xs h = cc
 blob_there (Some bs) xs h = (bs, refl)
@@ -96,7 +96,7 @@ pub or_true : (a b : Bool) → b ≡ true → a || b ≡ true
 or_true true b h = refl
 or_true false b h = h
 
--- ---- what there is nothing to put into an array of
+-- ---- values without an array to make
 
 pub no_items : (xs : List Tree) → trees_of xs ≡ no_trees → length xs ≡ 0
 no_items [] h = refl

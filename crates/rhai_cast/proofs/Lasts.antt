@@ -1,4 +1,4 @@
--- Rows that are put into a map one after another.
+-- Rows inserted into a map one after another.
 use Rattle.std.proofs.Common.{◌≡◌, ℕ, cond, List, [], ◌∷◌, ◌++◌, map, Some, refl, sym, ap, ◌∙◌, subst}
 use Rattle.std.proofs.lemmas.Cmp.{nat_list_cmp_total}
 use Rattle.std.proofs.lemmas.List.{append_assoc, append-nil, reverse-append}
@@ -14,9 +14,9 @@ no_rows : AreRising []
 unfolding IsStrictlySortedBy
 no_rows = tt
 
--- ---- a loop that puts what is left of a list into a map
+-- ---- a loop that inserts the rest of a list into a map
 
--- some rows were put, and these are left of all
+-- some rows are inserted, and these of all remain
 pub record PutSoFar (left all rs : Rows) : Type 0 where
   pub done : Rows
   pub whole : done ++ left ≡ all
@@ -25,7 +25,7 @@ pub record PutSoFar (left all rs : Rows) : Type 0 where
 pub put_none : (left all rs : Rows) → left ≡ all → rs ≡ [] → PutSoFar left all rs
 put_none left all rs e none = record { done = []; whole = e; last = subst (HasLast []) (sym none) (no_rows, λ q. refl) }
 
--- one more row, whose value is put at its key
+-- one more row, whose value is inserted at its key
 pub put_more : {A : Type 0} (row : A → List ℕ × Tree) (es fs : List A) (e : A) (all rs us : Rows) (v : Tree) → PutSoFar (map row es) all rs → es ≡ e ∷ fs
     → us ≡ insert_entry bytes_cmp rs (row e).0 v → v ≡ (row e).1 → AreRising us → PutSoFar (map row fs) all us
 put_more row es fs e all rs us v h is put same rising =
@@ -42,6 +42,6 @@ put_more row es fs e all rs us v h is put same rising =
       );
     }
 
--- no row is left
+-- no row remains
 pub put_all : (left all rs : Rows) → left ≡ [] → PutSoFar left all rs → HasLast all rs
 put_all left all rs none h = subst (λ ps. HasLast ps rs) (sym (append-nil h.done) ∙ ap (λ xs. h.done ++ xs) (sym none) ∙ h.whole) h.last

@@ -1,4 +1,4 @@
--- What a value and its store lend as one type, as what they are said to lend together.
+-- The separate borrows from a value and its store, as one type, agree with the borrow from both.
 use Rattle.std.proofs.Common.{◌≡◌, ℕ, ℤ, false, List, Option, Some, None, option_map, option_and_then, refl, sym, ap, ◌∙◌}
 use Rattle.std.specs.Borrow.{MutBor, Fml, RattleType, follows_if}
 use Rattle.std.specs.Option.{ghost_name_of}
@@ -20,7 +20,7 @@ use Rattle.rhai_value.proofs.ForCallers.{own_at, far_at, found, read_at}
 use Rattle.rhai_variant.specs.Reads.{viewed, written_as}
 use Rattle.rhai_cast.specs.Casts.{locked, lock_cell, lock_written, own_viewed}
 
--- no holder has anything of a type but a `Dynamic`
+-- a holder is of no type but `Dynamic`
 of_holder : (k : TypeId) → is_type k id.Dynamic ≡ false → is_type k id.Shared ≡ false → (c : ℕ) (g : ℤ) (m : AccessMode) → viewed k (node (holder c) g m) ≡ None
 of_holder id.Dynamic p q c g m = absurd (cc)
 of_holder id.Shared p q c g m = absurd (cc)
@@ -36,14 +36,14 @@ module _ (T : RattleType) (tree : T.Denot → Tree) where
   abbrev pub Has : Option (MutBor T.Denot) → Option Tree
   Has o = option_map (λ r. tree r.now) o
 
-  -- what each lends for itself, the value where o is its own, and the store where r is what it lends from the cell x
+  -- the separate borrows: of the value, where o is from it, and of the store, where r is from its cell x
   abbrev pub OwnSide : TypeId → MutBor Tree → Option (MutBor T.Denot) → Fml
   OwnSide k v o = follows_if dynamic.the_row T v.ghost_name (ghost_name_of o) (λ w. written_as k (tree w) v.now) v.now
 
   abbrev pub FarSide : TypeId → MutBor (List Cell) → Option ℕ → Option (MutBor T.Denot) → Fml
   FarSide k m x r = follows_if store.the_row T m.ghost_name (ghost_name_of r) (λ w. edit_in x (written_as k (tree w)) m.now) m.now
 
-  -- what both are said to lend
+  -- the borrow from both
   abbrev pub OwnLock : TypeId → MutBor Tree → MutBor (List Cell) → Option (MutBor T.Denot) → Fml
   OwnLock k v m p = follows_if dynamic.the_row T v.ghost_name (own_lent (cell_of v.now) (ghost_name_of p)) (λ w. (lock_written k (record { value = v; store = m }) (tree w)).value.now) v.now
 

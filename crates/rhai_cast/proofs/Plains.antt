@@ -1,4 +1,4 @@
--- Items of a plain type are read as copies of what they have.
+-- Items of a plain type are read as copies of their contents.
 use Rattle.std.proofs.Common.{◌≡◌, Bool, true, false, List, Some, None, option_map, cond, refl, sym, ap, subst, ◌∙◌}
 use Rattle.rhai_value.specs.declared.cells.store.Cell.{Cell}
 use Rattle.rhai_value.specs.declared.value.type_id.TypeId.{TypeId}
@@ -40,7 +40,7 @@ copied_leaf false l x e = absurd (cc)
 nothing : {A : Type 0} (k : TypeId) (t x : Tree) (b : Bool) → b ≡ false → Some x ≡ option_map made (cond b (Some (content_of t)) None) → A
 nothing k t x b other e = absurd (cc)
 
--- of what a value of the type has, a copy is read
+-- the content of a value of the type is read as a copy
 pub plain_read : (k : TypeId) (s : List Cell) (t x : Tree) → is_plain k ≡ true → Some x ≡ viewed k t → Some (copy x) ≡ read k (flattened s t)
 plain_read k s (node (leaf l) g m) x p e =
     ap Some (copied_leaf (is_type k (leaf_type l)) l x (e ∙ viewed_typed k (node (leaf l) g m) p)) ∙ e ∙ sym (read_viewed k (node (leaf l) g m) p)

@@ -1,4 +1,4 @@
--- What no value is, and what can't be looked into.
+-- Types that no value has, and values that can't be read.
 use Rattle.std.proofs.Common.{◌≡◌, Bool, true, false, cond, List, [], Option, Some, None, option_and_then, is_some, refl, ap, ◌∙◌}
 use Rattle.rhai_value.specs.declared.value.host.Host.TheVariants as host_kind
 use Rattle.rhai_value.specs.declared.cells.store.Cell.{Cell}

@@ -1,4 +1,4 @@
--- Casts, questions and what is lent don't depend on the numbers of cells.
+-- Casts, type tests and borrows don't depend on cell numbers.
 use Rattle.std.proofs.Common.{◌≡◌, cond, List, [], refl, ap, ap₂}
 use Rattle.rhai_value.specs.declared.cells.store.Cell.{Cell}
 use Rattle.rhai_value.specs.declared.value.type_id.TypeId.{TypeId}

@@ -12,17 +12,17 @@ use Rattle.rhai_value.specs.Tree.{Tree, Trees, no_trees, tree_then, fresh, host}
 use Rattle.rhai_value.specs.Types.{is_host_type, tree_type, type_name}
 use Rattle.rhai_variant.specs.Reads.{read}
 
--- one more item in front, if there are both
+-- a result with one more item in front, if both exist
 abbrev pub with_front : Option Tree → Option (List Tree) → Option (List Tree)
 with_front None xs = None
 with_front (Some x) xs = option_map (λ ys. x ∷ ys) xs
 
--- what is read of each of the items without their holders, if something is of each
+-- the flat items read as the type, if each can be
 abbrev pub read_all : TypeId → List Cell → Trees → Option (List Tree)
 read_all k s no_trees = Some []
 read_all k s (tree_then t ts) = with_front (read k (flattened s t)) (read_all k s ts)
 
--- the type of the first item of which nothing is read, if there is one: of a holder the type of what can't be looked into
+-- the type of the first item that can't be read, if there is one: for a holder `Shared`
 abbrev pub unread_or : Option Tree → Tree → TypeId → TypeId
 unread_or None t later = tree_type t
 unread_or (Some x) t later = later
@@ -31,7 +31,7 @@ abbrev pub first_unread : TypeId → List Cell → Trees → TypeId
 first_unread k s no_trees = id.Shared
 first_unread k s (tree_then t ts) = unread_or (read k (flattened s t)) t (first_unread k s ts)
 
--- whether a type is one of those whose values are copied as they are, without memory: of leaves that are no text and no blob
+-- whether the values of a type are copied bitwise, without an allocation: those of leaves other than texts and blobs
 abbrev pub is_plain : TypeId → Bool
 is_plain id.Unit = true
 is_plain id.Bool = true
@@ -39,8 +39,8 @@ is_plain id.Char = true
 is_plain id.Int = true
 is_plain k = is_host_type k
 
--- Why not each item is read: nothing is read of one, and the name is that of the first such; or memory was refused, and there are
--- items.
+-- Why not each item is read: one can't be, and the name is that of the first such; or an allocation
+-- failed, and there are items.
 abbrev pub IsUnread : TypeId → IntoError → List Cell → Trees → Type 0
 IsUnread k (Mismatch name) s ts = (read_all k s ts ≡ None) × (name.now ≡ type_name (first_unread k s ts))
 IsUnread k (Memory refused) s ts = ¬ ts ≡ no_trees
@@ -49,12 +49,12 @@ IsUnread k (Memory refused) s ts = ¬ ts ≡ no_trees
 abbrev pub byte_tree : ℕ → Tree
 byte_tree b = fresh (host (host_kind.U8 b))
 
--- the bytes that are held, where the type is that of a byte
+-- the held bytes, if the type is that of a byte
 abbrev pub bytes_at : TypeId → End → Option (List Tree)
 bytes_at id.U8 e = option_map (map byte_tree) (held_part blob_of e)
 bytes_at k e = None
 
--- the items of an array, as they are of its own and copies of those in a cell, as values of the type; else the bytes
+-- the items of an array, its own or copies of those in a cell, as values of the type; otherwise the bytes
 abbrev pub typed_items : TypeId → List Cell → Option Trees → End → Option (List Tree)
 typed_items k s (Some ts) e = read_all k s ts
 typed_items k s None e = bytes_at k e
@@ -62,13 +62,14 @@ typed_items k s None e = bytes_at k e
 abbrev pub typed_array : TypeId → List Cell → Tree → Option (List Tree)
 typed_array k s t = typed_items k s (array_moved s t) (end s [] t)
 
--- the name of what doesn't fit: of the first item of which nothing is read, or of what is held in place of an array
+-- the name of what doesn't fit: of the first item that can't be read, or of the held type if that isn't an array
 abbrev pub unfit_name : TypeId → List Cell → Option Trees → End → List ℕ
 unfit_name k s (Some ts) e = type_name (first_unread k s ts)
 unfit_name k s None e = end_name e
 
--- Why there is no array of values of this type: the items, or what is held, don't fit, and the name is that of what doesn't; or
--- memory was refused, and there is an array or are bytes, but no array of the value's own without items, nor no bytes.
+-- Why there is no array of values of this type: the items, or the held value, don't fit, and the
+-- name is that of what doesn't; or an allocation failed, and there is an array or a blob, but
+-- neither an own array without items nor an empty blob.
 abbrev pub IsNoArray : TypeId → IntoError → List Cell → Tree → Type 0
 IsNoArray k (Mismatch name) s t = (typed_array k s t ≡ None) × (name.now ≡ unfit_name k s (array_moved s t) (end s [] t))
 IsNoArray k (Memory refused) s t =

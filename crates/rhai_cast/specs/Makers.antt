@@ -1,4 +1,4 @@
--- Arrays and maps that are made of Rust's collections.
+-- Arrays and maps made from Rust's collections.
 use Rattle.std.specs.Prelude.{◌≡◌, ℕ, List, map, reverse, String, string_bytes}
 use Rattle.std.specs.BTreeMap.{is_at}
 use Rattle.std.specs.Map.{lookup}
@@ -10,7 +10,7 @@ use Rattle.rhai_value.specs.Tree.{Tree, made, branch, array, fields, fresh, unit
 abbrev pub array_made : List Tree → Tree
 array_made ts = made (branch array (trees_of ts))
 
--- each key, as its bytes, with the value that is made of what stands at it
+-- each key, as its bytes, with the value made from its item
 abbrev pub pairs : {A : Type 0} → (A → Tree) → List (String Global × A) → Rows
 pairs tree es = map (λ e. (string_bytes e.0, tree e.1)) es
 
@@ -18,7 +18,7 @@ pairs tree es = map (λ e. (string_bytes e.0, tree e.1)) es
 abbrev pub keys_alone : List (String Global) → Rows
 keys_alone ks = map (λ k. (string_bytes k, fresh unit)) ks
 
--- the keys of the rows rise, and at each key they have what stands there last among the pairs, and nothing where nothing does
+-- the keys of the rows are ascending, and each key has its last value among the pairs; no other key has one
 abbrev pub HasLast : Rows → Rows → Type 0
 HasLast ps rs = AreRising rs × ((k : List ℕ) → lookup (is_at (bytes_cmp k)) rs ≡ lookup (is_at (bytes_cmp k)) (reverse ps))
 

@@ -12,7 +12,7 @@ use rhai_value::{Array, Blob, Dynamic, Host, IntoError, Store, TypeId};
 use rhai_variant::Variant;
 use std::alloc::{AllocError, Global};
 
-/// The items without their holders, read as one type. Room is taken once, and each item is moved, or read where it lies.
+/// The flat items, read as one type. One allocation; each item is moved, or read in place.
 #[tactic(auto, using(crate::proofs::Items::no_items))]
 pub(crate) fn read_items<T: Variant>(
     items: Array,
@@ -30,7 +30,7 @@ pub(crate) fn read_items<T: Variant>(
     read_each(xs, items, alloc, store)
 }
 
-/// Whether what a value of the type has is copied as it is, without memory.
+/// Whether the content for this type is copied bitwise, without an allocation.
 fn is_plain(kind: TypeId) -> bool
     ensures { result ≡ is_plain kind }
 {
@@ -41,7 +41,7 @@ fn is_plain(kind: TypeId) -> bool
         )
 }
 
-/// Reads the items where they lie, if each is a value of the type itself and no holder.
+/// Reads the items in place, if each is itself a value of the type and no holder.
 fn add_plain<T: Variant>(xs: &mut Vec<T>, items: &Array, alloc: Global) -> bool
     requires kind { is_plain T.KIND ≡ true }
     requires room { (xs.old.items ≡ []) × (length items.now.items ≤ vec_capacity xs.old) }
@@ -59,7 +59,7 @@ fn add_plain<T: Variant>(xs: &mut Vec<T>, items: &Array, alloc: Global) -> bool
     true
 }
 
-/// The items without their holders, read as one type, each moved.
+/// The flat items, read as one type, each moved.
 #[tactic(auto, using(crate::proofs::Items::none_read, crate::proofs::Items::unread_here, crate::proofs::Items::no_items))]
 fn read_each<T: Variant>(
     mut xs: Vec<T>,
@@ -87,7 +87,7 @@ fn add<T: Drop>(xs: &mut Vec<T>, x: T) -> Result<(), AllocError>
     Ok(xs.push(x)?)
 }
 
-/// The type of the value itself; of a holder that of what can't be looked into.
+/// The type of the value itself; for a holder, `TypeId::Shared`.
 #[tactic(auto, using(crate::proofs::Items::own_end_type))]
 fn own_type(value: &Dynamic, store: &Store) -> TypeId
     ensures { result ≡ tree_type value.now }
@@ -99,7 +99,7 @@ fn own_type(value: &Dynamic, store: &Store) -> TypeId
     }
 }
 
-/// The bytes that are held, where the type is that of a byte.
+/// The held bytes, if the type is that of a byte.
 pub(crate) fn held_bytes<'s, T: Variant>(value: &'s Dynamic, store: &'s Store) -> Option<&'s Blob>
     ensures { option_map (λ bytes. map byte_tree bytes.now.items) result ≡ bytes_at T.KIND (end store.now [] value.now) }
 {
@@ -110,7 +110,7 @@ pub(crate) fn held_bytes<'s, T: Variant>(value: &'s Dynamic, store: &'s Store) -
     }
 }
 
-/// Bytes as values of the type of a byte. Room is taken once.
+/// Bytes as values of the byte type, with one allocation.
 pub(crate) fn read_bytes<T: Variant>(bytes: &Blob, alloc: Global) -> Result<Vec<T>, AllocError>
     requires { is_type T.KIND type_id.U8 ≡ true }
     ensures bytes { IfOk result (λ xs. map T.tree xs.items ≡ map byte_tree bytes.now.items) }

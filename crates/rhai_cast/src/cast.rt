@@ -28,38 +28,41 @@ pub trait DynamicCast: Sized {
     // What contracts see of a value.
     ghost tree: { Self → Tree };
 
-    // The value once this was written over what it has of a type.
+    // The value after this was written over its content of a type.
     ghost written: { TypeId → Tree → Self → Self };
 
     ghost is_written: { (kind : TypeId) (w : Tree) (x : Self) → tree (written kind w x) ≡ written_as kind w (tree x) };
 
-    /// Makes a value of one of Rust's, with tag 0 and mode ReadWrite; a `Dynamic` is itself.
-    /// Errors: a `String` comes back where memory is refused.
-    /// Cost: constant; of a `String` the length of its text, which is copied.
+    /// Makes a value from a Rust value, with tag 0 and mode ReadWrite; a `Dynamic` is returned as
+    /// it is.
+    /// Errors: a `String` is returned if an allocation fails.
+    /// Cost: constant; for a `String` the length of its text, which is copied.
     /// rhai: `Dynamic::from`.
     fn of<T: Variant>(alloc: Global, x: T) -> Result<Self, T>
         ensures ok { IfOk result (λ value. tree value ≡ T.tree x) }
         ensures err { IfErr result (λ back. (back ≡ x) × (is_type T.KIND type_id.String ≡ true)) };
 
-    /// Tells whether the value is of this type: one that is no holder by its constructor, so that a text is both an
-    /// `ImmutableString` and a `String`; a holder by the very type that is held. No value is a `Dynamic`.
+    /// Returns whether the value is of this type. A value that isn't a holder is judged by its
+    /// constructor, so that a text is both an `ImmutableString` and a `String`; a holder by the
+    /// exact held type. No value is a `Dynamic`.
     /// Cost: that of `Dynamic::held`; no memory.
     /// rhai: `Dynamic::is`.
     fn is<T: Variant>(&self, store: &Store) -> bool
         ensures { result ≡ is_of T.KIND (tree self.now) (end store.now [] (tree self.now)) };
 
-    /// Casts the value without its holders, as `flatten` gives it; to a `Dynamic` that is the answer. A value that is no
-    /// holder is moved out.
-    /// Errors: `Mismatch` has the value without its holders, where another type is held; `Memory` has the value as it was.
+    /// Casts the value as flattened by `flatten`; the cast to `Dynamic` is the flattened value. A
+    /// value that isn't a holder is moved out.
+    /// Errors: `Mismatch` with the flattened value, if another type is held; `Memory` with the
+    /// original value.
     /// Cost: that of `Dynamic::flatten`; to a `String` the length of the text.
     /// rhai: `Dynamic::try_cast_result`.
     fn try_cast_result<T: Variant>(self, alloc: Global, store: &Store) -> Result<T, CastError>
         ensures ok { IfOk result (λ x. read T.KIND (flattened store.now (tree self)) ≡ Some (T.tree x)) }
         ensures err { IfErr result (λ e. IsNotCast T.KIND e store.now (tree self)) };
 
-    /// Casts the value without its holders; `None` where another type is held, which is asked before anything is copied.
-    /// The value is gone then.
-    /// Errors: memory is refused.
+    /// Casts the flattened value; `None` if another type is held, which is tested before anything
+    /// is copied. The value is then dropped.
+    /// Errors: an allocation fails.
     /// Cost: that of `try_cast_result`.
     /// rhai: `Dynamic::try_cast`.
     fn try_cast<T: Variant>(self, alloc: Global, store: &Store) -> Result<Option<T>, AllocError>
@@ -68,10 +71,11 @@ pub trait DynamicCast: Sized {
         ensures unread { read T.KIND (flattened store.now (tree self)) ≡ None → IsOk result }
         ensures free { TakesNoMemory (flattened store.now (tree self)) → is_type T.KIND type_id.String ≡ false → IsOk result };
 
-    /// Casts a value that holds the type; to a `Dynamic` it is the value itself, its holders kept.
-    /// Errors: memory is refused.
+    /// Casts a value that holds the type; the cast to `Dynamic` is the value itself, with its
+    /// holders.
+    /// Errors: an allocation fails.
     /// Cost: that of `try_cast_result`.
-    /// rhai: `Dynamic::cast`, which panics where another type is held.
+    /// rhai: `Dynamic::cast`, which panics if another type is held.
     fn cast<T: Variant>(self, alloc: Global, store: &Store) -> Result<T, AllocError>
         requires { is_castable T.KIND (end store.now [] (tree self)) ≡ true }
         ensures value { IfOk result (λ x. cast_whole T.KIND store.now (tree self) ≡ Some (T.tree x)) }
@@ -79,8 +83,9 @@ pub trait DynamicCast: Sized {
         ensures own { cell_of (tree self) ≡ None → is_type T.KIND type_id.String ≡ false → IsOk result }
         ensures free { TakesNoMemory (flattened store.now (tree self)) → is_type T.KIND type_id.String ≡ false → IsOk result };
 
-    /// Casts a copy without holders, as `flatten_clone` gives it, of a value that holds the type; to a `Dynamic` too.
-    /// Errors: memory is refused.
+    /// Casts a flat copy, as `flatten_clone` returns it, of a value that holds the type; to
+    /// `Dynamic` too.
+    /// Errors: an allocation fails.
     /// Cost: that of `Dynamic::flatten_clone`.
     /// rhai: `Dynamic::clone_cast`.
     fn clone_cast<T: Variant>(&self, alloc: Global, store: &Store) -> Result<T, AllocError>
@@ -88,66 +93,68 @@ pub trait DynamicCast: Sized {
         ensures value { IfOk result (λ x. read T.KIND (flat store.now (tree self.now)) ≡ Some (T.tree x)) }
         ensures free { TakesNoMemory (flat store.now (tree self.now)) → is_type T.KIND type_id.String ≡ false → IsOk result };
 
-    /// Lends what the held value has of this type; of a `Dynamic` the first content, as `read_whole` gives it. No value has
-    /// a `String`.
+    /// Borrows the held value as this type; for `Dynamic` the first content, as `read_whole`
+    /// returns it. No value has a `String`.
     /// Cost: that of `Dynamic::held`; no memory.
-    /// rhai: `Dynamic::read_lock`, which gives a guard.
+    /// rhai: `Dynamic::read_lock`, which returns a guard.
     fn read_lock<'s, T: Variant>(&'s self, store: &'s Store) -> Option<&'s T>
         ensures { option_map (λ x. T.tree x.now) result ≡ locked T.KIND store.now (tree self.now) };
 
-    /// Lends what the held value has of this type, to write; of a `Dynamic` the first content.
+    /// Borrows the held value as this type mutably; for `Dynamic` the first content.
     ///
-    /// This is one call of `lent_lock`, which says what value and store are once it was written. There are two, since a
-    /// proof that the check writes by itself can't call a method of the value with a clause on two lenders; such a proof
-    /// reads it of `write_lock` of this crate, which lends from the pair of the two.
+    /// One call of `lent_lock`, whose contract gives value and store after the write. Both calls
+    /// exist, since an automatic proof can't call a method of the value with a clause on two
+    /// sources of a borrow; such a proof uses `write_lock` of this crate, which borrows from the
+    /// pair.
     /// Cost: that of `Dynamic::held`; no memory.
-    /// rhai: `Dynamic::write_lock`, which gives a guard.
+    /// rhai: `Dynamic::write_lock`, which returns a guard.
     fn write_lock<'s, T: Variant>(&'s mut self, store: &'s mut Store) -> Option<&'s mut T>
         ensures { option_map (λ x. T.tree x.now) result ≡ locked T.KIND store.old (tree self.old) };
 
-    /// Lends what the value itself has of this type; of a holder nothing, but as a `Dynamic` itself.
+    /// Borrows the value itself as this type; for a holder `None`, except as a `Dynamic`.
     /// Cost: constant; no memory.
     /// rhai: `Dynamic::downcast_ref`, which is private.
     fn downcast_ref<T: Variant>(&self) -> Option<&T>
         ensures { option_map (λ x. T.tree x.now) result ≡ viewed T.KIND (tree self.now) };
 
-    /// Lends what the value itself has of this type, to write: what is written is then the content of the value, tag and
-    /// mode staying; of a `Dynamic` it is the whole value.
+    /// Borrows the value itself as this type mutably. A write replaces the content of the value,
+    /// and keeps tag and mode; for `Dynamic` it replaces the whole value.
     /// Cost: constant; no memory.
     /// rhai: `Dynamic::downcast_mut`, which is private.
     fn downcast_mut<T: Variant>(&mut self) -> Option<&mut T>
         ensures* writes_back { sem 𝓛 (LendsIf Self.row T.row self.entry result (λ w. written T.KIND (T.tree w) self.old) self.old) }
         ensures value { option_map (λ x. T.tree x.now) result ≡ viewed T.KIND (tree self.old) };
 
-    /// Moves the items of an array out, each cast by `try_cast`; those in a cell are copied first. Of a blob its bytes, as
-    /// values of `u8`.
-    /// Errors: `Mismatch` has the type name of the first item that isn't cast, `<shared>` where that item is a holder; or
-    /// the name of what is held in place of an array. `Memory`, where memory is refused.
-    /// Cost: the casts of the items; room is taken once.
+    /// Moves the items of an array out, each cast by `try_cast`; those in a cell are copied first.
+    /// For a blob, returns its bytes as values of `u8`.
+    /// Errors: `Mismatch` with the type name of the first item that can't be cast, `<shared>` if
+    /// that item is a holder; or with the name of the held type if that isn't an array. `Memory` if
+    /// an allocation fails.
+    /// Cost: the casts of the items; one allocation for the vector.
     /// rhai: `Dynamic::into_typed_array`.
     fn into_typed_array<T: Variant>(self, alloc: Global, store: &Store) -> Result<Vec<T>, IntoError>
         ensures ok { IfOk result (λ xs. typed_array T.KIND store.now (tree self) ≡ Some (map T.tree xs.items)) }
         ensures err { IfErr result (λ e. IsNoArray T.KIND e store.now (tree self)) };
 
     /// Makes an array of these items, each made by `of`.
-    /// Errors: memory is refused; the items are gone, as of each maker below.
-    /// Cost: that of `of` for each; room is taken once.
+    /// Errors: an allocation fails; the items are dropped, as in each maker below.
+    /// Cost: that of `of` for each; one allocation for the array.
     /// rhai: `Dynamic::from` of a `Vec`.
     fn from_vec<T: Variant>(alloc: Global, items: Vec<T>) -> Result<Self, AllocError>
         ensures value { IfOk result (λ value. tree value ≡ array_made (map T.tree items.items)) }
         ensures none { items.items ≡ [] → IsOk result };
 
     /// Makes an array of copies of these items.
-    /// Errors: memory is refused.
-    /// Cost: that of `duplicate` and `of` for each; room is taken once.
+    /// Errors: an allocation fails.
+    /// Cost: that of `duplicate` and `of` for each; one allocation for the array.
     /// rhai: `Dynamic::from` of a slice.
     fn from_slice<T: Variant>(alloc: Global, items: &[T]) -> Result<Self, AllocError>
         ensures value { IfOk result (λ value. tree value ≡ array_made (map (λ x. copy (T.tree x)) items.now)) }
         ensures none { items.now ≡ [] → IsOk result };
 
-    /// Makes an array of what the iterator yields, which must end.
-    /// Errors: memory is refused.
-    /// Cost: that of `of` for each; memory where the array grows.
+    /// Makes an array of the items that the iterator yields, which must end.
+    /// Errors: an allocation fails.
+    /// Cost: that of `of` for each; allocations as the array grows.
     /// rhai: `FromIterator` of `Dynamic`.
     fn from_iter<T: Variant, U: IntoIterator<Item = T>>(
         alloc: Global,
@@ -156,8 +163,8 @@ pub trait DynamicCast: Sized {
         requires { (it : U.IntoIter) → U.into_iter_gives items it → U.IntoIter.can_next it × IsFinite (U.IntoIter.remaining it) }
         ensures { IfOk result (λ value. (it : U.IntoIter) × (xs : List T) × U.into_iter_gives items it × Drains U.IntoIter.next_gives it xs × (tree value ≡ array_made (map T.tree xs))) };
 
-    /// Makes a map with the keys of a table, each value made by `of`.
-    /// Errors: memory is refused.
+    /// Makes a map with the keys of a hash map, each value made by `of`.
+    /// Errors: an allocation fails.
     /// Cost: n log n for n entries.
     /// rhai: `Dynamic::from` of a `HashMap`.
     fn from_hash_map<T: Variant>(
@@ -168,7 +175,7 @@ pub trait DynamicCast: Sized {
         ensures none { entries.entries ≡ [] → IsOk result };
 
     /// Makes a map with the keys of an ordered map, each value made by `of`.
-    /// Errors: memory is refused.
+    /// Errors: an allocation fails.
     /// Cost: n log n for n entries.
     /// rhai: `Dynamic::from` of a `BTreeMap`.
     fn from_btree_map<T: Variant>(
@@ -178,8 +185,8 @@ pub trait DynamicCast: Sized {
         ensures value { IfOk result (λ value. IsMapOf (pairs T.tree entries.entries) (tree value)) }
         ensures none { entries.entries ≡ [] → IsOk result };
 
-    /// Makes a map with unit at each of the keys.
-    /// Errors: memory is refused.
+    /// Makes a map with unit at each of the keys of a hash set.
+    /// Errors: an allocation fails.
     /// Cost: n log n for n keys.
     /// rhai: `Dynamic::from` of a `HashSet`.
     fn from_hash_set(alloc: Global, keys: HashSet<String>) -> Result<Self, AllocError>
@@ -187,7 +194,7 @@ pub trait DynamicCast: Sized {
         ensures none { keys.keys ≡ [] → IsOk result };
 
     /// Makes a map with unit at each of the keys of an ordered set.
-    /// Errors: memory is refused.
+    /// Errors: an allocation fails.
     /// Cost: n log n for n keys.
     /// rhai: `Dynamic::from` of a `BTreeSet`.
     fn from_btree_set(alloc: Global, keys: BTreeSet<String>) -> Result<Self, AllocError>
@@ -333,8 +340,7 @@ fn held_type(kind: TypeId) -> TypeId
     }
 }
 
-/// Tells whether a value can be cast to the type, which `cast` and `clone_cast` ask for: whether something is read of it
-/// without its holders.
+/// Returns whether the flattened value can be cast to the type, as `cast` and `clone_cast` require.
 /// Cost: that of `Dynamic::held`; no memory.
 #[tactic(auto, using(crate::proofs::Castable::moved_castable, crate::proofs::Castable::copied_castable))]
 pub fn is_castable<T: Variant>(value: &Dynamic, store: &Store) -> bool
@@ -345,7 +351,7 @@ pub fn is_castable<T: Variant>(value: &Dynamic, store: &Store) -> bool
     T::KIND == TypeId::Dynamic || held_type(T::KIND) == value.type_id(store)
 }
 
-/// A holder once more, its mode kept; nothing of a value that is none.
+/// Copies a holder with its mode; `None` for any other value.
 fn holder_again(value: &Dynamic) -> Option<Dynamic>
     ensures { MatchOption result (cell_of value.now ≡ None) (λ again. (again ≡ value.now) × (is_some (cell_of value.now) ≡ true)) }
 {
@@ -356,9 +362,9 @@ fn holder_again(value: &Dynamic) -> Option<Dynamic>
     }
 }
 
-/// Casts by move, as `DynamicCast::try_cast` does, and gives the value back where memory is refused. Whether what a holder
-/// leads to can be cast is asked before anything is copied.
-/// Errors: the value as it was, where memory is refused.
+/// Casts by move, as `DynamicCast::try_cast` does, and returns the value if an allocation fails.
+/// Whether a holder's value can be cast is tested before anything is copied.
+/// Errors: the value, unchanged, if an allocation fails.
 /// Cost: that of `DynamicCast::try_cast`.
 pub fn cast_or_give_back<T: Variant>(
     alloc: Global,
@@ -381,7 +387,7 @@ pub fn cast_or_give_back<T: Variant>(
     }
 }
 
-/// What is read of a value of which something is. Memory may be refused for a `String` alone.
+/// Casts a value that can be cast. An allocation may fail only for a `String`.
 pub(crate) fn read_castable<T: Variant>(alloc: Global, value: Dynamic) -> Result<T, AllocError>
     requires { is_some (read T.KIND value) ≡ true }
     ensures value { IfOk result (λ x. read T.KIND value ≡ Some (T.tree x)) }
@@ -389,7 +395,8 @@ pub(crate) fn read_castable<T: Variant>(alloc: Global, value: Dynamic) -> Result
 {
     match T::from_dynamic(alloc, value) {
         Ok(x) => Ok(x),
-        // no type can say it: what is read of a value is asked by `KIND`, a value of `TypeId`, of any `Variant`
+        // no type can exclude it: which values can be cast depends on `KIND`, a `TypeId`, for any
+        // `Variant`
         Err(CastError::Mismatch(_)) => unreachable!(),
         Err(CastError::Memory(_)) => Err(AllocError),
     }

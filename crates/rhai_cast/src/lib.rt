@@ -1,4 +1,4 @@
-//! Casts of script values to and from the types of Rust.
+//! Casts of script values to and from Rust types.
 #![tactic(auto)]
 
 mod arrays;

@@ -1,4 +1,4 @@
-//! What is held in a store, to write.
+//! Held values, borrowed mutably from a store.
 ghost use Rattle.std.specs.Prelude.{◌≡◌, option_map, option_and_then};
 ghost use Rattle.std.specs.Borrow.{sem, LendsIf};
 ghost use Rattle.std.specs.Option.{ghost_name_of};
@@ -14,12 +14,12 @@ ghost use Rattle.rhai_cast.specs.Casts.{locked, lock_cell, lock_written, own_vie
 use rhai_value::{Dynamic, InStore, Place, Store, TypeId};
 use rhai_variant::Variant;
 
-/// Lends what the held value has of this type, to write; of a `Dynamic` the first content, as `InStore::whole_mut` gives
-/// it.
+/// Borrows the held value as this type mutably; for `Dynamic` the first content, as
+/// `InStore::whole_mut` returns it.
 ///
-/// This is `DynamicCast::write_lock` of the pair of a value and its store, and its clause says what both are once it was
-/// written: what was written is the content of the held value, tag and mode staying, or of a `Dynamic` the whole first
-/// content, and all else is as before.
+/// `DynamicCast::write_lock` for the pair of a value and its store; its clause gives both after the
+/// write: the written content is that of the held value, with tag and mode kept, or for `Dynamic`
+/// the whole first content; everything else is unchanged.
 /// Cost: that of `Dynamic::held`; no memory.
 /// rhai: `Dynamic::write_lock`.
 #[tactic(auto, using(rhai_value::proofs::ForCallers::kept_written))]
@@ -30,7 +30,7 @@ pub fn write_lock<'s, T: Variant>(place: &'s mut InStore) -> Option<&'s mut T>
     if T::KIND == TypeId::Dynamic {
         T::view_mut(place.whole_mut()?)
     } else {
-        // the two apart: where the held value has none of the type, all is as before
+        // two separate calls: if the held value isn't of the type, everything is unchanged
         match T::view_mut(place.held_mut()?) {
             Some(x) => Some(x),
             None => None,
@@ -38,12 +38,13 @@ pub fn write_lock<'s, T: Variant>(place: &'s mut InStore) -> Option<&'s mut T>
     }
 }
 
-/// Lends what `write_lock` does of a value or its store, each for itself, being told whether it is the first content, as of
-/// a `Dynamic`: `DynamicCast::write_lock` is one call of this.
+/// Borrows what `write_lock` does, from a value and its store passed separately; `is_first` selects
+/// the first content, as for `Dynamic`. `DynamicCast::write_lock` is one call of this.
 ///
-/// Once it was written, value and store are what `write_lock` of the pair leaves; where there is none both are as before.
-/// That comes first which is no reference: of a method of the value, a proof that the check writes by itself would take the
-/// value alone for what lends, and couldn't make the call.
+/// After the write, value and store are as `write_lock` of the pair leaves them; if the result is
+/// `None`, both are unchanged. A parameter that isn't a reference comes first: for a method of the
+/// value, an automatic proof would take the value as the only source of the borrow, and couldn't
+/// make the call.
 /// Cost: that of `Dynamic::held`; no memory.
 pub fn lent_lock<'s, T: Variant>(
     is_first: bool,
@@ -60,7 +61,7 @@ pub fn lent_lock<'s, T: Variant>(
     either::<T>(own, far)
 }
 
-/// Where stands what is lent: the first content, or what is held.
+/// The place to borrow from: that of the first content or of the held value.
 fn lock_place<T: Variant>(is_first: bool, value: &mut Dynamic, store: &mut Store) -> Place
     requires { is_first ≡ is_type T.KIND type_id.Dynamic }
     ensures place { result ≡ lock_cell T.KIND store.old value.old }
@@ -75,7 +76,7 @@ fn lock_place<T: Variant>(is_first: bool, value: &mut Dynamic, store: &mut Store
     }
 }
 
-/// What the value itself has of this type, to write, if it is no holder.
+/// Borrows the value itself as this type mutably, if it isn't a holder.
 #[inline(always)]
 fn own_view<T: Variant>(value: &mut Dynamic) -> Option<&mut T>
     ensures* writes_back { sem 𝓛 (LendsIf dynamic_type.the_row T.row value.entry result (λ w. written_as T.KIND (T.tree w) value.old) value.old) }
@@ -87,7 +88,7 @@ fn own_view<T: Variant>(value: &mut Dynamic) -> Option<&mut T>
     T::view_mut(value)
 }
 
-/// What the content of a cell has of this type, to write, if there is one.
+/// Borrows the content of a cell as this type mutably, if there is one.
 #[inline(always)]
 fn view_at<T: Variant>(store: &mut Store, place: Place) -> Option<&mut T>
     requires { IsOpen store.old place }
@@ -100,7 +101,7 @@ fn view_at<T: Variant>(store: &mut Store, place: Place) -> Option<&mut T>
     }
 }
 
-/// The first of two references, or else the second.
+/// The first of two references, or otherwise the second.
 #[inline(always)]
 fn either<'s, T: Variant>(own: Option<&'s mut T>, far: Option<&'s mut T>) -> Option<&'s mut T>
     ensures { result ≡ either_of own.entry far.entry }

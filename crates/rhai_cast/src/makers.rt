@@ -1,4 +1,4 @@
-//! Arrays and maps that are made of Rust's collections, item by item.
+//! Arrays and maps made from Rust's collections, item by item.
 ghost use Rattle.std.specs.Prelude.{◌≡◌, [], List, map, string_bytes, IfOk, IsOk, OnOk};
 ghost use Rattle.std.specs.BTreeMap.{insert_entry};
 ghost use Rattle.std.specs.Iterator.{IsFinite, Drains};
@@ -11,7 +11,7 @@ use rhai_variant::Variant;
 use std::alloc::{AllocError, Global};
 use std::collections::{BTreeMap, BTreeSet, HashMap, HashSet};
 
-/// The value that is made of one of Rust's.
+/// The value made from a Rust value.
 fn made<T: Variant>(alloc: Global, x: T) -> Result<Dynamic, AllocError>
     ensures { IfOk result (λ value. value ≡ T.tree x) }
 {
@@ -21,7 +21,7 @@ fn made<T: Variant>(alloc: Global, x: T) -> Result<Dynamic, AllocError>
     }
 }
 
-/// The items of a vector as values, for which room is taken once.
+/// The items of a vector as values, with one allocation for the list.
 pub(crate) fn made_items<T: Variant>(
     alloc: Global,
     items: Vec<T>,
@@ -36,7 +36,7 @@ pub(crate) fn made_items<T: Variant>(
     Ok(values)
 }
 
-/// Copies of the items of a slice as values, for which room is taken once.
+/// Copies of the items of a slice as values, with one allocation for the list.
 pub(crate) fn copied_items<T: Variant>(
     alloc: Global,
     items: &[T],
@@ -51,7 +51,7 @@ pub(crate) fn copied_items<T: Variant>(
     Ok(values)
 }
 
-/// What an iterator yields as values.
+/// The items of an iterator as values.
 pub(crate) fn yielded_items<T: Variant, U: IntoIterator<Item = T>>(
     alloc: Global,
     items: U,
@@ -66,7 +66,7 @@ pub(crate) fn yielded_items<T: Variant, U: IntoIterator<Item = T>>(
     Ok(values)
 }
 
-/// Puts a value at a key, in the place of what is there.
+/// Inserts a value at a key, replacing an old one.
 fn put(map: &mut Map, key: String, value: Dynamic) -> Result<(), AllocError>
     ensures put { OnOk result (map.new ≡ insert_entry bytes_cmp map.old (string_bytes key) value) }
     ensures rising { OnOk result (AreRising map.new) }
@@ -92,7 +92,7 @@ pub(crate) fn map_of_btree_map<T: Variant>(
     Ok(map)
 }
 
-/// The entries of a hashed map as values.
+/// The entries of a hash map as values.
 pub(crate) fn map_of_hash_map<T: Variant>(
     alloc: Global,
     entries: HashMap<String, T>,
@@ -119,7 +119,7 @@ pub(crate) fn map_of_btree_set(alloc: Global, keys: BTreeSet<String>) -> Result<
     Ok(map)
 }
 
-/// The keys of a hashed set, each with unit.
+/// The keys of a hash set, each with unit.
 pub(crate) fn map_of_hash_set(alloc: Global, keys: HashSet<String>) -> Result<Map, AllocError>
     ensures keys { IfOk result (HasLast (keys_alone keys.keys)) }
     ensures none { keys.keys ≡ [] → IsOk result }

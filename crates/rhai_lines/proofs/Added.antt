@@ -1,4 +1,4 @@
--- Bytes that are added to a line.
+-- Appending bytes to a line.
 use Rattle.std.proofs.Common.{◌≡◌, ℕ, Bool, true, false, if◌then◌else◌, List, ◌++◌, Option, Some, None, option_map, Result, Ok, Err, encode_utf8_all, refl, sym, ap, ◌∙◌, append_assoc}
 use Rattle.std.specs.Str.{chars}
 use Rattle.std.specs.declared.alloc.AllocError.{AllocError}
@@ -7,7 +7,7 @@ use Rattle.rhai_lines.specs.Words.{is_name, name_of}
 use Rattle.rhai_lines.specs.Cursor.{Adds}
 use Rattle.rhai_lines.proofs.Names.{name_is_ascii}
 
--- something fixed is added, and then the bytes of a value
+-- something fixed is appended, and then the bytes of a value
 pub added_behind : (r : Result Bool AllocError) (front : List ℕ) (said : Option (List ℕ)) (old mid new : List ℕ) → mid ≡ old ++ front → Adds r said mid new → Adds r (option_map (λ w. front ++ w) said) old new
 added_behind (Ok true) front None old mid new e h = absurd h
 added_behind (Ok true) front (Some w) old mid new e h = h ∙ ap (λ x. x ++ w) e ∙ append_assoc old front w

@@ -1,4 +1,4 @@
--- What is written for the arguments of a verb says the values that it was written of.
+-- The words written for the arguments of a verb are read as the same values.
 use Rattle.std.proofs.Common.{◌≡◌, ℕ, ◌+◌, suc, ◌<◌, ◌/◌, ◌%◌, ◌*◌, Bool, true, false, not, ◌&&◌, ◌==◌, nat_lt, if◌then◌else◌, length, List, [], ◌∷◌, ◌++◌, flat_map, Option, Some, None, option_map, option_and_then, encode_utf8_all, refl, sym, ap, ap₂, ◌∙◌, subst, append-nil, arith}
 use Rattle.std.specs.Char.{digit_value, is_ascii_hexdigit}
 use Rattle.std.specs.Fmt.{digit_glyph}
@@ -61,7 +61,7 @@ before_back p more k c left e = by (spells p c.0) (writes more c.1) refl refl
 
 -- ---- lists of words
 
--- what each word of a list says, of what is written for a list
+-- the values of the words of a list are the items that it was written for
 record SaysItems {A : Type 0} (item : List ℕ → Option A) (items : List A) (left : Left) : Type 0 where
   pub back : each_of item (words_of left) ≡ Some items
   pub fits : (has_feed (behind left) ≡ false) × IsUtf8 (behind left)
@@ -89,7 +89,7 @@ names_back : ArgumentsBack names
 unfolding says writes
 names_back a left e = let h = items_back name_of name_of named_back a left e in record { back = h.back; fits = h.fits }
 
--- a name alone isn't flagged
+-- a name without a mark isn't flagged
 flagged_plain : (n name : List ℕ) → name_of n ≡ Some name → flagged_of n ≡ Some (name, false)
 flagged_plain n name e = flagged_alone n (λ other f. no_flag other f) ∙ ap (option_map (λ x. (x, false))) e
   where
@@ -192,7 +192,7 @@ blob_back (b ∷ bs) left e = by (list_all (λ x. nat_lt x 256) (b ∷ bs)) refl
           fits = (graphic_no_feed (flat_map hex_digits (b ∷ bs)) k.1.1.1, utf8_space (flat_map hex_digits (b ∷ bs)) (graphic_utf8 (flat_map hex_digits (b ∷ bs)) k.1.1.1));
         })
 
--- what is written for any arguments
+-- the words written for any arguments
 pub arguments_back : {A : Type 0} (arguments : Arguments A) → ArgumentsBack arguments
 unfolding writes
 arguments_back of_no_verb a left e = absurd a

@@ -1,4 +1,4 @@
--- A world whose cells were given back answers the lines that come as it did before.
+-- A collected world answers further lines as it did before.
 use Rattle.std.proofs.Common.{◌≡◌, ◌⊎◌, inl, inr, ℕ, List, [], ◌∷◌, ◌++◌, Option, Some, None, Result, Ok, Err, OnOk, OnErr, codes, refl, sym, ap, ◌∙◌}
 use Rattle.rhai_run.specs.declared.command.Command.{Command}
 use Rattle.rhai_run.specs.State.{State}
@@ -11,11 +11,11 @@ use Rattle.rhai_lines.specs.Printed.{printed}
 use Rattle.rhai_lines.specs.Verbs.{command_of}
 use Rattle.rhai_lines.specs.Fed.{AnswerAlike}
 
--- no commands tell the two worlds apart
+-- no commands distinguish the two worlds
 abbrev ReplyAlike : State → State → Type 0
 ReplyAlike w v = (commands : List Command) → replies w commands ≡ replies v commands
 
--- what the lines after this one are answered is the same, once this is so for any two worlds that no commands tell apart
+-- the answers to the lines after this one are the same, if this holds for any two worlds that no commands distinguish
 line_alike : {w v : State} → ReplyAlike w v → (o : Option Command) (lines : List (List ℕ)) → ((x y : State) → ReplyAlike x y → answers_to_lines x lines ≡ answers_to_lines y lines) → ((answered w o).0 ++ 10 ∷ []) ++ answers_to_lines (answered w o).1 lines ≡ ((answered v o).0 ++ 10 ∷ []) ++ answers_to_lines (answered v o).1 lines
 line_alike {w} {v} h None lines rest = ap (λ a. (codes "refused BadLine" ++ 10 ∷ []) ++ a) (rest w v h)
 line_alike {w} {v} h (Some c) lines rest =
@@ -27,7 +27,7 @@ pub replies_alike : (w v : State) → ReplyAlike w v → AnswerAlike w v
 replies_alike w v h [] = refl
 replies_alike w v h (line ∷ lines) = line_alike h (command_of line) lines (λ x y k. replies_alike x y k lines)
 
--- whether cells were given back or not
+-- whether cells were collected or not
 pub given_back : {T E : Type 0} (r : Result T E) (w v : State) → ((x y : State) (h : Collects x y) (commands : List Command) → RunAlike (kept_pairs h.cells) x y commands) → OnOk r ((v ≡ w) ⊎ Collects w v) → OnErr r (v ≡ w) → AnswerAlike w v
 given_back (Ok x) w v alike (inl same) err lines = ap (λ u. answers_to_lines u lines) (sym same)
 given_back (Ok x) w v alike (inr h) err lines = replies_alike w v (λ commands. (alike w v h commands).answers) lines

@@ -1,4 +1,4 @@
--- Where a text is cut into words.
+-- Splitting a text into words.
 use Rattle.std.proofs.Common.{◌≡◌, ℕ, ◌<◌, true, false, nat_lt, if◌then◌else◌, List, length, take, Option, Some, None, refl, sym, ap, ap₂, ◌∙◌, arith, lit<}
 use Rattle.std.specs.Borrow.{Bor}
 use Rattle.std.specs.Str.{IsUtf8, is_utf8}
@@ -43,7 +43,7 @@ command_of-no_text line n =
       | false ↦ λ e. refl
     ] refl
 
--- the line's bytes say what its verb and what is left behind it say
+-- the command of the line's bytes is that of its verb and the rest after it
 pub command_of-verb : (line text verb : List ℕ) (left : Left) → text ≡ line → IsUtf8 line → verb ≡ word_of text → left ≡ left_of text → command_of line ≡ said_by verb left
 command_of-verb line text verb left t u w l = command_of-text line text t u ∙ sym (ap₂ (λ x y. said_by x y) w l)
 

@@ -1,4 +1,4 @@
--- What digits say, when a number stands before them.
+-- The number given by digits, with a number before them.
 use Rattle.std.proofs.Common.{◌≡◌, ℕ, ◌+◌, ◌*◌, ◌^◌, ◌<◌, ◌≤◌, true, false, if◌then◌else◌, List, [], ◌∷◌, length, get_or, drop, drop-cons, add-one, ◌&&◌, Option, Some, None, option_and_then, refl, sym, ap, ◌∙◌, arith}
 use Rattle.std.specs.List.{list_all}
 use Rattle.std.specs.Char.{digit_value, is_ascii_digit}
@@ -7,7 +7,7 @@ use Rattle.std.proofs.lemmas.Bool.Decides.{nat_tests}
 use Rattle.std.proofs.lemmas.List.{drop_all}
 use Rattle.rhai_lines.specs.Numbers.{below, whole_number_of}
 
--- the number of the digits ds, where n stands before them
+-- the number of the digits ds after n
 abbrev pub number_after : ℕ → List ℕ → Option ℕ
 number_after n ds = if list_all is_ascii_digit ds then Some (digits_value_after 10 n ds) else None
 
@@ -15,7 +15,7 @@ grows : (n : ℕ) (ds : List ℕ) → n ≤ digits_value_after 10 n ds
 grows n [] = omega arith
 grows n (d ∷ ds) = let h = grows (n * 10 + digit_value d) ds in omega arith
 
--- no digit more makes a number that is too great small again
+-- further digits never make a number that is too great small again
 pub too_great : (n : ℕ) (ds : List ℕ) → 2 ^ 128 ≤ n → option_and_then (below 128) (number_after n ds) ≡ None
 too_great n ds h =
     let k = grows n ds in

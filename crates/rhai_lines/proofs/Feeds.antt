@@ -1,4 +1,4 @@
--- How an answered front of the input grows.
+-- Extending the answered front of the input.
 use Rattle.std.proofs.Common.{◌≡◌, ℕ, suc, ◌+◌, ◌<◌, Bool, true, false, cond, ◌==◌, List, [], ◌∷◌, ◌++◌, length, take, drop, get_or, Option, Some, None, All, refl, sym, ap, ◌∙◌, subst, arith, append_assoc, append-nil, add-one, take_all}
 use Rattle.std.specs.Io.KnownBytes.{Appends, Keeps}
 use Rattle.std.specs.List.{slice_split, onto_first}
@@ -88,12 +88,12 @@ Appends-kept (Some xs) (Some ys) (Some zs) a h k = k ∙ h
 pub fed_start : (input : List ℕ) (w : State) (old : Option (List ℕ)) → Fed input input [] w w old old
 fed_start input w old = record { lines = []; input_is = refl; has_no_feed = All-nil _; state_is = λ _. refl; replied = Appends-nil old }
 
--- bytes of the line have come
+-- bytes of the line are read
 pub fed_bytes : {input rest partial : List ℕ} {start now : State} {old new : Option (List ℕ)} (bytes : List ℕ) → Fed input (bytes ++ rest) partial start now old new → All (λ b. (b == 10) ≡ false) bytes → Fed input rest (partial ++ bytes) start now old new
 fed_bytes {rest} {partial} bytes h n =
     record { lines = h.lines; input_is = h.input_is ∙ ap (λ xs. h.lines ++ lines_of xs) (sym (append_assoc partial bytes rest)); has_no_feed = All-append (λ b. (b == 10) ≡ false) partial bytes h.has_no_feed n; state_is = h.state_is; replied = h.replied }
 
--- a whole line is answered
+-- a complete line is answered
 pub fed_line : {input rest partial next : List ℕ} {start now : State} {old mid : Option (List ℕ)} (after : State) (new : Option (List ℕ)) → Fed input rest partial start now old mid → lines_of (partial ++ rest) ≡ partial ∷ lines_of next → after ≡ line_state now partial → Appends mid new (line_answer now partial) → Fed input next [] start after old new
 fed_line {partial} {next} {start} {now} {old} {mid} after new h e s t =
     let replied : answers_to_lines start (h.lines ++ partial ∷ []) ≡ answers_to_lines start h.lines ++ line_answer now partial =
@@ -111,7 +111,7 @@ pub fed_kept : {input rest partial : List ℕ} {start now : State} {old mid : Op
 fed_kept {start} {old} {mid} new h k =
     record { lines = h.lines; input_is = h.input_is; has_no_feed = h.has_no_feed; state_is = h.state_is; replied = Appends-kept old mid new (answers_to_lines start h.lines) h.replied k }
 
--- another world goes on
+-- another world continues
 pub fed_alike : {input rest partial : List ℕ} {start now : State} {old new : Option (List ℕ)} (after : State) → Fed input rest partial start now old new → AnswerAlike now after → Fed input rest partial start after old new
 fed_alike after h k =
     record { lines = h.lines; input_is = h.input_is; has_no_feed = h.has_no_feed; state_is = λ lines. h.state_is lines ∙ k lines; replied = h.replied }
@@ -125,7 +125,7 @@ pub fed_first : {input rest partial : List ℕ} {start now : State} {old new : O
 fed_first {rest} {partial} {start} {old} {new} h =
     (length h.lines, subst (λ ls. Appends old new (answers_to_lines start ls)) (sym (ap (take (length h.lines)) h.input_is ∙ take-append_seam h.lines (lines_of (partial ++ rest)))) h.replied)
 
--- ---- taking bytes
+-- ---- processing bytes
 
 pub feeds_none : {partial : List ℕ} {now : State} {written : Option (List ℕ)} → Feeds [] partial now written partial now written
 feeds_none input rest start old h = h
@@ -136,7 +136,7 @@ feeds_line {partial} {now} {after} {written} line more n s t input rest start ol
     let whole = fed_bytes line (subst (λ xs. Fed input xs partial start now old written) (append_assoc line (10 ∷ []) rest) h) n in
     fed_line after more whole (lines_of-at_feed (partial ++ line) rest 10 whole.has_no_feed refl) s t
 
--- no line feed is among the bytes
+-- the bytes contain no line feed
 pub feeds_rest : {partial : List ℕ} {now : State} {written : Option (List ℕ)} (bytes : List ℕ) → All (λ b. (b == 10) ≡ false) bytes → Feeds bytes partial now written (partial ++ bytes) now written
 feeds_rest bytes n input rest start old h = fed_bytes bytes h n
 

@@ -1,4 +1,4 @@
--- The line of a command says the command.
+-- The line of a command is read as the command.
 use Rattle.std.proofs.Common.{◌≡◌, ℕ, Bool, true, false, ◌&&◌, if◌then◌else◌, cond, List, [], ◌∷◌, ◌++◌, Option, Some, None, option_map, bytes_eq, refl, sym, ap, ap₂, ◌∙◌, subst}
 use Rattle.std.specs.Str.{IsUtf8}
 use Rattle.std.proofs.lemmas.Str.{IsUtf8-append, is_utf8-from_IsUtf8}
@@ -15,7 +15,7 @@ pub record SaysLine (c : Command) (line : List ℕ) : Type 0 where
   pub back : command_of line ≡ Some c
   pub no_feed : has_feed line ≡ false
 
--- a verb of which there are values is one of the table, and so a word
+-- a verb with values is in the table, and so a word
 abbrev all_graphic : List (List ℕ × Form) → Bool
 all_graphic [] = true
 all_graphic (row ∷ rows) = graphic row.0 && all_graphic rows
@@ -40,7 +40,7 @@ unfolding said_by form_of says
 said_is [] left = refl
 said_is (b ∷ bs) left = refl
 
--- a verb, and what is left for values behind it
+-- a verb, and the rest for values after it
 says_line : (verb : List ℕ) (left : Left) (c : Command) → graphic verb ≡ true → said_by verb left ≡ Some c → has_feed (behind left) ≡ false → IsUtf8 (behind left) → SaysLine c (verb ++ behind left)
 says_line verb left c g s n u = record {
   back =
@@ -63,7 +63,7 @@ spoken_says c line verb values m e = by (writes (form_of verb).arguments values)
 pub line_says : (c : Command) (line : List ℕ) → IsLineOf c (Some line) → SaysLine c line
 line_says c line p = spoken_says c line p.0 p.1 p.2 p.3
 
--- a line that is added to nothing is the line, and says the command
+-- a line appended to nothing is the line, and is read as the command
 pub added_line : (c : Command) (old new : List ℕ) → old ≡ [] → (line : List ℕ) × IsLineOf c (Some line) × (new ≡ old ++ line) → IsLineOf c (Some new)
 added_line c old new n h = subst (λ x. IsLineOf c (Some x)) (sym (h.2 ∙ ap (λ x. x ++ h.0) n)) h.1
 

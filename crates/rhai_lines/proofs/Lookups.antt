@@ -1,4 +1,4 @@
--- The verb that a word is.
+-- Finding the verb given by a word.
 use Rattle.std.proofs.Common.{◌≡◌, ℕ, ◌==◌, nat_lt, ◌||◌, cond, length, Bool, true, false, List, [], ◌∷◌, None, bytes_eq, refl, sym, ap, ◌∙◌, subst, Result, eq-eqb}
 use Rattle.std.proofs.lemmas.Slice.Eq.{bytes_eq-Decides}
 use Rattle.rhai_run.specs.declared.command.Command.{Command}
@@ -11,11 +11,11 @@ use Rattle.rhai_lines.specs.Cursor.{Says}
 pub same_bytes : (xs ys : List ℕ) → bytes_eq xs ys ≡ true → xs ≡ ys
 same_bytes xs ys e = (bytes_eq-Decides xs ys).0 e
 
--- what is said of a text is said of a word that is this text
+-- the result for a text is that for an equal word
 pub says_word : (r : Result Command NoCommand) (word text : List ℕ) (left : Left) → bytes_eq word text ≡ true → Says r text left → Says r word left
 says_word r word text left e h = subst (λ w. Says r w left) (sym (same_bytes word text e)) h
 
--- A word of a class of lengths says nothing if it is none of the verbs of that class.
+-- A word in a class of lengths has no command if it is none of the verbs in that class.
 abbrev pub Unlike : (ℕ → Bool) → List (List ℕ × Form) → List ℕ → Type 0 → Type 0
 Unlike class [] word Goal = Goal
 Unlike class (row ∷ rows) word Goal = cond (class (length row.0)) ((word ≡ row.0 → ⊥) → Unlike class rows word Goal) (Unlike class rows word Goal)
@@ -48,7 +48,7 @@ said_by_is (b ∷ bs) left h = h
 pub of_length : (n : ℕ) (word : List ℕ) (left : Left) → length word ≡ n → Unlike (λ k. k == n) verbs word (said_by word left ≡ None)
 of_length n word left e = unlike (λ k. k == n) verbs word left (said_by word left ≡ None) (eq-eqb (length word) n e) (said_by_is word left)
 
--- the lengths that have no function of their own
+-- the lengths without a function
 abbrev pub is_other : ℕ → Bool
 is_other n = nat_lt n 3 || nat_lt 9 n
 

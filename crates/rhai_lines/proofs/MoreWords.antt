@@ -1,10 +1,10 @@
--- Words that are read one after another.
+-- Words read one after another.
 use Rattle.std.proofs.Common.{◌≡◌, Some, option_map, ap, ◌∙◌}
 use Rattle.rhai_lines.specs.Words.{Left, and_then}
 use Rattle.rhai_lines.specs.Vocabulary.{Word, reads}
 use Rattle.rhai_lines.specs.Arguments.{Arguments, before, says}
 
--- a word says a value, and what is left behind it says more
+-- a word has a value, and the rest after it has more
 pub says_more : {A B : Type 0} (word : Word A) (more : Arguments B) (a : A) (b : B) (left rest : Left) → reads word left ≡ Some (a, rest) → says more rest ≡ Some b → says (before word more) left ≡ Some (a, b)
 unfolding says
 says_more word more a b left rest r m =

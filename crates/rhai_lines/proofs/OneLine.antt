@@ -1,4 +1,4 @@
--- A command has one line. No row of the table is named here: that each command is made by a row, and by one alone, is computed.
+-- A command has one line. No row of the table is named here: that exactly one row makes each command is computed.
 use Rattle.std.proofs.Common.{◌≡◌, ℕ, zero, suc, Bool, true, false, ◌&&◌, nat_eq, cond, List, [], ◌∷◌, ◌++◌, map, Option, Some, None, option_map, bytes_eq, refl, sym, ap, ap₂, ◌∙◌, subst}
 use denote.Enum.Declared.{tag_of}
 use Rattle.rhai_run.specs.contracts.command.Command as command
@@ -20,12 +20,12 @@ at [] n = ([], form of_no_verb (elim [ ]))
 at (row ∷ rows) zero = row
 at (row ∷ rows) (suc n) = at rows n
 
--- something of each row
+-- something for each row
 abbrev Table : (Row → Type 0) → List Row → Type 0
 Table F [] = Unit {0}
 Table F (row ∷ rows) = F row × Table F rows
 
--- What tells the rows apart: the number of the command, and that of the literal or the kind of end.
+-- What distinguishes the rows: the number of the command, and that of the literal or the kind of end.
 abbrev Key : Type 0
 Key = ℕ × ℕ
 
@@ -35,7 +35,7 @@ key (WriteSlice p a b true j) = (tag_of command.the_type (WriteSlice p a b true 
 key (WriteSlice p a b false j) = (tag_of command.the_type (WriteSlice p a b false j), 0)
 key c = (tag_of command.the_type c, 0)
 
--- Each row's key: all that the row makes has it.
+-- Each row's key: everything that the row makes has it.
 abbrev keys_made : (rows : List Row) → Table (λ row. row.1.Values → Key) rows
 keys_made [] = tt
 keys_made (row ∷ rows) = ((λ values. key (row.1.make values)), keys_made rows)
@@ -48,7 +48,7 @@ keys : (ks : Table (λ row. Key) verbs) × (keys_made verbs ≡ same_keys verbs 
 unfolding key
 keys = (_, refl)
 
--- the row of a command, and the values of which it makes the command
+-- the row of a command, and the values from which it makes the command
 place_of : (rows : List Row) → Table (λ row. Key) rows → Key → ℕ
 place_of [] ks k = 0
 place_of (row ∷ rows) ks k = cond (nat_eq ks.0.0 k.0 && nat_eq ks.0.1 k.1) 0 (suc (place_of rows ks.1 k))
@@ -64,7 +64,7 @@ made (WriteSlice p a b true j) = (_, refl)
 made (WriteSlice p a b false j) = (_, refl)
 made c = (_, refl)
 
--- the form of a row's verb is that of the row, since no verb stands twice
+-- the form of a row's verb is that of the row, since no verb occurs twice
 forms_hold : map (λ row. form_of row.0) verbs ≡ map (λ row. row.1) verbs
 unfolding form_of
 forms_hold = refl
@@ -85,7 +85,7 @@ is_line verb f values c e m = subst (λ f. (values : f.Values) → f.make values
 pub some_line : (c : Command) → (line : Option (List ℕ)) × IsLineOf c line
 some_line c = (line_by c, is_line (row_of c).0 (row_of c).1 (made c).0 c (form_holds verbs (place_of verbs keys.0 (key c)) forms_hold) (made c).1)
 
--- what each row says of its values is the line of what it makes of them
+-- what each row writes for its values is the line of the command made from them
 abbrev lines_said : (rows : List Row) → Table (λ row. row.1.Values → Option (List ℕ)) rows
 lines_said [] = tt
 lines_said (row ∷ rows) = ((λ values. spoken row.0 row.1.arguments values), lines_said rows)

@@ -1,4 +1,4 @@
--- How far a reader is read and its lines are answered.
+-- How much of a reader's input is read and answered.
 use Rattle.std.proofs.Common.{◌≡◌, ℕ, List, [], ◌++◌, Option, Some, None, IfSome, refl, sym, ap, ◌∙◌, subst}
 use Rattle.std.specs.Io.KnownBytes.{Appends, Consumes, IsAtEnd, Keeps}
 use Rattle.std.proofs.lemmas.Option.{same_Some}
@@ -7,12 +7,12 @@ use Rattle.rhai_lines.specs.Output.{output, output_of_first}
 use Rattle.rhai_lines.specs.Fed.{AnswerAlike, Fed, Feeds, StopsWithin, Completes, AnswersWhatIsRead}
 use Rattle.rhai_lines.proofs.Feeds.{fed_start, fed_first, fed_kept, fed_alike}
 
--- Where the input is known, what is left of it is known too, and the lines before that are answered.
+-- If the input is known, so is its rest, and the lines before that are answered.
 abbrev pub Reached : Option (List ℕ) → Option (List ℕ) → List ℕ → State → State → Option (List ℕ) → Option (List ℕ) → Type 0
 Reached known left partial start now old written =
     (input : List ℕ) → known ≡ Some input → (rest : List ℕ) × (left ≡ Some rest) × Fed input rest partial start now old written
 
--- what is left after a read
+-- the rest after a read
 split_read : (left next : Option (List ℕ)) (bytes rest : List ℕ) → Consumes left next bytes → left ≡ Some rest → (others : List ℕ) × (next ≡ Some others) × (rest ≡ bytes ++ others)
 split_read None next bytes rest c e = cc
 split_read (Some xs) None bytes rest c e = absurd c
@@ -45,7 +45,7 @@ reached_more known left next bytes {partial} {start} {now} {old} {written} h c f
     let s = split_read left next bytes a.0 c a.1 in
     (s.0, s.1, f input s.0 start old (subst (λ xs. Fed input xs partial start now old written) s.2 a.2))
 
--- the run ends here well
+-- the run ends here with success
 pub reached_end : (known left next : Option (List ℕ)) (bytes : List ℕ) {partial : List ℕ} {start now : State} {old written : Option (List ℕ)} (more : Option (List ℕ)) → Reached known left partial start now old written → Consumes left next bytes → bytes ≡ [] → IsAtEnd next → Completes partial now written more → IfSome known (λ input. Appends old more (output start input))
 reached_end None left next bytes more h c z e f = tt
 reached_end (Some input) left next bytes {partial} {start} {now} {old} {written} more h c z e f =
@@ -61,7 +61,7 @@ reached_end_left (Some input) left next bytes h c e =
     let s = split_read left next bytes a.0 c a.1 in
     s.1 ∙ ap Some (at_end next s.0 e s.1)
 
--- the run stops here, or within the bytes that are read
+-- the run stops here, or within the bytes read
 pub reached_stop : (known left : Option (List ℕ)) {partial : List ℕ} {start now : State} {old written : Option (List ℕ)} (more : Option (List ℕ)) → Reached known left partial start now old written → more ≡ written → IfSome known (λ input. (n : ℕ) × Appends old more (output_of_first start n input))
 reached_stop None left more h e = tt
 reached_stop (Some input) left {start} {old} more h e =
@@ -75,7 +75,7 @@ reached_stop_within (Some input) left next bytes {partial} {start} {now} {old} {
     let s = split_read left next bytes a.0 c a.1 in
     f input s.0 start old (subst (λ xs. Fed input xs partial start now old written) s.2 a.2)
 
--- the reader fails here: the whole lines of what it gave are answered
+-- the reader fails here: the complete lines read are answered
 pub reached_read : (known left next : Option (List ℕ)) {partial : List ℕ} {start now : State} {old written : Option (List ℕ)} (more : Option (List ℕ)) → Reached known left partial start now old written → Keeps left next → more ≡ written → IfSome known (λ input. AnswersWhatIsRead start input next old more)
 reached_read None left next more h k e = tt
 reached_read (Some input) left next {partial} {start} {now} {old} more h k e =

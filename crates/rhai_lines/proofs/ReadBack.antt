@@ -1,4 +1,4 @@
--- The commands of lines, read one after another.
+-- The commands of lines, read in order.
 use Rattle.std.proofs.Common.{◌≡◌, ℕ, false, ◌==◌, List, [], ◌∷◌, ◌++◌, Option, Some, None, option_map, option_and_then, All, refl, sym, ap, ◌∙◌, append_assoc, append-nil}
 use Rattle.rhai_run.specs.declared.command.Command.{Command}
 use Rattle.rhai_lines.specs.Output.{commands_in, lines_of}
@@ -25,7 +25,7 @@ read_more whole front left line rest c w is h e =
     w ∙ ap (λ xs. option_map (λ more. front ++ more) (commands_in (lines_of xs))) is ∙ ap (λ ls. option_map (λ more. front ++ more) (commands_in ls)) (lines_of-at_feed line rest 10 h refl)
     ∙ with_first front (command_of line) c (commands_in (lines_of rest)) e
 
--- one that says no command
+-- one without a command
 pub read_none : (whole : Option (List Command)) (front : List Command) (left line rest : List ℕ)
     → whole ≡ option_map (λ more. front ++ more) (commands_in (lines_of left)) → left ≡ line ++ 10 ∷ rest → All (λ b. (b == 10) ≡ false) line → command_of line ≡ None
     → None ≡ whole
@@ -33,7 +33,7 @@ read_none whole front left line rest w is h e =
     without front (command_of line) (commands_in (lines_of rest)) e
     ∙ sym (w ∙ ap (λ xs. option_map (λ more. front ++ more) (commands_in (lines_of xs))) is ∙ ap (λ ls. option_map (λ more. front ++ more) (commands_in ls)) (lines_of-at_feed line rest 10 h refl))
 
--- no byte is left, or a last line
+-- no byte remains, or a last line
 pub read_all : (whole : Option (List Command)) (front : List Command) (left : List ℕ) → whole ≡ option_map (λ more. front ++ more) (commands_in (lines_of left)) → left ≡ [] → Some front ≡ whole
 read_all whole front left w e = sym (w ∙ ap (λ xs. option_map (λ more. front ++ more) (commands_in (lines_of xs))) e ∙ ap Some (append-nil front))
 

@@ -1,4 +1,4 @@
--- The lines of commands, read one after another.
+-- The lines of commands, read in order.
 use Rattle.std.proofs.Common.{◌≡◌, ℕ, suc, ◌-◌, ◌<◌, ◌≤◌, length, take, drop, take_all, get_or, Bool, true, false, ◌||◌, ◌==◌, nat_eq, List, [], ◌∷◌, ◌++◌, Option, Some, None, option_map, refl, sym, ap, ap₂, ◌∙◌, subst, append-nil, append_assoc, arith}
 use Rattle.std.specs.List.{AllByRecursion}
 use Rattle.std.proofs.lemmas.List.Elements.{All-from_recursion}
@@ -20,7 +20,7 @@ without_feed : (line : List ℕ) → has_feed line ≡ false → AllByRecursion 
 without_feed [] e = tt
 without_feed (b ∷ bs) e = let h = neither (nat_eq b 10) (has_feed bs) e in (h.0, without_feed bs h.1)
 
--- what is written for a journal
+-- the output for a journal
 pub replay : (cs : List Command) (bytes : List ℕ) (w : State) → IsJournalOf cs (Some bytes) → output w bytes ≡ output_of_commands w cs
 replay [] bytes w e = ap (output w) (the_same e)
 replay (c ∷ cs) bytes w p = by p.0 p.1 p.2 (λ more v h. replay cs more v h)
@@ -38,9 +38,9 @@ replay (c ∷ cs) bytes w p = by p.0 p.1 p.2 (λ more v h. replay cs more v h)
             ∙ ap (λ o. ((answered w o).0 ++ 10 ∷ []) ++ answers_to_lines (answered w o).1 (lines_of more)) h.back
             ∙ ap (λ bs. (printed (step w c).reply ++ 10 ∷ []) ++ bs) (k more (step w c).after j)
 
--- ---- a journal that grows
+-- ---- extending a journal
 
--- The text is the front of a journal: with a journal of the commands that are left it is one of all.
+-- The text is a prefix of a journal: followed by a journal of the remaining commands it is one of all.
 abbrev pub IsFront : List Command → List Command → List ℕ → Type 0
 IsFront cs left text = (more : Option (List ℕ)) → IsJournalOf left more → IsJournalOf cs (option_map (λ m. text ++ m) more)
 
@@ -48,7 +48,7 @@ pub front_empty : (cs : List Command) (text : List ℕ) → text ≡ [] → IsFr
 front_empty cs text e None j = j
 front_empty cs text e (Some more) j = subst (λ t. IsJournalOf cs (Some (t ++ more))) (sym e) j
 
--- the first command that is left, and those behind it
+-- the first remaining command, and those after it
 first_left : (left : List Command) (c : Command) → 1 ≤ length left → c ≡ get_or left 0 c → left ≡ c ∷ take (length left - 1) (drop 1 left)
 first_left [] c l e = absurd (omega (arith, l))
 first_left (d ∷ more) c l e = ap₂ (λ x xs. x ∷ xs) (sym e) (sym (take_all (suc (length more) - 1) more (omega arith)))
@@ -71,6 +71,6 @@ pub front_whole : (cs left : List Command) (text : List ℕ) → IsFront cs left
 front_whole cs [] text h l = subst (λ t. IsJournalOf cs (Some t)) (append-nil text) (h (Some []) refl)
 front_whole cs (c ∷ more) text h l = absurd (omega (arith, l))
 
--- of no commands none is left
+-- if there are no commands none remains
 pub none_left : (cs left : List Command) → (cs ≡ [] → left ≡ []) → 1 ≤ length left → cs ≡ [] → ⊥
 none_left cs left h l e = let n : length left ≡ 0 = ap length (h e) in omega (arith, l, n)

@@ -1,4 +1,4 @@
--- A fact holds at an `Ok` or an `Err` where it holds anyway.
+-- A fact that holds anyway holds at an `Ok` or an `Err`.
 use Rattle.std.proofs.Common.{Result, Ok, Err, OnOk, OnErr}
 
 pub OnOk-always : {T E P : Type 0} (r : Result T E) → P → OnOk r P

@@ -1,4 +1,4 @@
--- What a word says that is written of a value: the value, and what is left behind it stays.
+-- A word written for a value is read as the value, and the rest after it is unchanged.
 use Rattle.std.proofs.Common.{◌≡◌, ℕ, ◌+◌, suc, ◌<◌, Bool, true, false, ◌&&◌, ◌||◌, nat_eq, nat_lt, if◌then◌else◌, cond, length, List, [], ◌∷◌, ◌++◌, length-append, Option, Some, None, option_map, take, drop, refl, sym, ap, ap₂, ◌∙◌, append-nil, arith}
 use Rattle.std.specs.List.{list_all, position_or_len, AllByRecursion}
 use Rattle.std.specs.Str.{IsUtf8, IsAscii}
@@ -13,7 +13,7 @@ use Rattle.rhai_lines.specs.Words.{Left, is_space, word_of, left_of, next_word, 
 use Rattle.rhai_lines.specs.Vocabulary.{Word, reads}
 use Rattle.rhai_lines.specs.Spelling.{spells, behind, called, has_feed}
 
--- a byte that stands in a word of ASCII: above the space (32), and below 128
+-- a byte of an ASCII word: above the space (32), and below 128
 abbrev pub is_graphic : ℕ → Bool
 is_graphic b = nat_lt 32 b && nat_lt b 128
 
@@ -50,7 +50,7 @@ graphic_ascii w e = IsAscii-from_all w (All-from_recursion (λ b. b < 128) w (ea
 pub graphic_utf8 : (w : List ℕ) → graphic w ≡ true → IsUtf8 w
 graphic_utf8 w e = IsUtf8-from_ascii w (graphic_ascii w e)
 
--- where such a word stands before what is left, it is cut off there
+-- if such a word precedes the rest, it is split off there
 abbrev at_space : List ℕ → ℕ
 at_space [] = 0
 at_space (b ∷ bs) = cond (is_space b) 0 (1 + at_space bs)
@@ -93,7 +93,7 @@ pub next_is : {A : Type 0} (says : List ℕ → Option A) (a : A) (w : List ℕ)
 next_is says a w left g e =
     ap₂ (λ x y. option_map (λ b. (b, y)) (says x)) (word_is w left g) (left_is w left g) ∙ ap (option_map (λ b. (b, left))) e
 
--- The words of a value say it, wherever they stand.
+-- The words of a value are read as it, wherever they are.
 pub record SaysBack {A : Type 0} (word : Word A) (a : A) (w : List ℕ) : Type 0 where
   pub back : (left : Left) → reads word (Some (w ++ behind left)) ≡ Some (a, left)
   pub fits : (has_feed w ≡ false) × IsUtf8 w
@@ -101,7 +101,7 @@ pub record SaysBack {A : Type 0} (word : Word A) (a : A) (w : List ℕ) : Type 0
 abbrev pub Back : {A : Type 0} → Word A → Type 0
 Back {A} word = (a : A) (w : List ℕ) → spells word a ≡ Some w → SaysBack word a w
 
--- one word that says the value
+-- a single word with the value
 pub one_back : {A : Type 0} (word : Word A) (says : List ℕ → Option A) (a : A) (w : List ℕ) → ((left : Left) → reads word left ≡ next_word says left) → graphic w ≡ true → says w ≡ Some a → SaysBack word a w
 one_back word says a w is g e = record { back = λ left. is (Some (w ++ behind left)) ∙ next_is says a w left g e; fits = (graphic_no_feed w g, graphic_utf8 w g) }
 
@@ -131,7 +131,7 @@ called_back same is_same table (row ∷ rows) a w s e =
         (ap (named table) (sym is) ∙ so_named same is_same (named table row.0) row.1 k.0 ∙ ap Some (sym (is_same a row.1 f)), ap graphic (sym is) ∙ k.1)
     by false f k r = r (sym (ap (λ x. if x then Some row.0 else called same rows a) f) ∙ e)
 
--- texts behind each other, and with a space between them
+-- consecutive texts, and with a space between them
 space_utf8 : IsUtf8 (32 ∷ [])
 space_utf8 = IsUtf8-from_ascii (32 ∷ []) (IsAscii-from_all (32 ∷ []) (All-from_recursion (λ b. b < 128) (32 ∷ []) (omega arith, tt)))
 

@@ -14,7 +14,7 @@ use Rattle.rhai_lines.specs.Words.{is_name, is_name_byte, name_of}
 use Rattle.rhai_lines.specs.Arguments.{flagged_of}
 use Rattle.rhai_lines.proofs.Names.{name_is_ascii, no_name}
 
--- a place behind an at sign, and one that is a number
+-- a place after an at sign, and one that is a number
 pub place_behind : (word name : List ℕ) → word ≡ 64 ∷ name → place_of word ≡ option_map place.Entry (name_of name)
 place_behind word name e = ap place_of e
 
@@ -36,7 +36,7 @@ place_alone (b ∷ bs) h = by (b == 64) refl
         subst (λ c. place_of (c ∷ bs) ≡ option_map place.Hand (unsigned_of 64 (c ∷ bs))) (sym same) (none ∙ sym (ap (λ o. option_map place.Hand (option_and_then (as_unsigned 64) (option_map pos o))) (no_digits bs)))
     by false e = ap (λ t. if t then option_map place.Entry (name_of bs) else option_map place.Hand (unsigned_of 64 (b ∷ bs))) e
 
--- memory is taken for a place that is the name of an entry
+-- reading a place that is the name of an entry allocates
 entry_takes : (o : Option (List ℕ)) → IsSomeAnd o (λ n. true ≡ true) → IsSomeAnd (option_map place.Entry o) (λ p. names_entry p ≡ true)
 entry_takes None h = h
 entry_takes (Some n) h = refl
@@ -73,7 +73,7 @@ mapped_takes f (Some a) h = refl
 pub flagged_takes : (word name : List ℕ) (t : Bool) → flagged_of word ≡ option_map (λ n. (n, t)) (name_of name) → IsSomeAnd (name_of name) (λ n. true ≡ true) → IsSomeAnd (flagged_of word) (λ p. true ≡ true)
 flagged_takes word name t e h = rw e (mapped_takes (λ n. (n, t)) (name_of name) h)
 
--- bytes that are no text are no name
+-- bytes that aren't UTF-8 are no name
 pub name_is_text : (word : List ℕ) → (IsUtf8 word → ⊥) → is_name word ≡ false
 name_is_text word n = by (is_name word) refl
   where
@@ -81,7 +81,7 @@ name_is_text word n = by (is_name word) refl
     by true e = absurd (n (IsUtf8-from_ascii word (name_is_ascii word e)))
     by false e = e
 
--- what stands behind a mark is one thing
+-- the text after a mark is unique
 tail_is : (b c : ℕ) (bs cs : List ℕ) → b ∷ bs ≡ c ∷ cs → bs ≡ cs
 tail_is b c bs cs e = cc
 

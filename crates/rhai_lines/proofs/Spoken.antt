@@ -1,4 +1,4 @@
--- Lines that grow.
+-- Appending to lines.
 use Rattle.std.proofs.Common.{◌≡◌, ℕ, ◌<◌, Bool, true, false, not, ◌&&◌, ◌==◌, if◌then◌else◌, nat_lt, flat_map, Fits, w8, slice_index_or, length, List, [], ◌∷◌, ◌++◌, suc, Option, Some, None, option_map, IsSomeAnd, Result, Ok, Err, encode_utf8_all, refl, sym, ap, ap₂, ◌∙◌, append_assoc, append-nil, arith}
 use Rattle.std.specs.List.{list_all}
 use Rattle.std.specs.Str.{chars, IsUtf8}
@@ -15,11 +15,11 @@ use Rattle.rhai_show.specs.Leaves.{hex_digits}
 use Rattle.rhai_lines.specs.Verbs.{form_of}
 use Rattle.rhai_run.specs.declared.command.Command.{Command}
 
--- a text, and behind it what is left
+-- a text, and the rest after it
 abbrev written : List ℕ → Option Left → Option (List ℕ)
 written verb left = option_map (λ l. verb ++ behind l) left
 
--- a word, and then what stands behind it
+-- a word, and then the rest after it
 pub before_added : {A B : Type 0} (r : Result Bool AllocError) (verb : List ℕ) (p : Word A) (more : Arguments B) (c : A × B) (old mid new : List ℕ)
     → IsSomeAnd (spoken verb (one p) c.0) (λ bytes. mid ≡ old ++ bytes) → Adds r (spoken [] more c.1) mid new → Adds r (spoken verb (before p more) c) old new
 unfolding spoken writes
@@ -41,7 +41,7 @@ before_none verb p more c = by (spells p c.0) (writes more c.1)
     by None v e = refl
     by (Some w) v e = cc
 
--- A verb, and the words of values of which its form makes the command: the line of the command.
+-- A verb, and the words of values from which its form makes the command: the line of the command.
 pub adds_line : (verb : List ℕ) (values : (form_of verb).Values) (c : Command) (r : Result Bool AllocError) (old new : List ℕ)
     → Adds r (spoken verb (form_of verb).arguments values) old new → (form_of verb).make values ≡ c → AddsLine r c old new
 adds_line verb values c r old new h m = by r (spoken verb (form_of verb).arguments values) refl h
@@ -53,7 +53,7 @@ adds_line verb values c r old new h m = by r (spoken verb (form_of verb).argumen
     by (Ok false) (Some line) k h = cc
     by (Err e) o k h = tt
 
--- a text: what is left for its characters
+-- a text: the rest for its characters
 pub text_is : (text : List ℕ) → IsUtf8 text → (length text == 0) ≡ false → text_words (chars text) ≡ (if not (has_feed text) then Some (Some text) else None)
 text_is text u n = by (chars text) refl
   where

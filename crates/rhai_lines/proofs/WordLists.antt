@@ -1,4 +1,4 @@
--- Words that are left, one after another.
+-- The remaining words, one after another.
 use Rattle.std.proofs.Common.{◌≡◌, ℕ, suc, ◌+◌, ◌<◌, ◌≤◌, Bool, true, false, nat_lt, if◌then◌else◌, List, [], ◌∷◌, ◌++◌, length, Option, Some, None, is_some, option_map, option_and_then, refl, sym, ap, ap₂, ◌∙◌, arith, append_assoc, length-drop, Err, IsSomeAnd}
 use Rattle.std.specs.List.{slice_split, position_or_len, after_first}
 use Rattle.std.proofs.lemmas.Bool.{false≢true}
@@ -14,7 +14,7 @@ use Rattle.rhai_lines.specs.Cursor.{Yields, LacksItems}
 use Rattle.rhai_lines.specs.declared.words.NoCommand.{NoCommand}
 use Rattle.rhai_lines.specs.declared.words.NoCommand.TheVariants.{BadLine, Memory}
 
--- how much is left
+-- the length of the rest
 abbrev pub left_len : Left → ℕ
 left_len None = 0
 left_len (Some text) = suc (length text)
@@ -42,7 +42,7 @@ words_of-cons text =
       | false ↦ one_word text
     ] refl
 
--- what the next word says comes before what the words behind it say
+-- the value of the next word precedes those of the words after it
 said-cons : {A : Type 0} (says : List ℕ → Option A) (left next : Left) (text word : List ℕ) (a : A) → left ≡ Some text → word ≡ word_of text → next ≡ left_of text → says word ≡ Some a → each_of says (words_of left) ≡ option_map (λ more. a ∷ more) (each_of says (words_of next))
 said-cons says left next text word a l w n e =
     ap (λ x. each_of says (words_of x)) l ∙ ap (each_of says) (words_of-cons text) ∙ sym (ap₂ (λ x y. option_and_then (λ a. option_map (λ more. a ∷ more) (each_of says (words_of y))) (says x)) w n)
@@ -52,20 +52,20 @@ found-more : {A : Type 0} (found : List A) (a : A) (o : Option (List A)) → opt
 found-more found a None = refl
 found-more found a (Some more) = ap Some (sym (append_assoc found (a ∷ []) more))
 
--- A turn of a loop over the words: what is found so far, and then what the words that are left say, is what all say.
+-- A loop iteration over the words: the values found so far, and then those of the remaining words, are those of all.
 pub found-next : {A : Type 0} (says : List ℕ → Option A) (all : Option (List A)) (left next : Left) (text word : List ℕ) (a : A) (found now : List A) → all ≡ option_map (λ more. found ++ more) (each_of says (words_of left)) → left ≡ Some text → word ≡ word_of text → next ≡ left_of text → says word ≡ Some a → now ≡ found ++ a ∷ [] → all ≡ option_map (λ more. now ++ more) (each_of says (words_of next))
 found-next says all left next text word a found now k l w n e m =
     k ∙ ap (option_map (λ more. found ++ more)) (said-cons says left next text word a l w n e) ∙ found-more found a (each_of says (words_of next))
     ∙ ap (λ x. option_map (λ more. x ++ more) (each_of says (words_of next))) (sym m)
 
--- where a word says nothing, all words say nothing
+-- if a word has no value, the list has none
 pub found-none : {A : Type 0} (says : List ℕ → Option A) (all : Option (List A)) (left : Left) (text word : List ℕ) (found : List A) → all ≡ option_map (λ more. found ++ more) (each_of says (words_of left)) → left ≡ Some text → word ≡ word_of text → says word ≡ None → all ≡ None
 found-none says all left text word found k l w e =
     k ∙ ap (λ x. option_map (λ more. found ++ more) (each_of says (words_of x))) l ∙ ap (λ words. option_map (λ more. found ++ more) (each_of says words)) (words_of-cons text)
     ∙ ap (λ x. option_map (λ more. found ++ more) (option_and_then (λ a. option_map (λ more. a ∷ more) (each_of says (words_of (left_of text)))) (says x))) (sym w)
     ∙ ap (λ o. option_map (λ more. found ++ more) (option_and_then (λ a. option_map (λ more. a ∷ more) (each_of says (words_of (left_of text)))) o)) e
 
--- Once a word has said something, the first one has.
+-- If a word had a value, the first one had.
 pub first-said : {A : Type 0} (says : List ℕ → Option A) (all left : Left) (text word : List ℕ) → (first_says says all ≡ false → left ≡ all) → left ≡ Some text → word ≡ word_of text → is_some (says word) ≡ true → first_says says all ≡ true
 first-said says all left text word h l w e = by (first_says says all) refl
   where
@@ -85,6 +85,6 @@ lacks says Memory all left text word found k h l w y = first-said says all left 
 pub lacks-room : {A : Type 0} (says : List ℕ → Option A) (a : A) (all left : Left) (text word : List ℕ) → (first_says says all ≡ false → left ≡ all) → left ≡ Some text → word ≡ word_of text → says word ≡ Some a → first_says says all ≡ true
 lacks-room says a all left text word h l w e = first-said says all left text word h l w (ap is_some e)
 
--- a turn of the loop: the first word has said something
+-- a loop iteration: the first word had a value
 pub first-kept : {A : Type 0} (says : List ℕ → Option A) (a : A) (all left next : Left) (text word : List ℕ) → (first_says says all ≡ false → left ≡ all) → left ≡ Some text → word ≡ word_of text → says word ≡ Some a → first_says says all ≡ false → next ≡ all
 first-kept says a all left next text word h l w e n = absurd (false≢true (sym n ∙ lacks-room says a all left text word h l w e))

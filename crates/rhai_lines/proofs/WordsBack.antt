@@ -1,4 +1,4 @@
--- What is written of each kind of word says it.
+-- The words written for each kind of word are read as the same value.
 use Rattle.std.proofs.Common.{◌≡◌, ℕ, suc, ◌<◌, ◌≤◌, ◌^◌, ℤ, pos, negsuc, neg_ℤ, Bool, true, false, ◌&&◌, ◌==◌, nat_lt, if◌then◌else◌, length, List, [], ◌∷◌, ◌++◌, Option, Some, None, option_map, option_and_then, codes, refl, sym, ap, ap₂, ◌∙◌, subst, append_assoc, arith}
 use denote.Enum.Bare.{same_true}
 use Rattle.std.specs.Char.{is_ascii_digit}
@@ -29,7 +29,7 @@ use Rattle.rhai_lines.proofs.Names.{name_graphic}
 use Rattle.rhai_lines.proofs.Sigils.{no_digits}
 use Rattle.rhai_lines.proofs.SaysBack.{the_same, graphic, is_graphic, both, SaysBack, Back, next_is, one_back, called_back, graphic_no_feed, graphic_utf8, has_feed_append, utf8_behind}
 
--- ---- kinds and operators
+-- ---- types and operators
 
 one_token : (a b : Token) → is_token a b ≡ true → a ≡ b
 one_token a b e = same_true token.the_type tt a b e
@@ -85,7 +85,7 @@ number_of-digits (d ∷ ds) h =
     ap (λ t. if t then option_map (λ n. neg_ℤ (pos n)) (whole_number_of ds) else option_map pos (whole_number_of (d ∷ ds))) t
     ∙ ap (option_map pos) (whole (d ∷ ds) h)
 
--- a number that so many bits can be has fewer than 64 digits
+-- a number of at most that many bits has fewer than 64 digits
 wide : (bits n : ℕ) → nat_lt (2 ^ bits) (10 ^ 64) ≡ true → nat_lt n (2 ^ bits) ≡ true → suc n < 10 ^ 64
 wide bits n h k = grind (arith, nat_tests, h, k)
 
@@ -99,7 +99,7 @@ minus_says n h =
     let k = decimal_is_IsNumeral_wide n h in
     (ap (option_map (λ m. neg_ℤ (pos m))) (whole (decimal n) k.0 ∙ ap Some k.1), ap (λ t. is_graphic 45 && t) (digits (decimal n) k.0.1).1)
 
--- a number that is written, read as one of a type that it fits
+-- a written number, read as one of a type that it fits
 spelled_back : {N : Type 0} (fit : ℤ → Option N) (a : N) (z : ℤ) (spelled w : List ℕ) → (number_of spelled ≡ Some z) × (graphic spelled ≡ true) → fit z ≡ Some a → spelled ≡ w → (option_and_then fit (number_of w) ≡ Some a) × (graphic w ≡ true)
 spelled_back fit a z spelled w h f is = subst (λ x. (option_and_then fit (number_of x) ≡ Some a) × (graphic x ≡ true)) is (ap (option_and_then fit) h.0 ∙ f, h.1)
 
@@ -152,9 +152,9 @@ place_named (place.Entry name) w e = by (name_of name) refl
         let h = named_back name n f in
         subst (λ x. (place_of x ≡ Some (place.Entry name)) × (graphic x ≡ true)) is (ap (option_map place.Entry) h.0, h.1)
 
--- ---- a word, and the words of one more value behind it
+-- ---- a word, and the words of one more value after it
 
--- what a first word makes of the word behind it
+-- the value of a first word and the word after it
 first_back : {A B : Type 0} (word : Word B) (by : List ℕ → Left → Option (B × Left)) (value : List ℕ → Option A) (make : A → B) (front w : List ℕ) (a : A) → graphic front ≡ true
     → ((left : Left) → reads word left ≡ and_then (next_word (λ x. Some x) left) by) → ((left : Left) → by front left ≡ and_then (next_word value left) (λ x rest. Some (make x, rest)))
     → (value w ≡ Some a) × (graphic w ≡ true) → SaysBack word (make a) (front ++ 32 ∷ w)
@@ -168,7 +168,7 @@ first_back word by value make front w a g is e h = record {
   fits = (has_feed_append front (32 ∷ w) (graphic_no_feed front g) (graphic_no_feed w h.1), utf8_behind front w (graphic_utf8 front g) (graphic_utf8 w h.1));
 }
 
--- a first word alone
+-- a single first word
 alone_back : {B : Type 0} (word : Word B) (by : List ℕ → Left → Option (B × Left)) (front w : List ℕ) (b : B) → graphic front ≡ true
     → ((left : Left) → reads word left ≡ and_then (next_word (λ x. Some x) left) by) → ((left : Left) → by front left ≡ Some (b, left)) → Some front ≡ Some w → SaysBack word b w
 alone_back word by front w b g is e f = subst (SaysBack word b) (the_same f) (record {
@@ -187,7 +187,7 @@ with_back spelled front w a P e go = by (spelled a) refl
     by None f = cc (sym (ap (with_word front) f) ∙ e)
     by (Some v) f = subst P (the_same (sym (ap (with_word front) f) ∙ e)) (go v f)
 
--- what a first word and the word behind it are written for
+-- the values for which a first word and the word after it are written
 second_back : {A B : Type 0} (word : Word B) (by : List ℕ → Left → Option (B × Left)) (value : List ℕ → Option A) (spelled : A → Option (List ℕ)) (make : A → B) (front w : List ℕ) (a : A) → graphic front ≡ true
     → ((left : Left) → reads word left ≡ and_then (next_word (λ x. Some x) left) by) → ((left : Left) → by front left ≡ and_then (next_word value left) (λ x rest. Some (make x, rest)))
     → ((v : List ℕ) → spelled a ≡ Some v → (value v ≡ Some a) × (graphic v ≡ true)) → with_word front (spelled a) ≡ Some w → SaysBack word (make a) w
@@ -205,7 +205,7 @@ scanner_back (Tags t) w e = second_back a_scanner scanner_by (signed_of 31) (sig
 scanner_back (Cut n) w e = second_back a_scanner scanner_by (unsigned_of 64) (unsigned_word 64) Cut (codes "cut") w n refl (λ left. refl) (λ left. refl) (λ v. unsigned_back 64 n v refl) e
 scanner_back s w e = alone_back a_scanner scanner_by _ w s refl (λ left. refl) (λ left. refl) e
 
--- a number of the host
+-- a number of a host type
 number_host : {N : Type 0} (value : List ℕ → Option N) (spelled : N → Option (List ℕ)) (kind : List ℕ) (make : N → Host) (n : N) (w : List ℕ)
     → ((v : List ℕ) → spelled n ≡ Some v → (value v ≡ Some n) × (graphic v ≡ true)) → graphic kind ≡ true → ((word : List ℕ) → host_of kind word ≡ option_map make (value word)) → with_word kind (spelled n) ≡ Some w → SaysBack a_host (make n) w
 unfolding reads

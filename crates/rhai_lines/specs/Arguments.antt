@@ -1,4 +1,4 @@
--- The arguments of a verb: what all that stands behind it says, to the end of the line.
+-- The arguments of a verb: the meaning of the whole rest of the line after it.
 use Rattle.std.specs.Prelude.{ℕ, ◌+◌, ◌*◌, ◌%◌, Bool, true, false, ◌&&◌, ◌==◌, nat_lt, if◌then◌else◌, List, [], ◌∷◌, length, Option, Some, None, option_map, option_and_then}
 use Rattle.std.specs.List.{list_all}
 use Rattle.std.specs.Char.{is_ascii_hexdigit, digit_value}
@@ -11,17 +11,17 @@ abbrev pub last : {A : Type 0} → A → Left → Option A
 last a None = Some a
 last a (Some text) = None
 
--- what each word of a list says, where each says something
+-- the values of the words of a list, if each has one
 abbrev pub each_of : {A : Type 0} → (List ℕ → Option A) → List (List ℕ) → Option (List A)
 each_of says [] = Some []
 each_of says (word ∷ words) = option_and_then (λ a. option_map (λ more. a ∷ more) (each_of says words)) (says word)
 
--- a name, which an exclamation mark (33) before it flags
+-- a name, flagged if an exclamation mark (33) precedes it
 abbrev pub flagged_of : List ℕ → Option (List ℕ × Bool)
 flagged_of [] = None
 flagged_of (b ∷ bs) = if b == 33 then option_map (λ name. (name, true)) (name_of bs) else option_map (λ name. (name, false)) (name_of (b ∷ bs))
 
--- the characters that are left: none where nothing is
+-- the remaining characters: none if nothing is left
 abbrev pub text_left : Left → List ℕ
 text_left None = []
 text_left (Some text) = chars text
@@ -41,7 +41,8 @@ bytes_of_pairs (high ∷ low ∷ digits) = (digit_value high * 16 + digit_value 
 abbrev pub is_hex : List ℕ → Bool
 is_hex digits = nat_lt 0 (length digits) && length digits % 2 == 0 && list_all is_ascii_hexdigit digits
 
--- The arguments of a verb, by the values that they say: those of no verb, none, one word and more of them; and what goes on to the end of the line.
+-- The arguments of a verb, by their values: those of no verb, none, one word and more; and
+-- arguments that extend to the end of the line.
 pub data Arguments : Type 0 → Type 1 where
   of_no_verb : Arguments ⊥
   none : Arguments (Unit {0})
@@ -52,7 +53,7 @@ pub data Arguments : Type 0 → Type 1 where
   an_alias a_text a_blob : Arguments (List ℕ)
   a_char : Arguments ℕ
 
--- The values that all that is left says; an alias that is missing is the empty one.
+-- The values of the whole rest of the line; a missing alias is the empty one.
 unfoldable pub says : {A : Type 0} → Arguments A → Left → Option A
 says of_no_verb left = None
 says none left = last tt left

@@ -1,4 +1,4 @@
--- For which lines memory is taken, when they are read.
+-- The lines for which reading allocates.
 use Rattle.std.specs.Prelude.{◌≡◌, ℕ, Bool, true, false, ◌||◌, List, [], ◌∷◌, Option, Some, None, is_some}
 use Rattle.rhai_run.specs.declared.command.Place.{Place}
 use Rattle.rhai_run.specs.declared.command.Place.TheVariants as place
@@ -11,7 +11,7 @@ abbrev pub names_entry : Place → Bool
 names_entry (place.Hand i) = false
 names_entry (place.Entry name) = true
 
--- Whether memory is taken for a value that a word says: for a name, and a place that is one.
+-- Whether the value of a word needs an allocation: for a name, and a place that is one.
 unfoldable pub takes_for : {A : Type 0} → Word A → A → Bool
 takes_for a_truth b = false
 takes_for a_position n = false
@@ -26,18 +26,19 @@ takes_for a_host h = false
 takes_for a_place p = names_entry p
 takes_for a_name name = true
 
--- whether something holds of a value that is read, and of what is left behind it: not where there is none
+-- whether something holds of a value read, and the rest after it: false if there is none
 abbrev pub holds : {A : Type 0} → Option (A × Left) → (A → Left → Bool) → Bool
 holds None test = false
 holds (Some p) test = test p.0 p.1
 
--- whether the first word that is left says something
+-- whether the first word left has a value
 abbrev pub first_says : {A : Type 0} → (List ℕ → Option A) → Left → Bool
 first_says says None = false
 first_says says (Some text) = is_some (says (word_of text))
 
--- Whether memory is taken to read the arguments: for a word that says such a value, before what stands behind it is looked at; for a list from the
--- first name on; for a text and an alias that is missing in any case; and for a blob that has digits.
+-- Whether reading the arguments allocates: for a word with such a value, before the rest after it
+-- is read; for a list from the first name on; for a text and a missing alias always; and for a blob
+-- that has digits.
 unfoldable pub takes : {A : Type 0} → Arguments A → Left → Bool
 takes of_no_verb left = false
 takes none left = false
@@ -52,7 +53,7 @@ takes a_blob None = false
 takes a_blob (Some digits) = is_hex digits
 takes a_char left = false
 
--- the same of what stands behind a verb
+-- the same for the rest after a verb
 unfoldable pub takes_by : List ℕ → Left → Bool
 takes_by [] left = false
 takes_by (b ∷ bs) left = takes (form_in verbs (b ∷ bs)).arguments left

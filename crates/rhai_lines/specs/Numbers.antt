@@ -1,4 +1,4 @@
--- The number that a word says.
+-- The number given by a word.
 use Rattle.std.specs.Prelude.{ℕ, ◌^◌, ℤ, pos, negsuc, neg_ℤ, ◌&&◌, ◌==◌, nat_lt, if◌then◌else◌, List, [], ◌∷◌, length, Option, Some, None, option_map, option_and_then}
 use Rattle.std.specs.List.{list_all}
 use Rattle.std.specs.Char.{is_ascii_digit}
@@ -8,7 +8,7 @@ use Rattle.std.specs.Str.Parse.{digits_value}
 abbrev pub whole_number_of : List ℕ → Option ℕ
 whole_number_of ds = if nat_lt 0 (length ds) && list_all is_ascii_digit ds then Some (digits_value 10 ds) else None
 
--- the same with a minus (45) before it or not
+-- the same with or without a minus (45) before it
 abbrev pub number_of : List ℕ → Option ℤ
 number_of [] = None
 number_of (b ∷ bs) =
@@ -16,16 +16,16 @@ number_of (b ∷ bs) =
     then option_map (λ n. neg_ℤ (pos n)) (whole_number_of bs)
     else option_map pos (whole_number_of (b ∷ bs))
 
--- the number, where it is below 2^bits
+-- the number, if it is below 2^bits
 abbrev pub below : ℕ → ℕ → Option ℕ
 below bits n = if nat_lt n (2 ^ bits) then Some n else None
 
--- the number, where so many bits can be it: from 0 up to 2^bits - 1
+-- the number, if it fits an unsigned integer of that many bits: from 0 to 2^bits - 1
 abbrev pub as_unsigned : ℕ → ℤ → Option ℕ
 as_unsigned bits (pos n) = below bits n
 as_unsigned bits (negsuc n) = None
 
--- the number, where so many bits beside one for the sign can be it: from -2^bits up to 2^bits - 1 (negsuc n is -(n + 1))
+-- the number, if it fits a sign and that many bits: from -2^bits to 2^bits - 1 (negsuc n is -(n + 1))
 abbrev pub as_signed : ℕ → ℤ → Option ℤ
 as_signed bits (pos n) = option_map pos (below bits n)
 as_signed bits (negsuc n) = option_map negsuc (below bits n)

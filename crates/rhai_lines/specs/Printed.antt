@@ -1,4 +1,4 @@
--- How an answer is printed.
+-- The printed form of an answer.
 use Rattle.std.specs.Prelude.{ℕ, pos, List, ◌++◌, flat_map, if◌then◌else◌, codes, encode_utf8_all}
 use Rattle.std.specs.Fmt.{signed_decimal}
 use Rattle.rhai_show.specs.Leaves.{hex_digits}
@@ -13,7 +13,7 @@ use Rattle.rhai_run.specs.declared.answer.Answer.TheVariants as answer
 use Rattle.rhai_run.specs.declared.answer.Refusal.TheVariants.{NoValue, SameValue, NoEntry, EmptyScope, ConstantEntry, SharedEntry, NoMark, WrongSource, BitPlace, BytePlace, NoBuiltin, NotHashable, Mismatch, Fault}
 use Rattle.rhai_text.specs.declared.error.EvalAltResult.TheVariants as error
 
--- why a calculation has no result, and which of the sizes is too large
+-- why a calculation has no result, and which size is too large
 abbrev pub arithmetic_text : ArithmeticFault → List ℕ
 arithmetic_text Overflow = codes "Overflow"
 arithmetic_text DivisionByZero = codes "DivisionByZero"
@@ -24,7 +24,7 @@ abbrev pub size_text : SizeKind → List ℕ
 size_text Text = codes "Text"
 size_text Items = codes "Items"
 
--- the error of a call: its name, and behind it the wanted and the found type, the reason or the kind of size
+-- the error of a call: its name, followed by the expected and the actual type, the reason or the kind of size
 abbrev pub fault_text : EvalAltResult → List ℕ
 fault_text (error.ErrorMismatchDataType wanted found at) = codes "ErrorMismatchDataType " ++ wanted ++ codes " " ++ found
 fault_text (error.ErrorDataRace at) = codes "ErrorDataRace"
@@ -32,7 +32,7 @@ fault_text (error.ErrorArithmetic why at) = codes "ErrorArithmetic " ++ arithmet
 fault_text (error.ErrorDataTooLarge size at) = codes "ErrorDataTooLarge " ++ size_text size
 fault_text (error.ErrorMemory e) = codes "ErrorMemory"
 
--- why a command was refused: the name of the refusal, behind a mismatch the type that is held; for a fault the error
+-- why a command was refused: the name of the refusal, for a mismatch followed by the held type; for a fault the error
 abbrev pub reason_text : Refusal → List ℕ
 reason_text NoValue = codes "NoValue"
 reason_text SameValue = codes "SameValue"

@@ -1,4 +1,4 @@
--- How a command is written: its verb, and the words of its values.
+-- The written form of a command: its verb, and the words of its values.
 use Rattle.std.specs.Prelude.{◌≡◌, ℕ, ℤ, Bool, not, ◌&&◌, nat_eq, nat_lt, if◌then◌else◌, List, [], ◌∷◌, ◌++◌, flat_map, encode_utf8_all, Option, Some, None, option_map, option_and_then, codes}
 use Rattle.std.specs.List.{list_all, list_any}
 use Rattle.std.specs.Fmt.{decimal, signed_decimal}
@@ -23,12 +23,12 @@ use Rattle.rhai_show.specs.Leaves.{hex_digits}
 use Rattle.rhai_lines.specs.Arguments.{Arguments, of_no_verb, none, one, before, names, flagged_names, an_alias, a_text, a_blob, a_char}
 use Rattle.rhai_lines.specs.Verbs.{form_of}
 
--- the bytes of what is left, with the space (32) before it
+-- the bytes of the rest, with the space (32) before it
 abbrev pub behind : Left → List ℕ
 behind None = []
 behind (Some text) = 32 ∷ text
 
--- what a table calls a value: the name in the first row that has it
+-- the name of a value in a table: that in the first row with the value
 abbrev pub called : {A : Type 0} → (A → A → Bool) → List (List ℕ × A) → A → Option (List ℕ)
 called same [] a = None
 called same (row ∷ rows) a = if same a row.1 then Some row.0 else called same rows a
@@ -36,14 +36,14 @@ called same (row ∷ rows) a = if same a row.1 then Some row.0 else called same 
 abbrev pub is_token : Token → Token → Bool
 is_token s t = sameb token.the_type s t
 
--- a number that so many bits can be, as a word: its decimal digits, a minus before them where it is negative
+-- a number of at most that many bits, as a word: its decimal digits, preceded by a minus if it is negative
 abbrev pub unsigned_word : ℕ → ℕ → Option (List ℕ)
 unsigned_word bits n = option_map decimal (below bits n)
 
 abbrev pub signed_word : ℕ → ℤ → Option (List ℕ)
 signed_word bits z = option_map signed_decimal (as_signed bits z)
 
--- a word, and the words of one more value behind it
+-- a word, and the words of one more value after it
 abbrev pub with_word : List ℕ → Option (List ℕ) → Option (List ℕ)
 with_word word more = option_map (λ w. word ++ 32 ∷ w) more
 
@@ -85,7 +85,7 @@ abbrev pub place_word : Place → Option (List ℕ)
 place_word (place.Hand i) = unsigned_word 64 i
 place_word (place.Entry name) = option_map (λ n. 64 ∷ n) (name_of name)
 
--- The words that say a value of a kind, where there are such.
+-- The words of a value of a kind, if there are any.
 unfoldable pub spells : {A : Type 0} → Word A → A → Option (List ℕ)
 spells a_truth b = Some (if b then codes "true" else codes "false")
 spells a_position n = unsigned_word 64 n
@@ -100,7 +100,7 @@ spells a_host h = host_words h
 spells a_place p = place_word p
 spells a_name name = name_of name
 
--- the words of a value, and what is left behind them
+-- the words of a value, and the rest after them
 abbrev pub joined : Option (List ℕ) → Option Left → Option Left
 joined words rest = option_and_then (λ w. option_map (λ left. Some (w ++ behind left)) rest) words
 
@@ -112,7 +112,7 @@ words_for spelled (a ∷ more) = joined (spelled a) (words_for spelled more)
 abbrev pub flagged_word : List ℕ × Bool → Option (List ℕ)
 flagged_word p = option_map (λ name. if p.1 then 33 ∷ name else name) (name_of p.0)
 
--- characters as what is left: none where a line feed (10) is among them, or a number that is no character
+-- characters as the rest of a line: none if they include a line feed (10), or a number that isn't a character
 abbrev pub has_feed : List ℕ → Bool
 has_feed bytes = list_any (λ b. nat_eq b 10) bytes
 
@@ -124,7 +124,7 @@ abbrev pub blob_words : List ℕ → Option Left
 blob_words [] = Some None
 blob_words (b ∷ bs) = if list_all (λ x. nat_lt x 256) (b ∷ bs) then Some (Some (flat_map hex_digits (b ∷ bs))) else None
 
--- What is left of a line for the values of a verb's arguments, where they can be said.
+-- The rest of a line for the values of a verb's arguments, if they can be written.
 unfoldable pub writes : {A : Type 0} → Arguments A → A → Option Left
 writes of_no_verb a = None
 writes none u = Some None
@@ -138,16 +138,18 @@ writes a_text t = text_words t
 writes a_blob bytes = blob_words bytes
 writes a_char c = text_words (c ∷ [])
 
--- a verb, and what is left for values behind it
+-- a verb, and the rest for values after it
 unfoldable pub spoken : {A : Type 0} → List ℕ → Arguments A → A → Option (List ℕ)
 spoken verb arguments a = option_map (λ left. verb ++ behind left) (writes arguments a)
 
--- The line of a command: the form of some verb makes the command of these values, and the line is that verb and the words of the values. There is
--- none where a value has no words: a name that is no word of a line, a text with a line feed, or a range of the host.
+-- The line of a command: the form of some verb makes the command from these values, and the line is
+-- that verb and the words of the values. There is none if a value has no words: a name that isn't a
+-- word of a line, a text with a line feed, or a host's range.
 abbrev pub IsLineOf : Command → Option (List ℕ) → Type 0
 IsLineOf c line = (verb : List ℕ) × (values : (form_of verb).Values) × ((form_of verb).make values ≡ c) × (line ≡ spoken verb (form_of verb).arguments values)
 
--- The journal of commands is their lines in turn, each with a line feed (10): there is none where one of them has no line.
+-- The journal of commands is their lines in order, each with a line feed (10): there is none if one
+-- of them has no line.
 abbrev pub IsFollowed : Option (List ℕ) → (Option (List ℕ) → Type 0) → Option (List ℕ) → Type 0
 IsFollowed None IsMore journal = journal ≡ None
 IsFollowed (Some line) IsMore journal = (more : Option (List ℕ)) × IsMore more × (journal ≡ option_map (λ m. line ++ 10 ∷ m) more)

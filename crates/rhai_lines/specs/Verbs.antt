@@ -1,4 +1,4 @@
--- The verbs: which command a verb and its arguments say.
+-- The verbs: the command of a verb and its arguments.
 use Rattle.std.specs.Prelude.{ℕ, true, false, cond, if◌then◌else◌, List, [], ◌∷◌, Option, None, option_map, codes, bytes_eq}
 use Rattle.std.specs.Str.{is_utf8}
 use Rattle.rhai_run.specs.declared.command.Command.{Command}
@@ -8,7 +8,7 @@ use Rattle.rhai_lines.specs.Words.{Left, word_of, left_of}
 use Rattle.rhai_lines.specs.Vocabulary.{Word, a_truth, a_position, a_bit, an_int, a_tag, a_kind, a_token, a_question, a_scanner, a_host, a_place, a_name}
 use Rattle.rhai_lines.specs.Arguments.{Arguments, of_no_verb, none, one, before, names, flagged_names, an_alias, a_text, a_blob, a_char, says}
 
--- The form of a line: the arguments of its verb, and the command that is made of their values.
+-- The form of a line: the arguments of its verb, and the command made from their values.
 pub record Form : Type 1 where
   pub Values : Type 0
   pub arguments : Arguments Values
@@ -117,7 +117,7 @@ unfoldable pub form_of : List ℕ → Form
 form_of [] = form of_no_verb (elim [ ])
 form_of (b ∷ bs) = form_in verbs (b ∷ bs)
 
--- what a form says of what is left, and what a verb does
+-- the command given by a form, and by a verb, with the rest of the line
 abbrev pub said : Form → Left → Option Command
 said form left = option_map form.make (says form.arguments left)
 
@@ -125,6 +125,6 @@ unfoldable pub said_by : List ℕ → Left → Option Command
 said_by [] left = None
 said_by (b ∷ bs) left = said (form_in verbs (b ∷ bs)) left
 
--- what a line says, if it says a command; one that is no text says nothing
+-- the command of a line, if it has one; a line that isn't a text has none
 abbrev pub command_of : List ℕ → Option Command
 command_of line = if is_utf8 line then said_by (word_of line) (left_of line) else None

@@ -1,4 +1,4 @@
--- The words of a line: what each kind of word says.
+-- The words of a line: the values of each kind of word.
 use Rattle.std.specs.Prelude.{ℕ, ℤ, Bool, ◌==◌, List, [], ◌∷◌, Option, Some, None, option_map, codes, bytes_eq, if◌then◌else◌}
 use Rattle.rhai_text.specs.declared.token.Token.{Token}
 use Rattle.rhai_text.specs.declared.token.Token.TheVariants.{Plus, Minus, Multiply, Divide, Modulo, PowerOf, RightShift, LeftShift, Ampersand, Pipe, XOr, EqualsTo, NotEqualsTo, GreaterThan, GreaterThanEqualsTo, LessThan, LessThanEqualsTo, ExclusiveRange, InclusiveRange, Equals, PlusAssign, MinusAssign, MultiplyAssign, DivideAssign, ModuloAssign, PowerOfAssign, RightShiftAssign, LeftShiftAssign, AndAssign, OrAssign, XOrAssign}
@@ -43,7 +43,7 @@ kinds =
     ∷ (codes "<shared>", kind.Shared)
     ∷ []
 
--- the operators between two operands, and those that assign
+-- the binary operators, and the assignments
 unfoldable pub operators : List (List ℕ × Token)
 operators =
     (codes "+", Plus)
@@ -79,7 +79,7 @@ operators =
     ∷ (codes "^=", XOrAssign)
     ∷ []
 
--- the questions of one word; two more name a type behind it
+-- the questions of one word; two others are followed by a type
 abbrev pub plain_questions : List (List ℕ × Question)
 plain_questions =
     (codes "tag", question.Tag)
@@ -124,12 +124,12 @@ host_of kind word =
     if bytes_eq kind (codes "i128") then option_map host.I128 (signed_of 127 word) else
     None
 
--- a place: a hand position, or the name of an entry behind an at sign (64)
+-- a place: a hand position, or the name of an entry after an at sign (64)
 abbrev pub place_of : List ℕ → Option Place
 place_of [] = None
 place_of (b ∷ bs) = if b == 64 then option_map place.Entry (name_of bs) else option_map place.Hand (unsigned_of 64 (b ∷ bs))
 
--- The kinds of word, by the values that they say.
+-- The kinds of word, by their values.
 pub data Word : Type 0 → Type 1 where
   a_truth : Word Bool
   a_position a_bit : Word ℕ
@@ -142,7 +142,7 @@ pub data Word : Type 0 → Type 1 where
   a_place : Word Place
   a_name : Word (List ℕ)
 
--- The value that a word of a kind says, some with the word behind it, and what is left then.
+-- The value of a word of a kind, for some with the word after it, and the rest.
 unfoldable pub reads : {A : Type 0} → Word A → Left → Option (A × Left)
 reads a_truth left = next_word (named truths) left
 reads a_position left = next_word (unsigned_of 64) left

@@ -1,13 +1,13 @@
--- How a line is cut into words.
+-- Splitting a line into words.
 use Rattle.std.specs.Prelude.{ℕ, Bool, true, false, ◌&&◌, ◌||◌, ◌==◌, nat_lt, if◌then◌else◌, List, [], ◌∷◌, length, Option, Some, None, option_map, bytes_eq, codes}
 use Rattle.std.specs.List.{list_all, slice_split, position_or_len, before_first, after_first}
 use Rattle.std.specs.Char.{is_ascii_alphanumeric}
 
--- What is left of a line behind its first words: nothing, or the text behind a space (32).
+-- The rest of a line after its first words: nothing, or the text after a space (32).
 abbrev pub Left : Type 0
 Left = Option (List ℕ)
 
--- the first word of a text, and what is left behind it
+-- the first word of a text, and the rest after it
 abbrev pub is_space : ℕ → Bool
 is_space b = b == 32
 
@@ -17,22 +17,22 @@ word_of text = before_first is_space text
 abbrev pub left_of : List ℕ → Left
 left_of text = if nat_lt (position_or_len is_space text) (length text) then Some (after_first is_space text) else None
 
--- all words that are left
+-- all remaining words
 abbrev pub words_of : Left → List (List ℕ)
 words_of None = []
 words_of (Some text) = slice_split is_space text
 
--- the next word, where it says a value, and what is left behind it
+-- the next word, if it has a value, and the rest after it
 abbrev pub next_word : {A : Type 0} → (List ℕ → Option A) → Left → Option (A × Left)
 next_word says None = None
 next_word says (Some text) = option_map (λ a. (a, left_of text)) (says (word_of text))
 
--- what is made of a value and of what is left behind it
+-- the result of a value and the rest after it
 abbrev pub and_then : {A B : Type 0} → Option (A × Left) → (A → Left → Option B) → Option B
 and_then None go = None
 and_then (Some p) go = go p.0 p.1
 
--- what a table has for a word: the first row of that name
+-- looks a word up in a table: the first row of that name
 abbrev pub named : {A : Type 0} → List (List ℕ × A) → List ℕ → Option A
 named [] word = None
 named (row ∷ rows) word = if bytes_eq word row.0 then Some row.1 else named rows word

@@ -1,4 +1,4 @@
-//! The arguments of a verb: what all that stands behind it says, to the end of the line.
+//! The arguments of a verb: the meaning of the whole rest of the line after it.
 ghost use Rattle.std.specs.Prelude.{◌≡◌, ◌<◌, ℕ, List, Option, Some, true, false, string_bytes, IfOk, IfErr};
 ghost use Rattle.std.specs.Char.{is_ascii_hexdigit, digit_value};
 ghost use Rattle.std.specs.List.{list_all};
@@ -25,7 +25,7 @@ pub(crate) fn last_word<A: Word>(alloc: Global, left: Option<&str>) -> Result<A,
     }
 }
 
-/// A value that one word of a list says.
+/// A value given by one word of a list.
 pub(crate) trait Item: Sized + Drop {
     ghost said: { List ℕ → Option Self };
 
@@ -52,7 +52,7 @@ impl Item for ImmutableString {
     }
 }
 
-/// A name, which an exclamation mark before it flags.
+/// A name, flagged if an exclamation mark precedes it.
 #[tactic(auto, using(crate::proofs::Sigils::flagged_behind, crate::proofs::Sigils::flagged_alone, crate::proofs::Sigils::flagged_takes))]
 fn flagged(alloc: Global, word: &str) -> Result<(ImmutableString, bool), NoCommand>
     ensures { Yields result (flagged_of word.now) (λ p. true) }
@@ -81,7 +81,7 @@ impl Item for (ImmutableString, bool) {
     }
 }
 
-/// Each word that is left says an item.
+/// Reads an item from each remaining word.
 pub(crate) fn list<A: Item>(alloc: Global, left: Option<&str>) -> Result<Vec<A>, NoCommand>
     ensures ok { IfOk result (λ items. each_of A.said (words_of (left_in left.entry)) ≡ Some items.items) }
     ensures err { IfErr result (λ e. LacksItems e A.said (left_in left.entry)) }
@@ -110,7 +110,7 @@ pub(crate) fn alias(alloc: Global, left: Option<&str>) -> Result<ImmutableString
     }
 }
 
-/// All that is left, or the empty text.
+/// The rest, or the empty text.
 pub(crate) fn text_left(left: Option<&str>) -> &str
     ensures { chars result.now ≡ text_left (left_in left.entry) }
 {
@@ -135,7 +135,7 @@ pub(crate) fn only_char(text: &str) -> Option<char>
     text.parse::<char>().ok()
 }
 
-/// Whether the text is hexadecimal digits, two for each of one or more bytes.
+/// Whether the text consists of hexadecimal digits, two for each of one or more bytes.
 pub(crate) fn is_hex(digits: &[u8]) -> bool
     ensures { result ≡ is_hex digits.now }
 {
@@ -163,7 +163,7 @@ fn hex_digit(digit: u8) -> u8
     }
 }
 
-/// The bytes that hexadecimal digits say, two for each.
+/// The bytes given by hexadecimal digits, two for each.
 pub(crate) fn bytes_in(alloc: Global, digits: &[u8]) -> Result<Bytes, AllocError>
     requires { list_all is_ascii_hexdigit digits.now ≡ true }
     ensures { IfOk result (λ bytes. bytes ≡ bytes_of_pairs digits.now) }

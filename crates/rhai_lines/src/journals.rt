@@ -9,10 +9,11 @@ use crate::verbs::{add_line, command};
 use rhai_run::Command;
 use std::alloc::{AllocError, Global};
 
-/// Writes the line that says a command; `None` where a name in it is no word of a line, a text in it has a line feed, or
-/// the host's value in it is a range.
-/// Errors: memory for the line is refused.
-/// Cost: the length of the line; memory for it, or for its words up to the one that there is none of.
+/// Writes the line of a command; `None` if a name in it isn't a word of a line, a text in it has a
+/// line feed, or its host value is a range.
+/// Errors: the allocation of the line fails.
+/// Cost: the length of the line; memory for it, or for its words up to the first that can't be
+/// written.
 pub fn line_of(alloc: Global, command: &Command) -> Result<Option<String>, AllocError>
     ensures line { IfOk result (λ o. IsLineOf command.now (option_map string_bytes o)) }
     ensures reads_back { IfOk result (λ o. IfSome o (λ line. command_of (string_bytes line) ≡ Some command.now)) }
@@ -25,9 +26,9 @@ pub fn line_of(alloc: Global, command: &Command) -> Result<Option<String>, Alloc
     }
 }
 
-/// Reads the commands that lines say in turn; `None` where one says none. Lines end with a line feed; the last one may end
-/// with the bytes.
-/// Errors: memory for the commands is refused.
+/// Reads the commands of lines in order; `None` if a line has none. Lines end with a line feed; the
+/// last one may end with the bytes.
+/// Errors: an allocation for the commands fails.
 /// Cost: the length of the lines; memory for the commands.
 pub fn commands_of(alloc: Global, lines: &[u8]) -> Result<Option<Vec<Command>>, AllocError>
     ensures { IfOk result (λ o. option_map (λ v. v.items) o ≡ commands_in (lines_of lines.now)) }
@@ -51,9 +52,9 @@ pub fn commands_of(alloc: Global, lines: &[u8]) -> Result<Option<Vec<Command>>, 
     Ok(Some(commands))
 }
 
-/// Writes the lines of commands in turn, each with a line feed: a run over them answers what the commands answer. `None`
-/// where a command has no line.
-/// Errors: memory for the lines is refused.
+/// Writes the lines of commands in order, each with a line feed: a run over them gives the answers
+/// of the commands. `None` if a command has no line.
+/// Errors: the allocation of the lines fails.
 /// Cost: the length of the lines; memory for them.
 pub fn journal(alloc: Global, commands: &[Command]) -> Result<Option<String>, AllocError>
     ensures lines { IfOk result (λ o. IsJournalOf commands.now (option_map string_bytes o)) }

@@ -1,4 +1,4 @@
-//! Lines that say commands: the command that a line says, answers as bytes, and runs over lines.
+//! Lines that denote commands: the command of a line, answers as bytes, and runs over lines.
 #![tactic(auto)]
 
 mod args;

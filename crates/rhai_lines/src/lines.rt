@@ -26,7 +26,7 @@ pub enum LinesFault {
     /// The writer failed.
     #[error("the answers can't be written")]
     Write(io::Error),
-    /// Memory was refused.
+    /// An allocation failed.
     #[error("out of memory")]
     Memory,
 }
@@ -55,7 +55,7 @@ fn answer_line<W: Write>(
     write_answer(&answer, writer).map_err(LinesFault::Write)
 }
 
-/// Cuts the first line off, if a line feed ends one.
+/// Splits off the first line, if a line feed ends one.
 pub(crate) fn cut_line(bytes: &[u8]) -> Option<(&[u8], &[u8])>
     ensures some { IfSome result (λ p. (bytes.now ≡ p.0.now ++ 10 ∷ p.1.now) × All (λ b. (b == 10) ≡ false) p.0.now) }
     ensures none { IfNone result (All (λ b. (b == 10) ≡ false) bytes.now) }
@@ -64,7 +64,7 @@ pub(crate) fn cut_line(bytes: &[u8]) -> Option<(&[u8], &[u8])>
     Some((&bytes[..at], &bytes[at + 1..]))
 }
 
-/// Answers a line whose first bytes may have come before.
+/// Answers a line whose first bytes may have come earlier.
 fn answer_whole<W: Write>(
     alloc: Global,
     world: &mut World,
@@ -89,7 +89,8 @@ fn answer_whole<W: Write>(
     Ok(())
 }
 
-/// Takes bytes of the input: each line that they complete is answered, and what is left is kept for the next ones.
+/// Processes input bytes: answers each line that they complete, and keeps the rest for the next
+/// ones.
 fn feed<W: Write>(
     alloc: Global,
     world: &mut World,
@@ -112,7 +113,7 @@ fn feed<W: Write>(
     Ok(())
 }
 
-/// Answers a last line that no line feed ends, if there is one.
+/// Answers a last line without a line feed, if there is one.
 fn finish<W: Write>(
     alloc: Global,
     world: &mut World,
@@ -130,7 +131,7 @@ fn finish<W: Write>(
     writer.flush().map_err(LinesFault::Write)
 }
 
-/// Gives cells back where it is time to. Where memory is refused for that, the world goes on as it is.
+/// Collects cells if that is due. If an allocation for that fails, the world is unchanged.
 fn give_back(world: &mut World)
     ensures { AnswerAlike world.old world.new }
 {
@@ -138,7 +139,7 @@ fn give_back(world: &mut World)
     let _collected = world.collect_if_due();
 }
 
-/// Answers the lines of all that the reader gives.
+/// Answers the lines of all input of the reader.
 fn answer_input<R: Read, W: Write>(
     alloc: Global,
     world: &mut World,
@@ -163,7 +164,7 @@ fn answer_input<R: Read, W: Write>(
         }
         let bytes = &buffer[..count];
         feed(alloc, world, &mut partial, bytes, writer)?;
-        // The answers go out before a read that may wait.
+        // The answers are flushed before a read that may block.
         if bytes.contains(&b'\n') {
             writer.flush().map_err(LinesFault::Write)?;
         }
@@ -172,13 +173,14 @@ fn answer_input<R: Read, W: Write>(
     Err(LinesFault::Read(io::Error::other("the input has no end")))
 }
 
-/// Reads lines until the end of the input, does on a new world the command that each says, and writes an answer for each:
-/// `docs/LINES.md` has both. Lines end with a line feed; the last one may end with the input.
-/// A line is answered as soon as it is complete, and the writer is flushed before the next read.
-/// Errors: after a `Read` or `Memory` the first lines have their answers, each whole; after a `Write` the writer knows how
-/// much it took.
-/// Cost: that of the commands; memory for the world and for the longest line. Cells that nothing reaches are given back after a read, where
-/// it is time to (`World::collect_if_due`).
+/// Reads lines until the end of the input, executes the command of each on a new world, and writes
+/// an answer for each: `docs/LINES.md` describes both. Lines end with a line feed; the last one may
+/// end with the input. A line is answered as soon as it is complete, and the writer is flushed
+/// before the next read.
+/// Errors: after a `Read` or `Memory` the first lines have their answers, each complete; after a
+/// `Write` the writer knows how much it took.
+/// Cost: that of the commands; memory for the world and for the longest line. Unreachable cells are
+/// collected after a read, if that is due (`World::collect_if_due`).
 pub fn run_lines<R: Read, W: Write>(
     alloc: Global,
     reader: &mut R,

@@ -1,7 +1,7 @@
-//! Commands that are made of the arguments of a verb.
+//! Commands made from the arguments of a verb.
 //!
-//! The function that has an arm for each verb would have, and clear, a place for what it hands over by value in each. So no function here is inlined,
-//! and what is left of the line is lent.
+//! The function with an arm for each verb would reserve, and clear, a stack slot for each argument
+//! that it passes by value. So no function here is inlined, and the rest of the line is borrowed.
 #![tactic(auto, unfolding(crate::specs::Arguments::says, crate::specs::Memory::takes))]
 
 ghost use Rattle.std.specs.Prelude.{◌≡◌};
@@ -16,7 +16,7 @@ use crate::words::{NoCommand, Word};
 use rhai_run::{Bytes, Command, FlaggedNames, Literal, Names};
 use std::alloc::Global;
 
-/// The command of a verb with no arguments.
+/// The command of a verb without arguments.
 #[inline(never)]
 pub(crate) fn of_none<F: FnOnce(()) -> Command>(
     left: &Option<&str>,
@@ -31,7 +31,7 @@ pub(crate) fn of_none<F: FnOnce(()) -> Command>(
     }
 }
 
-/// The command that is made of the value of one word.
+/// The command made from the value of one word.
 #[inline(never)]
 pub(crate) fn of_one<A: Word, F: FnOnce(A) -> Command>(
     alloc: Global,
@@ -44,7 +44,7 @@ pub(crate) fn of_one<A: Word, F: FnOnce(A) -> Command>(
     Ok(make(last_word(alloc, *left)?))
 }
 
-/// The command that is made of the values of two words.
+/// The command made from the values of two words.
 #[inline(never)]
 pub(crate) fn of_two<A: Word, B: Word, F: FnOnce((A, B)) -> Command>(
     alloc: Global,
@@ -59,7 +59,7 @@ pub(crate) fn of_two<A: Word, B: Word, F: FnOnce((A, B)) -> Command>(
     Ok(make((a, b)))
 }
 
-/// The command that is made of the values of three words.
+/// The command made from the values of three words.
 #[inline(never)]
 pub(crate) fn of_three<A: Word, B: Word, C: Word, F: FnOnce((A, B, C)) -> Command>(
     alloc: Global,
@@ -75,7 +75,7 @@ pub(crate) fn of_three<A: Word, B: Word, C: Word, F: FnOnce((A, B, C)) -> Comman
     Ok(make((a, b, c)))
 }
 
-/// The command that is made of the values of four words.
+/// The command made from the values of four words.
 #[inline(never)]
 pub(crate) fn of_four<A: Word, B: Word, C: Word, D: Word, F: FnOnce((A, B, C, D)) -> Command>(
     alloc: Global,
@@ -92,7 +92,7 @@ pub(crate) fn of_four<A: Word, B: Word, C: Word, D: Word, F: FnOnce((A, B, C, D)
     Ok(make((a, b, c, d)))
 }
 
-/// The command that is made of names.
+/// The command made from names.
 #[inline(never)]
 pub(crate) fn of_names<F: FnOnce(Names) -> Command>(
     alloc: Global,
@@ -113,7 +113,7 @@ pub(crate) fn of_flagged_names(alloc: Global, left: &Option<&str>) -> Result<Com
     Ok(Command::ExtendFlagged(FlaggedNames::new(list(alloc, *left)?)))
 }
 
-/// The command that gives an alias to a name.
+/// The command that adds an alias to a name.
 #[inline(never)]
 pub(crate) fn of_alias(alloc: Global, left: &Option<&str>) -> Result<Command, NoCommand>
     ensures { Makes result (λ a. a) (λ p c. c ≡ SetAlias p.0 p.1) (before a_name an_alias) (left_in left.now) }

@@ -9,7 +9,7 @@ use crate::words::{NoCommand, Word, next_word};
 use rhai_value::{INT, Tag};
 use std::alloc::{AllocError, Global};
 
-/// The whole number that the digits say, where it is below 2^128.
+/// The whole number that the digits denote, if it is below 2^128.
 fn whole_number(digits: &[u8]) -> Option<u128>
     ensures { result ≡ option_and_then (below 128) (whole_number_of digits.now) }
 {
@@ -27,7 +27,7 @@ fn whole_number(digits: &[u8]) -> Option<u128>
     Some(number)
 }
 
-/// A number without sign; `-0` is 0.
+/// An unsigned number; `-0` is 0.
 pub(crate) fn unsigned(word: &str) -> Option<u128>
     ensures { result ≡ unsigned_of 128 word.now }
 {
@@ -40,7 +40,8 @@ pub(crate) fn unsigned(word: &str) -> Option<u128>
     }
 }
 
-/// A number with a sign. It is reached from 0 on either side, since no `i128` is 2^127.
+/// A signed number. It is accumulated from 0 in the direction of its sign, since no `i128` is
+/// 2^127.
 pub(crate) fn signed(word: &str) -> Option<i128>
     ensures { result ≡ signed_of 127 word.now }
 {
@@ -104,7 +105,7 @@ pub(crate) fn i64_in(word: &str) -> Option<i64>
     i64::try_from(signed(word)?).ok()
 }
 
-/// Adds the digits of a number.
+/// Appends the digits of a number.
 pub(crate) fn add_unsigned(line: &mut String, n: u128) -> Result<bool, AllocError>
     ensures { Adds result (unsigned_word 128 n) (string_bytes line.old) (string_bytes line.new) }
 {
@@ -112,7 +113,7 @@ pub(crate) fn add_unsigned(line: &mut String, n: u128) -> Result<bool, AllocErro
     Ok(true)
 }
 
-/// Adds a minus, where the number is negative, and the digits.
+/// Appends a minus, if the number is negative, and the digits.
 pub(crate) fn add_signed(line: &mut String, n: i128) -> Result<bool, AllocError>
     ensures { Adds result (signed_word 127 n) (string_bytes line.old) (string_bytes line.new) }
 {

@@ -21,7 +21,7 @@ fn write_arithmetic<W: Write>(why: ArithmeticFault, writer: &mut W) -> io::Resul
     }
 }
 
-/// Writes which limit a value would grow past.
+/// Writes the limit that a value would exceed.
 fn write_size<W: Write>(size: SizeKind, writer: &mut W) -> io::Result<()>
     ensures { OnOk result (Appends (W.contents writer.old) (W.contents writer.new) (size_text size)) }
 {
@@ -97,7 +97,7 @@ fn write_hex<W: Write>(bytes: &[u8], writer: &mut W) -> io::Result<()>
     Ok(())
 }
 
-/// Writes an answer. It costs what the answer's text has of bytes.
+/// Writes an answer. Costs the number of bytes of the answer's text.
 fn write_reply<W: Write>(answer: &Answer, writer: &mut W) -> io::Result<()>
     ensures { OnOk result (Appends (W.contents writer.old) (W.contents writer.new) (printed answer.now)) }
 {
@@ -118,7 +118,7 @@ fn write_reply<W: Write>(answer: &Answer, writer: &mut W) -> io::Result<()>
 }
 
 /// Writes the line of an answer.
-/// Errors: the writer's; a part of the line may stand.
+/// Errors: the writer's; a part of the line may have been written.
 /// Cost: the length of the line; no memory.
 pub fn write_answer<W: Write>(answer: &Answer, writer: &mut W) -> io::Result<()>
     ensures { OnOk result (Appends (W.contents writer.old) (W.contents writer.new) (printed answer.now ++ 10 ∷ [])) }
@@ -127,8 +127,8 @@ pub fn write_answer<W: Write>(answer: &Answer, writer: &mut W) -> io::Result<()>
     writer.write_all(b"\n")
 }
 
-/// Writes the line that answers a line without a command.
-/// Errors: the writer's; a part of the line may stand.
+/// Writes the answer to a line without a command.
+/// Errors: the writer's; a part of the line may have been written.
 pub fn write_bad_line<W: Write>(writer: &mut W) -> io::Result<()>
     ensures { OnOk result (Appends (W.contents writer.old) (W.contents writer.new) (codes "refused BadLine" ++ 10 ∷ [])) }
 {

@@ -1,4 +1,5 @@
-//! Commands as their lines: a verb, and the words of its arguments. Without a verb these calls add words behind others.
+//! Commands as lines: a verb, and the words of its arguments. If the verb is empty, these calls
+//! append words only.
 ghost use Rattle.std.specs.Prelude.{◌≡◌, ◌∷◌, ◌++◌, OnOk, option_map, string_bytes};
 ghost use Rattle.std.specs.Str.{chars};
 ghost use Rattle.rhai_lines.specs.Vocabulary.{a_name};
@@ -12,7 +13,7 @@ use crate::words::{Word, add};
 use rhai_text::ImmutableString;
 use std::alloc::AllocError;
 
-/// Adds a space and the words of a value.
+/// Appends a space and the words of a value.
 fn word<A: Word>(line: &mut String, a: &A) -> Result<bool, AllocError>
     ensures { Adds result (option_map (λ w. 32 ∷ w) (spells A.word a.now)) (string_bytes line.old) (string_bytes line.new) }
 {
@@ -20,7 +21,7 @@ fn word<A: Word>(line: &mut String, a: &A) -> Result<bool, AllocError>
     a.spell(line)
 }
 
-/// Adds a verb alone.
+/// Appends a verb only.
 #[tactic(auto, unfolding(crate::specs::Spelling::spoken, crate::specs::Spelling::writes))]
 pub(crate) fn no_args(line: &mut String, verb: &str) -> Result<bool, AllocError>
     ensures { Adds result (spoken verb.now none tt) (string_bytes line.old) (string_bytes line.new) }
@@ -28,7 +29,7 @@ pub(crate) fn no_args(line: &mut String, verb: &str) -> Result<bool, AllocError>
     add(line, verb)
 }
 
-/// Adds a verb and one word.
+/// Appends a verb and one word.
 #[tactic(auto, unfolding(crate::specs::Spelling::spoken, crate::specs::Spelling::writes))]
 pub(crate) fn args1<A: Word>(line: &mut String, verb: &str, a: &A) -> Result<bool, AllocError>
     ensures { Adds result (spoken verb.now (one_word A.word) a.now) (string_bytes line.old) (string_bytes line.new) }
@@ -37,7 +38,7 @@ pub(crate) fn args1<A: Word>(line: &mut String, verb: &str, a: &A) -> Result<boo
     word(line, a)
 }
 
-/// Adds a verb and two words.
+/// Appends a verb and two words.
 pub(crate) fn args2<A: Word, B: Word>(
     line: &mut String,
     verb: &str,
@@ -52,7 +53,7 @@ pub(crate) fn args2<A: Word, B: Word>(
     args1(line, "", b)
 }
 
-/// Adds a verb and three words.
+/// Appends a verb and three words.
 pub(crate) fn args3<A: Word, B: Word, C: Word>(
     line: &mut String,
     verb: &str,
@@ -68,7 +69,7 @@ pub(crate) fn args3<A: Word, B: Word, C: Word>(
     args2(line, "", b, c)
 }
 
-/// Adds a verb and four words.
+/// Appends a verb and four words.
 pub(crate) fn args4<A: Word, B: Word, C: Word, D: Word>(
     line: &mut String,
     verb: &str,
@@ -85,7 +86,7 @@ pub(crate) fn args4<A: Word, B: Word, C: Word, D: Word>(
     args3(line, "", b, c, d)
 }
 
-/// Adds a verb and a word for each item.
+/// Appends a verb and a word for each item.
 fn list<A: Item>(line: &mut String, verb: &str, items: &[A]) -> Result<bool, AllocError>
     ensures { Adds result (option_map (λ left. verb.now ++ behind left) (words_for A.spelled items.now)) (string_bytes line.old) (string_bytes line.new) }
 {
@@ -101,7 +102,7 @@ fn list<A: Item>(line: &mut String, verb: &str, items: &[A]) -> Result<bool, All
     Ok(true)
 }
 
-/// Adds a verb and a word for each name.
+/// Appends a verb and a word for each name.
 #[tactic(auto, unfolding(crate::specs::Spelling::spoken, crate::specs::Spelling::writes))]
 pub(crate) fn names(
     line: &mut String,
@@ -113,7 +114,7 @@ pub(crate) fn names(
     list(line, verb, items)
 }
 
-/// Adds a verb and a word for each name, flagged or not.
+/// Appends a verb and a word for each name, flagged or not.
 #[tactic(auto, unfolding(crate::specs::Spelling::spoken, crate::specs::Spelling::writes))]
 pub(crate) fn flagged_names(
     line: &mut String,
@@ -125,7 +126,7 @@ pub(crate) fn flagged_names(
     list(line, verb, items)
 }
 
-/// Adds a verb, and an alias unless it is empty.
+/// Appends a verb, and an alias unless it is empty.
 #[tactic(auto, unfolding(crate::specs::Spelling::spoken, crate::specs::Spelling::writes))]
 fn add_alias(line: &mut String, verb: &str, alias: &ImmutableString) -> Result<bool, AllocError>
     ensures { Adds result (spoken verb.now an_alias alias.now) (string_bytes line.old) (string_bytes line.new) }
@@ -136,7 +137,7 @@ fn add_alias(line: &mut String, verb: &str, alias: &ImmutableString) -> Result<b
     args1(line, verb, alias)
 }
 
-/// Adds a verb, a name, and an alias unless it is empty.
+/// Appends a verb, a name, and an alias unless it is empty.
 pub(crate) fn name_and_alias(
     line: &mut String,
     verb: &str,
@@ -157,7 +158,7 @@ fn has_feed(text: &str) -> bool
     text.as_bytes().contains(&b'\n')
 }
 
-/// Adds a verb and a text, unless that is empty.
+/// Appends a verb and a text, unless that is empty.
 #[tactic(auto, unfolding(crate::specs::Spelling::spoken, crate::specs::Spelling::writes))]
 pub(crate) fn text(line: &mut String, verb: &str, text: &str) -> Result<bool, AllocError>
     ensures { Adds result (spoken verb.now a_text (chars text.now)) (string_bytes line.old) (string_bytes line.new) }
@@ -173,7 +174,7 @@ pub(crate) fn text(line: &mut String, verb: &str, text: &str) -> Result<bool, Al
     add(line, text)
 }
 
-/// Adds a verb and a character.
+/// Appends a verb and a character.
 #[tactic(auto, unfolding(crate::specs::Spelling::spoken, crate::specs::Spelling::writes))]
 pub(crate) fn character(line: &mut String, verb: &str, c: char) -> Result<bool, AllocError>
     ensures { Adds result (spoken verb.now a_char c) (string_bytes line.old) (string_bytes line.new) }
@@ -182,14 +183,14 @@ pub(crate) fn character(line: &mut String, verb: &str, c: char) -> Result<bool, 
     text(line, verb, c.encode_utf8(&mut buffer))
 }
 
-/// Adds a byte as two hexadecimal digits.
+/// Appends a byte as two hexadecimal digits.
 fn add_byte(line: &mut String, byte: u8) -> Result<(), AllocError>
     ensures { OnOk result (string_bytes line.new ≡ string_bytes line.old ++ hex_digits byte) }
 {
     write!(line, "{byte:02x}")
 }
 
-/// Adds a verb and bytes as hexadecimal digits, unless there are none.
+/// Appends a verb and bytes as hexadecimal digits, unless there are none.
 #[tactic(auto, unfolding(crate::specs::Spelling::spoken, crate::specs::Spelling::writes))]
 pub(crate) fn blob(line: &mut String, verb: &str, bytes: &[u8]) -> Result<bool, AllocError>
     ensures { Adds result (spoken verb.now a_blob bytes.now) (string_bytes line.old) (string_bytes line.new) }

@@ -1,4 +1,4 @@
-//! The verbs: what a line with each says, and the line of each command.
+//! The verbs: the command of a line with each, and the line of each command.
 #![tactic(auto, using(crate::proofs::Lookups::says_word), unfolding(crate::specs::Verbs::said_by, crate::specs::Memory::takes_by))]
 
 ghost use Rattle.std.specs.Prelude.{◌≡◌, length, IfOk, OnErr, string_bytes};
@@ -169,7 +169,8 @@ fn nine_letters(alloc: Global, verb: &str, left: &Option<&str>) -> Result<Comman
     }
 }
 
-/// The command of a verb and of what is left behind it. By the length of the verb first, so that texts are compared as numbers.
+/// The command of a verb and the rest of its line. Selects by the length of the verb first, so that
+/// texts are compared as numbers.
 fn read(alloc: Global, verb: &str, left: &Option<&str>) -> Result<Command, NoCommand>
     ensures { Says result verb.now (left_in left.now) }
 {
@@ -192,9 +193,9 @@ fn read(alloc: Global, verb: &str, left: &Option<&str>) -> Result<Command, NoCom
     }
 }
 
-/// Reads the command that a line says; `None` where it says none.
-/// Errors: memory for a name, a text or a blob is refused.
-/// Cost: the length of the line; memory for names, texts and blobs alone.
+/// Reads the command of a line; `None` if it has none.
+/// Errors: the allocation of a name, a text or a blob fails.
+/// Cost: the length of the line; memory only for names, texts and blobs.
 pub fn command(alloc: Global, line: &[u8]) -> Result<Option<Command>, AllocError>
     ensures command { IfOk result (λ o. o ≡ command_of line.now) }
     ensures memory { OnErr result (TakesMemory line.now) }
@@ -210,7 +211,7 @@ pub fn command(alloc: Global, line: &[u8]) -> Result<Option<Command>, AllocError
     }
 }
 
-/// Adds the line of a literal.
+/// Appends the line of a literal.
 #[tactic(auto, using(crate::proofs::Spoken::adds_line), unfolding(crate::specs::Verbs::form_of))]
 fn add_literal(line: &mut String, literal: &Literal) -> Result<bool, AllocError>
     ensures { AddsLine result (Put literal.now) (string_bytes line.old) (string_bytes line.new) }
@@ -228,7 +229,7 @@ fn add_literal(line: &mut String, literal: &Literal) -> Result<bool, AllocError>
     }
 }
 
-/// Adds the line of a command.
+/// Appends the line of a command.
 #[tactic(auto, using(crate::proofs::Spoken::adds_line), unfolding(crate::specs::Verbs::form_of))]
 pub(crate) fn add_line(line: &mut String, command: &Command) -> Result<bool, AllocError>
     ensures { AddsLine result command.now (string_bytes line.old) (string_bytes line.new) }

@@ -1,4 +1,4 @@
-//! The kinds, the operators, the questions, the scanners, the numbers of the host and the places of a line.
+//! The types, operators, questions, scanners, host numbers and places of a line.
 ghost use Rattle.std.specs.Prelude.{◌≡◌, ◌++◌, option_map, string_bytes};
 ghost use Rattle.rhai_lines.specs.Words.{named};
 ghost use Rattle.rhai_lines.specs.Vocabulary.{kinds, operators, plain_questions, host_of, place_of, a_kind, a_token, a_question, a_scanner, a_host, a_place};
@@ -43,7 +43,7 @@ const KINDS: [(&str, TypeId); 23] = [
     ("<shared>", TypeId::Shared),
 ];
 
-/// Adds what a table calls a value.
+/// Appends the name of a value in a table.
 fn add_called<A: Copy + Eq>(
     line: &mut String,
     table: &[(&str, A)],
@@ -80,7 +80,7 @@ impl Word for TypeId {
     }
 }
 
-/// The operators between two operands, and those that assign.
+/// The binary operators, and the assignments.
 const OPERATORS: [(&str, Token); 31] = [
     ("+", Token::Plus),
     ("-", Token::Minus),
@@ -240,7 +240,7 @@ impl Word for Scanner {
     }
 }
 
-/// A number of one of the host's types, which is named first.
+/// A number of one of the host's types, which precedes it.
 fn host_in(kind: &str, word: &str) -> Option<Host>
     ensures { result ≡ host_of kind.now word.now }
 {
@@ -300,7 +300,7 @@ impl Word for Host {
     }
 }
 
-/// The place that a word is.
+/// The place given by a word.
 #[tactic(auto, using(crate::proofs::Sigils::place_behind, crate::proofs::Sigils::place_alone, crate::proofs::Sigils::place_takes))]
 fn place_in(alloc: Global, word: &str) -> Result<Place, NoCommand>
     ensures { Yields result (place_of word.now) names_entry }

@@ -10,7 +10,7 @@ ghost use Rattle.rhai_lines.specs.Cursor.{left_in, rows, Reads, Yields, Adds};
 use rhai_text::ImmutableString;
 use std::alloc::{AllocError, Global};
 
-/// Why a line gives no command: it says none, or memory is refused.
+/// Why a line gives no command: it has none, or an allocation fails.
 #[derive(Drop)]
 pub(crate) enum NoCommand {
     BadLine,
@@ -25,20 +25,20 @@ impl From<AllocError> for NoCommand {
     }
 }
 
-/// A value that a word says, or a word and the one behind it.
+/// A value given by a word, or by a word and the next one.
 pub(crate) trait Word: Sized + Drop {
     ghost word: { word_kind Self };
 
-    /// The value, and what is left behind it.
+    /// The value, and the rest after it.
     fn read(alloc: Global, left: Option<&str>) -> Result<(Self, Option<&str>), NoCommand>
         ensures { Reads result word (left_in left.entry) };
 
-    /// Adds the words that say it to a line, if there are such.
+    /// Appends the words that denote the value to a line, if there are any.
     fn spell(&self, line: &mut String) -> Result<bool, AllocError>
         ensures { Adds result (spells word self.now) (string_bytes line.old) (string_bytes line.new) };
 }
 
-/// Adds a text to a line.
+/// Appends a text to a line.
 pub(crate) fn add(line: &mut String, text: &str) -> Result<bool, AllocError>
     ensures { Adds result (Some text.now) (string_bytes line.old) (string_bytes line.new) }
 {
@@ -46,7 +46,7 @@ pub(crate) fn add(line: &mut String, text: &str) -> Result<bool, AllocError>
     Ok(true)
 }
 
-/// The first word of a text, and what is left behind it.
+/// The first word of a text, and the rest after it.
 pub(crate) fn first_word(text: &str) -> (&str, Option<&str>)
     ensures word { result.0.now ≡ word_of text.now }
     ensures left { left_in result.1 ≡ left_of text.now }
@@ -57,7 +57,7 @@ pub(crate) fn first_word(text: &str) -> (&str, Option<&str>)
     }
 }
 
-/// The next word of what is left of a line.
+/// The next word of the rest of a line.
 pub(crate) fn next_word(left: Option<&str>) -> Result<(&str, Option<&str>), NoCommand>
     ensures ok { IfOk result (λ p. next_word (λ w. Some w) (left_in left.entry) ≡ Some (p.0.now, left_in p.1)) }
     ensures err { IfErr result (λ e. (e ≡ BadLine) × (left_in left.entry ≡ None)) }
@@ -68,7 +68,7 @@ pub(crate) fn next_word(left: Option<&str>) -> Result<(&str, Option<&str>), NoCo
     }
 }
 
-/// What a table has for a word.
+/// Looks a word up in a table.
 pub(crate) fn named<A: Copy>(table: &[(&str, A)], word: &str) -> Option<A>
     ensures { result ≡ named (rows table.now) word.now }
 {
@@ -106,7 +106,7 @@ impl Word for bool {
     }
 }
 
-/// What a table calls a value.
+/// Looks the name of a value up in a table.
 pub(crate) fn called<'a, A: Copy + Eq>(table: &[(&'a str, A)], value: A) -> Option<&'a str>
     ensures { option_map (λ w. w.now) result ≡ called A.eq (rows table.now) value }
 {
@@ -135,7 +135,7 @@ pub(crate) fn is_name(word: &[u8]) -> bool
     true
 }
 
-/// Bytes as a text, if they are one: those of a name are.
+/// Bytes as a text, if they are valid UTF-8: those of a name are.
 #[tactic(auto, using(crate::proofs::Sigils::name_is_text))]
 fn text_of(bytes: &[u8]) -> Option<&str>
     ensures some { IfSome result (λ text. text.now ≡ bytes.now) }
@@ -147,7 +147,7 @@ fn text_of(bytes: &[u8]) -> Option<&str>
     }
 }
 
-/// What stands behind a sigil that a word begins with.
+/// The text after a sigil that a word begins with.
 #[tactic(auto, using(crate::proofs::Sigils::no_name_behind))]
 pub(crate) fn strip_sigil(word: &str, sigil: u8) -> Option<&str>
     ensures some { IfSome result (λ name. word.now ≡ sigil ∷ name.now) }
@@ -159,7 +159,7 @@ pub(crate) fn strip_sigil(word: &str, sigil: u8) -> Option<&str>
     }
 }
 
-/// The name that a word is.
+/// The name given by a word.
 #[tactic(auto, using(crate::proofs::Names::name_chars, crate::proofs::Names::no_name))]
 pub(crate) fn name(alloc: Global, word: &str) -> Result<ImmutableString, NoCommand>
     ensures { Yields result (name_of word.now) (λ n. true) }
@@ -170,7 +170,7 @@ pub(crate) fn name(alloc: Global, word: &str) -> Result<ImmutableString, NoComma
     Ok(ImmutableString::from_str(alloc, word)?)
 }
 
-/// Adds a name to a line, if it is one.
+/// Appends a name to a line, if it is one.
 #[tactic(auto, using(crate::proofs::Added::name_by_bytes))]
 pub(crate) fn add_name(line: &mut String, name: &ImmutableString) -> Result<bool, AllocError>
     ensures { Adds result (name_of name.now) (string_bytes line.old) (string_bytes line.new) }

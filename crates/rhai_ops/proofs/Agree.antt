@@ -1,4 +1,4 @@
--- An operator and its assignment come to the same content.
+-- An operator and its assignment give the same content.
 use Rattle.std.proofs.Common.{◌≡◌, ℕ, ℤ, Bool, true, false, ◌||◌, ◌&&◌, List, [], ◌∷◌, ◌++◌, Option, Some, None, IsTrue, unwrap_or, if◌then◌else◌, refl, sym, ap, ◌∙◌, subst}
 use denote.Enum.Bare.{same_true}
 use Rattle.std.proofs.lemmas.List.{append-nil}
@@ -32,7 +32,7 @@ use Rattle.rhai_ops.specs.Effects.{Effect, operator, assignment, effect, writes,
 use Rattle.rhai_ops.proofs.Roles.{assignments}
 use Rattle.rhai_ops.proofs.Suited.{leaf_end, own_part}
 
--- both rows come to values of one content
+-- both rows give values with the same content
 abbrev Agree : Limits → List Cell → Tree → Tree → FnBuiltin → FnBuiltin → Type 0
 Agree l s x y b a = (v w : Tree) → outcome b l s x y ≡ answers v → outcome a l s x y ≡ answers w → content_of w ≡ content_of v
 
@@ -42,7 +42,7 @@ same_rows l s x y c b d a h e f = subst (λ r. Agree l s x y b r) (same_Some d a
 same_value : (v w : Tree) → answers v ≡ answers w → content_of w ≡ content_of v
 same_value v w e = cc
 
--- where both come to the same
+-- if both have the same outcome
 one_outcome : (o : Outcome) (v w : Tree) → o ≡ answers v → o ≡ answers w → content_of w ≡ content_of v
 one_outcome o v w e f = same_value v w (sym e ∙ f)
 
@@ -69,7 +69,7 @@ blobs_value l a [] g h v e = ap content_of (sym (if_value true (node (leaf (blob
 blobs_value l [] (d ∷ b) g h v e = ap content_of (sym (if_value true (node (leaf (blob (d ∷ b))) h ReadWrite) v size.Items e))
 blobs_value l (c ∷ a) (d ∷ b) g h v e = blob_value l ((c ∷ a) ++ (d ∷ b)) v e
 
--- by their types no two operands have a row for `+`
+-- if their types have no row, two operands have none for `+`
 no_rows : (b : Bool) (k l : Line) → pick k ≡ None → pick l ≡ None → pick (if b then k else l) ≡ None
 no_rows true k l e f = e
 no_rows false k l e f = f
@@ -165,7 +165,7 @@ module _ (l : Limits) (s : List Cell) (g h : ℤ) (m n : AccessMode) (b a : FnBu
   leaves t (blob i) (text j) = blob_texts t i j
   leaves t _ _ = λ e f k. cc
 
--- of an array only `+=` has rows, and `+` has none; of other values no assignment has
+-- an array has rows only for `+=`, and none for `+`; other values have no assignments
 array_plus : (t : Token) (o : OperandKind) (a : FnBuiltin) → pick (assign_line t is.Array o) ≡ Some a → is_token t op.PlusAssign ≡ true
 array_plus t is.Array a e = (one (is_token t op.PlusAssign) row.ArrayAppend a e).0
 array_plus t _ a e = (one (is_token t op.PlusAssign) row.ArrayPush a e).0
@@ -193,7 +193,7 @@ beside t (text v) = (refl, refl)
 beside t (blob v) = (refl, refl)
 beside t (host h) = (refl, refl)
 
--- the content of a value that isn't shared, once another value was written there
+-- the content of an unshared value after another value is written to it
 written : (w : Effect) (v : Tree) (s : List Cell) (i : Leaf) (g : ℤ) (m : AccessMode) → IsTrue (writes w) → content_of (first_left w (answers v) s (node (leaf i) g m)) ≡ content_of v
 written operator v s i g m e = cc
 written (assignment q) v s i g m e = ap (λ d. content_of (value_after (rewritten v) d (node (leaf i) g m))) (leaf_end s [] i g m)
@@ -213,7 +213,7 @@ agree t l s (node (branch (function j) ts) g m) y b a v w e f p q k = absurd (no
 agree t l s (node (fields fs) g m) y b a v w e f p q k = absurd (none_is_some _ a (other_none t (operand_kind y)) f)
 agree t l s (node (holder c) g m) y b a v w e f p q k = absurd (none_is_some _ a (other_none t (operand_kind y)) f)
 
--- a character that takes an empty text
+-- a character to which an empty text is appended
 pub stays : (l : Limits) (s : List Cell) (x y : Tree) → takes_nothing x y ≡ true → first_left (effect row.CharTextAssign) (outcome row.CharTextAssign l s x y) s x ≡ x
 stays l s (node (leaf (char c)) g m) (node (leaf (text [])) h n) e =
     rw (own_part char_of s (char c) g m, own_part text_of s (text []) h n)

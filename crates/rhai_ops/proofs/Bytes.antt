@@ -1,4 +1,4 @@
--- Texts and blobs that a value holds itself, and texts behind blobs.
+-- A value's own texts and blobs, and texts appended to blobs.
 use Rattle.std.proofs.Common.{◌≡◌, ℕ, ◌+◌, true, false, List, [], ◌∷◌, length, length-append, Option, Some, None, IsSome, Ok, refl, sym, ◌∙◌}
 use Rattle.std.specs.Str.{encode_utf8_all}
 use Rattle.rhai_text.specs.declared.error.SizeKind.TheVariants as size

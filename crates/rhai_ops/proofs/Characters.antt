@@ -1,4 +1,4 @@
--- Comparisons of texts, and those of characters, which are those of their texts.
+-- Comparisons of texts, and of characters, which agree with those of their texts.
 use Rattle.std.proofs.Common.{◌≡◌, ℕ, ℤ, nat_eq, List, [], ◌∷◌, Option, Some, None, refl, ap}
 use Rattle.std.proofs.lemmas.Map.Text.{is_eq-slice_cmp}
 use Rattle.std.specs.Cmp.Lexicographic.{pointwise}
@@ -18,11 +18,11 @@ use Rattle.rhai_ops.specs.Outcome.{bool_answer, both}
 use Rattle.rhai_ops.specs.Results.{part, outcome, text_order}
 use Rattle.rhai_ops.proofs.Suited.{own_part}
 
--- texts are equal where the order says so
+-- texts are equal if the order says so
 pub equal_by_order : (v w : List ℕ) → compared op.EqualsTo (text_order v w) ≡ Some (pointwise nat_eq v w)
 equal_by_order v w = ap Some (is_eq-slice_cmp v w)
 
--- no comparison looks at the limits
+-- no comparison reads the limits
 abbrev l : Limits
 l = record { text = 0; items = 0 }
 

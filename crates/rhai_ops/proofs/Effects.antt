@@ -1,4 +1,4 @@
--- What a row's effect makes of what it comes to.
+-- The effect of a row, given its outcome.
 use Rattle.std.proofs.Common.{◌≡◌, true, false, Some, Ok, Err, refl}
 use Rattle.rhai_text.specs.declared.error.EvalAltResult.{EvalAltResult}
 use Rattle.rhai_text.specs.declared.error.EvalAltResult.TheVariants as error
@@ -7,7 +7,8 @@ use Rattle.rhai_value.specs.Tree.{Tree}
 use Rattle.rhai_ops.specs.Outcome.{Outcome, fault, too_large, answers, unsuited, is_answer, result_of, IsOutcome}
 use Rattle.rhai_ops.specs.Effects.{Effect, operator, assignment, answered}
 
--- a call that fails for another reason than memory fails as the outcome says; and memory is wanted for a value alone
+-- a call that fails for another reason than a failed allocation fails as the outcome says; and only
+-- a value may need an allocation
 pub refused_result : (M : Type 0) (o : Outcome) (e : EvalAltResult) → IsOutcome M (Err e) o → is_memory e ≡ false → result_of o ≡ Some (Err e)
 refused_result M o (error.ErrorArithmetic f p) h n = rw (h.0, h.1) refl
 refused_result M o (error.ErrorDataTooLarge k p) h n = rw (h.0, h.1) refl
@@ -22,7 +23,7 @@ refused_memory M o (error.ErrorMemory a) h n = h.1
 refused_memory M o (error.ErrorDataRace p) h n = absurd h
 refused_memory M o (error.ErrorMismatchDataType x y p) h n = absurd h
 
--- a call is refused as its row is, and answers where that comes to a value
+-- a call fails if its row does, and returns if the outcome is a value
 pub answered_refuses : (M : Type 0) (w : Effect) (o : Outcome) (e : EvalAltResult) → IsOutcome M (Err e) (answered w o) → IsOutcome M (Err e) o
 answered_refuses M operator o e h = h
 answered_refuses M (assignment q) (fault g) e h = h

@@ -1,4 +1,4 @@
--- A row that suits its operands comes to a refusal, or to a value that is no constant.
+-- A row that suits its operands gives an error, or a value that isn't a constant.
 use Rattle.std.proofs.Common.{◌≡◌, ℕ, ℤ, Bool, true, false, cond, ◌||◌, nat_eq, List, [], ◌∷◌, ◌++◌, length, Option, Some, None, IsSome, is_some, option_and_then, option_map, Ok, Err, refl, sym, ap, ◌∙◌}
 use Rattle.std.specs.Char.{encode_utf8}
 use Rattle.std.specs.Option.{option_or}

@@ -1,4 +1,4 @@
--- Writes of a held part: what an assignment leaves.
+-- Writes to a held part: the state after an assignment.
 use Rattle.std.proofs.Common.{◌≡◌, List, [], Option, Some, Result, Ok, Err, OnOk, OnErr, option_map, refl, ap, ◌∙◌}
 use Rattle.rhai_text.specs.declared.error.EvalAltResult.{EvalAltResult}
 use Rattle.rhai_value.specs.declared.cells.store.Cell.{Cell}
@@ -18,12 +18,12 @@ pub record Same {A : Type 0} (part : Tree → Option A) (content : A → Content
   pub kind : TypeId
   pub reads : (t : Tree) → option_map content (part t) ≡ typed_content kind t
 
--- written over itself where it is held it changes nothing
+-- written over itself where it is held, it changes nothing
 pub part_stays : {A : Type 0} {part : Tree → Option A} {content : A → Content} → Same part content → (s : List Cell) (x : Tree) (a : A) → held_part part (end s [] x) ≡ Some a
     → (value_after (with_content (content a)) (end s [] x) x ≡ x) × (store_after (with_content (content a)) (end s [] x) s ≡ s)
 part_stays {part = part} {content = content} same s x a has = held_over content part same.kind same.reads s x a has
 
--- f made the held part a into b, or refused and left it
+-- f changed the held part a to b, or failed and left it unchanged
 pub record Edited {A : Type 0} (W : Type 0) (r : Result Tree EvalAltResult) (o : Outcome) (content : A → Content) (s z : List Cell) (x y : Tree) (a b : A) : Type 0 where
   pub value : y ≡ value_after (with_content (content b)) (end s [] x) x
   pub store : z ≡ store_after (with_content (content b)) (end s [] x) s

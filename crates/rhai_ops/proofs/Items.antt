@@ -1,4 +1,4 @@
--- Items behind items.
+-- Items appended to items.
 use Rattle.std.proofs.Common.{◌≡◌, ◌+◌, suc, Bool, true, false, if◌then◌else◌, arith, List, [], ◌∷◌, ◌++◌, length, length-append, nat_eq, ◌||◌, refl, sym, ap, ap₂, ◌∙◌}
 use Rattle.rhai_text.specs.declared.error.SizeKind.TheVariants as size
 use Rattle.rhai_text.specs.declared.limits.Limits.{Limits}
@@ -24,7 +24,7 @@ count_behind ts us = ap count (sym (items_behind ts us)) ∙ count_is_length (ts
 pub count_one_behind : (ts : List Tree) (u : Tree) → count (then_items (trees_of ts) (tree_then u no_trees)) ≡ length ts + 1
 count_one_behind ts u = count_behind ts (u ∷ [])
 
--- copies are as many
+-- copies have the same number
 count_copied : (us : Trees) → count (copy_trees us) ≡ count us
 count_copied no_trees = refl
 count_copied (tree_then u us) = ap suc (count_copied us)
@@ -44,7 +44,7 @@ refused_if : (b : Bool) (t : Tree) → (if b then answers t else too_large size.
 refused_if true t e = cc
 refused_if false t e = refl
 
--- whether these items may be joined: beside none no limit is tested
+-- whether these items may be appended; always if there are none
 abbrev may : Limits → Trees → Trees → Bool
 may l ts us = (nat_eq (count ts) 0 || nat_eq (count us) 0) || is_allowed l.items (count (then_items ts us))
 

@@ -1,4 +1,4 @@
--- Texts behind texts: beside an empty one no limit is tested.
+-- Texts appended to texts: if one is empty no limit is tested.
 use Rattle.std.proofs.Common.{◌≡◌, List, ℕ, [], ◌∷◌, ◌++◌, refl, sym, ap}
 use Rattle.std.proofs.lemmas.List.{append-nil}
 use Rattle.rhai_text.specs.declared.limits.Limits.{Limits}

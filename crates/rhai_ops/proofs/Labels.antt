@@ -1,4 +1,4 @@
--- A call keeps the tag and the mode of whatever it writes to.
+-- A call keeps the tag and the mode of everything that it writes.
 use Rattle.std.proofs.Common.{◌≡◌, ℕ, zero, suc, Bool, true, false, if◌then◌else◌, List, [], ◌∷◌, Some, None, option_map, refl, sym, ap, ◌∙◌}
 use Rattle.rhai_value.specs.declared.cells.chain.Site.TheVariants.{Here, InCell}
 use Rattle.rhai_value.specs.declared.cells.store.Cell.{Cell}
@@ -10,7 +10,7 @@ use Rattle.rhai_value.proofs.ForCallers.{stands}
 use Rattle.rhai_ops.specs.Outcome.{Outcome, fault, too_large, answers, unsuited}
 use Rattle.rhai_ops.specs.Effects.{Effect, operator, assignment, first_left, store_left, rewritten}
 
--- what doesn't see the content of a value
+-- a function that ignores the content of a value
 abbrev Sees : {A : Type 0} → (Tree → A) → Type 0
 Sees f = (c : Content) (t : Tree) → f (with_content c t) ≡ f t
 

@@ -8,11 +8,11 @@ use Rattle.std.proofs.lemmas.Str.{chars_from_encodes, encodes-append, encodes-ch
 pub joined_length : (a b : List ℕ) → length (encode_utf8_all (a ++ b)) ≡ length (encode_utf8_all a) + length (encode_utf8_all b)
 joined_length a b = ap length (encodes-append a b) ∙ length-append (encode_utf8_all a) (encode_utf8_all b)
 
--- characters behind others, by the bytes that spell them
+-- characters appended to others, by their bytes
 pub extended_length : (a bs : List ℕ) → IsUtf8 bs → length (encode_utf8_all (a ++ chars bs)) ≡ length (encode_utf8_all a) + length bs
 extended_length a bs u = joined_length a (chars bs) ∙ ap (λ xs. length (encode_utf8_all a) + length xs) (encodes-chars bs u)
 
--- the text of a character alone
+-- the text of one character
 pub spelled_bytes : (c : ℕ) → encode_utf8_all (c ∷ []) ≡ encode_utf8 c
 spelled_bytes c = append-nil (encode_utf8 c)
 

@@ -1,4 +1,4 @@
--- What holds of each row of a line whose question is answered yes holds of the row that is picked.
+-- A property that holds of each row of a line whose condition holds is one of the picked row.
 use Rattle.std.proofs.Common.{◌≡◌, Bool, true, false, [], ◌∷◌, Some, if◌then◌else◌, refl, subst}
 use Rattle.std.specs.Option.{option_or}
 use Rattle.std.proofs.lemmas.Option.{same_Some}
@@ -14,7 +14,7 @@ pick_all P [] r h e = cc
 pick_all P ((true, q) ∷ rest) r h e = let same : q ≡ r = same_Some q r e in subst P same (h.0 refl)
 pick_all P ((false, q) ∷ rest) r h e = pick_all P rest r h.1 e
 
--- two rows, and those behind them
+-- two rows, and those after them
 pub pick_behind : (p q : Bool) (a b : FnBuiltin) (l : Line) → pick ((p, a) ∷ (q, b) ∷ l) ≡ option_or (pick ((p, a) ∷ (q, b) ∷ [])) (pick l)
 pick_behind true q a b l = refl
 pick_behind false true a b l = refl

@@ -1,4 +1,4 @@
--- The rows that compare answer by the order of what both hold.
+-- The rows that compare give their result by the order of the two held values.
 use Rattle.std.proofs.Common.{◌≡◌, Bool, ◌||◌, ◌&&◌, [], ◌∷◌, List, Option, Some, None, refl, ap, ◌∙◌}
 use Rattle.std.proofs.lemmas.Option.{same_Some}
 use Rattle.std.specs.Ordering.{bool_cmp, int_cmp, nat_cmp}

@@ -1,4 +1,4 @@
--- What the questions of the tables say of an operator on any operands.
+-- What the conditions of the tables say about an operator on any operands.
 use Rattle.std.proofs.Common.{◌≡◌, ℤ, Bool, true, is_some, refl}
 use Rattle.std.specs.declared.cmp.Ordering.{Ordering}
 use Rattle.rhai_text.specs.declared.token.Token.{Token}
@@ -6,7 +6,7 @@ use Rattle.rhai_text.specs.declared.token.Token.TheVariants as op
 use Rattle.rhai_ops.specs.Numbers.{number, both_bits, compared}
 use Rattle.rhai_ops.specs.Tokens.{is_number, is_bits, is_cmp, is_assignment, without_assign}
 
--- an operator has an answer on all operands or on none
+-- an operator has a result on all operands or on none
 pub some_number : (t : Token) (x y : ℤ) → is_number t ≡ true → is_some (number t x y) ≡ true
 some_number op.Plus x y e = refl
 some_number op.Minus x y e = refl
@@ -36,7 +36,7 @@ some_order op.LessThan o e = refl
 some_order op.LessThanEqualsTo o e = refl
 some_order _ o e = cc
 
--- what an assignment does before it writes makes a number
+-- the operator of an assignment gives a number
 pub base_is_number : (t : Token) → is_assignment t ≡ true → is_number (without_assign t) ≡ true
 base_is_number op.PlusAssign e = refl
 base_is_number op.MinusAssign e = refl

@@ -1,4 +1,4 @@
--- The rows of operators only answer, those of assignments write.
+-- The rows of operators only return a result, those of assignments write.
 use Rattle.std.proofs.Common.{◌≡◌, ◌||◌, ◌&&◌, List, [], Some, IsTrue, refl}
 use Rattle.rhai_text.specs.declared.token.Token.{Token}
 use Rattle.rhai_value.specs.declared.cells.store.Cell.{Cell}
@@ -21,7 +21,7 @@ Answers r = effect r ≡ operator
 abbrev Writes : FnBuiltin → Type 0
 Writes r = IsTrue (writes (effect r))
 
--- pair by pair; a row more is found without a line more
+-- pair by pair; a new row needs no new line here
 own_answers : (t : Token) (types : Line) → LineAll Answers types → (a b : OperandKind) → LineAll Answers (rows_of_kinds t a b types)
 own_answers t types l is.Unit is.Unit = search refl
 own_answers t types l is.Bool is.Bool = search refl

@@ -1,4 +1,4 @@
--- What calls leave, of values that are the same up to the numbers of their cells.
+-- The state after calls, of values that are equal up to a renaming of cells.
 use Rattle.std.proofs.Common.{◌≡◌, ℕ, List, [], length, refl}
 use Rattle.rhai_value.specs.declared.cells.store.Cell.{Cell}
 use Rattle.rhai_value.specs.Tree.{Tree, node}
@@ -9,7 +9,7 @@ use Rattle.rhai_value.proofs.ForCallers.{same_end, same_value_after, same_store_
 use Rattle.rhai_ops.specs.Outcome.{Outcome, fault, too_large, answers, unsuited, RelatedOutcomes}
 use Rattle.rhai_ops.specs.Effects.{Effect, operator, assignment, stays, taken, rewritten, on_value, answered, first_left, second_left, store_left}
 
--- f of a value and g of a related one are related by R, and so are a and b
+-- f and g map related values to results related by R, and so are a and b
 on_values : {A : Type 0} (r : Renaming) (R : A → A → Type 0) (f g : Tree → A) (a b : A) → ((t u : Tree) → Related r t u → R (f t) (g u)) → R a b
     → (o p : Outcome) → RelatedOutcomes r o p → R (on_value f a o) (on_value g b p)
 on_values r R f g a b same other (answers t) (answers u) h = same t u h

@@ -1,4 +1,4 @@
--- Items of arrays that are the same up to the numbers of their cells.
+-- Items of arrays that are equal up to a renaming of cells.
 use Rattle.std.proofs.Common.{◌≡◌, suc, Bool, true, false, List, [], Option, Some, None, option_map, if◌then◌else◌, refl, ap}
 use Rattle.std.specs.Option.{option_or}
 use Rattle.rhai_text.specs.declared.error.SizeKind.TheVariants as size
@@ -12,7 +12,7 @@ use Rattle.rhai_value.proofs.ForCallers.{same_copy, same_end}
 use Rattle.rhai_ops.specs.Outcome.{Outcome, answers, too_large, both, is_allowed, RelatedOutcomes}
 use Rattle.rhai_ops.specs.Results.{part, count, then_items, limited_array, pushed, joined_items}
 
--- of what both hold, where it is alike
+-- functions of both held parts, if these are alike
 pub both_alike : {A B C D : Type 0} (r : Renaming) (R : A → C → Type 0) (S : B → D → Type 0) (f : A → B → Outcome) (g : C → D → Outcome)
     → ((a : A) (b : B) (c : C) (d : D) → R a c → S b d → RelatedOutcomes r (f a b) (g c d))
     → (o : Option A) (p : Option B) (q : Option C) (w : Option D) → Alike R o q → Alike S p w → RelatedOutcomes r (both f o p) (both g q w)

@@ -1,4 +1,4 @@
--- Rows and outcomes of values that are the same up to the numbers of their cells.
+-- Rows and outcomes of values that are equal up to a renaming of cells.
 use Rattle.std.proofs.Common.{◌≡◌, ℕ, ℤ, Bool, true, false, List, [], ◌∷◌, ◌++◌, length, Option, Some, None, refl, sym, ap, ap₂, ◌∙◌, option_and_then, option_map}
 use Rattle.std.specs.Prelude.{Ok, Err, if◌then◌else◌}
 use Rattle.std.specs.Char.{encode_utf8}
@@ -32,7 +32,7 @@ same_kind r = by_trees r (λ t u. operand_kind t ≡ operand_kind u) (λ l g m. 
     same_branch array ts us g m h = refl
     same_branch (function f) ts us g m h = refl
 
--- outcomes in which no cell is named
+-- outcomes without cells
 leaf_self : (r : Renaming) (l : Leaf) → RelatedOutcomes r (answers (fresh l)) (answers (fresh l))
 leaf_self r l = (refl, refl, refl)
 
@@ -76,7 +76,7 @@ blob_and_text_self : (r : Renaming) (l : Limits) (v w : List ℕ) → RelatedOut
 blob_and_text_self r l v [] = (refl, refl, refl)
 blob_and_text_self r l v (d ∷ w) = blob_self r l (v ++ encode_utf8_all (d ∷ w))
 
--- a value of one of the host's types, as a value of the host's
+-- a value of one of the host's types, as a host value
 typed_held : (k : TypeId) (e : End) → held_part (typed_host_of k) e ≡ option_and_then (host_at k) (held_part host_of e)
 typed_held k (held site t) = refl
 typed_held k (stuck t) = refl
@@ -97,7 +97,7 @@ module _ (r : Renaming) (s z : List Cell) (one : IsOneToOne r) (cells : RelatedC
       ap₂ (λ line types. pick (line types)) (ap₂ (rows_of_kinds k) (same_kind r t u h) (same_kind r v w q)) (ap₂ (type_line k) (same_type t u h) (same_type v w q))
 
   module _ (t u v w : Tree) (h : Related r t u) (q : Related r v w) where
-    -- of two leaves that both hold
+    -- functions of two leaves that both hold
     by_both : {A B : Type 0} (x : Leaf → Option A) (y : Leaf → Option B) (f : A → B → Outcome) → ((a : A) (b : B) → RelatedOutcomes r (f a b) (f a b)) → RelatedOutcomes r (both f (part (leaf_part x) s t) (part (leaf_part y) s v)) (both f (part (leaf_part x) z u) (part (leaf_part y) z w))
     by_both x y f same = rw (same_leaf x t u h, same_leaf y v w q) (both_self r f f same (part (leaf_part x) z u) (part (leaf_part y) z w))
 

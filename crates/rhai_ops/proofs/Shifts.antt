@@ -22,7 +22,7 @@ shl_wraps x k fits h =
     ∙ int_wrap-mul_left w64 (pos (2 ^ k)) x
     ∙ ap (int_wrap w64) (*ℤ_comm (pos (2 ^ k)) x)
 
--- a power of 2 from 2 ^ 64 on has no low bits
+-- a power of 2 that is at least 2 ^ 64 has no low bits
 no_low_bits : (k : ℕ) → 64 ≤ k → 2 ^ k % 2 ^ 64 ≡ 0
 no_low_bits k h = ap (λ n. n % 2 ^ 64) (ap (λ n. 2 ^ n) e ∙ pow-add 2 (k - 64) 64) ∙ mul-mod_left (2 ^ (k - 64)) (2 ^ 64)
   where

@@ -1,4 +1,4 @@
--- A row that the table has for two operands suits them.
+-- A row found in the table for two operands suits them.
 use Rattle.std.proofs.Common.{◌≡◌, ℕ, ℤ, Bool, true, false, ◌||◌, ◌&&◌, List, [], ◌∷◌, slice_get, Option, Some, None, IsSome, option_map, refl, sym, ap, ◌∙◌, subst}
 use Rattle.std.proofs.lemmas.Option.{same_Some}
 use Rattle.rhai_text.specs.declared.token.Token.{Token}
@@ -25,7 +25,7 @@ use Rattle.rhai_ops.specs.Results.{part, Holds, Suits, range_type}
 use Rattle.rhai_ops.proofs.Questions.{base_is_number}
 use Rattle.rhai_ops.proofs.Lines.{LineAll, pick_all, if_all}
 
--- a value that is no holder is held
+-- a value that isn't a holder is held
 pub leaf_end : (s : List Cell) (p : List ℕ) (l : Leaf) (g : ℤ) (m : AccessMode) → end s p (node (leaf l) g m) ≡ held (site_after (slice_get p 0)) (node (leaf l) g m)
 unfolding end
 leaf_end s p l g m = walk_opens end_of s p (node (leaf l) g m)
@@ -34,7 +34,7 @@ pub branch_end : (s : List Cell) (p : List ℕ) (k : Kind) (ts : Trees) (g : ℤ
 unfolding end
 branch_end s p k ts g m = walk_opens end_of s p (node (branch k ts) g m)
 
--- the chain from a holder is that from what its cell has
+-- the chain from a holder is that from its cell's content
 holder_end : (s : List Cell) (c : ℕ) (g : ℤ) (m : AccessMode) (v : Tree) → at s c ≡ Some v → end s [] (node (holder c) g m) ≡ end s (c ∷ []) v
 unfolding end
 holder_end s c g m v e = walk_opens end_of s [] (node (holder c) g m) ∙ ap (λ o. end_at (node (holder c) g m) (visit_map (walk end_of s (c ∷ [])) (visit_of o false))) e
@@ -42,7 +42,7 @@ holder_end s c g m v e = walk_opens end_of s [] (node (holder c) g m) ∙ ap (λ
 pub own_part : {A : Type 0} (of : Tree → Option A) (s : List Cell) (l : Leaf) (g : ℤ) (m : AccessMode) → part of s (node (leaf l) g m) ≡ of (node (leaf l) g m)
 own_part of s l g m = ap (held_part of) (leaf_end s [] l g m)
 
--- what a value holds by its operand_kind constructor, of the end of its chain
+-- the value held by an operand, by its operand_kind constructor, in terms of the end of its chain
 abbrev HoldsOwn : OperandKind → End → Type 0
 HoldsOwn is.Unit e = IsSome (held_part unit_of e)
 HoldsOwn is.Bool e = IsSome (held_part bool_of e)
@@ -69,7 +69,7 @@ holds_own s p (node (branch (function f) ts) g m) = tt
 holds_own s p (node (fields fs) g m) = tt
 holds_own s p (node (holder c) g m) = tt
 
--- a range that is held
+-- a held range
 some_of_map : {A B : Type 0} (f : A → B) (o : Option A) (b : B) → option_map f o ≡ Some b → IsSome o
 some_of_map f (Some a) b e = refl
 some_of_map f None b e = cc
@@ -89,7 +89,7 @@ module _ (t : Token) (s : List Cell) (x y : Tree) where
   abbrev Fit : FnBuiltin → Type 0
   Fit r = Suits r s x y
 
-  -- pair by pair; a row more is found without a line more
+  -- pair by pair; a new row needs no new line here
   own_suits : (types : Line) → LineAll Fit types → (a b : OperandKind) → HoldsOwn a (end s [] x) → HoldsOwn b (end s [] y) → LineAll Fit (rows_of_kinds t a b types)
   own_suits types l is.Unit is.Unit h k = search refl
   own_suits types l is.Bool is.Bool h k = search refl
@@ -139,14 +139,14 @@ module _ (t : Token) (s : List Cell) (x y : Tree) where
   assign_suits is.Array is.Array h k = search refl
   assign_suits a b h k = search refl
 
-  -- the first operand holds what its first content is by its operand_kind constructor
+  -- the first operand holds its first content, by its operand_kind constructor
   assign_row_suits : (a : OperandKind) (r : FnBuiltin) → HoldsOwn a (end s [] x) → pick (assign_line t a (operand_kind y)) ≡ Some r → Suits r s x y
   assign_row_suits a r h e = pick_all Fit (assign_line t a (operand_kind y)) r (assign_suits a (operand_kind y) h (holds_own s [] y)) e
 
   pub row_suits : (r : FnBuiltin) → row_of t s x y ≡ Some r → Suits r s x y
   row_suits r e = pick_all Fit _ r (own_suits _ types_suit (operand_kind x) (operand_kind y) (holds_own s [] x) (holds_own s [] y)) e
 
--- the row that is looked up for the first content of x may be called on x
+-- the row found for the first content of x may be called on x
 own_first : (s : List Cell) (x v : Tree) → Some x ≡ Some v → HoldsOwn (operand_kind v) (end s [] x)
 own_first s x v e = subst (λ u. HoldsOwn (operand_kind u) (end s [] x)) (same_Some x v e) (holds_own s [] x)
 

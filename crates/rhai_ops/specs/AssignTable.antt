@@ -1,4 +1,5 @@
--- The table of assignments: which row an operator has on a place and a second operand, by their operand_kind constructors alone.
+-- The table of assignments: the row of an operator for a place and a second operand, by their
+-- operand_kind constructors only.
 use Rattle.std.specs.Prelude.{[], ◌∷◌, Option}
 use Rattle.rhai_text.specs.declared.token.Token.{Token}
 use Rattle.rhai_text.specs.declared.token.Token.TheVariants as op
@@ -10,7 +11,7 @@ use Rattle.rhai_ops.specs.declared.operand_kind.OperandKind.TheVariants as is
 use Rattle.rhai_ops.specs.Table.{operand_kind, Line, pick}
 use Rattle.rhai_ops.specs.Tokens.{is_assignment, is_bits_assignment, is_token}
 
--- the questions are about the assignment t
+-- the conditions are about the assignment t
 abbrev pub assign_line : Token → OperandKind → OperandKind → Line
 assign_line t is.Int is.Int = (is_assignment t, row.IntAssign t) ∷ []
 assign_line t is.Bool is.Bool = (is_bits_assignment t, row.BoolAssign t) ∷ []

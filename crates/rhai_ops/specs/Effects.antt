@@ -1,5 +1,5 @@
--- What a call does with what its row comes to: an operator answers it; an assignment writes it where the chain of the first operand
--- ends, and answers unit.
+-- The effect of a call, given the outcome of its row: an operator returns it; an assignment writes
+-- it where the chain of the first operand ends, and returns unit.
 use Rattle.std.specs.Prelude.{◌≡◌, Bool, true, false, List, [], Result, IfOk, IfErr}
 use Rattle.rhai_text.specs.declared.error.EvalAltResult.{EvalAltResult}
 use Rattle.rhai_value.specs.declared.cells.store.Cell.{Cell}
@@ -20,18 +20,18 @@ abbrev pub writes : Effect → Bool
 writes operator = false
 writes (assignment q) = true
 
--- the place where u stood, once t was written there: t's content under the tag and the mode of u
+-- the value u after t was written to it: t's content with the tag and the mode of u
 abbrev pub rewritten : Tree → Tree → Tree
 rewritten t u = with_content (content_of t) u
 
--- f of the value that a row comes to; else, as where it refuses, a
+-- f of the value that is the outcome of a row; otherwise, as for an error, a
 abbrev pub on_value : {A : Type 0} → (Tree → A) → A → Outcome → A
 on_value f a (fault g) = a
 on_value f a (too_large k) = a
 on_value f a (answers t) = f t
 on_value f a unsuited = a
 
--- what the call answers
+-- the result of the call
 abbrev pub answered : Effect → Outcome → Outcome
 answered operator o = o
 answered (assignment q) o = on_value (λ t. answers (fresh unit)) o o
@@ -50,8 +50,8 @@ abbrev pub store_left : Effect → Outcome → List Cell → Tree → List Cell
 store_left operator o s x = s
 store_left (assignment q) o s x = on_value (λ t. store_after (rewritten t) (end s [] x) s) s o
 
--- What a row comes to was written in the place of x, in the store s, and nothing changed where it was refused: the first operand is
--- now y, and the store is z.
+-- The outcome of a row was written over x, in the store s, and nothing changed if it was an error:
+-- the first operand is now y, and the store is z.
 pub record IsAssigned (MayWant : Type 0) (r : Result Tree EvalAltResult) (o : Outcome) (x y : Tree) (s z : List Cell) : Type 0 where
   pub answer : IsOutcome MayWant r (answered (assignment stays) o)
   pub first : IfOk r (λ d. y ≡ first_left (assignment stays) o s x)

@@ -1,4 +1,4 @@
--- What the operators answer on two numbers, on two booleans, and on the order of two contents.
+-- The results of operators on two numbers, on two booleans, and on the order of two contents.
 use Rattle.std.specs.Prelude.{Option, Some, None, ℕ, ℤ, pos, negsuc, suc, ◌+ℤ◌, ◌-ℤ◌, ◌*ℤ◌, ◌^◌, Bool, Result, Ok, Err, nat_lt, not, ◌&&◌, ◌||◌, bit_and, bit_or, bit_xor, int_div, int_rem, if◌then◌else◌}
 use Rattle.std.specs.Int.{w64, int_pow, int_wrap, int_shr, cast_signed, cast_unsigned}
 use Rattle.std.specs.Ordering.{int_eq, is_eq, is_ne, is_lt, is_gt, is_le, is_ge}
@@ -12,7 +12,7 @@ use Rattle.rhai_text.specs.declared.token.Token.TheVariants as op
 abbrev pub Number : Type 0
 Number = Result ℤ ArithmeticFault
 
--- whether an integer of 64 bits is this number
+-- whether this number is a 64-bit integer
 abbrev pub in_range : ℤ → Bool
 in_range (pos n) = nat_lt n (2 ^ 63)
 in_range (negsuc n) = nat_lt n (2 ^ 63)
@@ -20,7 +20,7 @@ in_range (negsuc n) = nat_lt n (2 ^ 63)
 abbrev pub ranged : ℤ → Number
 ranged z = if in_range z then Ok z else Err Overflow
 
--- the answer on a divisor that isn't 0
+-- the result for a divisor that isn't 0
 abbrev pub by_divisor : ℤ → Number → Number
 by_divisor y answer = if int_eq y (pos 0) then Err DivisionByZero else answer
 
@@ -28,7 +28,7 @@ abbrev pub powered : ℤ → ℤ → Number
 powered x (pos n) = if nat_lt 4294967295 n then Err PowerTooLarge else ranged (int_pow x n)
 powered x (negsuc n) = Err NegativePower
 
--- the low 64 bits of x times 2 ^ n, as a signed number; and the floor of x through 2 ^ n
+-- the low 64 bits of x times 2 ^ n, as a signed number; and the floor of x divided by 2 ^ n
 unfoldable pub times_power : ℤ → ℕ → ℤ
 times_power x n = int_wrap w64 (x *ℤ pos (2 ^ n))
 
@@ -47,7 +47,8 @@ shifted_right x (negsuc n) = times_power x (suc n)
 abbrev pub by_bits : (ℕ → ℕ → ℕ) → ℤ → ℤ → ℤ
 by_bits f x y = cast_signed w64 (f (cast_unsigned w64 x) (cast_unsigned w64 y))
 
--- Of two ints: whole numbers, and one test of the range at the end. An operator that makes no number of ints has nothing here.
+-- Of two ints: exact numbers, and one test of the range at the end. An operator without a numeric
+-- result on ints has none here.
 abbrev pub number : Token → ℤ → ℤ → Option Number
 number op.Plus x y = Some (ranged (x +ℤ y))
 number op.Minus x y = Some (ranged (x -ℤ y))

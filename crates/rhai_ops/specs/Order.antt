@@ -15,6 +15,6 @@ use Rattle.rhai_ops.specs.Table.{row_of}
 abbrev pub row_order : FnBuiltin → List Cell → Tree → Tree → Option Ordering
 row_order b s x y = (rule b).order s x y
 
--- the order of two values by the row that `<` has for what they hold, if both hold something and there is one
+-- the order of two values by the row of `<` for what they hold, if both hold something and the row exists
 abbrev pub value_order : List Cell → Tree → Tree → Option Ordering
 value_order s x y = option_flatten (of_both (λ v w. option_and_then (λ b. row_order b s v w) (row_of op.LessThan s v w)) (held_in (end s [] x)) (held_in (end s [] y)))

@@ -1,4 +1,4 @@
--- What a call of a row comes to.
+-- The outcome of a call of a row.
 use Rattle.std.specs.Prelude.{◌≡◌, ℕ, Bool, true, false, ◌||◌, nat_eq, nat_le, List, length, Option, Some, None, Result, Ok, Err, if◌then◌else◌}
 use Rattle.std.specs.Option.{option_map_or, unwrap_or}
 use Rattle.std.specs.Str.{encode_utf8_all}
@@ -14,24 +14,24 @@ use Rattle.rhai_value.specs.declared.value.access_mode.AccessMode.TheVariants.{R
 use Rattle.rhai_value.specs.Relation.{Renaming, Related}
 use Rattle.rhai_ops.specs.Numbers.{Number}
 
--- A row refuses or answers a value. Operands that the row isn't for come to nothing.
+-- A row gives an error or a value. For operands that the row isn't for there is no outcome.
 pub data Outcome : Type 0 where
   fault : ArithmeticFault → Outcome
   too_large : SizeKind → Outcome
   answers : Tree → Outcome
   unsuited : Outcome
 
--- the second operand of an assignment stays, or unit is left of it
+-- the second operand of an assignment is unchanged, or replaced by unit
 pub data Second : Type 0 where
   stays : Second
   taken : Second
 
--- a row is of an operator, or of an assignment, which says what becomes of the second operand
+-- a row is one of an operator, or of an assignment, with its effect on the second operand
 pub data Effect : Type 0 where
   operator : Effect
   assignment : Second → Effect
 
--- what f makes of two contents, where both are there; and where f comes to something, what they come to
+-- the result of f on two contents, if both exist; and its outcome, if f has one
 abbrev pub of_both : {A B C : Type 0} → (A → B → C) → Option A → Option B → Option C
 of_both f (Some a) (Some b) = Some (f a b)
 of_both f (Some a) None = None
@@ -49,7 +49,7 @@ number_answer None = unsuited
 abbrev pub bool_answer : Option Bool → Outcome
 bool_answer o = option_map_or (λ b. answers (fresh (bool b))) o unsuited
 
--- whether a length is allowed: a limit of 0 is none, and an equal length is
+-- whether a length is allowed: a limit of 0 means none, and a length equal to the limit is allowed
 abbrev pub is_allowed : ℕ → ℕ → Bool
 is_allowed limit n = nat_eq limit 0 || nat_le n limit
 
@@ -69,22 +69,22 @@ is_answer (too_large k) = false
 is_answer (answers t) = true
 is_answer unsuited = false
 
--- what a row comes to, as a result, each refusal at no place; nothing where the operands aren't those of the row
+-- the outcome of a row as a result, each error at no position; none if the operands aren't those of the row
 abbrev pub result_of : Outcome → Option (Result Tree EvalAltResult)
 result_of (fault f) = Some (Err (ErrorArithmetic f no_place))
 result_of (too_large k) = Some (Err (ErrorDataTooLarge k no_place))
 result_of (answers t) = Some (Ok t)
 result_of unsuited = None
 
--- a row comes to a refusal, or to a value that is no constant
+-- the outcome of a row is an error, or a value that isn't a constant
 abbrev pub IsSuited : Outcome → Type 0
 IsSuited (fault f) = Unit {0}
 IsSuited (too_large k) = Unit {0}
 IsSuited (answers t) = mode_of t ≡ ReadWrite
 IsSuited unsuited = ⊥
 
--- The result of a call is that of the outcome, each refusal at no place. Want of memory may stand in the place of a value alone,
--- and only where the row may want memory.
+-- The result of a call is that of the outcome, each error at no position. A failed allocation is
+-- possible only in place of a value, and only if the row may allocate.
 abbrev pub IsOutcome : Type 0 → Result Tree EvalAltResult → Outcome → Type 0
 IsOutcome MayWant (Ok d) o = o ≡ answers d
 IsOutcome MayWant (Err (ErrorArithmetic f p)) o = (o ≡ fault f) × (p ≡ no_place)
@@ -93,7 +93,7 @@ IsOutcome MayWant (Err (ErrorMemory e)) o = MayWant × (is_answer o ≡ true)
 IsOutcome MayWant (Err (ErrorDataRace p)) o = ⊥
 IsOutcome MayWant (Err (ErrorMismatchDataType wanted found p)) o = ⊥
 
--- the same outcomes up to the numbers of cells
+-- the same outcomes up to a renaming of cells
 abbrev pub RelatedOutcomes : Renaming → Outcome → Outcome → Type 0
 RelatedOutcomes r (fault f) (fault g) = f ≡ g
 RelatedOutcomes r (too_large k) (too_large j) = k ≡ j

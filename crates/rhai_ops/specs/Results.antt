@@ -1,4 +1,4 @@
--- What each row asks for, what it answers, and what it may want: one line a row.
+-- The rule of each row: its operands, its outcome, and whether it may allocate; one line per row.
 use Rattle.std.specs.Prelude.{ℕ, ℤ, pos, suc, ◌-◌, ◌^◌, Bool, true, false, not, ◌&&◌, ◌||◌, List, [], ◌∷◌, ◌++◌, Option, Some, None, option_map, nat_eq, IsTrue, IsSome, if◌then◌else◌}
 use Rattle.std.specs.Cmp.Lexicographic.{slice_cmp, pointwise}
 use Rattle.std.specs.Ordering.{bool_cmp, int_cmp, int_eq, nat_cmp}
@@ -24,15 +24,15 @@ use Rattle.rhai_ops.specs.Tokens.{is_number, is_bits, is_cmp, is_assignment, wit
 use Rattle.rhai_ops.specs.Numbers.{number, both_bits, compared}
 use Rattle.rhai_ops.specs.Outcome.{Outcome, Effect, operator, assignment, Second, stays, taken, answers, too_large, of_both, both, number_answer, bool_answer, is_allowed, limited_text, limited_blob}
 
--- what is held of a kind
+-- the held part
 abbrev pub part : {A : Type 0} → (Tree → Option A) → List Cell → Tree → Option A
 part of s t = held_part of (end s [] t)
 
--- texts stand in the order of their characters
+-- texts are ordered by their characters
 abbrev pub text_order : List ℕ → List ℕ → Ordering
 text_order v w = slice_cmp nat_cmp v w
 
--- an equality, or its opposite
+-- an equality, or its negation
 abbrev pub unless : Bool → Bool → Bool
 unless negated b = if negated then not b else b
 
@@ -40,7 +40,7 @@ unless negated b = if negated then not b else b
 abbrev pub int_max : ℤ
 int_max = pos (2 ^ 63 - 1)
 
--- the range between two integers, without its end or with it
+-- the range between two integers, exclusive or inclusive
 abbrev pub range : Bool → ℤ → ℤ → Host
 range false a b = ExclusiveRange (record { start = a; end = b })
 range true a b = InclusiveRange (record { start = a; end = b })
@@ -55,33 +55,33 @@ same_range (ExclusiveRange a) (ExclusiveRange b) = Some (int_eq a.start b.start 
 same_range (InclusiveRange a) (InclusiveRange b) = Some (int_eq a.start b.start && int_eq a.end b.end)
 same_range _ _ = None
 
--- two blobs as one: an empty one leaves the other as it is, without its holders; else the limit is tested
+-- two blobs as one: if one is empty, the result is the other, flat; otherwise the limit is tested
 abbrev pub joined_blobs : Limits → Tree → Tree → List ℕ → List ℕ → Outcome
 joined_blobs l x y v [] = answers x
 joined_blobs l x y [] (b ∷ w) = answers y
 joined_blobs l x y (a ∷ v) (b ∷ w) = limited_blob l ((a ∷ v) ++ (b ∷ w))
 
--- a text behind a text; beside an empty one no limit is tested
+-- a text appended to a text; if one is empty no limit is tested
 abbrev pub joined_texts : Limits → List ℕ → List ℕ → Outcome
 joined_texts l v [] = answers (fresh (text v))
 joined_texts l [] (d ∷ w) = answers (fresh (text (d ∷ w)))
 joined_texts l (c ∷ v) (d ∷ w) = limited_text l ((c ∷ v) ++ (d ∷ w))
 
--- a text behind a character; an empty one leaves the character, and no limit is tested
+-- a text appended to a character; if it is empty the result is the character, and no limit is tested
 abbrev pub joined_to_char : Limits → ℕ → List ℕ → Outcome
 joined_to_char l c [] = answers (fresh (char c))
 joined_to_char l c (d ∷ w) = limited_text l (c ∷ d ∷ w)
 
--- bytes behind a blob
+-- bytes appended to a blob
 abbrev pub appended : Limits → List ℕ → List ℕ → Outcome
 appended l v w = limited_blob l (v ++ w)
 
--- the bytes of a text behind a blob; of an empty one no limit is tested
+-- the bytes of a text appended to a blob; if it is empty no limit is tested
 abbrev pub blob_and_text : Limits → List ℕ → List ℕ → Outcome
 blob_and_text l v [] = answers (fresh (blob v))
 blob_and_text l v (d ∷ w) = appended l v (encode_utf8_all (d ∷ w))
 
--- how many items there are, and items behind items
+-- the number of items, and items appended to items
 abbrev pub count : Trees → ℕ
 count no_trees = 0
 count (tree_then t ts) = suc (count ts)
@@ -94,19 +94,20 @@ then_items (tree_then t ts) us = tree_then t (then_items ts us)
 abbrev pub limited_array : Limits → Trees → Outcome
 limited_array l ts = if is_allowed l.items (count ts) then answers (made (branch array ts)) else too_large size.Items
 
--- an item behind the others; and items behind items, where beside none no limit is tested
+-- an item appended to others; and items appended to items, where for none no limit is tested
 abbrev pub pushed : Limits → Trees → Tree → Outcome
 pushed l ts u = limited_array l (then_items ts (tree_then u no_trees))
 
 abbrev pub joined_items : Limits → Trees → Trees → Outcome
 joined_items l ts us = if nat_eq (count ts) 0 || nat_eq (count us) 0 then answers (made (branch array (then_items ts us))) else limited_array l (then_items ts us)
 
--- what is held has such a part
+-- the held value has such a part
 abbrev pub Holds : {A : Type 0} → (Tree → Option A) → List Cell → Tree → Type 0
 Holds of s t = IsSome (part of s t)
 
--- What a row says: what it asks of its operator and of its operands, what it comes to on them, by which order it compares them, when
--- memory may be wanted, whether it looks at the limits, and whether it answers or writes. Both operands are read before anything is written.
+-- A row's rule: what it requires of its operator and its operands, its outcome on them, the order
+-- by which it compares them, when it may allocate, whether it reads the limits, and whether it
+-- returns or writes. Both operands are read before anything is written.
 pub record Rule : Type 1 where
   pub asks : List Cell → Tree → Tree → Type 0
   pub comes_to : Limits → List Cell → Tree → Tree → Outcome
@@ -115,11 +116,12 @@ pub record Rule : Type 1 where
   pub looks : Bool
   pub effect : Effect
 
--- of any two operands; nothing is compared, no memory is wanted, no limit is looked at, and nothing is written
+-- for any two operands; compares nothing, never allocates, reads no limit, and writes nothing
 abbrev pub of_any : (Tree → Tree → Outcome) → Rule
 of_any f = record { asks = λ s x y. Unit {0}; comes_to = λ l s x y. f x y; order = λ s x y. None; wants = λ x y. ⊥; looks = false; effect = operator }
 
--- the same of a first operand that holds such a part, and a second one that is as asked, of which this is read
+-- the same for a first operand that holds such a part, and a second one that satisfies a condition,
+-- from which this is read
 abbrev pub of_read : {A B : Type 0} → (Tree → Option A) → (List Cell → Tree → Type 0) → (List Cell → Tree → Option B) → (Limits → A → B → Outcome) → Rule
 of_read first asked second f = record {
   asks = λ s x y. Holds first s x × asked s y;
@@ -130,12 +132,12 @@ of_read first asked second f = record {
   effect = operator;
 }
 
--- the same of two operands that hold such parts
+-- the same for two operands that hold such parts
 abbrev pub of_parts : {A B : Type 0} → (Tree → Option A) → (Tree → Option B) → (Limits → A → B → Outcome) → Rule
 of_parts first second f = of_read first (Holds second) (part second) f
 
--- a rule of some operators alone; of one that makes a text, a blob or an array, for which memory may be wanted; the same where a limit is
--- looked at
+-- a rule for some operators only; one that makes a text, a blob or an array, and may allocate for
+-- it; the same, reading a limit
 abbrev pub only_if : Bool → Rule → Rule
 only_if b r = record r { asks = λ s x y. IsTrue b × r.asks s x y }
 
@@ -145,7 +147,7 @@ making r = record r { wants = λ x y. Unit {0} }
 abbrev pub limited : Rule → Rule
 limited r = record r { wants = λ x y. Unit {0}; looks = true }
 
--- a rule of an assignment, which writes what it comes to, and after which the second operand stays, or unit is left of it
+-- a rule of an assignment, which writes its outcome, and leaves the second operand unchanged or replaces it by unit
 abbrev pub writing : Second → Rule → Rule
 writing second r = record r { effect = assignment second }
 
@@ -158,7 +160,7 @@ comparing t first second order =
 abbrev pub blob_join : Rule
 blob_join = record (limited (of_parts blob_of blob_of appended)) { comes_to = λ l s x y. both (joined_blobs l (flat s x) (flat s y)) (part blob_of s x) (part blob_of s y) }
 
--- what an operator and its assignment have alike
+-- common to an operator and its assignment
 abbrev pub of_ints : Token → Rule
 of_ints t = only_if (is_number t) (of_parts int_of int_of (λ l m n. number_answer (number t m n)))
 
@@ -219,18 +221,18 @@ rule row.BlobPush = writing stays (limited (of_read blob_of (Holds int_of) (λ s
 rule row.BlobCharAssign = writing stays blob_and_char
 rule row.BlobTextAssign = writing stays (limited (of_parts blob_of text_of blob_and_text))
 
--- what a row comes to on x and y in the store s, under the limits l
+-- the outcome of a row on x and y in the store s, with the limits l
 abbrev pub outcome : FnBuiltin → Limits → List Cell → Tree → Tree → Outcome
 outcome b l s x y = (rule b).comes_to l s x y
 
--- what a row asks of its operator and of its operands
+-- what a row requires of its operator and of its operands
 abbrev pub Suits : FnBuiltin → List Cell → Tree → Tree → Type 0
 Suits b s x y = (rule b).asks s x y
 
--- whether a row makes a text, a blob, an array or a copy, for which memory may be wanted
+-- whether a row makes a text, a blob, an array or a copy, and may allocate for it
 abbrev pub MayWant : FnBuiltin → Tree → Tree → Type 0
 MayWant b x y = (rule b).wants x y
 
--- whether a row looks at the limits
+-- whether a row reads the limits
 abbrev pub is_limited : FnBuiltin → Bool
 is_limited b = (rule b).looks

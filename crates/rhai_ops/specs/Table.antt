@@ -1,4 +1,4 @@
--- The table of binary operators: which row an operator has on two operands.
+-- The table of binary operators: the row of an operator for two operands.
 use Rattle.std.specs.Prelude.{Bool, true, false, ◌||◌, ◌&&◌, List, [], ◌∷◌, Option, Some, None, if◌then◌else◌}
 use Rattle.std.specs.List.{list_any}
 use Rattle.rhai_text.specs.declared.token.Token.{Token}
@@ -15,7 +15,7 @@ use Rattle.rhai_ops.specs.declared.operand_kind.OperandKind.{OperandKind}
 use Rattle.rhai_ops.specs.declared.operand_kind.OperandKind.TheVariants as is
 use Rattle.rhai_ops.specs.Tokens.{is_number, is_bits, is_cmp, is_token}
 
--- the constructor of a value, as far as the table tells constructors apart
+-- the constructor of a value, as far as the table distinguishes constructors
 abbrev pub leaf_operand : Leaf → OperandKind
 leaf_operand unit = is.Unit
 leaf_operand (bool b) = is.Bool
@@ -32,16 +32,16 @@ operand_kind (node (branch (function f) ts) g m) = is.Other
 operand_kind (node (fields fs) g m) = is.Other
 operand_kind (node (holder c) g m) = is.Other
 
--- a line of the table: rows, each with the question whether the operator is one of its operand_kind
+-- a line of the table: rows, each with the condition that the operator is one of its operand_kind
 abbrev pub Line : Type 0
 Line = List (Bool × FnBuiltin)
 
--- the first row of the line whose question is answered yes
+-- the first row of the line whose condition holds
 abbrev pub pick : Line → Option FnBuiltin
 pick [] = None
 pick ((asked, r) ∷ rest) = if asked then Some r else pick rest
 
--- the nine numbers of the host and i64
+-- the nine integer types of the host, and i64
 abbrev pub is_numeric : TypeId → Bool
 is_numeric k =
     list_any (is_type k) (id.Int ∷ id.U8 ∷ id.U16 ∷ id.U32 ∷ id.U64 ∷ id.U128 ∷ id.I8 ∷ id.I16 ∷ id.I32 ∷ id.I128 ∷ [])
@@ -49,7 +49,7 @@ is_numeric k =
 abbrev pub is_range_type : TypeId → Bool
 is_range_type k = list_any (is_type k) (id.ExclusiveRange ∷ id.InclusiveRange ∷ [])
 
--- by the held types; `Shared` is the type where a chain is stuck or closed
+-- by the held types; `Shared` is the type of a chain that is stuck or closed
 abbrev pub type_line : Token → TypeId → TypeId → Line
 type_line t a b =
     if is_type a id.Shared || is_type b id.Shared then []
@@ -59,7 +59,8 @@ type_line t a b =
     else (if is_type a b || (is_numeric a && is_numeric b) then []
     else (is_token t op.NotEqualsTo, row.ConstTrue) ∷ (is_cmp t, row.ConstFalse) ∷ []))
 
--- The line of two constructors, whose questions are about the operator t. One that ends in `types` goes on with that of the held types.
+-- The line of two constructors, with conditions on the operator t. A line that ends in `types`
+-- continues with that of the held types.
 abbrev pub rows_of_kinds : Token → OperandKind → OperandKind → Line → Line
 rows_of_kinds t is.Int is.Int types = (is_number t, row.Int t) ∷ (is_cmp t, row.IntCompare t) ∷ (is_token t op.ExclusiveRange, row.IntRange false) ∷ (is_token t op.InclusiveRange, row.IntRange true) ∷ []
 rows_of_kinds t is.Bool is.Bool types = (is_cmp t, row.BoolCompare t) ∷ (is_bits t, row.Bool t) ∷ []

@@ -1,4 +1,4 @@
--- The questions that the lines of the tables ask of an operator.
+-- The conditions on an operator in the lines of the tables.
 use Rattle.std.specs.Prelude.{Bool, not, ◌&&◌, is_some, pos, false}
 use Rattle.std.specs.declared.cmp.Ordering.TheVariants.{Equal}
 use denote.Enum.Bare.{sameb}
@@ -7,15 +7,15 @@ use Rattle.rhai_text.specs.declared.token.Token.{Token}
 use Rattle.rhai_text.specs.declared.token.Token.TheVariants as op
 use Rattle.rhai_ops.specs.Numbers.{number, both_bits, compared}
 
--- one operator alone
+-- whether it is this operator
 abbrev pub is_token : Token → Token → Bool
 is_token t u = sameb token.the_type t u
 
--- the eleven that make a number of any two ints: arithmetic, power, shifts and bits
+-- the eleven that give a number for any two ints: arithmetic, power, shifts and bits
 abbrev pub is_number : Token → Bool
 is_number t = is_some (number t (pos 0) (pos 0))
 
--- `&`, `|` and `^`, which work on booleans too
+-- `&`, `|` and `^`, which are also defined on booleans
 abbrev pub is_bits : Token → Bool
 is_bits t = is_some (both_bits t false false)
 
@@ -23,7 +23,7 @@ is_bits t = is_some (both_bits t false false)
 abbrev pub is_cmp : Token → Bool
 is_cmp t = is_some (compared t Equal)
 
--- the operator that does what an assignment does before it writes; any other operator is itself
+-- the operator that an assignment applies before it writes; any other operator itself
 abbrev pub without_assign : Token → Token
 without_assign op.PlusAssign = op.Plus
 without_assign op.MinusAssign = op.Minus

@@ -1,4 +1,4 @@
-//! Assignments that write what their operators answer.
+//! Assignments that write the result of their operator.
 ghost use Rattle.std.specs.Prelude.{◌≡◌, ◌∷◌, [], Ok, IsTrue};
 ghost use Rattle.rhai_text.specs.Text.{minus, minus_char};
 ghost use Rattle.rhai_value.specs.End.{end, value_after, store_after};
@@ -18,7 +18,7 @@ use rhai_text::{EvalAltResult, Limits, Token};
 use rhai_value::{Dynamic, Store};
 use std::alloc::Global;
 
-/// `&`, `|` or `^` of two booleans in the place of the first.
+/// Replaces the first boolean by `&`, `|` or `^` of the two.
 #[inline(never)]
 #[tactic(auto, using(crate::proofs::Effects::still_answer))]
 pub(crate) fn bits(
@@ -39,7 +39,7 @@ pub(crate) fn bits(
     )
 }
 
-/// The text of two characters in the place of the first.
+/// Replaces the first character by the text of both.
 #[inline(never)]
 #[tactic(auto, using(crate::proofs::Effects::still_answer))]
 pub(crate) fn two_chars(
@@ -59,7 +59,7 @@ pub(crate) fn two_chars(
     )
 }
 
-/// The occurrences of a text out of a text.
+/// Removes the occurrences of a text from a text.
 #[inline(never)]
 #[tactic(auto, using(crate::proofs::Effects::still_answer))]
 pub(crate) fn text_minus_text(
@@ -75,7 +75,7 @@ pub(crate) fn text_minus_text(
     put(texts::minus(alloc, store, left, right)?, store, left)
 }
 
-/// A character out of a text.
+/// Removes a character from a text.
 #[inline(never)]
 #[tactic(auto, using(crate::proofs::Effects::still_answer))]
 pub(crate) fn text_minus_char(
@@ -91,7 +91,7 @@ pub(crate) fn text_minus_char(
     put(texts::minus_char(alloc, store, left, right)?, store, left)
 }
 
-/// A text behind a character, in its place.
+/// Appends a text to a character, and replaces it by the result.
 #[inline(never)]
 #[tactic(auto, using(crate::proofs::Effects::still_answer))]
 pub(crate) fn char_and_text(
@@ -112,7 +112,7 @@ pub(crate) fn char_and_text(
     )
 }
 
-/// Writes a value to the place, and answers unit.
+/// Writes a value to the place, and returns unit.
 fn put(new: Dynamic, store: &mut Store, left: &mut Dynamic) -> Result<Dynamic, EvalAltResult>
     ensures result { result ≡ Ok (fresh unit) }
     ensures value { left.new ≡ value_after (rewritten new) (end store.old [] left.old) left.old }

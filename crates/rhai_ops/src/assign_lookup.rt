@@ -1,4 +1,4 @@
-//! The lookup of assignments.
+//! The look-up of assignments.
 ghost use Rattle.std.specs.Prelude.{◌≡◌, ◌∷◌, []};
 ghost use Rattle.rhai_ops.specs.AssignTable.{assign_row, assign_line};
 ghost use Rattle.rhai_ops.specs.Table.{pick};
@@ -11,9 +11,9 @@ use crate::tokens::{is_assignment, is_bits_assignment};
 use rhai_text::Token;
 use rhai_value::Dynamic;
 
-/// Finds the row of an assignment on these operands, by their own constructors alone.
-/// So it takes no store, where `get_builtin_binary_op_fn` does: on a holder there is no row, and a caller that wants the
-/// row of what is shared hands that in.
+/// Finds the row of an assignment on these operands, by their own constructors only.
+/// So it takes no store, unlike `get_builtin_binary_op_fn`: a holder has no row, and a caller that
+/// wants the row of a shared value passes that value.
 /// Cost: constant; no memory.
 /// rhai: `get_builtin_op_assignment_fn`.
 pub fn get_builtin_op_assignment_fn(

@@ -1,4 +1,4 @@
-//! Blobs under operators.
+//! Operators on blobs.
 ghost use Rattle.std.specs.Prelude.{◌++◌, Some, nat_eq};
 ghost use Rattle.std.specs.Cmp.Lexicographic.{pointwise};
 ghost use Rattle.rhai_value.specs.End.{flat};
@@ -11,7 +11,8 @@ use rhai_text::{EvalAltResult, Limits, Position, SizeKind};
 use rhai_value::{Blob, Dynamic, Store};
 use std::alloc::Global;
 
-/// A blob behind a blob. Where one is empty the other is copied as it is held, and no limit is tested.
+/// Appends a blob to a blob. If one is empty, the other is copied as it is held, and no limit is
+/// tested.
 pub(crate) fn join(
     alloc: Global,
     store: &Store,
@@ -34,7 +35,7 @@ pub(crate) fn join(
     appended(alloc, limits, a, b)
 }
 
-/// The bytes and then the others, for which room is taken once.
+/// The bytes followed by the others, with one allocation.
 fn appended(alloc: Global, limits: &Limits, a: &[u8], b: &[u8]) -> Result<Dynamic, EvalAltResult>
     ensures { IsOutcome (Unit {0}) result (limited_blob limits.now (a.now ++ b.now)) }
 {
@@ -47,7 +48,7 @@ fn appended(alloc: Global, limits: &Limits, a: &[u8], b: &[u8]) -> Result<Dynami
     Ok(Dynamic::from_blob(bytes))
 }
 
-/// Whether two blobs have the same bytes, or the opposite.
+/// Whether two blobs have the same bytes, or the negation.
 pub(crate) fn equal(
     negated: bool,
     store: &Store,
@@ -62,7 +63,7 @@ pub(crate) fn equal(
     Ok(Dynamic::from_bool(unless(negated, same)))
 }
 
-/// The UTF-8 bytes of a character behind a blob.
+/// Appends the UTF-8 bytes of a character to a blob.
 pub(crate) fn join_char(
     alloc: Global,
     limits: &Limits,

@@ -1,4 +1,4 @@
-//! Booleans under operators.
+//! Operators on booleans.
 ghost use Rattle.std.specs.Prelude.{◌≡◌, IsTrue, Some, true, false};
 ghost use Rattle.std.specs.Ordering.{bool_cmp};
 ghost use Rattle.rhai_ops.specs.Numbers as specs;
@@ -27,7 +27,7 @@ pub(crate) fn assigned(op: Token, a: bool, b: bool) -> Result<Dynamic, EvalAltRe
     Ok(Dynamic::from_bool(holds_of(without_assign(op), a, b)))
 }
 
-/// Whether one of the three operators holds of two booleans.
+/// The result of one of the three operators on two booleans.
 #[tactic(auto, using(crate::proofs::Questions::some_bits))]
 fn holds_of(op: Token, a: bool, b: bool) -> bool
     requires { IsTrue (is_bits op) }
@@ -36,7 +36,7 @@ fn holds_of(op: Token, a: bool, b: bool) -> bool
     both_bits(op, a, b) == Some(true)
 }
 
-/// What one of the three operators makes of two booleans; nothing of another operator.
+/// The result of one of the three operators on two booleans; `None` for another operator.
 fn both_bits(op: Token, a: bool, b: bool) -> Option<bool>
     ensures { result ≡ specs.both_bits op a b }
 {
@@ -75,7 +75,7 @@ fn both_bits(op: Token, a: bool, b: bool) -> Option<bool>
     }
 }
 
-/// A comparison of two booleans, of which false is the lesser.
+/// A comparison of two booleans; false is less than true.
 pub(crate) fn compare(op: Token, a: bool, b: bool) -> Result<Dynamic, EvalAltResult>
     requires { IsTrue (is_cmp op) }
     ensures { IsOutcome ⊥ result (bool_answer (specs.compared op (bool_cmp a b))) }

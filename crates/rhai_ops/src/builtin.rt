@@ -4,22 +4,23 @@ ghost use Rattle.rhai_ops.specs.Results.{is_limited};
 
 use rhai_text::Token;
 
-/// A built-in operator on operands of certain types: a row of the tables. Lookups answer it. The first 25 are between two
-/// operands; the others assign: they write the place where the chain of the first operand ends.
-/// rhai: the function with a flag that its lookups answer.
+/// A built-in operator on operands of certain types: a row of the tables, as look-ups return it.
+/// The first 25 are operators on two values; the others are assignments, which write the place
+/// where the chain of the first operand ends.
+/// rhai: the function, with a flag, that its look-ups return.
 #[derive(Clone, Copy, Debug, PartialEq, Eq)]
 pub enum FnBuiltin {
     /// Two ints, by one of the first eleven operators.
     Int(Token),
     /// Two ints, compared.
     IntCompare(Token),
-    /// The range between two ints; with its end where the flag is set.
+    /// The range between two ints; inclusive if the flag is set.
     IntRange(bool),
-    /// Two booleans, compared: false is below true.
+    /// Two booleans, compared: false is less than true.
     BoolCompare(Token),
     /// Two booleans, by `&`, `|` or `^`.
     Bool(Token),
-    /// A text behind a text.
+    /// A text appended to a text.
     TextJoin,
     /// A text without the occurrences of a text.
     TextMinus,
@@ -29,68 +30,69 @@ pub enum FnBuiltin {
     CharJoin,
     /// Two characters, compared.
     CharCompare(Token),
-    /// A blob behind a blob.
+    /// A blob appended to a blob.
     BlobJoin,
-    /// Whether two blobs have the same bytes; the opposite where the flag is set.
+    /// Whether two blobs have the same bytes; negated if the flag is set.
     BlobEqual(bool),
     /// `true`.
     ConstTrue,
     /// `false`.
     ConstFalse,
-    /// The range from an int to the greatest one; with its end where the flag is set.
+    /// The range from an int to the greatest one; inclusive if the flag is set.
     RangeFrom(bool),
-    /// The range from 0 to an int; with its end where the flag is set.
+    /// The range from 0 to an int; inclusive if the flag is set.
     RangeTo(bool),
-    /// A text behind a character.
+    /// A text appended to a character.
     CharText,
-    /// A character, as the text of it alone, compared with a text.
+    /// A character, as a text of its own, compared with a text.
     CharTextCompare(Token),
-    /// A character behind a text.
+    /// A character appended to a text.
     TextChar,
     /// A text without a character.
     TextMinusChar,
-    /// A text compared with a character, as the text of it alone.
+    /// A text compared with a character, as a text of its own.
     TextCharCompare(Token),
     /// A copy of the first operand.
     FirstCopy,
     /// A copy of the second operand.
     SecondCopy,
-    /// The UTF-8 bytes of a character behind a blob.
+    /// The UTF-8 bytes of a character appended to a blob.
     BlobChar,
-    /// Whether two ranges, with their ends where the first flag is set, are the same; the opposite where the second one is.
+    /// Whether two ranges, inclusive if the first flag is set, are equal; negated if the second one
+    /// is.
     RangeEqual(bool, bool),
     /// Two ints, by one of the eleven assignments.
     IntAssign(Token),
     /// Two booleans, by `&=`, `|=` or `^=`.
     BoolAssign(Token),
-    /// The text of two characters in the place of the first.
+    /// Replaces the first character by the text of both.
     CharJoinAssign,
-    /// A text behind a text.
+    /// Appends a text to a text.
     TextJoinAssign,
-    /// The occurrences of a text out of a text.
+    /// Removes the occurrences of a text from a text.
     TextMinusAssign,
-    /// The items of an array behind those of an array.
+    /// Appends the items of an array to an array.
     ArrayAppend,
-    /// A blob behind a blob.
+    /// Appends a blob to a blob.
     BlobAppend,
-    /// A character behind a text.
+    /// Appends a character to a text.
     TextCharAssign,
-    /// A character out of a text.
+    /// Removes a character from a text.
     TextMinusCharAssign,
-    /// A text behind a character, in its place.
+    /// Appends a text to a character, and replaces it by the result.
     CharTextAssign,
-    /// A value behind the items of an array.
+    /// Appends a value to an array.
     ArrayPush,
-    /// The low byte of an int behind a blob.
+    /// Appends the low byte of an int to a blob.
     BlobPush,
-    /// The UTF-8 bytes of a character behind a blob.
+    /// Appends the UTF-8 bytes of a character to a blob.
     BlobCharAssign,
-    /// The UTF-8 bytes of a text behind a blob.
+    /// Appends the UTF-8 bytes of a text to a blob.
     BlobTextAssign,
 }
 
 impl FnBuiltin {
-    /// Tells whether the row looks at the limits.
+    /// Returns whether the row reads the limits.
     pub fn uses_limits(&self) -> bool
         ensures { result ≡ is_limited self.now }
     {

@@ -16,14 +16,15 @@ use std::alloc::Global;
 use std::cmp::Ordering;
 
 impl FnBuiltin {
-    /// Calls the row on these operands, which hold what it asks for. An operator changes nothing. An assignment writes what
-    /// it comes to where the chain of the first operand ends, and answers unit; both operands are read before, also where
-    /// they are holders of one cell.
-    /// Errors: `ErrorArithmetic` where an int has no answer, `ErrorDataTooLarge` where the new length is above its limit,
-    /// each at `Position::NONE`; `ErrorMemory` where a growth was refused, which is of the rows that make a text, a blob,
-    /// an array or a copy alone. Operands and store are then as they were.
-    /// Cost: the length of the operands' texts, blobs and items; of ints, booleans and characters constant, with no memory.
-    /// rhai: a call of the function that a lookup answered.
+    /// Calls the row on these operands, which hold the types it requires. An operator changes
+    /// nothing. An assignment writes its result where the chain of the first operand ends, and
+    /// returns unit; both operands are read first, even if they are holders of one cell.
+    /// Errors: `ErrorArithmetic` if ints have no result, `ErrorDataTooLarge` if the new length
+    /// exceeds its limit, each at `Position::NONE`; `ErrorMemory` if an allocation fails, only for
+    /// rows that make a text, a blob, an array or a copy. Operands and store are then unchanged.
+    /// Cost: the length of the operands' texts, blobs and items; for ints, booleans and characters
+    /// constant, without memory.
+    /// rhai: a call of the function that a look-up returned.
     #[inline(always)]
     #[tactic(auto, using(crate::proofs::Effects::answered_refuses, crate::proofs::Effects::answered_value))]
     pub fn call(
@@ -46,7 +47,7 @@ impl FnBuiltin {
         self.call_row(alloc, store, limits, left, right)
     }
 
-    /// The same, but for what the answer says of the row.
+    /// The same, without the contract that relates the result to the row.
     #[inline(always)]
     fn call_row(
         &self,
@@ -72,7 +73,8 @@ impl FnBuiltin {
             }
         }
         match *self {
-            // `return` hands the answer on; as what the match comes to, it would be written to a local of all arms, and read again
+            // `return` passes the result on directly; as the value of the match it would be written
+            // to a local shared by all arms, and read again
             FnBuiltin::Int(_)
             | FnBuiltin::IntCompare(_)
             | FnBuiltin::IntRange(_)
@@ -120,8 +122,9 @@ impl FnBuiltin {
         }
     }
 
-    /// Calls the row of an operator on these operands, which are only read: it answers what `call` does.
-    /// Errors: as those of `call`.
+    /// Calls the row of an operator on these operands, which are only read: returns what `call`
+    /// does.
+    /// Errors: those of `call`.
     /// Cost: that of `call`.
     #[inline(always)]
     pub fn call_ref(
@@ -197,7 +200,8 @@ impl FnBuiltin {
             FnBuiltin::BlobChar => blobs::join_char(alloc, limits, store, left, right),
             FnBuiltin::RangeEqual(false, n) => ranges::equal_exclusive(n, store, left, right),
             FnBuiltin::RangeEqual(true, n) => ranges::equal_inclusive(n, store, left, right),
-            // Rows of operators and of assignments are one type, as what a look-up hands out; the `requires` asks for an operator's.
+            // Rows of operators and of assignments have one type, since look-ups return both; the
+            // `requires` demands an operator's.
             FnBuiltin::IntAssign(_)
             | FnBuiltin::BoolAssign(_)
             | FnBuiltin::CharJoinAssign
@@ -215,7 +219,8 @@ impl FnBuiltin {
         }
     }
 
-    /// What a row answers on what the operands have themselves, where these are ints or texts that it compares: most are.
+    /// The result of a row on the operands' own contents, if these are ints or texts that it
+    /// compares, as most are.
     #[inline(always)]
     fn own_answer(
         &self,
@@ -252,7 +257,7 @@ impl FnBuiltin {
         None
     }
 
-    /// The order by which a row compares; the other rows have none.
+    /// The order by which a row compares; `None` for other rows.
     pub(crate) fn order(self, left: &Dynamic, right: &Dynamic, store: &Store) -> Option<Ordering>
         requires { Suits self store.now left.now right.now }
         ensures { result ≡ row_order self store.now left.now right.now }

@@ -1,4 +1,4 @@
-//! Characters under operators.
+//! Operators on characters.
 ghost use Rattle.std.specs.Prelude.{IsTrue, ◌≡◌, ◌≤◌, ◌∷◌, [], length};
 ghost use Rattle.std.specs.Str.{chars, encode_utf8_all};
 ghost use Rattle.std.specs.Ordering.{nat_cmp};
@@ -16,7 +16,7 @@ use rhai_value::Dynamic;
 use std::alloc::Global;
 use std::cmp::Ordering;
 
-/// The text of a character alone, in the buffer.
+/// The text of a character, in the buffer.
 #[tactic(auto, using(crate::proofs::Lengths::spelled_characters, crate::proofs::Lengths::spelled_bytes))]
 pub(crate) fn spelled(c: char, buffer: &mut [u8]) -> &str
     requires { 4 ≤ length buffer.old }
@@ -26,7 +26,7 @@ pub(crate) fn spelled(c: char, buffer: &mut [u8]) -> &str
     c.encode_utf8(buffer)
 }
 
-/// The text of two characters, which the limit allows.
+/// The text of two characters, if the limit allows it.
 #[tactic(auto, using(crate::proofs::Lengths::joined_length))]
 pub(crate) fn join(
     alloc: Global,
@@ -44,7 +44,7 @@ pub(crate) fn join(
     append(alloc, a, b)
 }
 
-/// The text of two characters, for which no limit is tested.
+/// The text of two characters, without a test of the limit.
 pub(crate) fn append(alloc: Global, a: char, b: char) -> Result<Dynamic, EvalAltResult>
     ensures { IsOutcome (Unit {0}) result (answers (fresh (a_text (a ∷ b ∷ [])))) }
 {
@@ -61,7 +61,7 @@ pub(crate) fn compare(op: Token, a: char, b: char) -> Result<Dynamic, EvalAltRes
     Ok(Dynamic::from_bool(holds(op, a.cmp(&b))))
 }
 
-/// A text behind a character.
+/// Appends a text to a character.
 #[tactic(auto, using(crate::proofs::Lengths::joined_length))]
 pub(crate) fn join_text(
     alloc: Global,
@@ -79,7 +79,8 @@ pub(crate) fn join_text(
     Ok(Dynamic::from(b.with_slice(alloc, 0, 0, true, a)?))
 }
 
-/// A text behind a character. An empty one leaves the character, and no limit is tested.
+/// Appends a text to a character. For an empty text the result is the character, and no limit is
+/// tested.
 pub(crate) fn append_text(
     alloc: Global,
     limits: &Limits,
@@ -94,7 +95,7 @@ pub(crate) fn append_text(
     join_text(alloc, limits, a, b)
 }
 
-/// A comparison of a character, as the text of it alone, with a text.
+/// Compares a character, as a text of its own, with a text.
 pub(crate) fn compare_text(
     op: Token,
     a: char,
@@ -106,7 +107,7 @@ pub(crate) fn compare_text(
     Ok(Dynamic::from_bool(holds(op, text_order_of(a, b))))
 }
 
-/// The order of a character, as the text of it alone, and a text.
+/// The order of a character, as a text of its own, and a text.
 pub(crate) fn text_order_of(a: char, b: &ImmutableString) -> Ordering
     ensures { result ≡ text_order (a ∷ []) b.now }
 {

@@ -1,4 +1,4 @@
-//! What a comparison says of the order of two contents.
+//! The result of a comparison, given the order of the operands.
 ghost use Rattle.std.specs.Prelude.{◌≡◌, IsTrue, Some};
 ghost use Rattle.rhai_ops.specs.Numbers as specs;
 ghost use Rattle.rhai_ops.specs.Tokens.{is_cmp};
@@ -6,7 +6,7 @@ ghost use Rattle.rhai_ops.specs.Tokens.{is_cmp};
 use rhai_text::Token;
 use std::cmp::Ordering;
 
-/// Tells whether a comparison holds of two contents that stand in this order; nothing of another operator.
+/// Returns whether a comparison holds for two contents in this order; `None` for another operator.
 /// Cost: constant; no memory.
 pub fn compared(op: Token, order: Ordering) -> Option<bool>
     ensures { result ≡ specs.compared op order }
@@ -46,7 +46,7 @@ pub fn compared(op: Token, order: Ordering) -> Option<bool>
     }
 }
 
-/// Whether a comparison holds of two contents that stand in this order.
+/// Whether a comparison holds for two contents in this order.
 #[inline(always)]
 #[tactic(auto, using(crate::proofs::Questions::some_order))]
 pub(crate) fn holds(op: Token, order: Ordering) -> bool

@@ -1,4 +1,4 @@
-//! Assignments that put a text or a character behind the text of a place, where that one stands.
+//! Assignments that append to the text of a place, in place.
 ghost use Rattle.std.specs.Prelude.{◌≡◌, ◌++◌, ◌∷◌, [], if◌then◌else◌, Some, OnErr, OnOk};
 ghost use Rattle.std.specs.Str.{chars};
 ghost use Rattle.rhai_text.specs.declared.error.SizeKind.TheVariants as size;
@@ -14,7 +14,7 @@ use rhai_text::{EvalAltResult, ImmutableString, Limits, Position, SizeKind};
 use rhai_value::{Dynamic, InStore, Part, Store};
 use std::alloc::Global;
 
-/// Characters behind a text, or the text as it was.
+/// Appends characters to a text, or leaves it unchanged on failure.
 #[tactic(auto, using(crate::proofs::Lengths::extended_length))]
 fn extend(
     alloc: Global,
@@ -33,7 +33,7 @@ fn extend(
     Ok(Dynamic::UNIT)
 }
 
-/// Whether the limit allows a text behind a text; beside an empty one it isn't asked.
+/// Whether the limit allows appending a text to a text; always if one is empty.
 #[tactic(auto, using(crate::proofs::Joined::none_behind, crate::proofs::Joined::behind_none, crate::proofs::Joined::both_some, crate::proofs::Lengths::joined_length))]
 fn may_join(limits: &Limits, text: &ImmutableString, more: &ImmutableString) -> bool
     ensures { joined_texts limits.now text.now more.now ≡ (if result then answers (fresh (a_text (text.now ++ more.now))) else too_large size.Text) }
@@ -44,7 +44,7 @@ fn may_join(limits: &Limits, text: &ImmutableString, more: &ImmutableString) -> 
     is_allowed(limits.text, text.len(), more.len())
 }
 
-/// A text behind a text, or the text as it was.
+/// Appends a text to a text, or leaves it unchanged on failure.
 fn append(
     alloc: Global,
     limits: &Limits,
@@ -66,7 +66,7 @@ fn append(
     Ok(Dynamic::UNIT)
 }
 
-/// A text behind the text of the place.
+/// Appends a text to the text of the place.
 fn append_at(
     alloc: Global,
     limits: &Limits,
@@ -86,7 +86,8 @@ fn append_at(
     )
 }
 
-/// The text of the second operand behind the text of the place. One that a cell holds is copied first, since that may be the place's own.
+/// Appends the text of the second operand to the text of the place. A text held in a cell is copied
+/// first, since it may be the place's own.
 #[inline(never)]
 #[tactic(auto, using(crate::proofs::Effects::still_answer))]
 pub(crate) fn text_and_text(
@@ -111,7 +112,7 @@ pub(crate) fn text_and_text(
     append_at(alloc, limits, store, left, &more)
 }
 
-/// A character behind the text of the place.
+/// Appends a character to the text of the place.
 #[inline(never)]
 pub(crate) fn text_and_char(
     alloc: Global,

@@ -1,4 +1,4 @@
-//! Integers under operators.
+//! Operators on integers.
 ghost use Rattle.std.specs.Prelude.{◌≡◌, IsTrue, Some, OnOk, OnErr};
 ghost use Rattle.std.specs.Option.{ok_or};
 ghost use Rattle.std.specs.Ordering.{int_cmp};
@@ -34,7 +34,7 @@ pub(crate) fn answer(
     answer_numbers(op, value(left, store), value(right, store))
 }
 
-/// The same of two numbers.
+/// The same for two numbers.
 #[inline(always)]
 pub(crate) fn answer_numbers(op: Token, i: INT, j: INT) -> Result<Dynamic, EvalAltResult>
     requires { IsTrue (is_number op) }
@@ -62,7 +62,7 @@ pub(crate) fn compare(
     compare_numbers(op, value(left, store), value(right, store))
 }
 
-/// The same of two numbers.
+/// The same for two numbers.
 #[inline(always)]
 pub(crate) fn compare_numbers(op: Token, i: INT, j: INT) -> Result<Dynamic, EvalAltResult>
     requires { IsTrue (is_cmp op) }
@@ -71,7 +71,8 @@ pub(crate) fn compare_numbers(op: Token, i: INT, j: INT) -> Result<Dynamic, Eval
     Ok(Dynamic::from_bool(holds(op, i.cmp(&j))))
 }
 
-/// An assignment of one of these operators to the int at a place. The place and the second operand are each looked up once.
+/// Applies an assignment by one of these operators to the int at a place. The place and the second
+/// operand are each looked up once.
 #[inline(never)]
 pub(crate) fn assign(
     op: Token,
@@ -88,7 +89,7 @@ pub(crate) fn assign(
     assign_number(op, store, left, number)
 }
 
-/// The same of a number.
+/// The same for a number.
 #[inline(always)]
 #[tactic(auto, using(crate::proofs::Questions::base_is_number))]
 pub(crate) fn assign_number(
@@ -105,7 +106,7 @@ pub(crate) fn assign_number(
     write_number(without_assign(op), place.held_part_mut::<INT>(), number)
 }
 
-/// The same of an int that is held and a number.
+/// The same for a held int and a number.
 #[inline(always)]
 fn write_number(op: Token, held: &mut INT, y: INT) -> Result<Dynamic, EvalAltResult>
     requires { IsTrue (is_number op) }
@@ -122,21 +123,22 @@ fn write_number(op: Token, held: &mut INT, y: INT) -> Result<Dynamic, EvalAltRes
     }
 }
 
-/// What an operator makes of two ints that makes an int of any two.
+/// The result of an operator that has one on any two ints.
 #[inline(always)]
 #[tactic(auto, using(crate::proofs::Questions::some_number))]
 fn number(op: Token, x: INT, y: INT) -> Result<INT, ArithmeticFault>
     requires { IsTrue (is_number op) }
     ensures { Some result ≡ specs.number op x y }
 {
-    // Rows name any operator, as the tables do: which ones suit is said by the `requires` of their call, and by no type.
+    // A row can have any operator, as in the tables: the `requires` of its call, and no type, says
+    // which ones suit.
     int_answer(op, x, y).unwrap()
 }
 
-/// Answers what an operator makes of two ints; nothing of an operator that makes no int of them.
-/// Errors: why there is no int.
+/// Returns the result of an operator on two ints; `None` for an operator whose result isn't an int.
+/// Errors: why there is no result.
 /// Cost: constant; no memory.
-/// rhai: what the function of `get_builtin_binary_op_fn` answers on two ints.
+/// rhai: the result of the function of `get_builtin_binary_op_fn` on two ints.
 #[inline(always)]
 pub fn int_answer(op: Token, x: INT, y: INT) -> Option<Result<INT, ArithmeticFault>>
     ensures { result ≡ specs.number op x y }

@@ -1,4 +1,4 @@
-//! Laws of the operators, each the contract of a function that does nothing.
+//! Laws of the operators, each the contract of a function with an empty body.
 ghost use Rattle.std.specs.Prelude.{◌≡◌, ℕ, ℤ, Bool, true, false, [], ◌∷◌, Err, List, Some, option_map, IsTrue};
 ghost use Rattle.rhai_text.specs.Error.{is_memory};
 ghost use Rattle.rhai_text.specs.declared.error.EvalAltResult.{EvalAltResult};
@@ -22,8 +22,8 @@ ghost use Rattle.rhai_ops.specs.Numbers.{compared};
 ghost use Rattle.rhai_ops.specs.Order.{row_order};
 ghost use Rattle.rhai_ops.specs.Effects.{Effect, first_left, operator, second_left, store_left, takes_nothing, effect, writes};
 
-/// The row that an operator has on two operands may be called on them. That of an assignment may be called on a value too whose first
-/// content it was looked up for.
+/// The row found for two operands may be called on them. That of an assignment may also be called
+/// on a value whose first content it was found for.
 #[tactic(auto, using(crate::proofs::Suited::row_suits, crate::proofs::Suited::assigned_suits, crate::proofs::Suited::place_suits))]
 pub fn rows_suit()
     ensures operator { (t : Token) (s : List Cell) (x y : Tree) (b : Row) → row_of t s x y ≡ Some b → Suits b s x y }
@@ -31,14 +31,14 @@ pub fn rows_suit()
     ensures place { (t : Token) (s : List Cell) (x v y : Tree) (b : Row) → first s x ≡ Some v → assign_row t v y ≡ Some b → Suits b s x y }
 {}
 
-/// The rows of operators are those that only answer, the rows of assignments those that write.
+/// The rows of operators only return a result; the rows of assignments write.
 #[tactic(auto, using(crate::proofs::Roles::operators, crate::proofs::Roles::assignments))]
 pub fn operators_write_nothing()
     ensures operator { (t : Token) (s : List Cell) (x y : Tree) (b : Row) → row_of t s x y ≡ Some b → effect b ≡ operator }
     ensures assignment { (t : Token) (x y : Tree) (b : Row) → assign_row t x y ≡ Some b → IsTrue (writes (effect b)) }
 {}
 
-/// A row that was found for two operands comes to a refusal, or to a value that is no constant.
+/// A row found for two operands gives an error, or a value that isn't a constant.
 #[tactic(auto, using(crate::proofs::Found::found_answers, crate::proofs::Found::assigned_answers, crate::proofs::Found::place_answers))]
 pub fn found_rows_answer()
     ensures operator { (t : Token) (l : Limits) (s : List Cell) (x y : Tree) (b : Row) → row_of t s x y ≡ Some b → IsSuited (outcome b l s x y) }
@@ -46,7 +46,8 @@ pub fn found_rows_answer()
     ensures place { (t : Token) (l : Limits) (s : List Cell) (x v y : Tree) (b : Row) → first s x ≡ Some v → assign_row t v y ≡ Some b → IsSuited (outcome b l s x y) }
 {}
 
-/// A call that fails with another error than want of memory fails as its row says, and memory is wanted for a value alone.
+/// A call fails as its row says, or because an allocation fails, the latter only if its row gives a
+/// value.
 #[tactic(auto, using(crate::proofs::Effects::refused_result, crate::proofs::Effects::refused_memory))]
 pub fn calls_fail_as_rows_say()
     ensures refusal { (b : Row) (l : Limits) (s : List Cell) (x y : Tree) (e : EvalAltResult) → IsOutcome (MayWant b x y) (Err e) (outcome b l s x y)
@@ -55,13 +56,15 @@ pub fn calls_fail_as_rows_say()
         → is_memory e ≡ true → is_answer (outcome b l s x y) ≡ true }
 {}
 
-/// An operator whose row orders two operands answers by that order. (`compare_values` is the order by the row of `<`)
+/// An operator whose row orders two operands gives its result by that order. (`compare_values` is
+/// the order by the row of `<`)
 pub fn comparisons_go_by_the_order()
     ensures { (t : Token) (l : Limits) (s : List Cell) (x y : Tree) (b : Row) (o : Ordering) (c : Bool) → row_of t s x y ≡ Some b
         → row_order b s x y ≡ Some o → compared t o ≡ Some c → outcome b l s x y ≡ answers (fresh (a_bool c)) }
 {}
 
-/// A call keeps the tag and the mode of whatever it writes to: of the first operand, and of what each cell has.
+/// A call keeps the tag and the mode of everything that it writes: of the first operand, and of
+/// each cell's content.
 #[tactic(auto, using(crate::proofs::Labels::tag_stays, crate::proofs::Labels::mode_stays, crate::proofs::Labels::cell_tag_stays, crate::proofs::Labels::cell_mode_stays))]
 pub fn assignments_keep_tag_and_mode()
     ensures tag { (w : Effect) (o : Outcome) (s : List Cell) (x : Tree) → tag_of (first_left w o s x) ≡ tag_of x }
@@ -72,7 +75,8 @@ pub fn assignments_keep_tag_and_mode()
         → option_map mode_of (content_at (store_left w o s x) c) ≡ option_map mode_of (content_at s c) }
 {}
 
-/// The row of an operator or an assignment, what it comes to, and what its call leaves don't depend on the numbers of cells.
+/// The row of an operator or an assignment, its result, and the state after its call don't depend
+/// on cell numbers.
 #[tactic(auto, using(crate::proofs::SameRows::same_row, crate::proofs::SameRows::same_assign_row, crate::proofs::SameRows::same_outcome, crate::proofs::SameEffects::same_first_left, crate::proofs::SameEffects::same_second_left, crate::proofs::SameEffects::same_store_left))]
 pub fn rows_are_renamed()
     ensures row { (r : Renaming) (s z : List Cell) (k : Token) (t u v w : Tree)
@@ -89,7 +93,8 @@ pub fn rows_are_renamed()
         → IsOneToOne r → RelatedCells r s z → RelatedOutcomes r o p → Related r t u → RelatedCells r (store_left w o s t) (store_left w p z u) }
 {}
 
-/// A character compared with a text is ordered as the text of it alone, from either side, and two characters as their texts.
+/// A character compared with a text is ordered as a text of its own, on either side, and two
+/// characters as their texts.
 #[tactic(auto, using(crate::proofs::Characters::first_as_text, crate::proofs::Characters::second_as_text, crate::proofs::Characters::both_as_texts))]
 pub fn characters_compare_as_texts()
     ensures first { (t : Token) (l : Limits) (s : List Cell) (c : ℕ) (g : ℤ) (m : AccessMode) (y : Tree)
@@ -101,8 +106,9 @@ pub fn characters_compare_as_texts()
         ≡ outcome (row.TextCompare t) l s (node (leaf (text (c ∷ []))) g m) (node (leaf (text (d ∷ []))) h n) }
 {}
 
-/// Where an operator and its assignment both have a row for two operands and both come to a value, the first operand has then the
-/// content of the operator's answer. A character that takes an empty text stays as it is.
+/// If an operator and its assignment both have a row for two operands and both succeed, the first
+/// operand then has the content of the operator's result. A character to which an empty text is
+/// appended is unchanged.
 #[tactic(auto, using(crate::proofs::Agree::stays))]
 pub fn assignments_agree()
     ensures content { (t : Token) (l : Limits) (s : List Cell) (x y : Tree) (b a : Row) (v w : Tree)

@@ -1,4 +1,5 @@
-//! The built-in operators of script values: which row of the table an operator has on two operands, and what that row answers.
+//! The built-in operators of script values: which row of the table an operator has for two
+//! operands, and the result of that row.
 #![tactic(auto)]
 
 mod answer;

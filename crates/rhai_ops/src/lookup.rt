@@ -1,4 +1,4 @@
-//! The lookups.
+//! The look-ups.
 ghost use Rattle.std.specs.Prelude.{◌≡◌, ◌∷◌, [], Option, Some, None};
 ghost use Rattle.rhai_value.specs.End.{end, end_type};
 ghost use Rattle.rhai_ops.specs.Table.{row_of, pick, type_line, rows_of_kinds};
@@ -11,7 +11,8 @@ use crate::tokens::{is_bits, is_cmp, is_number};
 use rhai_text::Token;
 use rhai_value::{Dynamic, Store, TypeId};
 
-/// Finds the row of a binary operator on these operands; that of two ints is found first, that of two texts next.
+/// Finds the row of a binary operator for these operands; tests for two ints first, then for two
+/// texts.
 /// Cost: that of `Dynamic::held`; no memory.
 /// rhai: `get_builtin_binary_op_fn`.
 #[inline(always)]
@@ -35,7 +36,8 @@ pub fn get_builtin_binary_op_fn(
     other_row(*op, left, right, store)
 }
 
-/// The row on any operands, in a function of its own, so that the lookup on two ints or texts stays short.
+/// Finds the row for any operands, in a separate function, so that the look-up for two ints or
+/// texts stays short.
 #[inline(never)]
 fn other_row(op: Token, left: &Dynamic, right: &Dynamic, store: &Store) -> Option<FnBuiltin>
     ensures { result ≡ row_of op store.now left.now right.now }
@@ -68,7 +70,7 @@ fn bool_row(t: Token) -> Option<FnBuiltin>
     }
 }
 
-/// The row of the operators of which the question is answered yes.
+/// The row, if the condition holds.
 pub(crate) fn row_if(asked: bool, row: FnBuiltin) -> Option<FnBuiltin>
     ensures { result ≡ pick ((asked, row) ∷ []) }
 {
@@ -138,7 +140,7 @@ fn text_row(t: Token, plus: FnBuiltin, minus: FnBuiltin, compare: FnBuiltin) -> 
     }
 }
 
-/// The row of operands that are never equal.
+/// The row for operands that are never equal.
 fn unlike_row(t: Token) -> Option<FnBuiltin>
     ensures { result ≡ pick ((asked.is_token t Token.NotEqualsTo, FnBuiltin.ConstTrue) ∷ (asked.is_cmp t, FnBuiltin.ConstFalse) ∷ []) }
 {
@@ -149,7 +151,7 @@ fn unlike_row(t: Token) -> Option<FnBuiltin>
     )
 }
 
-/// By the held types.
+/// Finds the row by the held types.
 fn type_row(t: Token, a: TypeId, b: TypeId) -> Option<FnBuiltin>
     ensures { result ≡ pick (type_line t a b) }
 {

@@ -1,4 +1,4 @@
-// The constructor of a value, as far as the table tells constructors apart.
+// The constructor of a value, as far as the table distinguishes constructors.
 ghost use Rattle.std.specs.Prelude.{◌≡◌, IfSome, IsTrue, List, Some};
 ghost use Rattle.rhai_value.specs.declared.cells.store.Cell.{Cell};
 ghost use Rattle.rhai_value.specs.Parts.{int_of, text_of};
@@ -8,7 +8,8 @@ ghost use Rattle.rhai_ops.specs.Table.{operand_kind};
 use rhai_text::ImmutableString;
 use rhai_value::{Dynamic, INT, Union};
 
-// The constructors that the table names; a map, a function pointer, a value of the host and a holder are none of them.
+// The constructors that the table names; a map, a function pointer, a host value and a holder are
+// none of them.
 #[derive(Clone, Copy)]
 pub(crate) enum OperandKind {
     Unit,
@@ -51,7 +52,7 @@ pub(crate) fn is_text(value: &Dynamic) -> bool
     matches!(value.parts(), Union::Str(_, _, _))
 }
 
-// The int that the value itself is, which is then what it holds in any store.
+// The value's own int, which is then the held one in any store.
 #[inline(always)]
 #[tactic(auto, using(crate::proofs::Suited::own_part))]
 pub(crate) fn own_int(value: &Dynamic) -> Option<INT>
@@ -63,7 +64,7 @@ pub(crate) fn own_int(value: &Dynamic) -> Option<INT>
     None
 }
 
-// The same of a text.
+// The same for a text.
 #[inline(always)]
 #[tactic(auto, using(crate::proofs::Suited::own_part))]
 pub(crate) fn own_text(value: &Dynamic) -> Option<&ImmutableString>

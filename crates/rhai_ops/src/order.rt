@@ -8,8 +8,8 @@ use rhai_text::Token;
 use rhai_value::{Dynamic, Store};
 use std::cmp::Ordering;
 
-/// Orders what two values hold, as the row of `<` for them does; `None` where it has no row, or one that answers the same
-/// for all operands of these types.
+/// Compares two held values, as the row of `<` does; `None` if there is no such row, or if it gives
+/// the same result for all operands of these types.
 /// Cost: that of `Dynamic::held`, and the length of two texts; no memory.
 pub fn compare_values(left: &Dynamic, right: &Dynamic, store: &Store) -> Option<Ordering>
     ensures { result ≡ value_order store.now left.now right.now }

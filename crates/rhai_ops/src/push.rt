@@ -1,4 +1,4 @@
-//! Assignments that grow the blob or the array of a place where it stands.
+//! Assignments that append to the blob or the array of a place, in place.
 ghost use Rattle.std.specs.Prelude.{◌≡◌, ◌++◌, ◌∷◌, [], Some, Err, option_map, OnOk, OnErr, IfOk, IfErr, if◌then◌else◌};
 ghost use Rattle.std.specs.Char.{encode_utf8};
 ghost use Rattle.rhai_text.specs.declared.error.SizeKind.TheVariants as size;
@@ -16,7 +16,7 @@ use rhai_text::{EvalAltResult, ImmutableString, Limits, Position, SizeKind};
 use rhai_value::{Array, Blob, Dynamic, INT, InStore, Part, Store};
 use std::alloc::Global;
 
-/// Bytes behind a blob, or the blob as it was.
+/// Appends bytes to a blob, or leaves it unchanged on failure.
 fn extend(limits: &Limits, bytes: &mut Blob, more: &[u8]) -> Result<Dynamic, EvalAltResult>
     ensures result { IsOutcome (Unit {0}) result (answered (assignment stays) (appended limits.now bytes.old.items more.now)) }
     ensures ok { OnOk result (appended limits.now bytes.old.items more.now ≡ answers (fresh (blob bytes.new.items))) }
@@ -29,7 +29,7 @@ fn extend(limits: &Limits, bytes: &mut Blob, more: &[u8]) -> Result<Dynamic, Eva
     Ok(Dynamic::UNIT)
 }
 
-/// Bytes behind the blob at the place.
+/// Appends bytes to the blob at the place.
 pub(crate) fn push_bytes(
     limits: &Limits,
     store: &mut Store,
@@ -43,7 +43,7 @@ pub(crate) fn push_bytes(
     extend(limits, place.held_part_mut::<Blob>(), more)
 }
 
-/// An item behind an array, and unit where the item was, or both as they were.
+/// Moves an item to the end of an array, and leaves unit; on failure both are unchanged.
 #[tactic(auto, using(crate::proofs::Items::item_behind, crate::proofs::Items::count_one_behind))]
 fn push(limits: &Limits, items: &mut Array, right: &mut Dynamic) -> Result<Dynamic, EvalAltResult>
     ensures result { IsOutcome (Unit {0}) result (answered (assignment stays) (pushed limits.now (trees_of items.old.items) right.old)) }
@@ -59,7 +59,7 @@ fn push(limits: &Limits, items: &mut Array, right: &mut Dynamic) -> Result<Dynam
     Ok(Dynamic::UNIT)
 }
 
-/// An item behind the array at the place, and unit where the item was.
+/// Moves an item to the end of the array at the place, and leaves unit.
 #[inline(never)]
 pub(crate) fn push_item(
     limits: &Limits,
@@ -76,7 +76,7 @@ pub(crate) fn push_item(
     push(limits, place.held_part_mut::<Array>(), right)
 }
 
-/// Items behind an array, where none are left, or both as they were.
+/// Moves all items to the end of an array; on failure both are unchanged.
 fn append(limits: &Limits, items: &mut Array, more: &mut Array) -> Result<Dynamic, EvalAltResult>
     ensures result { IsOutcome (Unit {0}) result (answered (assignment stays) (joined_items limits.now (trees_of items.old.items) (trees_of more.old.items))) }
     ensures ok { OnOk result (joined_items limits.now (trees_of items.old.items) (trees_of more.old.items) ≡ answers (made (branch array (trees_of items.new.items)))) }
@@ -89,7 +89,7 @@ fn append(limits: &Limits, items: &mut Array, more: &mut Array) -> Result<Dynami
     Ok(Dynamic::UNIT)
 }
 
-/// Whether the limit allows items behind an array; beside none it isn't asked.
+/// Whether the limit allows appending items to an array; always if there are none.
 #[tactic(auto, using(crate::proofs::Items::may_join))]
 fn may_join(limits: &Limits, items: &Array, more: &Array) -> bool
     ensures { joined_items limits.now (trees_of items.now.items) (trees_of more.now.items)
@@ -98,7 +98,7 @@ fn may_join(limits: &Limits, items: &Array, more: &Array) -> bool
     items.is_empty() || more.is_empty() || is_allowed(limits.items, items.len(), more.len())
 }
 
-/// The items of an array behind those of the array at the place, where none are left.
+/// Moves all items of an array to the end of the array at the place.
 fn append_at(
     limits: &Limits,
     store: &mut Store,
@@ -113,7 +113,8 @@ fn append_at(
     append(limits, place.held_part_mut::<Array>(), more)
 }
 
-/// Copies of the items of an array, if the limit allows them behind the others; it is tested before anything is copied.
+/// Copies the items of an array, if the limit allows appending them; the limit is tested before
+/// anything is copied.
 #[tactic(auto, using(crate::proofs::Items::copied_refused, crate::proofs::Items::copied_answer, crate::proofs::Effects::still_answer))]
 fn copies(
     alloc: Global,
@@ -134,8 +135,8 @@ fn copies(
     Ok(more.try_clone(alloc)?)
 }
 
-/// The items of the second operand behind those of the array at the place, and unit where the second operand was. Its own items are
-/// moved, those that a cell holds are copied.
+/// Appends the items of the second operand to the array at the place, and leaves unit in the second
+/// operand. Its own items are moved; items held in a cell are copied.
 #[tactic(auto, using(crate::proofs::FromBelow::array_over))]
 pub(crate) fn append_items(
     alloc: Global,
@@ -165,14 +166,15 @@ pub(crate) fn append_items(
     done
 }
 
-/// Unit where the second operand was.
+/// Replaces the second operand by unit.
 fn leave_unit(right: &mut Dynamic)
     ensures { right.new ≡ fresh unit }
 {
     *right = Dynamic::UNIT;
 }
 
-/// The bytes of a blob behind those of the blob at the place. The limit is tested before anything is copied.
+/// Appends the bytes of a blob to the blob at the place. The limit is tested before anything is
+/// copied.
 #[tactic(auto, using(crate::proofs::Bytes::own_blob))]
 fn append_bytes(
     alloc: Global,
@@ -196,7 +198,8 @@ fn append_bytes(
     push_bytes(limits, store, left, &bytes)
 }
 
-/// The bytes of the second operand behind those of the blob at the place, and unit where the second operand was.
+/// Appends the bytes of the second operand to the blob at the place, and leaves unit in the second
+/// operand.
 pub(crate) fn append_blob(
     alloc: Global,
     limits: &Limits,
@@ -217,7 +220,7 @@ pub(crate) fn append_blob(
     done
 }
 
-/// The low byte of an int behind the blob at the place.
+/// Appends the low byte of an int to the blob at the place.
 #[inline(never)]
 pub(crate) fn push_byte(
     limits: &Limits,
@@ -238,7 +241,7 @@ pub(crate) fn push_byte(
     )
 }
 
-/// A byte behind a blob, or the blob as it was.
+/// Appends a byte to a blob, or leaves it unchanged on failure.
 fn extend_by_one(limits: &Limits, bytes: &mut Blob, byte: u8) -> Result<Dynamic, EvalAltResult>
     ensures result { IsOutcome (Unit {0}) result (answered (assignment stays) (appended limits.now bytes.old.items (byte ∷ []))) }
     ensures ok { OnOk result (appended limits.now bytes.old.items (byte ∷ []) ≡ answers (fresh (blob bytes.new.items))) }
@@ -252,7 +255,7 @@ fn extend_by_one(limits: &Limits, bytes: &mut Blob, byte: u8) -> Result<Dynamic,
     Ok(Dynamic::UNIT)
 }
 
-/// The UTF-8 bytes of a character behind the blob at the place.
+/// Appends the UTF-8 bytes of a character to the blob at the place.
 pub(crate) fn push_char(
     limits: &Limits,
     store: &mut Store,
@@ -271,7 +274,8 @@ pub(crate) fn push_char(
     )
 }
 
-/// The UTF-8 bytes of a text behind the blob at the place. Of an empty one no limit is tested.
+/// Appends the UTF-8 bytes of a text to the blob at the place. For an empty text no limit is
+/// tested.
 #[tactic(auto, using(crate::proofs::Bytes::refused_text, crate::proofs::Bytes::allowed_text))]
 pub(crate) fn append_text(
     alloc: Global,
@@ -298,7 +302,8 @@ pub(crate) fn append_text(
     push_text(limits, store, left, &text)
 }
 
-/// The UTF-8 bytes of a text behind the blob at the place. Of an empty one no limit is tested.
+/// Appends the UTF-8 bytes of a text to the blob at the place. For an empty text no limit is
+/// tested.
 fn push_text(
     limits: &Limits,
     store: &mut Store,

@@ -1,4 +1,4 @@
-//! Ranges under operators.
+//! Operators on ranges.
 ghost use Rattle.std.specs.Prelude.{◌≡◌, ◌&&◌, true, false, option_map};
 ghost use Rattle.std.specs.Ordering.{int_eq};
 ghost use Rattle.rhai_value.specs.Tree.{fresh, host};
@@ -10,7 +10,7 @@ use crate::answer::{unless, value};
 use rhai_text::EvalAltResult;
 use rhai_value::{Dynamic, ExclusiveRange, INT, InclusiveRange, Store};
 
-/// The range between two integers, with its end or without it.
+/// The range between two integers, inclusive or exclusive.
 pub(crate) fn between(inclusive: bool, start: INT, end: INT) -> Result<Dynamic, EvalAltResult>
     ensures { IsOutcome ⊥ result (answers (fresh (host (range inclusive start end)))) }
 {
@@ -21,7 +21,7 @@ pub(crate) fn between(inclusive: bool, start: INT, end: INT) -> Result<Dynamic, 
     })
 }
 
-/// Whether two ranges without their ends are the same, or the opposite.
+/// Whether two exclusive ranges are equal, or the negation.
 pub(crate) fn equal_exclusive(
     negated: bool,
     store: &Store,
@@ -38,7 +38,7 @@ pub(crate) fn equal_exclusive(
     Ok(Dynamic::from_bool(unless(negated, same)))
 }
 
-/// The same of two ranges with their ends.
+/// The same for two inclusive ranges.
 pub(crate) fn equal_inclusive(
     negated: bool,
     store: &Store,

@@ -1,4 +1,4 @@
-//! Texts under operators.
+//! Operators on texts.
 ghost use Rattle.std.specs.Prelude.{◌≡◌, IsTrue, Some, ◌∷◌, [], ◌++◌};
 ghost use Rattle.rhai_text.specs.Text as edits;
 ghost use Rattle.rhai_value.specs.Parts.{char_of, text_of};
@@ -17,7 +17,7 @@ use rhai_value::{Dynamic, Store};
 use std::alloc::Global;
 use std::cmp::Ordering;
 
-/// A text behind a text.
+/// A text appended to a text.
 pub(crate) fn join(
     alloc: Global,
     limits: &Limits,
@@ -79,7 +79,7 @@ pub(crate) fn compare(
     compare_two(op, part(left, store), part(right, store))
 }
 
-/// The same of what the operands have.
+/// The same for the operands' own contents.
 #[inline(always)]
 pub(crate) fn compare_two(
     op: Token,
@@ -92,7 +92,7 @@ pub(crate) fn compare_two(
     Ok(Dynamic::from_bool(compared_texts(op, a, b)))
 }
 
-/// Whether the comparison holds of two texts. Whether they are equal is told by their lengths first.
+/// Whether the comparison holds for two texts. Equality compares the lengths first.
 #[inline(never)]
 #[tactic(auto, using(crate::proofs::Characters::equal_by_order))]
 fn compared_texts(op: Token, a: &ImmutableString, b: &ImmutableString) -> bool
@@ -105,7 +105,7 @@ fn compared_texts(op: Token, a: &ImmutableString, b: &ImmutableString) -> bool
     holds(op, a.cmp(b))
 }
 
-/// A character behind a text.
+/// A character appended to a text.
 #[tactic(auto, using(crate::proofs::Lengths::joined_length))]
 pub(crate) fn join_char(
     alloc: Global,
@@ -142,7 +142,7 @@ pub(crate) fn minus_char(
     Ok(Dynamic::from(text))
 }
 
-/// A comparison of a text with a character, as the text of it alone.
+/// Compares a text with a character, as a text of its own.
 pub(crate) fn compare_char(
     op: Token,
     store: &Store,
@@ -158,7 +158,7 @@ pub(crate) fn compare_char(
     Ok(Dynamic::from_bool(holds(op, order)))
 }
 
-/// The order of a text and a character, as the text of it alone.
+/// The order of a text and a character, as a text of its own.
 pub(crate) fn char_order_of(a: &ImmutableString, b: char) -> Ordering
     ensures { result ≡ text_order a.now (b ∷ []) }
 {

@@ -5,7 +5,8 @@ ghost use Rattle.rhai_ops.specs.Effects.{rewritten};
 
 use rhai_value::{Dynamic, InStore, Store};
 
-/// Writes the content of a value to the place where the chain ends; nothing changes where the chain is stuck or closed.
+/// Writes the content of a value where the chain ends; changes nothing if the chain is stuck or
+/// closed.
 pub(crate) fn write(new: Dynamic, store: &mut Store, left: &mut Dynamic)
     ensures value { left.new ≡ value_after (rewritten new) (end store.old [] left.old) left.old }
     ensures store { store.new ≡ store_after (rewritten new) (end store.old [] left.old) store.old }
@@ -16,7 +17,7 @@ pub(crate) fn write(new: Dynamic, store: &mut Store, left: &mut Dynamic)
     }
 }
 
-/// The value as it stands in the place of another, whose tag and mode it gets.
+/// The new value with the tag and mode of the old one.
 fn under(old: &Dynamic, new: Dynamic) -> Dynamic
     ensures { result ≡ rewritten new old.now }
 {

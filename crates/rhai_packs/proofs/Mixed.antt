@@ -14,7 +14,7 @@ pub filled_more : (rs es : Rows) (e : List ℕ × Tree) → filled rs (es ++ e �
 filled_more rs [] e = refl
 filled_more rs (d ∷ es) e = filled_more (if is_some (lookup (is_at (bytes_cmp d.0)) rs) then rs else insert_entry bytes_cmp rs d.0 d.1) es e
 
--- an entry that was next is done
+-- the next entry is done
 pub one_more : {A : Type 0} (all done it left : List A) (e : A) → all ≡ done ++ it → it ≡ e ∷ left → all ≡ (done ++ e ∷ []) ++ left
 one_more all done it left e a s = a ∙ ap (λ r. done ++ r) s ∙ sym (append_assoc done (e ∷ []) left)
 
@@ -29,7 +29,7 @@ values_more f (d ∷ es) e = ap (λ r. f d.1 ∷ r) (values_more f es e)
 abbrev is_there : Rows → List ℕ → Bool
 is_there rs k = is_some (lookup (is_at (bytes_cmp k)) rs)
 
--- a key that is there stays, and one that isn't is set
+-- an existing key is unchanged, and an absent one is set
 pub filled_there : (rs es : Rows) (e : List ℕ × Tree) (qs : Rows) → qs ≡ filled rs es → is_there qs e.0 ≡ true → qs ≡ filled rs (es ++ e ∷ [])
 filled_there rs es e qs made there = made ∙ sym (filled_more rs es e ∙ ap (λ b. if b then filled rs es else insert_entry bytes_cmp (filled rs es) e.0 e.1) (ap (λ r. is_there r e.0) (sym made) ∙ there))
 

@@ -1,4 +1,4 @@
--- Texts that get a number of characters.
+-- Padding texts to a number of characters.
 use Rattle.std.proofs.Common.{◌≡◌, ℕ, zero, suc, ◌+◌, ◌*◌, ◌-◌, ◌/◌, ◌%◌, ◌<◌, ◌≤◌, List, [], ◌∷◌, ◌++◌, length, take, drop, replicate, refl, sym, ap, subst, ◌∙◌, append_assoc, arith, length-append, length-drop}
 use Rattle.std.proofs.lemmas.List.{append-nil, take-append-drop, take_all, drop-drop, take_at}
 use Rattle.std.proofs.lemmas.Str.{chars-append, chars_from_encodes, cons_from_encodes, chars-nil, encodes-append, encodes-chars, length-le-encodes, IsCharBoundary-at_seam}
@@ -7,7 +7,7 @@ use Rattle.std.specs.List.{repeat}
 use Rattle.std.specs.Str.{chars, encode_utf8_all, IsCharBoundary, IsUtf8}
 use Rattle.rhai_packs.specs.Padding.{cycled}
 
--- what a text spells that stands there so many times before another
+-- the characters of a text repeated before another
 pub chars-repeat : (n : ℕ) (bs ys : List ℕ) → IsUtf8 bs → chars (repeat n bs ++ ys) ≡ repeat n (chars bs) ++ chars ys
 chars-repeat zero bs ys u = refl
 chars-repeat (suc n) bs ys u =
@@ -16,7 +16,7 @@ chars-repeat (suc n) bs ys u =
     ∙ ap (λ cs. chars bs ++ cs) (chars-repeat n bs ys u)
     ∙ sym (append_assoc (chars bs) (repeat n (chars bs)) (chars ys))
 
--- how many bytes spell it
+-- the number of their bytes
 pub length-repeat : (n : ℕ) (cs ys : List ℕ) → length (encode_utf8_all (repeat n cs ++ ys)) ≡ n * length (encode_utf8_all cs) + length (encode_utf8_all ys)
 length-repeat zero cs ys = omega arith
 length-repeat (suc n) cs ys =
@@ -28,26 +28,26 @@ repeat_one : (n c : ℕ) → repeat n (c ∷ []) ≡ replicate n c
 repeat_one zero c = refl
 repeat_one (suc n) c = ap (λ cs. c ∷ cs) (repeat_one n c)
 
--- one character over and over
+-- one character repeated
 pub cycled-one : (n c : ℕ) → cycled n (c ∷ []) ≡ replicate n c
 cycled-one n c =
     let whole : n / 1 ≡ n = omega arith in
     let rest : n % 1 ≡ 0 = omega arith in
     ap (λ m. repeat m (c ∷ []) ++ take (n % 1) (c ∷ [])) whole ∙ ap (λ m. repeat n (c ∷ []) ++ take m (c ∷ [])) rest ∙ append-nil (repeat n (c ∷ [])) ∙ repeat_one n c
 
--- one character on from what spells a text's characters from i on
+-- one character further in the bytes of a text's characters from i on
 pub one_on : (cs rest : List ℕ) (i c : ℕ) → encode_utf8_all (drop i cs) ≡ encode_utf8 c ++ rest → rest ≡ encode_utf8_all (drop (i + 1) cs)
 one_on cs rest i c e =
     let next = cons_from_encodes (drop i cs) rest c e in
     sym next.2 ∙ ap encode_utf8_all (sym (ap (drop 1) next.1) ∙ drop-drop 1 i cs)
 
--- where nothing is left from i on, the first characters up to further on are all
+-- if nothing is left from i on, the first characters up to a later index are all
 pub all_taken : (text : List ℕ) (i n : ℕ) → IsUtf8 text → length (encode_utf8_all (drop i (chars text))) ≡ 0 → i ≤ n → text ≡ encode_utf8_all (take n (chars text))
 all_taken text i n u e h =
     let cs = chars text in
     sym (encodes-chars text u) ∙ ap encode_utf8_all (sym (take_all n cs (omega (arith, length-drop i cs, length-le-encodes (drop i cs)))))
 
--- a text that is cut where `back` begins, which spells its characters from n on
+-- a text split where `back` begins, which is the bytes of its characters from n on
 module _ (text : List ℕ) (u : IsUtf8 text) (n : ℕ) (back : List ℕ) (ub : IsUtf8 back) (e : back ≡ encode_utf8_all (drop n (chars text))) where
   both : text ≡ encode_utf8_all (take n (chars text)) ++ back
   both =
@@ -72,7 +72,7 @@ cycled-some : (m : ℕ) (cs : List ℕ) → 0 < length cs → cycled m cs ≡ re
 cycled-some m [] h = absurd (omega (arith, h))
 cycled-some m (c ∷ cs) h = refl
 
--- a text over and over, and a part of it: its characters, and the number of its bytes
+-- a repeated text, and a part of it: its characters, and the number of its bytes
 module _ (padding part : List ℕ) (m w : ℕ) (u : IsUtf8 padding) (v : IsUtf8 part) (long : w ≡ length (chars padding)) (some : 0 < w) (is : part ≡ encode_utf8_all (take (m % w) (chars padding))) where
   whole : cycled m (chars padding) ≡ repeat (m / w) (chars padding) ++ take (m % w) (chars padding)
   whole = cycled-some m (chars padding) (omega (arith, long, some)) ∙ ap (λ n. repeat (m / n) (chars padding) ++ take (m % n) (chars padding)) (sym long)

@@ -7,7 +7,7 @@ use Rattle.std.specs.Str.{chars}
 use Rattle.rhai_text.specs.Text.{with_slice}
 use Rattle.rhai_packs.specs.Places.{after, cut_place, first_of, part_count}
 
--- nothing in the place of the end, and in the place of the front
+-- replacing the end by nothing, and replacing the front
 pub front_kept : (xs made : List ℕ) (k n : ℕ) → n ≡ length xs → made ≡ with_slice xs k n true (chars []) → made ≡ take k xs
 front_kept xs made k n e m =
     m ∙ ap (λ s. take k xs ++ (s ++ drop n xs)) chars-nil ∙ ap (λ j. take k xs ++ drop j xs) e ∙ ap (λ s. take k xs ++ s) (drop-length xs) ∙ append-nil (take k xs)

@@ -1,4 +1,4 @@
--- Values that are the same.
+-- Values that are equal as plain values.
 use Rattle.std.proofs.Common.{◌≡◌, ◌↔◌, ◌&&◌, ℕ, Bool, true, false, List, [], Option, Some, None, is_some, IfSome, IsTrue, nat_eq, option_map, refl, sym, ◌∙◌}
 use Rattle.std.specs.Cmp.Lexicographic.{bytes_decides, pointwise}
 use Rattle.rhai_value.specs.declared.cells.store.Cell.{Cell}
@@ -24,7 +24,7 @@ pub nothing_same : (s : List Cell) (x y : Tree) → plain s [] x ≡ None → Ar
 unfolding AreSame
 nothing_same s x y n a = cc
 
--- equal bytes tell that values are the same
+-- equal bytes mean equal values
 pub bytes_tell : (s : List Cell) (x y : Tree) (a b : List ℕ) (r : Bool) → r ≡ pointwise nat_eq a b → ((a ≡ b) ↔ (plain s [] x ≡ plain s [] y)) → IsHashed s y b → IsTrue r ↔ AreSame s x y
 bytes_tell s x y a b r e tells h =
     let decides = bytes_decides a b in
@@ -41,11 +41,11 @@ none_mapped f (Some a) e = cc
 pub nothing_plain : (s : List Cell) (x : Tree) (o : Option (List ℕ)) → o ≡ option_map plain_bytes (plain s [] x) → o ≡ None → plain s [] x ≡ None
 nothing_plain s x o e n = none_mapped plain_bytes (plain s [] x) (sym e ∙ n)
 
--- a value that has no bytes is the same as none that has
+-- a value without bytes equals none that has some
 pub nothing_told : (s : List Cell) (x y : Tree) → plain s [] x ≡ None → IsTrue false ↔ AreSame s x y
 nothing_told s x y n = (λ t. absurd (cc), λ same. absurd (nothing_same s x y n same))
 
--- what the comparison of two values tells
+-- the result of comparing two values
 both_there : {P : Type 0} (o q : Option P) (b : Bool) → IsTrue b ↔ (o ≡ q) → true ≡ (is_some o && is_some q) → IsTrue b ↔ ((p : P) × (o ≡ Some p) × (q ≡ Some p))
 both_there (Some p) (Some q) b h w = (λ t. (p, refl, sym (h.0 t)), λ k. h.1 (k.1 ∙ sym k.2))
 both_there (Some p) None b h w = cc

@@ -6,7 +6,7 @@ use Rattle.std.specs.Str.{chars, IsCharBoundary, IsUtf8}
 use Rattle.std.specs.Str.Pattern.{FindsText, SplitsAroundMatch}
 use Rattle.rhai_packs.specs.Splits.{AreBetween}
 
--- one text more before what is left
+-- one more text before the rest
 pub one_between : (sep rest front back : List ℕ) (others : List (List ℕ)) → SplitsAroundMatch (FindsText sep) rest front back → AreBetween sep back others → AreBetween sep rest (chars front ∷ others)
 one_between sep rest front back others s b =
     inr (s.0, s.1, s.2, ap chars s.3, subst (λ t. AreBetween sep t others) s.4 b)
@@ -24,11 +24,11 @@ pub all_between : (sep text rest : List ℕ) (done : List (List ℕ))
     → FindsText sep rest None → AreBetween sep text (done ++ chars rest ∷ [])
 all_between sep text rest done more none = more (chars rest ∷ []) (inl (none, refl, refl))
 
--- one item more
+-- one more item
 pub made_more : {A : Type 0} (f : List ℕ → A) (items news : List A) (done : List (List ℕ)) (x : List ℕ) → items ≡ map f done → news ≡ items ++ f x ∷ [] → news ≡ map f (done ++ x ∷ [])
 made_more f items news done x made pushed = pushed ∙ ap (λ xs. xs ++ f x ∷ []) made ∙ sym (map-append f done (x ∷ []))
 
--- what is left is spelled by bytes
+-- the rest is UTF-8
 pub back_spelled : (sep rest front back : List ℕ) → IsUtf8 rest → SplitsAroundMatch (FindsText sep) rest front back → IsUtf8 back
 back_spelled sep rest front back u s =
     let at = s.2.1 in

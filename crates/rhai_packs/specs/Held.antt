@@ -1,4 +1,4 @@
--- Values of another type than is wanted, and memory that is refused.
+-- Values of another type than the expected one, and failed allocations.
 use Rattle.std.specs.Prelude.{◌≡◌, ℕ, List}
 use Rattle.rhai_text.specs.declared.error.EvalAltResult.{EvalAltResult}
 use Rattle.rhai_text.specs.declared.error.EvalAltResult.TheVariants.{ErrorMismatchDataType, ErrorDataRace, ErrorArithmetic, ErrorDataTooLarge, ErrorMemory}
@@ -6,7 +6,7 @@ use Rattle.rhai_value.specs.declared.value.type_id.TypeId.{TypeId}
 use Rattle.rhai_value.specs.Types.{type_name}
 use Rattle.rhai_packs.specs.Sizes.{no_place}
 
--- the error names the type that is wanted, and the one that is held
+-- the error names the expected type and the held one
 abbrev pub IsMismatch : TypeId → List ℕ → EvalAltResult → Type 0
 IsMismatch wanted held (ErrorMismatchDataType w h p) = (w ≡ type_name wanted) × (h ≡ held) × (p ≡ no_place)
 IsMismatch wanted held (ErrorDataTooLarge k p) = ⊥
@@ -14,7 +14,7 @@ IsMismatch wanted held (ErrorMemory e) = ⊥
 IsMismatch wanted held (ErrorDataRace p) = ⊥
 IsMismatch wanted held (ErrorArithmetic f p) = ⊥
 
--- the error says that memory was refused
+-- the error is a failed allocation
 abbrev pub IsMemory : EvalAltResult → Type 0
 IsMemory (ErrorMemory e) = Unit {0}
 IsMemory (ErrorMismatchDataType w h p) = ⊥

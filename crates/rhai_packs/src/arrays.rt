@@ -1,7 +1,8 @@
-//! Arrays. A call works at the items of an array that is at hand, as `Dynamic::as_array_mut`, `InStore::array_mut` or `Array::own_mut` gives them.
+//! Functions on arrays. A call works on the items of an array, as `Dynamic::as_array_mut`,
+//! `InStore::array_mut` or `Array::own_mut` borrows them.
 //!
-//! An index below 0 counts from the end. What the release answers by `()` or doesn't do, where an index is outside or an array is
-//! empty, is `None` or `false` here.
+//! A negative index counts from the end. Where rhai returns `()` or does nothing, since an index is
+//! out of range or an array is empty, these calls return `None` or `false`.
 ghost use Rattle.std.specs.Prelude.{◌≡◌, ◌++◌, ◌∷◌, ◌+◌, ◌-◌, ◌↔◌, [], length, take, drop, replicate, reverse, is_ok, is_some, if◌then◌else◌, option_copied, slice_get, IfOk, IfSome, IfNone, IsTrue, IsOk, OnErr, OnOk, MatchOption, Some, None};
 ghost use Rattle.std.specs.List.{insert, splice};
 ghost use Rattle.rhai_text.specs.declared.error.SizeKind.TheVariants as size;
@@ -24,7 +25,7 @@ pub use search::{contains, index_of};
 pub use sorting::sort;
 use std::alloc::{AllocError, Global};
 
-/// Counts the items.
+/// Returns the number of items.
 /// Cost: constant.
 /// rhai: `len`.
 pub fn len(items: &Array) -> usize
@@ -33,7 +34,7 @@ pub fn len(items: &Array) -> usize
     items.len()
 }
 
-/// Answers whether there is no item.
+/// Returns whether the array is empty.
 /// Cost: constant.
 /// rhai: `is_empty`.
 pub fn is_empty(items: &Array) -> bool
@@ -42,7 +43,7 @@ pub fn is_empty(items: &Array) -> bool
     items.is_empty()
 }
 
-/// Gives the item at an index, if there is one.
+/// Borrows the item at an index, if there is one.
 /// Cost: constant.
 /// rhai: `get`.
 pub fn get(items: &Array, index: INT) -> Option<&Dynamic>
@@ -52,8 +53,8 @@ pub fn get(items: &Array, index: INT) -> Option<&Dynamic>
     items.as_slice().get(place)
 }
 
-/// Sets the item at an index, and answers whether there is one.
-/// Cost: constant, and the drop of what was there.
+/// Sets the item at an index, and returns whether there is one.
+/// Cost: constant, and the drop of the old item.
 /// rhai: `set`.
 pub fn set(items: &mut Array, index: INT, item: Dynamic) -> bool
     ensures answer { result ≡ is_some (place_of_item (length items.old.items) index) }
@@ -68,9 +69,10 @@ pub fn set(items: &mut Array, index: INT, item: Dynamic) -> bool
     }
 }
 
-/// Puts an item behind the others.
-/// Errors: more items than the limit allows, or memory; the items stay, and the new one is gone.
-/// Cost: constant, but where the array has to grow.
+/// Appends an item.
+/// Errors: more items than the limit allows, or a failed allocation; the array is unchanged, and
+/// the new item is dropped.
+/// Cost: constant, unless the array must grow.
 /// rhai: `push`.
 pub fn push(items: &mut Array, limits: &Limits, item: Dynamic) -> Result<(), EvalAltResult>
     ensures answer { IsLimited size.Items (may_grow_by limits.now.items (length items.old.items) 1) result }
@@ -84,9 +86,9 @@ pub fn push(items: &mut Array, limits: &Limits, item: Dynamic) -> Result<(), Eva
     Ok(())
 }
 
-/// Puts all items of another array behind the others.
-/// Errors: more items than the limit allows, or memory; both stay as they are.
-/// Cost: the number of items that are moved, and where the array has to grow that of all.
+/// Moves all items of another array to the end.
+/// Errors: more items than the limit allows, or a failed allocation; both arrays are unchanged.
+/// Cost: the number of moved items, and of all items if the array must grow.
 /// rhai: `append`.
 pub fn append(items: &mut Array, limits: &Limits, more: &mut Array) -> Result<(), EvalAltResult>
     ensures answer { IsLimited size.Items (may_grow_by limits.now.items (length items.old.items) (length more.old.items)) result }
@@ -103,8 +105,9 @@ pub fn append(items: &mut Array, limits: &Limits, more: &mut Array) -> Result<()
     Ok(())
 }
 
-/// Puts an item before the one at an index; past the end behind all, and before the front before all.
-/// Errors: as `push`.
+/// Inserts an item before the one at an index; past the end it is appended, and before the front it
+/// becomes the first.
+/// Errors: those of `push`.
 /// Cost: the number of items behind it.
 /// rhai: `insert`.
 pub fn insert(
@@ -126,7 +129,7 @@ pub fn insert(
     }
 }
 
-/// Takes the last item out, if there is one.
+/// Removes the last item and returns it, if there is one.
 /// Cost: constant.
 /// rhai: `pop`.
 pub fn pop(items: &mut Array) -> Option<Dynamic>
@@ -135,7 +138,7 @@ pub fn pop(items: &mut Array) -> Option<Dynamic>
     items.pop()
 }
 
-/// Takes the first item out, if there is one.
+/// Removes the first item and returns it, if there is one.
 /// Cost: the number of items.
 /// rhai: `shift`.
 pub fn shift(items: &mut Array) -> Option<Dynamic>
@@ -147,7 +150,7 @@ pub fn shift(items: &mut Array) -> Option<Dynamic>
     Some(items.remove(0))
 }
 
-/// Takes the item at an index out, if there is one.
+/// Removes the item at an index and returns it, if there is one.
 /// Cost: the number of items behind it.
 /// rhai: `remove`.
 pub fn remove(items: &mut Array, index: INT) -> Option<Dynamic>
@@ -158,7 +161,7 @@ pub fn remove(items: &mut Array, index: INT) -> Option<Dynamic>
     Some(items.remove(place))
 }
 
-/// Takes all items out.
+/// Removes all items.
 /// Cost: their drop.
 /// rhai: `clear`.
 pub fn clear(items: &mut Array)
@@ -167,7 +170,7 @@ pub fn clear(items: &mut Array)
     items.clear();
 }
 
-/// Keeps the first so many items, all where there are no more, and none of a negative number.
+/// Keeps the first `count` items; all if there are no more, and none for a negative number.
 /// Cost: the drop of the others.
 /// rhai: `truncate`.
 pub fn truncate(items: &mut Array, count: INT)
@@ -177,7 +180,7 @@ pub fn truncate(items: &mut Array, count: INT)
     items.truncate(kept);
 }
 
-/// Keeps the last so many items, all where there are no more, and none of a negative number.
+/// Keeps the last `count` items; all if there are no more, and none for a negative number.
 /// Cost: the number of items.
 /// rhai: `chop`.
 pub fn chop(items: &mut Array, count: INT)
@@ -187,9 +190,10 @@ pub fn chop(items: &mut Array, count: INT)
     drop(items.drain(0..items.len() - kept));
 }
 
-/// Puts all items of another array in the place of so many items from an index on, of as many as there are; an index before
-/// the front means the front, and one past the end the end.
-/// Errors: more items than the limit allows, or memory; the items stay, and the new ones are gone.
+/// Replaces a number of items from an index on, as many as exist, by all items of another array; an
+/// index before the front means the front, and one past the end the end.
+/// Errors: more items than the limit allows, or a failed allocation; the array is unchanged, and
+/// the new items are dropped.
 /// Cost: the number of the new items, and of those from the index on.
 /// rhai: `splice`.
 pub fn splice(
@@ -213,7 +217,7 @@ pub fn splice(
     Ok(())
 }
 
-/// Turns the order of the items round.
+/// Reverses the order of the items.
 /// Cost: the number of items.
 /// rhai: `reverse`.
 pub fn reverse(items: &mut Array)
@@ -222,9 +226,10 @@ pub fn reverse(items: &mut Array)
     items.reverse();
 }
 
-/// Cuts the items off from an index on, and gives them. An index past the end cuts nothing off, one before the front all.
-/// Errors: memory is refused; the items stay.
-/// Cost: the number of items that are cut off.
+/// Splits off the items from an index on, and returns them. An index past the end splits off
+/// nothing, one before the front all.
+/// Errors: an allocation fails; the array is unchanged.
+/// Cost: the number of items split off.
 /// rhai: `split`.
 pub fn split(items: &mut Array, index: INT) -> Result<Array, AllocError>
     ensures left { OnOk result (items.new.items ≡ before items.old.items index) }

@@ -1,8 +1,9 @@
-//! Blobs. A call works at the bytes of a blob that is at hand, as `Dynamic::as_blob_mut`, `InStore::blob_mut` or `Blob::own_mut` gives
-//! them.
+//! Functions on blobs. A call works on the bytes of a blob, as `Dynamic::as_blob_mut`,
+//! `InStore::blob_mut` or `Blob::own_mut` borrows them.
 //!
-//! An index below 0 counts from the end. What the release answers by 0 or doesn't do, where an index is outside or a blob is empty, is
-//! `None` or `false` here. Of an int that becomes a byte the low eight bits count.
+//! A negative index counts from the end. Where rhai returns 0 or does nothing, since an index is
+//! out of range or a blob is empty, these calls return `None` or `false`. An int is converted to a
+//! byte by its low eight bits.
 ghost use Rattle.std.specs.Prelude.{◌≡◌, ◌++◌, ◌∷◌, ◌↔◌, [], pos, length, map, replicate, reverse, is_ok, is_some, if◌then◌else◌, option_map, IfOk, IsOk, IsTrue, OnErr, OnOk, MatchOption};
 ghost use Rattle.rhai_text.specs.declared.error.SizeKind.TheVariants as size;
 ghost use Rattle.rhai_value.specs.Bytes.{low_byte};
@@ -24,8 +25,8 @@ fn low_byte_of(number: INT) -> u8
     number.rem_euclid(256) as u8
 }
 
-/// Makes a blob of so many times a byte; none, where the number is negative.
-/// Errors: more bytes than the limit allows, or memory.
+/// Makes a blob that repeats a byte `count` times; empty for a negative number.
+/// Errors: more bytes than the limit allows, or a failed allocation.
 /// Cost: the number of bytes.
 /// rhai: `blob`.
 pub fn blob(alloc: Global, limits: &Limits, count: INT, byte: INT) -> Result<Blob, EvalAltResult>
@@ -39,7 +40,7 @@ pub fn blob(alloc: Global, limits: &Limits, count: INT, byte: INT) -> Result<Blo
     Ok(Vec::from_elem(alloc, low_byte_of(byte), count)?)
 }
 
-/// Counts the bytes.
+/// Returns the number of bytes.
 /// Cost: constant.
 /// rhai: `len`.
 pub fn len(bytes: &Blob) -> usize
@@ -48,7 +49,7 @@ pub fn len(bytes: &Blob) -> usize
     bytes.len()
 }
 
-/// Gives the byte at an index as an int, if there is one.
+/// Returns the byte at an index as an int, if there is one.
 /// Cost: constant.
 /// rhai: `get`.
 pub fn get(bytes: &Blob, index: INT) -> Option<INT>
@@ -58,7 +59,7 @@ pub fn get(bytes: &Blob, index: INT) -> Option<INT>
     Some(bytes[place] as INT)
 }
 
-/// Sets the byte at an index, and answers whether there is one.
+/// Sets the byte at an index, and returns whether there is one.
 /// Cost: constant.
 /// rhai: `set`.
 pub fn set(bytes: &mut Blob, index: INT, byte: INT) -> bool
@@ -74,9 +75,9 @@ pub fn set(bytes: &mut Blob, index: INT, byte: INT) -> bool
     }
 }
 
-/// Puts a byte behind the others.
-/// Errors: more bytes than the limit allows, or memory; the bytes stay.
-/// Cost: constant, but where the blob has to grow.
+/// Appends a byte.
+/// Errors: more bytes than the limit allows, or a failed allocation; the blob is unchanged.
+/// Cost: constant, unless the blob must grow.
 /// rhai: `push`.
 pub fn push(bytes: &mut Blob, limits: &Limits, byte: INT) -> Result<(), EvalAltResult>
     ensures answer { IsLimited size.Items (may_grow_by limits.now.items (length bytes.old.items) 1) result }
@@ -90,9 +91,9 @@ pub fn push(bytes: &mut Blob, limits: &Limits, byte: INT) -> Result<(), EvalAltR
     Ok(())
 }
 
-/// Puts bytes behind the others; of none no memory is wanted.
-/// Errors: as `push`.
-/// Cost: the number of new bytes, and where the blob has to grow that of all.
+/// Appends bytes; for no bytes nothing is allocated.
+/// Errors: those of `push`.
+/// Cost: the number of new bytes, and of all bytes if the blob must grow.
 /// rhai: `append`.
 pub fn append(bytes: &mut Blob, limits: &Limits, more: &[u8]) -> Result<(), EvalAltResult>
     ensures answer { IsLimited size.Items (may_grow_by limits.now.items (length bytes.old.items) (length more.now)) result }
@@ -108,7 +109,7 @@ pub fn append(bytes: &mut Blob, limits: &Limits, more: &[u8]) -> Result<(), Eval
     Ok(())
 }
 
-/// Takes the last byte out, if there is one.
+/// Removes the last byte and returns it, if there is one.
 /// Cost: constant.
 /// rhai: `pop`.
 pub fn pop(bytes: &mut Blob) -> Option<INT>
@@ -120,7 +121,7 @@ pub fn pop(bytes: &mut Blob) -> Option<INT>
     }
 }
 
-/// Takes the byte at an index out, if there is one.
+/// Removes the byte at an index and returns it, if there is one.
 /// Cost: the number of bytes behind it.
 /// rhai: `remove`.
 pub fn remove(bytes: &mut Blob, index: INT) -> Option<INT>
@@ -131,7 +132,7 @@ pub fn remove(bytes: &mut Blob, index: INT) -> Option<INT>
     Some(bytes.remove(place) as INT)
 }
 
-/// Turns the order of the bytes round.
+/// Reverses the order of the bytes.
 /// Cost: the number of bytes.
 /// rhai: `reverse`.
 pub fn reverse(bytes: &mut Blob)
@@ -140,9 +141,9 @@ pub fn reverse(bytes: &mut Blob)
     bytes.reverse();
 }
 
-/// Copies so many bytes from an index on, as many as there are; an index before the front means the front.
-/// Errors: memory is refused.
-/// Cost: the bytes that are copied.
+/// Copies up to `count` bytes from an index on; an index before the front means the front.
+/// Errors: an allocation fails.
+/// Cost: the number of copied bytes.
 /// rhai: `extract`.
 pub fn extract(alloc: Global, bytes: &Blob, index: INT, count: INT) -> Result<Blob, AllocError>
     ensures { IfOk result (λ part. part.items ≡ first_of (after bytes.now.items index) count) }
@@ -153,7 +154,7 @@ pub fn extract(alloc: Global, bytes: &Blob, index: INT, count: INT) -> Result<Bl
 }
 
 /// Makes an array of the bytes as ints.
-/// Errors: memory is refused.
+/// Errors: an allocation fails.
 /// Cost: the number of bytes.
 /// rhai: `to_array`.
 pub fn to_array(alloc: Global, bytes: &Blob) -> Result<Array, AllocError>

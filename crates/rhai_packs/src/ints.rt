@@ -15,8 +15,8 @@ use rhai_value::INT;
 use std::alloc::{AllocError, Global};
 use std::num::ParseIntError;
 
-/// Answers the distance of an int from 0.
-/// Errors: `Overflow` exactly of the least int, whose distance is no int.
+/// Returns the absolute value of an int.
+/// Errors: `Overflow` exactly for the least int, whose absolute value isn't an int.
 /// Cost: constant.
 /// rhai: `abs`.
 pub fn abs(number: INT) -> Result<INT, EvalAltResult>
@@ -29,7 +29,7 @@ pub fn abs(number: INT) -> Result<INT, EvalAltResult>
     Ok(number.abs())
 }
 
-/// Answers the lesser of two ints.
+/// Returns the lesser of two ints.
 /// Cost: constant.
 /// rhai: `min`.
 pub fn min(first: INT, second: INT) -> INT
@@ -38,7 +38,7 @@ pub fn min(first: INT, second: INT) -> INT
     first.min(second)
 }
 
-/// Answers the greater of two ints.
+/// Returns the greater of two ints.
 /// Cost: constant.
 /// rhai: `max`.
 pub fn max(first: INT, second: INT) -> INT
@@ -48,8 +48,8 @@ pub fn max(first: INT, second: INT) -> INT
 }
 
 /// Writes an int in decimal.
-/// Errors: memory is refused.
-/// Cost: its digits.
+/// Errors: an allocation fails.
+/// Cost: the number of digits.
 /// rhai: `to_string`.
 pub fn to_string(alloc: Global, number: INT) -> Result<ImmutableString, AllocError>
     ensures { IfOk result (λ text. text ≡ chars (signed_decimal number)) }
@@ -58,7 +58,7 @@ pub fn to_string(alloc: Global, number: INT) -> Result<ImmutableString, AllocErr
     ImmutableString::from_str(alloc, written.as_str())
 }
 
-/// Reads an int in decimal, with or without a sign; white space at both ends doesn't count.
+/// Parses a decimal int, with or without a sign; ignores white space at both ends.
 /// Errors: what is wrong with the text.
 /// Cost: the length of the text.
 /// rhai: `parse_int`.
@@ -69,7 +69,7 @@ pub fn parse_int(text: &str) -> Result<INT, ParseIntError>
     INT::from_str_radix(text.trim(), 10)
 }
 
-/// Why a text isn't read as an int in a radix.
+/// Why a text can't be parsed as an int in a radix.
 #[derive(Debug, Drop)]
 pub enum ParseRadixError {
     /// The radix is below 2 or above 36.
@@ -78,8 +78,8 @@ pub enum ParseRadixError {
     InvalidText(ParseIntError),
 }
 
-/// Reads an int in a radix from 2 to 36, whose digits above 9 are letters of either case; with or without a sign, and white
-/// space at both ends doesn't count.
+/// Parses an int in a radix from 2 to 36, with letters of either case as digits above 9, with or
+/// without a sign; ignores white space at both ends.
 /// Errors: another radix, or what is wrong with the text.
 /// Cost: the length of the text.
 /// rhai: `parse_int`.

@@ -1,4 +1,4 @@
-//! Functions of scripts on arrays, maps, ints, texts and blobs, by the names that rhai's own packages give them.
+//! Script functions on arrays, maps, ints, texts and blobs, by their names in rhai's packages.
 #![tactic(auto)]
 
 pub mod arrays;

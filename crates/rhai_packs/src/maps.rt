@@ -1,7 +1,8 @@
-//! Maps. A call works at a map that is at hand, as `Dynamic::as_map_mut`, `InStore::map_mut` or `Map::own_mut` gives it. Contracts see
-//! its rows, by rising keys.
+//! Functions on maps. A call works on a map, as `Dynamic::as_map_mut`, `InStore::map_mut` or
+//! `Map::own_mut` borrows it. Contracts see its rows, by ascending keys.
 //!
-//! What the release answers by `()` where there is no such key is `None` here. No limit is asked: `Limits` has none of entries.
+//! Where rhai returns `()`, since there is no such key, these calls return `None`. No limit
+//! applies: `Limits` has none for entries.
 ghost use Rattle.std.specs.Prelude.{map as map_list, ◌≡◌, ◌↔◌, [], length, true, is_some, option_copied, Some, IfOk, IfErr, IsOk, IsTrue, OnErr, OnOk};
 ghost use Rattle.std.specs.BTreeMap.{insert_entry, is_at};
 ghost use Rattle.std.specs.Map.{keys_of, lookup, remove_entry, values_of};
@@ -13,7 +14,7 @@ ghost use Rattle.rhai_packs.specs.Entries.{IsPartly, filled, mixed};
 use rhai_value::{Array, Dynamic, Map};
 use std::alloc::{AllocError, Global};
 
-/// Counts the entries.
+/// Returns the number of entries.
 /// Cost: constant.
 /// rhai: `len`.
 pub fn len(map: &Map) -> usize
@@ -22,7 +23,7 @@ pub fn len(map: &Map) -> usize
     map.len()
 }
 
-/// Answers whether there is no entry.
+/// Returns whether the map is empty.
 /// Cost: constant.
 /// rhai: `is_empty`.
 pub fn is_empty(map: &Map) -> bool
@@ -31,7 +32,7 @@ pub fn is_empty(map: &Map) -> bool
     map.is_empty()
 }
 
-/// Answers whether there is such a key.
+/// Returns whether the map has a key.
 /// Cost: the logarithm of the number of entries.
 /// rhai: `contains`.
 pub fn contains(map: &Map, key: &str) -> bool
@@ -40,7 +41,7 @@ pub fn contains(map: &Map, key: &str) -> bool
     map.contains_key(key)
 }
 
-/// Gives the value of a key, if there is such a key.
+/// Borrows the value of a key, if the map has it.
 /// Cost: the logarithm of the number of entries.
 /// rhai: `get`.
 pub fn get<'m>(map: &'m Map, key: &str) -> Option<&'m Dynamic>
@@ -50,7 +51,7 @@ pub fn get<'m>(map: &'m Map, key: &str) -> Option<&'m Dynamic>
 }
 
 /// Sets the value of a key.
-/// Errors: memory is refused, for a key that is new; the map stays, and the value is gone.
+/// Errors: for a new key, an allocation fails; the map is unchanged, and the value is dropped.
 /// Cost: the logarithm of the number of entries; for a new key its length.
 /// rhai: `set`.
 pub fn set(map: &mut Map, key: &str, value: Dynamic) -> Result<(), AllocError>
@@ -64,7 +65,7 @@ pub fn set(map: &mut Map, key: &str, value: Dynamic) -> Result<(), AllocError>
     }
 }
 
-/// Takes a key out, and gives its value, if there is such a key.
+/// Removes a key and returns its value, if the map has it.
 /// Cost: the logarithm of the number of entries.
 /// rhai: `remove`.
 pub fn remove(map: &mut Map, key: &str) -> Option<Dynamic>
@@ -74,7 +75,7 @@ pub fn remove(map: &mut Map, key: &str) -> Option<Dynamic>
     map.remove(key)
 }
 
-/// Takes all entries out.
+/// Removes all entries.
 /// Cost: their drop.
 /// rhai: `clear`.
 pub fn clear(map: &mut Map)
@@ -83,8 +84,8 @@ pub fn clear(map: &mut Map)
     map.clear();
 }
 
-/// Makes an array of the keys, by rising order.
-/// Errors: memory is refused.
+/// Makes an array of the keys, in ascending order.
+/// Errors: an allocation fails.
 /// Cost: the length of the keys.
 /// rhai: `keys`.
 pub fn keys(alloc: Global, map: &Map) -> Result<Array, AllocError>
@@ -97,9 +98,9 @@ pub fn keys(alloc: Global, map: &Map) -> Result<Array, AllocError>
     Ok(keys)
 }
 
-/// Makes an array of copies of the values, by rising keys.
-/// Errors: memory is refused.
-/// Cost: the copies.
+/// Makes an array of copies of the values, by ascending keys.
+/// Errors: an allocation fails.
+/// Cost: that of the copies.
 /// rhai: `values`.
 pub fn values(alloc: Global, map: &Map) -> Result<Array, AllocError>
     ensures { IfOk result (λ values. values.items ≡ map_list copy (values_of map.now)) }
@@ -111,8 +112,9 @@ pub fn values(alloc: Global, map: &Map) -> Result<Array, AllocError>
     Ok(values)
 }
 
-/// Sets the entries of another map, of which each takes the place of one with its key.
-/// Errors: memory is refused, for a key that is new; then the first entries were set, and the others are gone.
+/// Inserts the entries of another map, each replacing an entry with its key.
+/// Errors: for a new key, an allocation fails; the entries before it are inserted, and the others
+/// are dropped.
 /// Cost: for each entry the logarithm of the number of entries.
 /// rhai: `mixin`.
 #[tactic(auto, using(crate::proofs::Mixed::mixed_more))]
@@ -129,8 +131,9 @@ pub fn mixin(map: &mut Map, other: Map) -> Result<(), AllocError>
     Ok(())
 }
 
-/// Sets the entries of another map whose keys aren't there.
-/// Errors: memory is refused; then the first entries were set, and the others are gone.
+/// Inserts the entries of another map whose keys are absent.
+/// Errors: an allocation fails; the entries before that one are inserted, and the others are
+/// dropped.
 /// Cost: for each entry the logarithm of the number of entries.
 /// rhai: `fill_with`.
 #[tactic(auto, using(crate::proofs::Mixed::filled_more))]

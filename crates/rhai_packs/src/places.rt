@@ -1,10 +1,11 @@
-//! What indices and lengths of a script mean in a list.
+//! The meaning of a script's indices and lengths in a list.
 ghost use Rattle.std.specs.Prelude.{◌≡◌, ◌≤◌};
 ghost use Rattle.rhai_packs.specs.Places.{cut_place as place_of_cut, part_count, missing as missing_of};
 
 use rhai_value::INT;
 
-/// The place of a cut: a negative index counts from the end, and one outside means the nearer end.
+/// The place of a split: a negative index counts from the end, and one out of range means the
+/// nearer end.
 pub(crate) fn cut_place(length: usize, index: INT) -> usize
     ensures place { result ≡ place_of_cut length index }
     ensures bound { result ≤ length }
@@ -17,7 +18,7 @@ pub(crate) fn cut_place(length: usize, index: INT) -> usize
     }
 }
 
-/// How many of so many items a number means: none, where it is negative.
+/// The number of items, at most `count`; 0 for a negative number.
 pub(crate) fn at_most(count: usize, wanted: INT) -> usize
     ensures number { result ≡ part_count count wanted }
     ensures bound { result ≤ count }
@@ -28,7 +29,7 @@ pub(crate) fn at_most(count: usize, wanted: INT) -> usize
     count.min(wanted.unsigned_abs() as usize)
 }
 
-/// How many items are missing until there are so many.
+/// The number of items missing up to a wanted length.
 pub(crate) fn missing(length: usize, wanted: INT) -> usize
     ensures { result ≡ missing_of length wanted }
 {

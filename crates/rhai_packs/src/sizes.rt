@@ -5,7 +5,8 @@ ghost use Rattle.rhai_packs.specs.Sizes.{may_grow as may_grow_by, no_place};
 
 use rhai_text::{EvalAltResult, Position, SizeKind};
 
-/// Whether a limit allows so many more beside so many; where none are added, it isn't asked. A limit of 0 is none.
+/// Whether a limit allows `more` beside `first`; always if nothing is added. A limit of 0 means
+/// none.
 pub(crate) fn may_grow(limit: usize, first: usize, more: usize) -> bool
     ensures { result ≡ may_grow_by limit first more }
 {
@@ -20,7 +21,7 @@ pub(crate) fn may_grow(limit: usize, first: usize, more: usize) -> bool
     }
 }
 
-/// That a value would grow past its limit.
+/// The error of exceeding a limit.
 pub(crate) fn too_large(kind: SizeKind) -> EvalAltResult
     ensures { result ≡ ErrorDataTooLarge kind no_place }
 {

@@ -1,5 +1,5 @@
-//! Texts. A call that the release's scripts see change a text puts another in its place, since none is changed where it stands; the
-//! others make a new one. Indices and lengths count characters; `Limits` counts bytes.
+//! Functions on texts. A call that changes a text in rhai's scripts replaces it by a new one; the
+//! others return a new one. Indices and lengths count characters; `Limits` counts bytes.
 ghost use Rattle.std.specs.Prelude.{◌≡◌, ◌++◌, ◌-◌, ◌↔◌, [], ℕ, List, length, map, true, IfErr, IfOk, IsTrue, OnErr, OnOk, string_bytes};
 ghost use Rattle.std.specs.Str.{chars as characters_of, encode_utf8_all, trim as trimmed};
 ghost use Rattle.std.specs.StrCase.Lower.{str_to_lowercase};
@@ -20,8 +20,8 @@ use rhai_text::{EvalAltResult, ImmutableString, Limits, SizeKind};
 use rhai_value::{Array, Dynamic, INT};
 use std::alloc::{AllocError, Global};
 
-/// Counts the characters.
-/// Cost: constant for a text of ASCII, else its length.
+/// Returns the number of characters.
+/// Cost: constant for an ASCII text, otherwise its length.
 /// rhai: `len`.
 pub fn len(text: &ImmutableString) -> usize
     ensures { result ≡ length text.now }
@@ -35,7 +35,7 @@ fn count(text: &str) -> usize
     text.chars().count()
 }
 
-/// Answers whether there is no character.
+/// Returns whether the text is empty.
 /// Cost: constant.
 /// rhai: `is_empty`.
 pub fn is_empty(text: &ImmutableString) -> bool
@@ -44,7 +44,7 @@ pub fn is_empty(text: &ImmutableString) -> bool
     text.is_empty()
 }
 
-/// Answers whether a part stands in the text.
+/// Returns whether the text contains a part.
 /// Cost: the length of the text, for a given part.
 /// rhai: `contains`.
 pub fn contains(text: &ImmutableString, part: &str) -> bool
@@ -53,7 +53,7 @@ pub fn contains(text: &ImmutableString, part: &str) -> bool
     text.as_str().contains(part)
 }
 
-/// Answers whether the text begins with a part.
+/// Returns whether the text begins with a part.
 /// Cost: the length of the part.
 /// rhai: `starts_with`.
 pub fn starts_with(text: &ImmutableString, part: &str) -> bool
@@ -62,7 +62,7 @@ pub fn starts_with(text: &ImmutableString, part: &str) -> bool
     text.as_str().starts_with(part)
 }
 
-/// Answers whether the text ends with a part.
+/// Returns whether the text ends with a part.
 /// Cost: the length of the part.
 /// rhai: `ends_with`.
 pub fn ends_with(text: &ImmutableString, part: &str) -> bool
@@ -71,8 +71,8 @@ pub fn ends_with(text: &ImmutableString, part: &str) -> bool
     text.as_str().ends_with(part)
 }
 
-/// Copies so many characters from an index on, as many as there are; an index before the front means the front.
-/// Errors: memory is refused.
+/// Copies up to `count` characters from an index on; an index before the front means the front.
+/// Errors: an allocation fails.
 /// Cost: the length of the text.
 /// rhai: `sub_string`.
 pub fn sub_string(
@@ -94,8 +94,8 @@ pub fn sub_string(
     Ok(part)
 }
 
-/// Keeps so many characters from an index on, as `sub_string` copies them.
-/// Errors: memory is refused; the text stays.
+/// Keeps the characters that `sub_string` copies.
+/// Errors: an allocation fails; the text is unchanged.
 /// Cost: that of `sub_string`.
 /// rhai: `crop`.
 pub fn crop(
@@ -111,8 +111,8 @@ pub fn crop(
     Ok(())
 }
 
-/// Keeps the first so many characters, all where there are no more, and none of a negative number.
-/// Errors: memory is refused; the text stays.
+/// Keeps the first `count` characters; all if there are no more, and none for a negative number.
+/// Errors: an allocation fails; the text is unchanged.
 /// Cost: the length of the text.
 /// rhai: `truncate`.
 pub fn truncate(alloc: Global, text: &mut ImmutableString, count: INT) -> Result<(), AllocError>
@@ -125,8 +125,8 @@ pub fn truncate(alloc: Global, text: &mut ImmutableString, count: INT) -> Result
     Ok(())
 }
 
-/// Cuts the white space off both ends.
-/// Errors: memory is refused; the text stays.
+/// Removes the white space at both ends.
+/// Errors: an allocation fails; the text is unchanged.
 /// Cost: the length of the text.
 /// rhai: `trim`.
 pub fn trim(alloc: Global, text: &mut ImmutableString) -> Result<(), AllocError>
@@ -138,7 +138,8 @@ pub fn trim(alloc: Global, text: &mut ImmutableString) -> Result<(), AllocError>
 }
 
 /// Makes the text in upper case, by Unicode.
-/// Errors: more bytes than the limit allows, where it has more than the text, or memory.
+/// Errors: more bytes than the limit allows, if the result is longer than the text, or a failed
+/// allocation.
 /// Cost: the length of the text.
 /// rhai: `to_upper`.
 pub fn to_upper(
@@ -154,7 +155,7 @@ pub fn to_upper(
 }
 
 /// Makes the text in lower case, by Unicode.
-/// Errors: as `to_upper`.
+/// Errors: those of `to_upper`.
 /// Cost: that of `to_upper`.
 /// rhai: `to_lower`.
 pub fn to_lower(
@@ -169,7 +170,7 @@ pub fn to_lower(
     kept_text(alloc, limits, text, &made)
 }
 
-/// A text that is made of another, if the limit allows it or it is no longer.
+/// The result, if the limit allows it or it is no longer than the original.
 fn kept_text(
     alloc: Global,
     limits: &Limits,
@@ -186,9 +187,10 @@ fn kept_text(
     Ok(ImmutableString::from_str(alloc, made.as_str())?)
 }
 
-/// Puts a text in the place of each occurrence of a part, which are found from left to right and don't overlap; an empty
-/// part stands before each character and at the end.
-/// Errors: more bytes than the limit allows, where there get more, or memory; the text stays.
+/// Replaces each occurrence of a part, found from left to right without overlaps; an empty part
+/// occurs before each character and at the end.
+/// Errors: more bytes than the limit allows, if the text becomes longer, or a failed allocation;
+/// the text is unchanged.
 /// Cost: the length of the text and of the new one.
 /// rhai: `replace`.
 pub fn replace(
@@ -213,7 +215,8 @@ pub fn replace(
     }
 }
 
-/// Finds the first occurrence of a part, and counts the characters before it; where the release answers -1, that is `None`.
+/// Finds the first occurrence of a part, and returns the number of characters before it; `None`
+/// where rhai returns -1.
 /// Cost: the length of the text, for a given part.
 /// rhai: `index_of`.
 pub fn index_of(text: &ImmutableString, part: &str) -> Option<usize>
@@ -231,8 +234,8 @@ fn place_of(text: &str, part: &str) -> Option<usize>
 }
 
 /// Makes an array of the characters.
-/// Errors: memory is refused.
-/// Cost: the length of the text; four bytes for each character are wanted meanwhile.
+/// Errors: an allocation fails.
+/// Cost: the length of the text; four temporary bytes for each character.
 /// rhai: `chars`.
 pub fn chars(alloc: Global, text: &ImmutableString) -> Result<Array, AllocError>
     ensures { IfOk result (λ items. items.items ≡ map (λ c. fresh (char c)) text.now) }

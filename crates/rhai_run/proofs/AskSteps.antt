@@ -1,4 +1,4 @@
--- Answers about a value, on two states that are the same up to a renaming.
+-- Answers about a value, on two states that are equal up to a renaming.
 use Rattle.std.proofs.Common.{◌≡◌, ℕ, is_some, not, ◌&&◌, [], ◌∷◌, Option, Some, None, refl, ap}
 use Rattle.rhai_show.specs.HashBytes.{plain_bytes}
 use Rattle.std.specs.Option.{option_map_or}
@@ -78,5 +78,5 @@ module _ (r : Renaming) (w v : State) (h : RelatedStates r w v) where
   pub same_hash : (i : ℕ) → Matches r w v (step w (command.Hash i)) (step v (command.Hash i))
   same_hash i = m_value r w v h i _ _ (λ t u e. m_stays r w v h _ _ (ap (λ o. option_map_or (λ p. answer.Bytes (plain_bytes p)) o (answer.Refused NotHashable)) (same_plain r w.store v.store t u h.one h.cells e)))
 
--- the steps of this file
+-- the steps in this file
 pub ruleset ask_steps = (same_ask, same_show, same_debug, same_hash)

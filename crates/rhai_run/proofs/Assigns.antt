@@ -1,4 +1,4 @@
--- The call of an assignment's row.
+-- Calling an assignment's row.
 use Rattle.std.proofs.Common.{◌<◌, length, length-set, IsSomeAnd, IsTrue, ◌≡◌, ℕ, zero, suc, false, List, [], ◌∷◌, slice_get, slice_set, Some, Result, Ok, Err, IfSome, OnOk, OnErr, refl, sym, ap, ◌∙◌, subst, arith}
 use Rattle.std.proofs.lemmas.Bool.Decides.{nat_tests}
 use Rattle.std.proofs.lemmas.List.{set-set}
@@ -31,7 +31,7 @@ use Rattle.rhai_run.proofs.Moves.{set_own}
 use Rattle.rhai_run.specs.declared.command.Command.TheVariants as command
 use Rattle.rhai_run.specs.Step.{step}
 
--- writes to two places of a list
+-- writes to two indices of a list
 set_other : (ts : List Tree) (i j : ℕ) (x y d : Tree) → (i ≡ j → ⊥) → slice_set (slice_set (slice_set ts j d) i x) j y ≡ slice_set (slice_set ts j y) i x
 set_other [] i j x y d e = refl
 set_other (t ∷ ts) zero zero x y d e = absurd (e refl)
@@ -39,18 +39,18 @@ set_other (t ∷ ts) zero (suc j) x y d e = ap (λ us. x ∷ us) (set-set ts j d
 set_other (t ∷ ts) (suc i) zero x y d e = refl
 set_other (t ∷ ts) (suc i) (suc j) x y d e = ap (λ us. t ∷ us) (set_other ts i j x y d (λ k. e (ap suc k)))
 
--- the value at a place while another one of the hand is moved
+-- the value at a place while another one of the hand is moved out
 pub value_apart : (ts : List Tree) (es : List Entry) (q : Slot) (j : ℕ) (d : Tree) → is_in q j ≡ false → value_in (slice_set ts j d) es q ≡ value_in ts es q
 value_apart ts es (slot.Hand i) j d e = let n : i ≡ j → ⊥ = grind (arith, nat_tests, e) in get_set_other ts j i d n
 value_apart ts es (slot.Entry k) j d e = refl
 
--- what the other one becomes is put back
+-- the other one's new value is put back
 put_back : (w : State) (p : Slot) (j : ℕ) (how : Effect) (t d y : Tree) (o : call.Outcome) → is_in p j ≡ false
     → with_hand (assigned_in (with_hand w (slice_set w.hand j d)) p how t o) (slice_set (assigned_in (with_hand w (slice_set w.hand j d)) p how t o).hand j y) ≡ assigned_in (with_hand w (slice_set w.hand j y)) p how t o
 put_back w (slot.Hand i) j how t d y o e = ap (λ ts. record w { store = store_left how o w.store t; hand = ts }) (set_other w.hand i j (first_left how o w.store t) y d (let n : i ≡ j → ⊥ = grind (arith, nat_tests, e) in n))
 put_back w (slot.Entry k) j how t d y o e = ap (λ ts. (record (assigned_in w (slot.Entry k) how t o) { hand = ts })) (set-set w.hand j d y)
 
--- what a call that is done comes to
+-- the outcome of a call that is done
 answered_value : (w : State) (how : Effect) (after : State) (d : Tree) (o : call.Outcome) → answered how o ≡ call.answers d → called w (λ _. after) o ≡ growing Done after
 answered_value w operator after d o e = ap (called w (λ _. after)) e
 answered_value w (assignment q) after d (call.answers t) e = refl
@@ -58,7 +58,7 @@ answered_value w (assignment q) after d (call.fault f) e = cc
 answered_value w (assignment q) after d (call.too_large k2) e = cc
 answered_value w (assignment q) after d call.unsuited e = cc
 
--- a row that writes does the same in the slot of a place
+-- a row that writes has the same effect in the slot of a place
 same_assigned : (w : State) (p : Place) (q : Slot) (j : ℕ) (how : Effect) (t u : Tree) (o : call.Outcome) → slot_of w.entries p ≡ Some q → IsTrue (writes how) → assigned w p j how t u o ≡ both_assigned w q j how t u o
 same_assigned w p q j operator t u o is h = cc
 same_assigned w p q j (assignment stays) t u (call.answers d) is h =
@@ -69,13 +69,13 @@ same_assigned w p q j (assignment s) t u (call.fault f) is h = refl
 same_assigned w p q j (assignment s) t u (call.too_large k) is h = refl
 same_assigned w p q j (assignment s) t u call.unsuited is h = refl
 
--- the step of a row that was looked up
+-- the step of a row that was found
 pub assign_is : (w : State) (op : Token) (p : Place) (q : Slot) (j : ℕ) (t u x : Tree) (row : FnBuiltin) → slice_get w.hand j ≡ Some u → is_at p j ≡ false → slot_of w.entries p ≡ Some q
     → source w.hand w.entries p ≡ Ok t → value_in w.hand w.entries q ≡ Some t → first w.store t ≡ Some x → assign_row op x u ≡ Some row → IsTrue (writes (effect row)) → step w (command.Assign op p j) ≡ called_in w q j row
 assign_is w op p q j t u x row b c is d v e f h =
     rw (b, v) (placed_is w p t _ d ∙ rw (c, e, f) (same_assigned w p q j (effect row) t u (outcome row w.limits w.store t u) is h))
 
--- the call, the second operand being moved out of the hand meanwhile
+-- the call, with the second operand moved out of the hand meanwhile
 pub assign_called : (w v : State) (p : Slot) (j : ℕ) (row : FnBuiltin) (t u d y : Tree) (ts : List Tree) (r : Result Tree EvalAltResult)
     → is_in p j ≡ false → value_in w.hand w.entries p ≡ Some t → slice_get w.hand j ≡ Some u → ts ≡ slice_set w.hand j d
     → IfSome (value_in ts w.entries p) (λ x. IsOutcome (MayWant row x u) r (answered (effect row) (outcome row w.limits w.store x u)))
@@ -136,7 +136,7 @@ assign_moved w v x z p j row u d y ts us r same k at moved result written second
     subst (λ q. Calls r q (with_hand z us) (called_in q p j row)) same
     (subst (λ q. Calls r v q (called_in v p j row)) (sym (ap (with_hand z) put ∙ ap (λ (q : State). with_hand q (slice_set q.hand j y)) is)) done)
 
--- the hand keeps its length
+-- the length of the hand is unchanged
 pub hand_stays : (v : State) (j : ℕ) (u d : Tree) (ts us : List Tree) → slice_get v.hand j ≡ Some u → ts ≡ slice_set v.hand j d → length us ≡ length ts → j < length us
 hand_stays v j u d ts us at moved long =
     let n : j < length v.hand = slice_get_within v.hand j u at in

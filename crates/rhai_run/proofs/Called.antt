@@ -1,4 +1,4 @@
--- A row of an operator is called on two values of the hand.
+-- Calling a row of an operator on two values of the hand.
 use Rattle.std.proofs.Common.{◌≡◌, ℕ, Bool, true, false, cond, nat_eq, slice_get, Some, Result, Ok, Err, refl, sym, ap, subst, ◌∙◌}
 use Rattle.rhai_text.specs.declared.error.EvalAltResult.{EvalAltResult}
 use Rattle.rhai_text.specs.Error.{is_memory}
@@ -22,7 +22,7 @@ use Rattle.rhai_run.specs.Operators.{called, finished}
 use Rattle.rhai_run.specs.declared.command.Command.TheVariants as command
 use Rattle.rhai_run.specs.Step.{step}
 
--- what the step comes to
+-- the outcome of the step
 pub binary_is : (w : State) (op : Token) (i j : ℕ) (x y : Tree) (row : FnBuiltin) → slice_get w.hand i ≡ Some x → slice_get w.hand j ≡ Some y → nat_eq i j ≡ false → row_of op w.store x y ≡ Some row
     → step w (command.Binary op i j) ≡ called w (appended w) (outcome row w.limits w.store x y)
 binary_is w op i j x y row ex ey e f = rw (ex, ey, e, f) refl
@@ -30,7 +30,7 @@ binary_is w op i j x y row ex ey e f = rw (ex, ey, e, f) refl
 pub gives_value : (MayWant : Type 0) (w : State) (d : Tree) (o : call.Outcome) → IsOutcome MayWant (Ok d) o → called w (appended w) o ≡ growing Done (appended w d)
 gives_value M w d o h = ap (called w (appended w)) h
 
--- what a call that is not done comes to
+-- the outcome of a call that is not done
 wanted : (w : State) (after : Tree → State) (o : call.Outcome) → is_answer o ≡ true → (called w after o).wants ≡ true
 wanted w after (call.answers t) h = refl
 wanted w after (call.fault f) h = cc
@@ -47,7 +47,7 @@ refusal_of M w how after e o h = by (is_memory e) refl
     by true m = wanted w after o (refused_memory M o e own m)
     by false m = ap (λ r. given r NoBuiltin w (finished w after)) (refused_result M o e own m)
 
--- the operands and the row of the call, in the state and in the memory that it stands for
+-- the operands and the row of the call, in the state and in its memory representation
 module _ (w v : State) (op : Token) (i j : ℕ) (x y : Tree) (row : FnBuiltin) (view : v ≡ w) (ex : slice_get w.hand i ≡ Some x) (ey : slice_get w.hand j ≡ Some y) (differ : nat_eq i j ≡ false) (found : row_of op w.store x y ≡ Some row) where
   abbrev of_operands : Result Tree EvalAltResult → State → Tree → Tree → Type 0
   of_operands result z t u = IsOutcome (MayWant row t u) result (outcome row z.limits z.store t u)

@@ -1,4 +1,4 @@
--- To which types a value can be cast.
+-- The types to which a value can be cast.
 use Rattle.std.proofs.Common.{◌≡◌, Bool, true, false, cond, Option, Some, None, option_map, is_some, List, [], refl, sym, ap, ◌∙◌, unwrap_or}
 use Rattle.rhai_value.specs.declared.cells.store.Cell.{Cell}
 use Rattle.rhai_value.specs.declared.value.type_id.TypeId.{TypeId}
@@ -17,7 +17,7 @@ pub castable_other : (k : TypeId) (e : End) → is_type k id.Dynamic ≡ false �
 castable_other id.Dynamic e h = cc
 castable_other _ e h = refl
 
--- something is read as a type that values can be looked into where the value can be cast to it
+-- a read as a type other than `Shared` succeeds if the value can be cast to it
 pub read_by_type : (k : TypeId) (s : List Cell) (t : Tree) → is_type k id.Shared ≡ false → is_some (read_as k (flat s t)) ≡ is_castable k (end s [] t)
 read_by_type k s t h = ap (λ b. is_some (cond b None (read k (flat s t)))) h ∙ copied_castable k s t
 
@@ -25,7 +25,7 @@ not_some : {A : Type 0} (o : Option A) → is_some o ≡ false → o ≡ None
 not_some None e = refl
 not_some (Some x) e = cc
 
--- and nothing where it can't be
+-- and fails otherwise
 pub uncastable : (k : TypeId) (s : List Cell) (t : Tree) → is_castable k (end s [] t) ≡ false → read_as k (flat s t) ≡ None
 uncastable k s t h = by (is_type k id.Shared)
   where
@@ -40,11 +40,11 @@ moved_by_type k s t = by (is_type k id.Shared)
     by true = refl
     by false = copied_castable k s t ∙ sym (moved_castable k s t)
 
--- a value that can be cast is one of which, without holders, something is read
+-- a value can be cast if a read of its flat value succeeds
 pub movable : (k : TypeId) (s : List Cell) (t : Tree) → is_type k id.Shared ≡ false → is_castable k (end s [] t) ≡ is_some (read_as k (flattened s t))
 movable k s t h = sym (read_by_type k s t h) ∙ moved_by_type k s t
 
--- but as the value itself, what is read is the content made anew
+-- except for `Dynamic`, the value read is the content made anew
 content_read : (k : TypeId) (t : Tree) → is_type k id.Dynamic ≡ false → read k t ≡ option_map made (typed_content (held_type k) t)
 content_read id.Dynamic t h = cc
 content_read _ t h = refl
@@ -58,7 +58,7 @@ read_content k t h n = by (is_type k id.Shared) (is_type (held_type k) (tree_typ
     by false true e = refl
     by false false e = cc
 
--- a value that is no holder is its own flat copy
+-- a value that isn't a holder is its own flat copy
 unshared_flat : (s : List Cell) (t : Tree) → cell_of t ≡ None → flat s t ≡ copy t
 unfolding end
 unshared_flat s (node (leaf l) g m) h = ap (λ e. copy (unwrap_or (value_ahead e) (node (leaf l) g m))) (walk_opens end_of s [] (node (leaf l) g m))
@@ -76,7 +76,7 @@ copied_content : (b : Bool) (t : Tree) → option_map made (cond b (Some (conten
 copied_content true (node c g m) = refl
 copied_content false t = refl
 
--- what is read of a copy is the copy of what is read
+-- the read of a copy is the copy of the read
 copy_read : (k : TypeId) (t : Tree) → read k (copy t) ≡ option_map copy (read k t)
 copy_read id.Dynamic t = refl
 copy_read k t =
@@ -89,7 +89,7 @@ viewed_read _ t h = refl
 viewed_flat : (k : TypeId) (s : List Cell) (t : Tree) → is_some (cell_of t) ≡ false → is_type k id.String ≡ false → option_map copy (viewed k t) ≡ read k (flat s t)
 viewed_flat k s t h n = ap (option_map copy) (viewed_read k t n) ∙ sym (copy_read k t) ∙ ap (read k) (sym (unshared_flat s t (not_some (cell_of t) h)))
 
--- what is viewed of a value that is no holder is what its flat copy is cast to
+-- the borrow of a value that isn't a holder is what its flat copy is cast to
 pub viewed_cast : (k : TypeId) (s : List Cell) (t : Tree) → is_some (cell_of t) ≡ false → is_type k id.String ≡ false → option_map copy (viewed_as k t) ≡ read_as k (flat s t)
 viewed_cast k s t h n = by (is_type k id.Shared)
   where

@@ -1,4 +1,4 @@
--- Steps that change values, on two states that are the same up to a renaming.
+-- Steps that change values, on two states that are equal up to a renaming.
 use Rattle.std.proofs.Common.{ℕ, ℤ, pos, [], ◌++◌, length, slice_set, refl, length-append}
 use Rattle.rhai_value.specs.declared.value.access_mode.AccessMode.TheVariants.{ReadOnly}
 use Rattle.rhai_value.specs.Tree.{Tree, node, holder, mode_of}
@@ -36,7 +36,7 @@ module _ (r : Renaming) (w v : State) (h : RelatedStates r w v) where
         limits = h.limits;
       }
 
-  -- a value goes into a new cell of each state
+  -- a value moves into a new cell of each state
   new_cell : (i : ℕ) (t u : Tree) → Related r t u
       → Matches r w v (growing Done (with_cells w (added w.store t) (slice_set w.hand i (node (holder (length w.store)) (pos 0) (mode_of t))))) (growing Done (with_cells v (added v.store u) (slice_set v.hand i (node (holder (length v.store)) (pos 0) (mode_of u)))))
   new_cell i t u e =
@@ -77,5 +77,5 @@ module _ (r : Renaming) (w v : State) (h : RelatedStates r w v) where
       (same_store_with_first r w.store v.store x y h.one h.cells d t u e)
       (zip_set (Related r) _ _ i _ _ (moved_hand r w v h j) (same_value_with_first r x y d t u e))))
 
--- the steps of this file
+-- the steps in this file
 pub ruleset change_steps = (same_share, same_flatten, same_make_read_only, same_set_tag, same_write_int, same_write)

@@ -1,4 +1,4 @@
--- Steps on the last entry of a name, on two states that are the same up to a renaming.
+-- Steps on the last entry of a name, on two states that are equal up to a renaming.
 use Rattle.std.proofs.Common.{◌≡◌, ℕ, ℤ, List, [], ◌∷◌, Option, Some, None, option_map, is_some, cond, refl, ap, ap₂, subst}
 use Rattle.std.specs.List.{AllZip}
 use Rattle.rhai_value.specs.declared.value.type_id.TypeId.{TypeId}
@@ -34,7 +34,7 @@ module _ (r : Renaming) (w v : State) (h : RelatedStates r w v) where
       m_place_and r w v h (place.Entry name) i _ _ (λ a b t u n e.
       m_scope r w v h _ _ _ _ (same_changed_named r (holding t) (holding u) name w.entries v.entries (same_with_value r t u e) h.entries) (moved_hand r w v h i))
 
-  -- an entry that is written over or pushed
+  -- an entry that is replaced or pushed
   entries_set : (o p : Option ℕ) → o ≡ p → (name : List ℕ) (i : ℕ) (t u : Tree) → Related r t u → AllZip (RelatedEntry r) (set_or_pushed o name t w.entries) (set_or_pushed p name u v.entries)
   entries_set o p k name i t u e =
       subst (λ q. AllZip (RelatedEntry r) (set_or_pushed o name t w.entries) (set_or_pushed q name u v.entries)) k (same_set_or_pushed r o name t u w.entries v.entries e h.entries)
@@ -110,7 +110,7 @@ module _ (r : Renaming) (w v : State) (h : RelatedStates r w v) where
       subst (λ o. AllZip (RelatedEntry r) (removed_at (last_position name w.entries) w.entries) (removed_at o v.entries)) (same_position r name w.entries v.entries h.entries)
       (same_removed_at r (last_position name w.entries) w.entries v.entries h.entries)
 
-  -- other entries, and a value at the end of the hand where there is one
+  -- other entries, and a value appended to the hand if there is one
   m_taken : (es fs : List Entry) (o p : Option Tree) → AllZip (RelatedEntry r) es fs → Alike (Related r) o p → Matches r w v (appended_or_nothing (with_entries w es) o) (appended_or_nothing (with_entries v fs) p)
   m_taken es fs None None e k = no_cell r w v h _ _ answer.Nothing answer.Nothing refl refl refl (record { one = h.one; cells = h.cells; entries = e; marks = h.marks; hand = h.hand; limits = h.limits }) (λ k. k)
   m_taken es fs (Some t) (Some u) e k = m_scope r w v h es fs _ _ e (zip_append (Related r) w.hand (t ∷ []) v.hand (u ∷ []) h.hand (k, tt))
@@ -122,5 +122,5 @@ module _ (r : Renaming) (w v : State) (h : RelatedStates r w v) where
       m_given r w v h (Related r) NoEntry _ _ _ _ (same_named r name w.entries v.entries h.entries) (λ t u e.
       m_taken _ _ _ _ (removed_entries name) (unless_shared r w v h (is_type kind id.Shared) _ _ (same_moved r kind w.store v.store t u h.one h.cells e)))
 
--- the steps of this file
+-- the steps in this file
 pub ruleset entry_steps = (same_set_entry, same_set_or_push, same_set_value, same_get, same_get_value, same_get_ref, same_set_ref, same_remove, same_set_alias, same_aliases)

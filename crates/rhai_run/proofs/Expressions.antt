@@ -1,4 +1,4 @@
--- Expressions: their commands, what is left of them, and what they leave.
+-- Expressions: their commands, the progress of an evaluation, and the state afterwards.
 pub mod Progress
 pub mod Meant
 pub mod Layered

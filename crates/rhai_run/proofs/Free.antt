@@ -1,4 +1,4 @@
--- Outcomes for which no memory is wanted, and one lemma for each thing that steps are made of.
+-- Outcomes that need no allocation, and one lemma for each component of steps.
 use Rattle.std.proofs.Common.{◌≡◌, ℕ, Bool, true, false, cond, nat_eq, List, [], slice_get, Option, Some, None, refl}
 use Rattle.std.specs.Option.{option_map_or}
 use Rattle.rhai_value.specs.Tree.{Tree}

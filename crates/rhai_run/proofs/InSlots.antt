@@ -1,4 +1,4 @@
--- The slot of a place: the place means the same in what is found, written and tested.
+-- The slot of a place: look-ups, writes and tests agree with the place.
 use Rattle.std.proofs.Common.{◌≡◌, ℕ, Bool, true, false, cond, nat_eq, [], List, slice_get, slice_set, Option, Some, None, option_map, Result, Ok, Err, refl, sym, ap, ◌∙◌, subst}
 use Rattle.std.specs.Option.{ok_or}
 use Rattle.std.proofs.lemmas.Option.{same_Some}
@@ -28,7 +28,7 @@ same_put w c (place.Entry name) q t e = by (last_position name w.entries) e
     by None e = cc
     by (Some k) e = ap (λ r. put_in w c r t) (same_Some (slot.Entry k) q e)
 
--- the slot of another place than a hand position
+-- the slot of a place other than a hand position
 pub slot_apart : (es : List Entry) (p : Place) (q : Slot) (j : ℕ) → slot_of es p ≡ Some q → is_at p j ≡ false → is_in q j ≡ false
 slot_apart es (place.Hand i) (slot.Hand k) j e f = let same : i ≡ k = cc in subst (λ n. nat_eq n j ≡ false) same f
 slot_apart es (place.Hand i) (slot.Entry k) j e f = refl
@@ -43,7 +43,7 @@ slot_apart es (place.Entry name) (slot.Hand k) j e f = by (last_position name es
 pub source_is : (o : Option Tree) (s : Result Tree Refusal) (x : Tree) → option_map Ok o ≡ Some s → o ≡ Some x → s ≡ Ok x
 source_is o s x e f = sym (same_Some (Ok x) s (ap (option_map Ok) (sym f) ∙ e))
 
--- what is done with the value at a place, or why there is none
+-- the outcome for the value at a place, or why there is none
 entry_is : (o : Option Entry) (w : State) (t : Tree) (go : Tree → Outcome) → entry_found o ≡ Ok t → given o NoEntry w (λ e. unless (is_constant_entry e) ConstantEntry w (go e.value)) ≡ go t
 entry_is None w t go e = cc
 entry_is (Some x) w t go e = by (is_constant_entry x) e

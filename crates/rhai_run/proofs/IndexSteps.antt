@@ -1,4 +1,4 @@
--- Places in lists, on two states that are the same up to a renaming: nothing of the states is asked.
+-- Positions in lists, on two states that are equal up to a renaming: they don't use the states.
 use Rattle.std.proofs.Common.{ℕ, ℤ, Bool, refl}
 use Rattle.rhai_value.specs.Relation.{Renaming}
 use Rattle.rhai_run.specs.Correspondence.{RelatedStates}
@@ -14,5 +14,5 @@ module _ (r : Renaming) (w v : State) (h : RelatedStates r w v) where
   pub same_index : (length : ℕ) (index : ℤ) (from_end : Bool) → Matches r w v (step w (command.Index length index from_end)) (step v (command.Index length index from_end))
   same_index length index from_end = m_stays r w v h _ _ refl
 
--- the steps of this file
+-- the steps in this file
 pub ruleset index_steps = (same_offset, same_index)

@@ -19,12 +19,12 @@ use Rattle.rhai_run.specs.State.{State, with_entries, with_scope, moved_from}
 use Rattle.rhai_run.specs.declared.command.Command.TheVariants as command
 use Rattle.rhai_run.specs.Step.{step}
 
--- something is made where a value is found
+-- an outcome is made if a value is found
 pub appended_makes : (w : State) (o : Option Tree) → is_some o ≡ true → (appended_or_nothing w o).wants ≡ true
 appended_makes w None h = cc
 appended_makes w (Some t) h = refl
 
--- what is written to the entry at the last position of a name, and what becomes of it where it is taken out
+-- a write to the entry at the last position of a name, and its removal
 pub set_ref_is : (w : State) (name : List ℕ) (n : ℤ) (k : ℕ) (t : Tree) → last_position name w.entries ≡ Some k → option_map (λ e. e.value) (slice_get w.entries k) ≡ Some t
     → step w (command.SetRef name n) ≡ unless (is_some (cell_of t)) SharedEntry w
     (if is_some (viewed id.Int t) then free Done (with_entries w (changed_at (holding (written_as id.Int (fresh (int n)) t)) w.entries k)) else free Nothing w)
@@ -39,7 +39,7 @@ pub remove_is : (w : State) (name : List ℕ) (kind : TypeId) (k : ℕ) (t : Tre
     → step w (command.Remove name kind) ≡ appended_or_nothing (with_entries w (remove w.entries k)) (read_as kind (flattened w.store t))
 remove_is w name kind k t p h = rw (p, h) refl
 
--- A value of the hand is moved into the entry at the last position of a name, if that is no constant.
+-- A value of the hand is moved into the entry at the last position of a name, if that isn't a constant.
 pub set_entry_is : (w : State) (name : List ℕ) (i k : ℕ) (t : Tree) (b : Bool) → slice_get w.hand i ≡ Some t → last_position name w.entries ≡ Some k
     → option_map is_constant_entry (slice_get w.entries k) ≡ Some b
     → step w (command.SetEntry name i) ≡ unless b ConstantEntry w (free Done (with_scope w (changed_at (holding t) w.entries k) (moved_from w.hand i)))
@@ -51,7 +51,7 @@ set_entry_is w name i k t b h p c = rw (h, p) (at (slice_get w.entries k) c)
     at None c = cc
     at (Some e) c = rw (same_Some (is_constant_entry e) b c) refl
 
--- the same, where a new entry is pushed in place of a constant
+-- the same, if a new entry is pushed instead of a constant
 pub set_or_push_is : (w : State) (name : List ℕ) (i k : ℕ) (t : Tree) (b : Bool) → slice_get w.hand i ≡ Some t → last_position name w.entries ≡ Some k
     → option_map is_constant_entry (slice_get w.entries k) ≡ Some b → step w (command.SetOrPush name i) ≡ set_at (if b then None else Some k) w name i t
 set_or_push_is w name i k t b h p c = rw (h, p) (at (slice_get w.entries k) c)
@@ -60,7 +60,7 @@ set_or_push_is w name i k t b h p c = rw (h, p) (at (slice_get w.entries k) c)
     at None c = cc
     at (Some e) c = rw (same_Some (is_constant_entry e) b c) refl
 
--- the same, where a constant is refused
+-- the same, if a constant is refused
 pub set_value_is : (w : State) (name : List ℕ) (i k : ℕ) (t : Tree) (b : Bool) → slice_get w.hand i ≡ Some t → last_position name w.entries ≡ Some k
     → option_map is_constant_entry (slice_get w.entries k) ≡ Some b → step w (command.SetValue name i) ≡ unless b ConstantEntry w (set_at (Some k) w name i t)
 set_value_is w name i k t b h p c = rw (h, p) (at (slice_get w.entries k) c)
@@ -69,7 +69,7 @@ set_value_is w name i k t b h p c = rw (h, p) (at (slice_get w.entries k) c)
     at None c = cc
     at (Some e) c = rw (same_Some (is_constant_entry e) b c) refl
 
--- what becomes of an entry that is no holder
+-- the outcome for an entry that isn't a holder
 pub get_ref_is : (w : State) (name : List ℕ) (kind : TypeId) (t : Tree) (o : Option Tree) → value_named name w.entries ≡ Some t → is_some (cell_of t) ≡ false → option_map copy (viewed_as kind t) ≡ o
     → step w (command.GetRef name kind) ≡ appended_or_nothing w o
 get_ref_is w name kind t o e f g = rw (e, f, g) refl

@@ -1,4 +1,4 @@
--- The rows of a map that a command makes have at each key the value that is given last for it.
+-- The rows of a map that a command makes have at each key the last value given for it.
 use Rattle.std.proofs.Common.{◌≡◌, ℕ, cond, List, [], ◌∷◌, ◌++◌, map, Some, refl, sym, ap, ◌∙◌, subst}
 use Rattle.std.proofs.lemmas.Cmp.{nat_list_cmp_total}
 use Rattle.std.proofs.lemmas.List.{append_assoc, append-nil, reverse-append}
@@ -12,7 +12,7 @@ use Rattle.rhai_value.specs.Rows.{Rows, bytes_cmp}
 use Rattle.rhai_value.specs.Tree.{Tree}
 use Rattle.rhai_run.specs.Made.{rows_with}
 
--- what is found in rows is what stands last among pairs
+-- a look-up in rows finds the last one among the pairs
 abbrev FindsLast : Rows → Rows → Type 0
 FindsLast ps rs = (q : List ℕ) → lookup (is_at (bytes_cmp q)) rs ≡ lookup (is_at (bytes_cmp q)) (reverse ps)
 

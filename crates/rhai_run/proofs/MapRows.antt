@@ -1,4 +1,4 @@
--- A map that is made of keys alone, and then given the values, is the map of the keys to the values.
+-- A map made from the keys with unit, and then given the values, is the map of the keys to the values.
 use Rattle.std.proofs.Common.{◌≡◌, ◌≤◌, ◌<◌, ℕ, zero, suc, ◌+◌, Bool, true, false, cond, List, [], ◌∷◌, ◌++◌, length, map, take, get_or, slice_get, slice_set, Option, Some, None, Ordering, Less, Equal, Greater, is_some, inl, inr, refl, sym, ap, ap₂, ◌∙◌, subst, arith}
 use Rattle.std.proofs.lemmas.Bool.{cases_Bool}
 use Rattle.std.proofs.lemmas.Cmp.{nat_list_cmp_total, tied_itself, eq_by_cmp_equiv}
@@ -18,7 +18,7 @@ use Rattle.rhai_value.specs.Rows.{Rows, bytes_cmp}
 use Rattle.rhai_value.specs.Tree.{Tree, fresh, unit}
 use Rattle.rhai_run.specs.Made.{rows_with, rows_of_keys}
 
--- ---- one key more
+-- ---- one more key
 
 rows_last : (ks : List (List ℕ)) (ts : List Tree) (rs : Rows) (k : List ℕ) (t : Tree) → slice_get ts (length ks) ≡ Some t
     → rows_with rs (ks ++ k ∷ []) ts ≡ insert_entry bytes_cmp (rows_with rs ks ts) (encode_utf8_all k) t
@@ -46,7 +46,7 @@ found q rs = lookup (is_at (bytes_cmp q)) rs
 is_itself : (k : List ℕ) → is_eq (bytes_cmp k k) ≡ true
 is_itself k = ap is_eq (tied_itself nat_list_cmp_total k)
 
--- what is found after a write at a key that is there
+-- look-ups after a write at an existing key
 pub found_set : (q k : List ℕ) (t : Tree) (rs : Rows) → is_some (found k rs) ≡ true → found q (set_value (is_at (bytes_cmp k)) rs t) ≡ cond (is_eq (bytes_cmp q k)) (Some t) (found q rs)
 found_set q k t rs h =
     let laws = eq_by_cmp_equiv nat_list_cmp_total in
@@ -56,7 +56,7 @@ found_set q k t rs h =
 pub keys_set : (k : List ℕ) (t : Tree) (rs : Rows) → keys_of (set_value (is_at (bytes_cmp k)) rs t) ≡ keys_of rs
 keys_set k t rs = keys-set_value (is_at (bytes_cmp k)) rs t
 
--- a key that is there stays
+-- an existing key is kept
 stays_found : (q : List ℕ) (ks : List (List ℕ)) (ts : List Tree) (rs : Rows) → is_some (found q rs) ≡ true → is_some (found q (rows_with rs ks ts)) ≡ true
 stays_found q [] ts rs h = h
 stays_found q (k ∷ ks) [] rs h = h
@@ -77,16 +77,16 @@ key_found (j ∷ ks) (t ∷ ts) rs (suc i) k l n e = key_found ks ts _ i k (omeg
 pub key_stays : (ks js : List (List ℕ)) (ts : List Tree) (i : ℕ) (k : List ℕ) → i < length ks → k ≡ get_or ks i k → is_some (found (encode_utf8_all k) (rows_with (rows_of_keys ks) js ts)) ≡ true
 key_stays ks js ts i k l e = stays_found (encode_utf8_all k) js ts (rows_of_keys ks) (key_found ks (map (λ k. fresh unit) ks) [] i k l (length-map ks (λ (k : List ℕ). fresh unit)) e)
 
--- one key more is written
+-- one more key is written
 pub found_more : (q : List ℕ) (rs us : Rows) (ks : List (List ℕ)) (ts : List Tree) (i : ℕ) (k : List ℕ) (t : Tree) → i < length ks → k ≡ get_or ks i k → slice_get ts i ≡ Some t → is_some (found (encode_utf8_all k) us) ≡ true
     → found q us ≡ found q (rows_with rs (take i ks) ts) → found q (set_value (is_at (bytes_cmp (encode_utf8_all k))) us t) ≡ found q (rows_with rs (take (i + 1) ks) ts)
 found_more q rs us ks ts i k t l e h there same =
     found_set q (encode_utf8_all k) t us there ∙ ap (cond (is_eq (bytes_cmp q (encode_utf8_all k))) (Some t)) same
     ∙ sym (ap (found q) (rows_more rs ks ts i k t l e h) ∙ found_inserted nat_list_cmp_total q (encode_utf8_all k) t (rows_with rs (take i ks) ts))
 
--- ---- the keys alone, and then the values
+-- ---- the keys first, and then the values
 
--- what was found before doesn't matter where each of these keys is given its value again
+-- earlier values don't matter if each of these keys is given its value again
 found_over : (q : List ℕ) (ks : List (List ℕ)) (ts : List Tree) (rs us : Rows) → length ts ≡ length ks → (list_any (λ k. is_eq (bytes_cmp q (encode_utf8_all k))) ks ≡ false → found q rs ≡ found q us) → found q (rows_with rs ks ts) ≡ found q (rows_with us ks ts)
 found_over q [] ts rs us n h = h refl
 found_over q (k ∷ ks) [] rs us n h = absurd (omega arith)
@@ -131,7 +131,7 @@ given_keys (k ∷ ks) [] us rs qs n m h = absurd (omega arith)
 given_keys (k ∷ ks) (t ∷ ts) [] rs qs n m h = absurd (omega arith)
 given_keys (k ∷ ks) (t ∷ ts) (u ∷ us) rs qs n m h = given_keys ks ts us _ _ (omega arith) (omega arith) (inserted_keys rs qs (encode_utf8_all k) t u h)
 
--- rows of the same rising keys that are found alike are the same
+-- rows with the same ascending keys and equal look-ups are equal
 module _ (a b : List ℕ × Tree) (rs us : Rows) where
   rest_alike : a.0 ≡ b.0 → IsStrictlySortedBy bytes_cmp (keys_of (a ∷ rs)) → IsStrictlySortedBy bytes_cmp (keys_of (b ∷ us)) → (q : List ℕ) → found q (a ∷ rs) ≡ found q (b ∷ us) → found q rs ≡ found q us
   rest_alike e s z q h =
@@ -159,7 +159,7 @@ same_rows (a ∷ rs) (b ∷ us) k s h =
     let more : rs ≡ us = same_rows rs us rest (sorted_tail bytes_cmp a.0 (keys_of rs) s) (λ q. rest_alike a b rs us first s sorted q (h q)) in
     λ i. (first i, value i) ∷ more i
 
--- the keys rise
+-- the keys are ascending
 all_inserted : (P : List ℕ → Type 0) (rs : Rows) (k : List ℕ) (t : Tree) → AllByRecursion P (keys_of rs) → P k → AllByRecursion P (keys_of (insert_entry bytes_cmp rs k t))
 all_inserted P [] k t h p = (p, tt)
 all_inserted P (e ∷ rs) k t h p = here (bytes_cmp k e.0) (all_inserted P rs k t h.1 p)
@@ -193,11 +193,11 @@ sorted_keys : (ks : List (List ℕ)) → IsStrictlySortedBy bytes_cmp (keys_of (
 unfolding IsStrictlySortedBy
 sorted_keys ks = sorted_given ks (map (λ k. fresh unit) ks) [] tt
 
--- the map of the keys that was given the values
+-- the map of the keys after it is given the values
 pub all_given : (rs : Rows) (ks : List (List ℕ)) (ts : List Tree) → length ts ≡ length ks → keys_of rs ≡ keys_of (rows_of_keys ks) → ((q : List ℕ) → found q rs ≡ found q (rows_with (rows_of_keys ks) ks ts)) → rs ≡ rows_with [] ks ts
 all_given rs ks ts n k h =
     same_rows rs (rows_with [] ks ts) (k ∙ given_keys ks (map (λ k. fresh unit) ks) ts [] [] (length-map ks (λ (k : List ℕ). fresh unit)) n refl) (subst (IsStrictlySortedBy bytes_cmp) (sym k) (sorted_keys ks)) (λ q. h q ∙ found_given q ks ts n)
 
--- the values behind a place that was written stay
+-- the values after an index that was written are unchanged
 pub ahead_more : (ts us vs : List Tree) (n : ℕ) → vs ≡ slice_set us n (fresh unit) → ((k : ℕ) → n ≤ k → slice_get us k ≡ slice_get ts k) → (k : ℕ) → n < k → slice_get vs k ≡ slice_get ts k
 ahead_more ts us vs n is same k l = rw is (get_set_other us n k (fresh unit) (λ e. omega arith) ∙ same k (omega arith))

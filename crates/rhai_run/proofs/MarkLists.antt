@@ -1,4 +1,4 @@
--- Marks that are set and taken away, counted in their list.
+-- Marks set and cleared, counted in their list.
 use Rattle.std.proofs.Common.{inl, inr, ◌≡◌, ℕ, zero, suc, ◌+◌, ◌<◌, Bool, true, false, cond, nat_eq, List, [], ◌∷◌, ◌++◌, length, slice_get, Option, Some, None, is_some, count_by, refl, sym, ap, ◌∙◌, subst, arith}
 use Rattle.std.proofs.lemmas.Bool.{false≢true, cases_eq}
 use Rattle.std.proofs.lemmas.Bool.Decides.{nat_tests}
@@ -12,7 +12,7 @@ use Rattle.rhai_value.specs.Tree.{Tree, node, leaf, branch, fields, holder}
 use Rattle.rhai_value.proofs.ForCallers.{mark_stands, others_marked}
 use Rattle.rhai_run.specs.Fits.{MarksAre}
 
--- one more is counted where it is c
+-- one more is counted if it is c
 pub counted-cons : (c m : ℕ) (ms : List ℕ) → count_by (nat_eq c) (m ∷ ms) ≡ cond (nat_eq c m) 1 0 + count_by (nat_eq c) ms
 counted-cons c m ms = sum_by-cons (λ x. cond (nat_eq c x) 1 0) m ms
 
@@ -47,7 +47,7 @@ marked_within (x ∷ s) (suc c) e = omega (arith, marked_within s c e)
 pub mark_is_set : (s : List Cell) (ms : List ℕ) (k c : ℕ) → MarksAre s ms → slice_get ms k ≡ Some c → is_marked_at s c ≡ true
 mark_is_set s ms k c h e = is_counted (is_marked_at s c) (count_by (nat_eq c) ms) (h c) (omega (arith, counted-remove ms k c c e, here c))
 
--- a mark is cleared and taken out of the list
+-- a mark is cleared and removed from the list
 pub mark_taken : (s : List Cell) (ms : List ℕ) (k c : ℕ) → MarksAre s ms → slice_get ms k ≡ Some c → MarksAre (set_mark s c false) (remove ms k)
 mark_taken s ms k c h e d = elim (cases_eq d c) [ inl same ↦ at_it d same | inr other ↦ at_other d other ]
   where
@@ -75,7 +75,7 @@ free_cell (x ∷ s) zero e = (by x.is_marked x.content e, omega arith)
     by false t e = refl
 free_cell (x ∷ s) (suc c) e = let h = free_cell s c e in (h.0, omega (arith, h.1))
 
--- it is marked, and stands at the end of the list
+-- it is marked, and appended to the list
 pub mark_added : (s : List Cell) (ms : List ℕ) (c : ℕ) → MarksAre s ms → is_some (at s c) ≡ true → MarksAre (set_mark s c true) (ms ++ c ∷ [])
 mark_added s ms c h e d = elim (cases_eq d c) [ inl same ↦ at_it d same | inr other ↦ at_other d other ]
   where
@@ -93,7 +93,7 @@ mark_added s ms c h e d = elim (cases_eq d c) [ inl same ↦ at_it d same | inr 
         let same : count_by (nat_eq d) (ms ++ c ∷ []) ≡ count_by (nat_eq d) ms = omega (arith, counted-last ms c d, elsewhere d c other) in
         same ∙ h d ∙ ap once (sym (others_marked s c d true other))
 
--- the first cell of a holder is one
+-- the first cell of a holder is an unmarked one
 pub first_is_free : (s : List Cell) (t : Tree) (c : ℕ) → first_cell s t ≡ Some c → is_some (at s c) ≡ true
 first_is_free s (node (leaf l) g m) c e = cc
 first_is_free s (node (branch k ts) g m) c e = cc

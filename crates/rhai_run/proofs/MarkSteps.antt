@@ -1,4 +1,4 @@
--- Steps on the list of marks, on two states that are the same up to a renaming.
+-- Steps on the list of marks, on two states that are equal up to a renaming.
 use Rattle.std.proofs.Common.{◌≡◌, ℕ, zero, suc, Bool, true, false, List, [], ◌∷◌, length, slice_get, not, refl, ap}
 use Rattle.std.specs.List.{AllZip}
 use Rattle.rhai_value.specs.declared.cells.store.Cell.{Cell}
@@ -21,7 +21,7 @@ use Rattle.rhai_run.proofs.PlaceSteps.{m_place}
 use Rattle.rhai_run.specs.declared.command.Command.TheVariants as command
 use Rattle.rhai_run.specs.Step.{step}
 
--- a value is written over in a cell: marks stay
+-- writing a value to a cell keeps marks
 put_marks : (s : List Cell) (c d : ℕ) (t : Tree) → is_marked_at (put s c t) d ≡ is_marked_at s d
 put_marks [] c d t = refl
 put_marks (x ∷ s) zero zero t = refl
@@ -68,5 +68,5 @@ module _ (r : Renaming) (w v : State) (h : RelatedStates r w v) where
       m_given r w v h (Paired r) NoMark (slice_get w.marks k) (slice_get v.marks k) _ _ (same_mark_at k) (λ c d same.
       m_given r w v h (Related r) NoMark (content_at w.store c) (content_at v.store d) _ _ (same_content_at c d same) (λ t u e. m_appended r w v h (copy t) (copy u) (same_copy r t u e)))
 
--- the steps of this file
+-- the steps in this file
 pub ruleset mark_steps = (same_mark, same_unmark, same_write_marked, same_read_marked)

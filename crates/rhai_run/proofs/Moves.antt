@@ -1,4 +1,4 @@
--- A value of the hand is changed where it stands, or taken out of its place and put back.
+-- A value of the hand is changed in place, or moved out of its place and put back.
 use Rattle.std.proofs.Common.{◌≡◌, ◌<◌, ℕ, ℤ, zero, suc, true, false, List, [], ◌∷◌, length, slice_get, slice_set, get_or, Option, Some, None, is_some, refl, sym, ap, ap₂, ◌∙◌, subst}
 use Rattle.std.proofs.lemmas.List.{set-set}
 use Rattle.std.proofs.lemmas.Option.{same_Some, slice_get_read, slice_get_within}
@@ -19,25 +19,25 @@ use Rattle.rhai_run.specs.declared.answer.Refusal.TheVariants.{Mismatch}
 use Rattle.rhai_run.specs.declared.command.Command.TheVariants as command
 use Rattle.rhai_run.specs.Step.{step}
 
--- another value comes into a place that a value was taken from
+-- another value is put into a place from which a value was moved
 moved_in : (ts us : List Tree) (i : ℕ) (u d t : Tree) → d ≡ t → us ≡ slice_set (slice_set ts i u) i d → us ≡ slice_set ts i t
 moved_in ts us i u d t e h = h ∙ set-set ts i u d ∙ ap (slice_set ts i) e
 
--- a value written over itself
+-- writing a value over itself
 pub set_own : (ts : List Tree) (i : ℕ) (t : Tree) → slice_get ts i ≡ Some t → slice_set ts i t ≡ ts
 set_own [] i t e = refl
 set_own (x ∷ ts) zero t e = ap (λ y. y ∷ ts) (sym (same_Some x t e))
 set_own (x ∷ ts) (suc i) t e = ap (λ ys. x ∷ ys) (set_own ts i t e)
 
--- the value itself comes back, that was to go into an entry
+-- the value that was to go into an entry is returned itself
 pub entry_came_back : (w : State) (i : ℕ) (t u d : Tree) (es : List Entry) (ts : List Tree) → slice_get w.hand i ≡ Some t → d ≡ t → es ≡ w.entries → ts ≡ slice_set (slice_set w.hand i u) i d → with_scope w es ts ≡ w
 entry_came_back w i t u d es ts e h k l = ap₂ (with_scope w) k (moved_in w.hand ts i u d t h l ∙ set_own w.hand i t e)
 
--- where a value is there, these may want memory
+-- if there is a value, these may allocate
 pub push_wants : (mode : Tree → AccessMode) (w : State) (name : List ℕ) (i : ℕ) (t : Tree) → slice_get w.hand i ≡ Some t → (moved_into_entry mode w name i).wants ≡ true
 push_wants mode w name i t e = rw e refl
 
--- A value of the hand becomes a holder, or is flattened, where it stands; or memory was refused, and it stays.
+-- A value of the hand is shared or flattened in place; or an allocation failed, and it is unchanged.
 in_hand : (w v : State) (i : ℕ) (t d : Tree) (s : List Cell) → v ≡ w → slice_get v.hand i ≡ Some t → d ≡ t → s ≡ v.store → with_cells v s (slice_set v.hand i d) ≡ w
 in_hand w v i t d s same e h k = ap₂ (λ c x. with_cells v c (slice_set v.hand i x)) k h ∙ ap (with_cells v v.store) (set_own v.hand i t e) ∙ same
 
@@ -87,11 +87,11 @@ pub flatten_stopped : (w v : State) (i : ℕ) (t d : Tree) → v ≡ w → slice
     → ((step w (command.Flatten i)).wants ≡ true) × (with_hand v (slice_set v.hand i d) ≡ w)
 flatten_stopped w v i t d same e f h = (subst (λ q. (step q (command.Flatten i)).wants ≡ true) same (flatten_wants v i t e f), in_hand w v i t d v.store same e h refl)
 
--- the value at a hand position that was looked at in one of two equal states, as it is read in the other
+-- the value at a hand position in one of two equal states, as it is read in the other
 pub read_at : (w v : State) (i : ℕ) (t u : Tree) → v ≡ w → slice_get w.hand i ≡ Some t → u ≡ get_or v.hand i u → slice_get v.hand i ≡ Some u
 read_at w v i t u same e h = slice_get_read v.hand (length v.hand) i u refl (slice_get_within v.hand i t (ap (λ (q : State). slice_get q.hand i) same ∙ e)) h
 
--- an int is written over the one that is held, or none is held
+-- an int is written over the held one, or none is held
 abbrev int_found : State → ℕ → ℤ → Tree → Option ℤ → Outcome
 int_found w i n t o = given o (Mismatch (end_name (end w.store [] t))) w (λ m. free Done (changed_by w (place.Hand i) (with_int n) t))
 

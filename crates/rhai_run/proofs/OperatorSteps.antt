@@ -1,4 +1,4 @@
--- Operators and assignments, on two states that are the same up to a renaming.
+-- Operators and assignments, on two states that are equal up to a renaming.
 use Rattle.std.proofs.Common.{◌≡◌, ℕ, refl, ap, subst}
 use Rattle.rhai_text.specs.declared.token.Token.{Token}
 use Rattle.rhai_value.specs.Tree.{Tree, node}
@@ -23,7 +23,7 @@ use Rattle.rhai_run.proofs.PlaceSteps.{hand_states, m_changed_by, m_place_and, m
 use Rattle.rhai_run.specs.declared.command.Command.TheVariants as command
 use Rattle.rhai_run.specs.Step.{step}
 
--- the content of related values, written over related ones, and what is left of these
+-- the content of related values written over related ones, and what is left of these
 same_rewritten : (r : Renaming) (a b : Tree) → Related r a b → Respect r (rewritten a) (rewritten b)
 same_rewritten r (node c g m) (node d k n) e (node x l o) (node y i q) f = (e.0, f.1, f.2)
 
@@ -63,7 +63,7 @@ module _ (r : Renaming) (w v : State) (h : RelatedStates r w v) where
       m_given r w v h (λ a b. a ≡ b) NoBuiltin _ _ _ _ (alike_same _ _ (same_row r w.store v.store h.one h.cells op t u x y e d)) (λ row row' same.
       same_called _ _ _ _ (same_comes t u x y e d row row' same) (λ a b _ _ k. m_appended r w v h a b k)))
 
-  -- what an assignment leaves at its place and of its second operand
+  -- the state of an assignment's place and its second operand
   same_assigned : (p : Place) (j : ℕ) (how : Effect) (o q : call.Outcome) (t u x y : Tree) → RelatedOutcomes r o q → Related r t u → Related r x y
       → Matches r w v (assigned w p j how t x o) (assigned v p j how u y q)
   same_assigned p j how o q t u x y k e d =
@@ -78,5 +78,5 @@ module _ (r : Renaming) (w v : State) (h : RelatedStates r w v) where
       subst (λ b. Matches r w v (assigned w p j (effect row) t x (outcome row w.limits w.store t x)) (assigned v p j (effect b) u y (outcome b v.limits v.store u y))) same
       (same_assigned p j (effect row) _ _ t u x y (same_comes t u x y e d row row refl) e d)))))
 
--- the steps of this file
+-- the steps in this file
 pub ruleset operator_steps = (same_binary, same_assign)

@@ -1,4 +1,4 @@
--- What a command owes on two states that are the same up to a renaming, and one lemma for each thing that steps are made of.
+-- The contract of a command on two states that are equal up to a renaming, and one lemma for each component of steps.
 use Rattle.std.proofs.Common.{◌≡◌, ℕ, ◌+◌, ◌-◌, Bool, true, false, cond, nat_eq, nat_le, List, [], ◌∷◌, length, take, drop, slice_get, slice_set, Option, Some, None, refl, sym, ap, ◌∙◌, subst, arith, append-nil}
 use Rattle.std.proofs.lemmas.Option.{same_Some}
 use Rattle.std.specs.List.{AllZip}
@@ -20,7 +20,7 @@ use Rattle.rhai_run.specs.Outcome.{Outcome, growing_if, unless, given, of_held, 
 use Rattle.rhai_scope.specs.Relation.{RelatedEntry}
 use Rattle.rhai_run.specs.Correspondence.{RelatedStates, grown}
 
--- x has the marked cells as its marks where w has
+-- the marks of x are its marked cells if those of w are
 abbrev pub Keeps : State → State → Type 0
 Keeps w x = MarksAre w.store w.marks → MarksAre x.store x.marks
 
@@ -28,7 +28,8 @@ Keeps w x = MarksAre w.store w.marks → MarksAre x.store x.marks
 pub same_marked : (s z : List Cell) (ms : List ℕ) → ((c : ℕ) → is_marked_at z c ≡ is_marked_at s c) → MarksAre s ms → MarksAre z ms
 same_marked s z ms e h = λ c. h c ∙ ap (λ b. cond b 1 0) (sym (e c))
 
--- Equal answers and as many new cells; the states after it are the same up to the grown renaming, and marks stay the marked cells.
+-- Equal answers and the same number of new cells; the states after it are equal up to the grown
+-- renaming, and the marks are still the marked cells.
 pub record Matches (r : Renaming) (w v : State) (o p : Outcome) : Type 0 where
   pub reply : o.reply ≡ p.reply
   pub made : ℕ
@@ -41,7 +42,7 @@ pub record Matches (r : Renaming) (w v : State) (o p : Outcome) : Type 0 where
 pub same_without_last : {X : Type 0} (R : X → X → Type 0) (xs ys : List X) → AllZip R xs ys → AllZip R (take (length xs - 1) xs) (take (length ys - 1) ys)
 same_without_last R xs ys h = subst (λ n. AllZip R (take (length xs - 1) xs) (take (n - 1) ys)) (zip_length R xs ys h) (zip_take R (length xs - 1) xs ys h)
 
--- what is equal is there in both or in neither
+-- equal options both exist or neither
 pub alike_same : {X : Type 0} (o p : Option X) → o ≡ p → Alike (λ a b. a ≡ b) o p
 alike_same None None e = tt
 alike_same (Some a) (Some b) e = same_Some a b e
@@ -57,7 +58,7 @@ module _ (r : Renaming) (w v : State) (h : RelatedStates r w v) where
   pub m_stays : {c d : Bool} (a b : Answer) → a ≡ b → Matches r w v (growing_if c a w) (growing_if d b v)
   m_stays a b e = no_cell w v a b e refl refl h (λ k. k)
 
-  -- two ways, by a test that has the same answer in both states
+  -- either of two, by a test with the same result in both states
   pub m_either : (b d : Bool) {o p q s : Outcome} → b ≡ d → Matches r w v o p → Matches r w v q s → Matches r w v (cond b o q) (cond d p s)
   m_either true true e m n = m
   m_either false false e m n = n
@@ -67,7 +68,7 @@ module _ (r : Renaming) (w v : State) (h : RelatedStates r w v) where
   pub m_unless : (why : Refusal) (b d : Bool) (o p : Outcome) → b ≡ d → Matches r w v o p → Matches r w v (unless b why w o) (unless d why v p)
   m_unless why b d o p e k = m_either b d e (m_stays (Refused why) (Refused why) refl) k
 
-  -- something that is there in both states
+  -- something that exists in both states
   pub m_there : {X : Type 0} (R : X → X → Type 0) (why : Refusal) (o p : Option X) (f g : X → Outcome) → Alike R o p → ((t u : X) → o ≡ Some t → R t u → Matches r w v (f t) (g u)) → Matches r w v (given o why w f) (given p why v g)
   m_there R why None None f g a k = m_stays (Refused why) (Refused why) refl
   m_there R why (Some t) (Some u) f g a k = k t u refl a
@@ -77,7 +78,7 @@ module _ (r : Renaming) (w v : State) (h : RelatedStates r w v) where
   pub m_given : {X : Type 0} (R : X → X → Type 0) (why : Refusal) (o p : Option X) (f g : X → Outcome) → Alike R o p → ((t u : X) → R t u → Matches r w v (f t) (g u)) → Matches r w v (given o why w f) (given p why v g)
   m_given R why o p f g a k = m_there R why o p f g a (λ t u _ e. k t u e)
 
-  -- a part of what is held at two ends that hold the same of it
+  -- a part held at two ends that have it alike
   pub m_of_held : {A : Type 0} (part : Tree → Option A) (e f : End) (go other : A → Outcome) → held_part part e ≡ held_part part f → end_type e ≡ end_type f
       → ((a : A) → Matches r w v (go a) (other a)) → Matches r w v (of_held w part e go) (of_held v part f other)
   m_of_held part e f go other k kind m =
@@ -100,13 +101,13 @@ module _ (r : Renaming) (w v : State) (h : RelatedStates r w v) where
   pub m_scope : {c d : Bool} (es fs : List Entry) (ts us : List Tree) → AllZip (RelatedEntry r) es fs → AllZip (Related r) ts us → Matches r w v (growing_if c Done (with_scope w es ts)) (growing_if d Done (with_scope v fs us))
   m_scope es fs ts us e d = no_cell _ _ Done Done refl refl refl (record { one = h.one; cells = h.cells; entries = e; marks = h.marks; hand = d; limits = h.limits }) (λ k. k)
 
-  -- another store of as many cells and the same marks, and another hand
+  -- another store with the same number of cells and the same marks, and another hand
   pub m_cells : {a b : Bool} (s z : List Cell) (ts us : List Tree) → length s ≡ length w.store → length z ≡ length v.store → ((c : ℕ) → is_marked_at s c ≡ is_marked_at w.store c) → RelatedCells r s z → AllZip (Related r) ts us
       → Matches r w v (growing_if a Done (with_cells w s ts)) (growing_if b Done (with_cells v z us))
   m_cells s z ts us f g m c e =
       no_cell _ _ Done Done refl f g (record { one = h.one; cells = c; entries = h.entries; marks = h.marks; hand = e; limits = h.limits }) (same_marked w.store s w.marks m)
 
-  -- hands after a value was put into a place, moved from it, or put at the end
+  -- hands after a value is written at a place, moved from it, or appended
   pub set_hand : (i : ℕ) (t u : Tree) → Related r t u → AllZip (Related r) (slice_set w.hand i t) (slice_set v.hand i u)
   set_hand i t u e = zip_set (Related r) w.hand v.hand i t u h.hand e
 

@@ -1,4 +1,4 @@
--- What is done at a place, on two states that are the same up to a renaming.
+-- Steps at a place, on two states that are equal up to a renaming.
 use Rattle.std.proofs.Common.{◌≡◌, ℕ, Bool, List, [], length, refl}
 use Rattle.std.specs.List.{AllZip}
 use Rattle.rhai_value.specs.declared.cells.store.Cell.{Cell}
@@ -31,7 +31,7 @@ module _ (r : Renaming) (w v : State) (h : RelatedStates r w v) where
       → Matches r w v (with_place_and w p j f) (with_place_and v p j g)
   m_place_and p j f g k = m_value r w v h j _ _ (λ x y d. m_place p _ _ (λ t u e. k t u x y e d))
 
-  -- another store of as many cells and the same marks, and another value at a place
+  -- another store with the same number of cells and the same marks, and another value at a place
   pub m_put : {a b : Bool} (p : Place) (s z : List Cell) (t u : Tree) → length s ≡ length w.store → length z ≡ length v.store → ((c : ℕ) → is_marked_at s c ≡ is_marked_at w.store c)
       → RelatedCells r s z → Related r t u → Matches r w v (growing_if a Done (put_at w s p t)) (growing_if b Done (put_at v z p u))
   m_put (place.Hand i) s z t u f g m c e = m_cells r w v h s z _ _ f g m c (set_hand r w v h i t u e)
@@ -40,7 +40,7 @@ module _ (r : Renaming) (w v : State) (h : RelatedStates r w v) where
       (record { one = h.one; cells = c; entries = same_changed_named r (holding t) (holding u) name w.entries v.entries (same_with_value r t u e) h.entries; marks = h.marks; hand = h.hand; limits = h.limits })
       (same_marked w.store s w.marks m)
 
-  -- a change of what is held at its end
+  -- a change of the held value at its end
   pub m_changed_by : {a b : Bool} (p : Place) (f g : Tree → Tree) (t u : Tree) → Respect r f g → Related r t u → Matches r w v (growing_if a Done (changed_by w p f t)) (growing_if b Done (changed_by v p g u))
   m_changed_by p f g t u k e =
       let ends = same_end r w.store v.store t u h.one h.cells e in
@@ -48,7 +48,7 @@ module _ (r : Renaming) (w v : State) (h : RelatedStates r w v) where
       (same_store_after r f g w.store v.store k h.one h.cells (end w.store [] t) (end v.store [] u) ends)
       (same_value_after r f g t u k e (end w.store [] t) (end v.store [] u) ends)
 
--- states with another hand, and what is done in these
+-- states with another hand, and outcomes on these
 pub hand_states : (r : Renaming) (w v : State) (ts us : List Tree) → RelatedStates r w v → AllZip (Related r) ts us → RelatedStates r (with_hand w ts) (with_hand v us)
 hand_states r w v ts us h e = record { one = h.one; cells = h.cells; entries = h.entries; marks = h.marks; hand = e; limits = h.limits }
 

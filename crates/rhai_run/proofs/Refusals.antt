@@ -1,4 +1,4 @@
--- What a refusal leaves: the state as it was, no want of memory but where a hash is asked for, and no want of memory as its reason.
+-- Refusals: they leave the state unchanged, allocate only to hash, and a failed allocation is never their reason.
 use Rattle.std.proofs.Common.{◌≡◌, ℕ, ℤ, Bool, true, false, cond, if◌then◌else◌, nat_eq, nat_le, nat_lt, List, [], ◌∷◌, ◌++◌, length, slice_get, Option, Some, None, is_some, refl, subst}
 use Rattle.rhai_ops.specs.Outcome.{no_place}
 use Rattle.rhai_show.specs.HashBytes.{plain_bytes}
@@ -33,7 +33,7 @@ use Rattle.rhai_run.specs.State.{State, appended, with_hand}
 use Rattle.rhai_run.specs.Step.{step}
 use Rattle.rhai_run.specs.WriteBack.{no_bit, no_byte, rule, step_write_back}
 
--- whether a reason is another than want of memory
+-- whether a reason is other than a failed allocation
 abbrev is_named : Refusal → Bool
 is_named (Fault (error.ErrorMemory e)) = false
 is_named _ = true
@@ -41,7 +41,7 @@ is_named _ = true
 abbrev IsNamed : Refusal → Type 0
 IsNamed r = is_named r ≡ true
 
--- what is left by the refusal for this reason
+-- the state after a refusal for this reason
 pub record Leaves (w : State) (o : Outcome) (why : Refusal) : Type 0 where
   pub after : o.after ≡ w
   pub named : IsNamed why
@@ -50,7 +50,7 @@ pub record Leaves (w : State) (o : Outcome) (why : Refusal) : Type 0 where
 abbrev pub Refuses : State → Outcome → Type 0
 Refuses w o = (why : Refusal) → o.reply ≡ answer.Refused why → Leaves w o why
 
--- an answer that is no refusal
+-- an answer that isn't a refusal
 abbrev Answers : Answer → Type 0
 Answers r = (why : Refusal) → r ≡ answer.Refused why → ⊥
 
@@ -103,7 +103,7 @@ found_or_nothing : (w v : State) (o : Option Tree) → Refuses w (appended_or_no
 found_or_nothing w v None = answers w v false answer.Nothing (λ why e. cc)
 found_or_nothing w v (Some t) = is_done w (appended v t) true
 
--- a source that lacks a piece, and a working value of another type
+-- a source without a piece, and a working value of another type
 IsNamedIf : Option Refusal → Type 0
 IsNamedIf None = Unit {0}
 IsNamedIf (Some r) = IsNamed r
@@ -209,10 +209,10 @@ number_if_any w n o = answers_if_any w (λ x. answer.Int (n x)) o (λ x why e. c
 truth_if_any : {X : Type 0} (w : State) (b : X → Bool) (o : Option X) → Refuses w (free (option_map_or (λ x. answer.Bool (b x)) o answer.Nothing) w)
 truth_if_any w b o = answers_if_any w (λ x. answer.Bool (b x)) o (λ x why e. cc)
 
--- what steps are made of
+-- the components of steps
 ruleset refusing = (is_done, either, if_not, is_given, has_value, has_two, takes_off, gathers, has_place, has_place_and, is_called, found_or_nothing, writes_back, is_of_held, is_truth, is_number, is_text_answer, asks, hashes, hashes_scope, number_if_any, truth_if_any, refuses, is_pair, is_nothing)
 
--- a command goes by what its step is made of
+-- each command is refused as the components of its step are
 pub steps_refuse : (w : State) (c : Command) → Refuses w (step w c)
 steps_refuse w (command.Put literal) = is_done w _ true
 steps_refuse w c = search refusing

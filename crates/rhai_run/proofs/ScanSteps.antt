@@ -1,4 +1,4 @@
--- Scans, on two states that are the same up to a renaming.
+-- Scans, on two states that are equal up to a renaming.
 use Rattle.std.proofs.Common.{◌≡◌, ℕ, ℤ, zero, suc, pos, Bool, true, false, cond, refl, ap}
 use Rattle.rhai_value.specs.declared.value.access_mode.AccessMode.{AccessMode}
 use Rattle.rhai_value.specs.Relation.{Renaming, Related, AllRelated}
@@ -57,5 +57,5 @@ module _ (r : Renaming) (w v : State) (h : RelatedStates r w v) where
       (record { one = h.one; cells = h.cells; entries = h.entries; marks = h.marks; hand = set_hand r w v h i _ _ o.1; limits = h.limits })
       (λ m. m))
 
--- the steps of this file
+-- the steps in this file
 pub ruleset scan_steps = (same_scan_step)

@@ -1,4 +1,4 @@
--- The value in a slot: as it is read, written, and written over itself.
+-- The value in a slot: reading, writing, and writing it over itself.
 use Rattle.std.proofs.Common.{◌<◌, length, length-set, ◌≡◌, ℕ, zero, suc, true, is_some, List, [], ◌∷◌, slice_get, Option, Some, None, option_map, refl, sym, ap}
 use Rattle.std.proofs.lemmas.Option.{same_Some, slice_get_within}
 use Rattle.rhai_value.specs.Tree.{Tree}

@@ -1,4 +1,4 @@
--- Values of their own that make the same of a source as the values that they were read from.
+-- Separate values with the same effect on a source as the values from which they were read.
 use Rattle.std.proofs.Common.{◌≡◌, ℕ, ℤ, Bool, List, [], Option, Some, None, option_map, Ok, refl, sym, ap, ◌∙◌}
 use Rattle.rhai_value.specs.declared.cells.store.Cell.{Cell}
 use Rattle.rhai_value.specs.Tree.{Tree, cell_of, fresh, bool, int, char}
@@ -8,11 +8,11 @@ use Rattle.rhai_value.proofs.ForCallers.{end_own}
 use Rattle.rhai_run.specs.declared.pieces.Piece.TheVariants as piece
 use Rattle.rhai_run.specs.WriteBack.{IsWorking}
 
--- what a value that is no holder has is held
+-- a part of a value that isn't a holder is held
 own_part : {A : Type 0} (part : Tree → Option A) (s : List Cell) (t : Tree) → cell_of t ≡ None → held_part part (end s [] t) ≡ part t
 own_part part s t e = rw (end_own s [] t e) refl
 
--- whatever is made of a part that is held is made of a value that has it
+-- a function of a held part is one of a value that has it
 same_part : {A B : Type 0} (part : Tree → Option A) (make : A → B) (s : List Cell) (t u : Tree) (x : A) → cell_of t ≡ None → part t ≡ Some x → held_part part (end s [] u) ≡ Some x
     → option_map make (held_part part (end s [] t)) ≡ option_map make (held_part part (end s [] u))
 same_part part make s t u x e f h = ap (option_map make) (own_part part s t e ∙ f ∙ sym h)

@@ -1,4 +1,4 @@
--- Write-backs, on two states that are the same up to a renaming.
+-- Write-backs, on two states that are equal up to a renaming.
 use Rattle.std.proofs.Common.{◌≡◌, ℕ, List, [], Option, Some, None, ap, if◌then◌else◌, is_some}
 use Rattle.std.specs.Option.{option_map_or}
 use Rattle.std.proofs.lemmas.Option.{same_Some}
@@ -61,5 +61,5 @@ module _ (r : Renaming) (w v : State) (h : RelatedStates r w v) where
       m_lacking _ _ _ _ (same_lack k (end w.store [] t) (end v.store [] u) (same_end r w.store v.store t u h.one h.cells e))
       (m_changed p k _ _ t u _ _ (same_change k t u x y e d) e (ap type_name (same_end_type r (end w.store [] x) (end v.store [] y) (same_end r w.store v.store x y h.one h.cells d)))))
 
--- the steps of this file
+-- the steps in this file
 pub ruleset write_back_steps = (same_write_back)

@@ -1,4 +1,4 @@
--- What a question about a value is answered.
+-- Answers to questions about a value.
 use Rattle.std.specs.Prelude.{Bool, not, ◌&&◌, [], ◌∷◌, is_some}
 use Rattle.rhai_value.specs.Tree.{Tree, tag_of, cell_of, is_host}
 use Rattle.rhai_value.specs.Parts.{unit_of, int_of, bool_of, char_of}
@@ -15,11 +15,11 @@ use Rattle.rhai_run.specs.State.{State}
 use Rattle.rhai_run.specs.declared.answer.Answer.TheVariants as answer
 use Rattle.rhai_run.specs.Outcome.{Outcome, free, growing, of_held}
 
--- whether a value is of a type; none is of the type of what can't be looked into
+-- whether a value is of a type; none is of the type `Shared`
 abbrev pub is_value_of : TypeId → Tree → End → Bool
 is_value_of kind t e = not (is_type kind id.Shared) && is_of kind t e
 
--- the first five questions are of the value itself, the others of what is held
+-- the first five questions are about the value itself, the others about the held value
 abbrev pub asked : State → Tree → Question → Outcome
 asked w t question.Tag = free (answer.Int (tag_of t)) w
 asked w t question.Variant = free (answer.Bool (is_host t)) w

@@ -1,4 +1,4 @@
--- What the code of a command owes.
+-- The contract of the code of a command.
 use Rattle.std.specs.Prelude.{◌≡◌, true, Option, Some, None, Result, Ok, Err, if◌then◌else◌}
 use Rattle.rhai_run.specs.declared.answer.Answer.{Answer}
 use Rattle.rhai_run.specs.declared.not_done.NotDone.{NotDone}
@@ -14,28 +14,28 @@ use Rattle.rhai_run.specs.Outcome.{Outcome, growing, refuse}
 use Rattle.std.specs.declared.alloc.AllocError.{AllocError}
 use Rattle.rhai_run.specs.Entries.{appended_or_nothing}
 
--- Not done: that is the refusal, and nothing has changed; or memory was refused where it may be wanted.
+-- Not done: that is the refusal, and nothing has changed; or an allocation failed, where one may be needed.
 abbrev pub IsError : NotDone → State → Outcome → Type 0
 IsError (Refused why) w o = o ≡ refuse why w
 IsError Memory w o = o.wants ≡ true
 
--- A value is made, and the outcome is that it stands at the end of the hand; or it isn't.
+-- A value is made, and the outcome is to append it to the hand; or it isn't.
 abbrev pub Gives : Result Tree NotDone → State → Outcome → Type 0
 Gives (Ok t) w o = o ≡ growing answer.Done (appended w t)
 Gives (Err e) w o = IsError e w o
 
--- The same where a value may be found: the outcome is that it stands at the end of the hand, if there is one.
+-- The same for an optional value: the outcome is to append it to the hand, if there is one.
 abbrev pub GivesIfAny : Result (Option Tree) NotDone → State → Outcome → Type 0
 GivesIfAny (Ok o) w x = x ≡ appended_or_nothing w o
 GivesIfAny (Err e) w x = IsError e w x
 
--- a test that refuses for this reason, if there is one, and takes no memory
+-- a test that refuses for this reason, if there is one, and allocates nothing
 abbrev pub Tests : {X : Type 0} → Result X NotDone → Option Refusal → Type 0
 Tests (Ok x) o = o ≡ None
 Tests (Err (Refused why)) o = o ≡ Some why
 Tests (Err Memory) o = ⊥
 
--- the refusal of something that isn't there
+-- the refusal for something that doesn't exist
 abbrev pub IsRefusal : {X : Type 0} → NotDone → Result X Refusal → Type 0
 IsRefusal (Refused why) o = o ≡ Err why
 IsRefusal Memory o = ⊥
@@ -49,13 +49,14 @@ abbrev pub Calls : Result Tree EvalAltResult → State → State → Outcome →
 Calls (Ok t) w v o = o ≡ growing answer.Done v
 Calls (Err e) w v o = IsError (not_done_of e) w o × (v ≡ w)
 
--- The answer or the refusal is that of the outcome, and so is the state; or memory was refused where it may be wanted, and nothing has changed.
+-- The answer or the refusal is that of the outcome, and so is the state; or an allocation failed,
+-- where one may be needed, and nothing has changed.
 abbrev pub Does : Result Answer NotDone → State → State → Outcome → Type 0
 Does (Ok a) old new o = (a ≡ o.reply) × (new ≡ o.after)
 Does (Err (Refused why)) old new o = (answer.Refused why ≡ o.reply) × (new ≡ o.after)
 Does (Err Memory) old new o = (o.wants ≡ true) × (new ≡ old)
 
--- The same of a method of a world: a refusal is an answer.
+-- The same for a method of a world: a refusal is an answer.
 abbrev pub Steps : Result Answer AllocError → State → State → Outcome → Type 0
 Steps (Ok a) old new o = (a ≡ o.reply) × (new ≡ o.after)
 Steps (Err e) old new o = (o.wants ≡ true) × (new ≡ old)

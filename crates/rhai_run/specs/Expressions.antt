@@ -1,4 +1,4 @@
--- Expressions: what they stand for, how an evaluation goes on, and what it owes.
+-- Expressions: their commands, the progress of an evaluation, and its contract.
 pub mod Programs
 pub mod Bindings
 pub mod Layers

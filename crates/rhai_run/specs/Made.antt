@@ -8,7 +8,7 @@ use Rattle.rhai_value.specs.Rows.{Rows, bytes_cmp}
 use Rattle.rhai_run.specs.declared.command.Literal.{Literal}
 use Rattle.rhai_run.specs.declared.command.Literal.TheVariants as literal
 
--- the value that a literal says
+-- the value of a literal
 abbrev pub literal_tree : Literal → Tree
 literal_tree literal.Unit = fresh unit
 literal_tree (literal.Bool b) = fresh (bool b)
@@ -20,12 +20,12 @@ literal_tree (literal.Host h) = fresh (host h)
 literal_tree (literal.Range r) = fresh (host (host_kind.ExclusiveRange r))
 literal_tree (literal.RangeEq r) = fresh (host (host_kind.InclusiveRange r))
 
--- the rows once each key was given its value, one after another
+-- the rows after each key is set to its value, one after another
 abbrev pub rows_with : Rows → List (List ℕ) → List Tree → Rows
 rows_with rs [] ts = rs
 rows_with rs (k ∷ ks) [] = rs
 rows_with rs (k ∷ ks) (t ∷ ts) = rows_with (insert_entry bytes_cmp rs (encode_utf8_all k) t) ks ts
 
--- the rows of the keys alone, each with unit
+-- the rows of the keys, each with unit
 abbrev pub rows_of_keys : List (List ℕ) → Rows
 rows_of_keys ks = rows_with [] ks (map (λ k. fresh unit) ks)

@@ -1,4 +1,4 @@
--- What steps that call operators and assignments are made of.
+-- Components of steps that call operators and assignments.
 use Rattle.std.specs.Prelude.{ℕ, slice_set, Result, Ok, Err}
 use Rattle.rhai_ops.specs.Outcome as call
 use Rattle.rhai_ops.specs.Outcome.{result_of}
@@ -12,22 +12,22 @@ use Rattle.rhai_run.specs.Outcome.{Outcome, given, growing, refuse}
 use Rattle.rhai_run.specs.declared.command.Place.{Place}
 use Rattle.rhai_run.specs.Places.{changed_by}
 
--- a value, of which a state is made, or a fault
+-- a value, from which a state is made, or a fault
 abbrev pub finished : State → (Tree → State) → Result Tree EvalAltResult → Outcome
 finished w after (Ok t) = growing Done (after t)
 finished w after (Err e) = refuse (Fault e) w
 
--- what a row comes to; one that was looked up suits its operands
+-- the outcome of a row; one that was found suits its operands
 abbrev pub called : State → (Tree → State) → call.Outcome → Outcome
 called w after o = given (result_of o) NoBuiltin w (finished w after)
 
--- what a row leaves of its second operand: unit, where it takes it
+-- the second operand after the call of a row: unit, if the row takes it
 abbrev pub left_over : Effect → Tree → Tree
 left_over operator u = u
 left_over (assignment stays) u = u
 left_over (assignment taken) u = fresh unit
 
--- An assignment comes to this on the value t at a place and the value u at j: the content of its value is written where the chain from t
--- ends, and what is left of u stands at j.
+-- The outcome of an assignment on the value t at a place and the value u at j: the content of its
+-- value is written where the chain from t ends, and j has what is left of u.
 abbrev pub assigned : State → Place → ℕ → Effect → Tree → Tree → call.Outcome → Outcome
 assigned w place j how t u o = called w (λ d. changed_by (with_hand w (slice_set w.hand j (left_over how u))) place (rewritten d) t) o

@@ -1,4 +1,4 @@
--- What the scanners do with a value, and that they add no nodes.
+-- The effect of the scanners on a value, and that they add no nodes.
 use Rattle.std.specs.Prelude.{ℕ, zero, suc, ◌+◌, ◌-◌, ◌^◌, ◌≤◌, pos, min, slice_set, if◌then◌else◌, is_some}
 use Rattle.std.proofs.Common.{arith, refl}
 use Rattle.std.specs.Option.{option_map_or}
@@ -18,14 +18,14 @@ first_trees zero ts = no_trees
 first_trees (suc n) no_trees = no_trees
 first_trees (suc n) (tree_then t ts) = tree_then t (first_trees n ts)
 
--- what a scanner makes of one value: another tag; 0 in place of an int; unit in place of a holder; fewer items of an array
+-- the effect of a scanner on one value: another tag; 0 for an int; unit for a holder; fewer items of an array
 abbrev pub scanned : Scanner → Tree → Tree
 scanned (scanner.Tags g) t = with_tag g t
 scanned scanner.Zero t = with_int (pos 0) t
 scanned scanner.NoShare t = if is_some (cell_of t) then fresh unit else t
 scanned (scanner.Cut n) t = option_map_or (λ ts. with_content (branch array (first_trees n ts)) t) (array_of t) t
 
--- each visit counts, up to the greatest number of 64 bits
+-- each visit counts, saturating at the greatest 64-bit number
 abbrev pub visited : Visiting Visits
 visited v t = (record v { visits = min (v.visits + 1) (2 ^ 64 - 1) }, scanned v.scanner t)
 
@@ -33,7 +33,7 @@ visited v t = (record v { visits = min (v.visits + 1) (2 ^ 64 - 1) }, scanned v.
 abbrev pub unvisited : Scanner → Visits
 unvisited k = record { scanner = k; visits = 0 }
 
--- a scanner goes through the value at i; the answer is to how many values it came
+-- a scanner scans the value at i; the answer is the number of visited values
 abbrev pub scan_done : State → ℕ → Visits × Tree → Outcome
 scan_done w i o = free (answer.Int (pos o.0.visits)) (with_hand w (slice_set w.hand i o.1))
 

@@ -1,4 +1,4 @@
--- Where the value of a place stands: at a hand position, or in the entry at a position of the scope.
+-- The slot of a place's value: at a hand position, or in the entry at a position of the scope.
 use Rattle.std.specs.Prelude.{◌≡◌, [], ℕ, Bool, false, nat_eq, if◌then◌else◌, List, slice_get, slice_set, Option, Some, None, option_map, Result, Ok, Err}
 use Rattle.std.specs.Option.{ok_or}
 use Rattle.rhai_text.specs.declared.token.Token.{Token}
@@ -31,12 +31,12 @@ abbrev pub entry_found : Option Entry → Result Tree Refusal
 entry_found None = Err NoEntry
 entry_found (Some e) = if is_constant_entry e then Err ConstantEntry else Ok e.value
 
--- the same of a place
+-- the same for a place
 abbrev pub source : List Tree → List Entry → Place → Result Tree Refusal
 source hand entries (place.Hand i) = ok_or (slice_get hand i) NoValue
 source hand entries (place.Entry name) = entry_found (last_entry name entries)
 
--- where the value of a place stands, if there is one
+-- the slot of a place, if there is one
 abbrev pub slot_of : List Entry → Place → Option Slot
 slot_of es (place.Hand i) = Some (slot.Hand i)
 slot_of es (place.Entry name) = option_map slot.Entry (last_position name es)
@@ -56,15 +56,15 @@ abbrev pub put_in : State → List Cell → Slot → Tree → State
 put_in w s (slot.Hand i) t = with_cells w s (slice_set w.hand i t)
 put_in w s (slot.Entry k) t = record w { store = s; entries = changed_at (holding t) w.entries k }
 
--- the state after a change of what is held where the chain from t, which stands there, ends
+-- the state after a change of the held value at the end of the chain from t, the value there
 abbrev pub changed_in : State → Slot → Change → Tree → State
 changed_in w q c t = put_in w (store_changed c (end w.store [] t) w.store) q (value_changed c (end w.store [] t) t)
 
--- the state once an assignment, that comes to this on the value t there, has written
+-- the state after an assignment with this outcome on the value t there has written
 abbrev pub assigned_in : State → Slot → Effect → Tree → call.Outcome → State
 assigned_in w q how t o = put_in w (store_left how o w.store t) q (first_left how o w.store t)
 
--- the same with what is left of the second operand, u, at its hand position
+-- the same with u, what is left of the second operand, at its hand position
 abbrev pub both_assigned : State → Slot → ℕ → Effect → Tree → Tree → call.Outcome → Outcome
 both_assigned w q j how t u o = called w (λ d. assigned_in (with_hand w (slice_set w.hand j (second_left how o u))) q how t o) o
 
@@ -73,12 +73,12 @@ abbrev pub called_in : State → Slot → ℕ → FnBuiltin → Outcome
 called_in w q j row =
     given (value_in w.hand w.entries q) NoValue w (λ t. with_value w j (λ u. both_assigned w q j (effect row) t u (outcome row w.limits w.store t u)))
 
--- the slot isn't the hand position, both have values, and the row is for them
+-- the slot isn't the hand position, both have values, and the row suits them
 abbrev pub HasOperands : FnBuiltin → State → Slot → ℕ → Type 0
 HasOperands row w q j =
     (t u : Tree) × (is_in q j ≡ false) × (value_in w.hand w.entries q ≡ Some t) × (slice_get w.hand j ≡ Some u) × Suits row w.store t u
 
--- a row that is looked up has its operands, and the step is its call; or the step is the refusal
+-- a row that was found has its operands, and the step is its call; or the step is the refusal
 abbrev pub Looks : Result (FnBuiltin × Slot) NotDone → State → Token → Place → ℕ → Type 0
 Looks (Ok found) w op place j = HasOperands found.0 w found.1 j × (step w (command.Assign op place j) ≡ called_in w found.1 j found.0)
 Looks (Err (Refused why)) w op place j = step w (command.Assign op place j) ≡ refuse why w

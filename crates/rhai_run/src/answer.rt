@@ -1,4 +1,4 @@
-//! What a world answers.
+//! The answers of a world.
 ghost use Rattle.std.specs.Prelude.{◌≡◌};
 ghost use Rattle.rhai_run.specs.declared.answer.Refusal.TheVariants.{Mismatch};
 
@@ -9,7 +9,7 @@ use rhai_text::{EvalAltResult, TypeName};
 /// Why a command was refused. A refused command changes nothing.
 #[derive(Drop)]
 pub enum Refusal {
-    /// No value stands at a hand position, or too few stand in the hand.
+    /// The hand has no value at a hand position, or too few values.
     NoValue,
     /// Two hand positions that must differ are the same.
     SameValue,
@@ -23,23 +23,24 @@ pub enum Refusal {
     SharedEntry,
     /// The list of marks has no such position.
     NoMark,
-    /// The value at the place is no holder, or holds another type than the command writes to.
+    /// The value at the place isn't a holder, or holds another type than the one the command writes
+    /// to.
     WrongSource,
     /// No int has this bit.
     BitPlace,
     /// The blob has no such byte.
     BytePlace,
-    /// The operator isn't built in for the two values.
+    /// The operator isn't built in for the types of the two values.
     NoBuiltin,
     /// The value has no hash bytes.
     NotHashable,
     /// Another type is held; this is its name.
     Mismatch(TypeName),
-    /// The call that the command makes ended in this error.
+    /// A call that the command made failed with this error.
     Fault(EvalAltResult),
 }
 
-/// That another type is held, of this name.
+/// The refusal for a held type of another name.
 pub(crate) fn mismatch(name: &'static str) -> Refusal
     ensures { result ≡ Mismatch name.now }
 {
@@ -49,9 +50,9 @@ pub(crate) fn mismatch(name: &'static str) -> Refusal
 /// The answer to one command.
 #[derive(Drop)]
 pub enum Answer {
-    /// It is done.
+    /// The command was done.
     Done,
-    /// Yes or no.
+    /// A boolean.
     Bool(bool),
     /// A number.
     Int(i128),
@@ -61,8 +62,8 @@ pub enum Answer {
     Bytes(Bytes),
     /// Two numbers.
     Pair(usize, usize),
-    /// There is nothing to answer.
+    /// There is no result.
     Nothing,
-    /// It was refused.
+    /// The command was refused.
     Refused(Refusal),
 }

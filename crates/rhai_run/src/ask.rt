@@ -1,4 +1,4 @@
-//! Commands that tell of a value.
+//! Commands that read a value.
 ghost use Rattle.std.specs.Prelude.{◌≡◌, IfOk};
 ghost use Rattle.std.specs.Str.{chars};
 ghost use Rattle.rhai_show.specs.declared.form.Form.TheVariants.{Debug};
@@ -91,8 +91,8 @@ fn text_answer(alloc: Global, text: &str) -> Result<Answer, AllocError>
 }
 
 impl World {
-    /// Asks a question of the value at the hand position.
-    /// Errors: memory was refused, and all is as before.
+    /// Answers a question about the value at the hand position.
+    /// Errors: an allocation fails; nothing changes.
     #[inline(always)]
     pub fn ask(&self, i: usize, question: &Question) -> Result<Answer, AllocError>
         ensures { Steps result self.now self.now (step self.now (command.Ask i question.now)) }
@@ -100,8 +100,8 @@ impl World {
         replied(self.state.ask(i, question))
     }
 
-    /// Answers the text of the value at the hand position, as it is displayed.
-    /// Errors: memory was refused, and all is as before.
+    /// Returns the displayed text of the value at the hand position.
+    /// Errors: an allocation fails; nothing changes.
     #[inline(always)]
     pub fn show(&self, i: usize) -> Result<Answer, AllocError>
         ensures { Steps result self.now self.now (step self.now (command.Show i)) }
@@ -109,8 +109,8 @@ impl World {
         replied(self.state.show(i))
     }
 
-    /// Answers the text of the value at the hand position, as it is debugged.
-    /// Errors: memory was refused, and all is as before.
+    /// Returns the debug text of the value at the hand position.
+    /// Errors: an allocation fails; nothing changes.
     #[inline(always)]
     pub fn debug(&self, i: usize) -> Result<Answer, AllocError>
         ensures { Steps result self.now self.now (step self.now (command.Debug i)) }
@@ -118,8 +118,8 @@ impl World {
         replied(self.state.debug(i))
     }
 
-    /// Answers the hash bytes of the value at the hand position.
-    /// Errors: memory was refused, and all is as before.
+    /// Returns the hash bytes of the value at the hand position.
+    /// Errors: an allocation fails; nothing changes.
     #[inline(always)]
     pub fn hash(&self, i: usize) -> Result<Answer, AllocError>
         ensures { Steps result self.now self.now (step self.now (command.Hash i)) }

@@ -10,18 +10,19 @@ use crate::command::Command;
 use crate::laws;
 use crate::world::{Stopped, World, run};
 
-/// In which of two runs memory was refused.
+/// In which of two runs an allocation failed.
 #[derive(Drop)]
 pub enum StoppedBoth {
     /// In the first; the second world was not run.
     First(Stopped),
-    /// In the second, the first having given these answers.
+    /// In the second; these are the answers of the first.
     Second(Vec<Answer>, Stopped),
 }
 
-/// Runs commands in order on one world, and then on another. Where the worlds corresponded, the answers are equal, and the
-/// worlds correspond at the end.
-/// Errors: in which run memory was refused, with what was answered until then; both worlds can be run again.
+/// Runs commands in order on one world, and then on another. If the worlds corresponded, the
+/// answers are equal, and the worlds correspond at the end.
+/// Errors: in which run an allocation failed, with the answers until then; both worlds can be run
+/// again.
 /// Cost: two runs.
 #[tactic(auto, using(crate::proofs::Runs::ends_alike))]
 pub fn run_both(

@@ -1,4 +1,4 @@
-//! Casts to a type that is known when a command is done.
+//! Casts to a type given at run time.
 ghost use Rattle.std.specs.Prelude.{◌≡◌, [], true, Some, is_some, IfOk, OnErr};
 ghost use Rattle.rhai_value.specs.declared.value.type_id.TypeId.TheVariants as type_id;
 ghost use Rattle.rhai_value.specs.End.{end, flat, flattened};
@@ -41,7 +41,7 @@ pub(crate) fn is_value_of(value: &Dynamic, store: &Store, kind: TypeId) -> bool
     kind != TypeId::Shared && value.type_id(store) == wanted
 }
 
-/// Whether a type is that of values which can be cast to this one.
+/// Whether values of a type can be cast to this one.
 #[tactic(auto, using(crate::proofs::Casts::castable_other))]
 fn holds_castable(value: &Dynamic, store: &Store, kind: TypeId) -> bool
     ensures { result ≡ is_castable kind (end store.now [] value.now) }
@@ -49,7 +49,7 @@ fn holds_castable(value: &Dynamic, store: &Store, kind: TypeId) -> bool
     kind == TypeId::Dynamic || held_type_of(kind) == value.type_id(store)
 }
 
-/// A copy of a value without its holders as a type, which it can be cast to.
+/// A flat copy of a value as a type to which it can be cast.
 fn cast_as<T: Variant>(
     value: &Dynamic,
     alloc: Global,
@@ -65,8 +65,8 @@ fn cast_as<T: Variant>(
     }
 }
 
-/// A copy of a value without its holders as a type that is known by its name alone, if it can be cast to that.
-/// Errors: memory is refused for the copy.
+/// A flat copy of a value as a type given by its `TypeId`, if it can be cast to that.
+/// Errors: the allocation of the copy fails.
 #[tactic(auto, using(crate::proofs::Casts::read_by_type, crate::proofs::Casts::uncastable))]
 pub(crate) fn cast_to(
     value: &Dynamic,
@@ -103,12 +103,12 @@ pub(crate) fn cast_to(
         TypeId::ExclusiveRange => cast_as::<ExclusiveRange>(value, alloc, store),
         TypeId::InclusiveRange => cast_as::<InclusiveRange>(value, alloc, store),
         TypeId::Dynamic => cast_as::<Dynamic>(value, alloc, store),
-        // This is the type of what can't be looked into, as which nothing is read.
+        // No value can be cast to the type of a stuck or closed chain.
         TypeId::Shared => Ok(None),
     }
 }
 
-/// Whether what a value is without its holders can be read as a type.
+/// Whether the flat value can be cast to a type.
 #[tactic(auto, using(crate::proofs::Casts::movable))]
 pub(crate) fn can_move(value: &Dynamic, store: &Store, kind: TypeId) -> bool
     ensures { result ≡ is_some (read_as kind (flattened store.now value.now)) }
@@ -116,14 +116,14 @@ pub(crate) fn can_move(value: &Dynamic, store: &Store, kind: TypeId) -> bool
     kind != TypeId::Shared && holds_castable(value, store, kind)
 }
 
-/// The value with tag 0 and mode ReadWrite, what stands in it being as it was.
+/// The value with tag 0 and mode ReadWrite; the values inside are unchanged.
 fn made_anew(value: Dynamic) -> Dynamic
     ensures { result ≡ made (content_of value) }
 {
     value.labelled(0, AccessMode::ReadWrite)
 }
 
-/// What is read of a value as a type, where something is.
+/// Casts a value to a type to which it can be cast.
 #[tactic(auto, using(crate::proofs::Casts::read_content))]
 pub(crate) fn moved_as(value: Dynamic, kind: TypeId) -> Dynamic
     requires { is_some (read_as kind value) ≡ true }

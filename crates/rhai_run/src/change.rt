@@ -1,4 +1,4 @@
-//! Commands that change values, in the hand and in cells.
+//! Commands that change values in the hand and in cells.
 ghost use Rattle.rhai_run.specs.Does.{Steps, Does};
 ghost use Rattle.rhai_run.specs.declared.command.Command.TheVariants as command;
 ghost use Rattle.rhai_run.specs.Step.{step};
@@ -87,8 +87,9 @@ impl WorldState {
 }
 
 impl World {
-    /// Moves the value at the hand position into a new cell, and leaves a holder of it; a holder stays.
-    /// Errors: memory was refused, and all is as before.
+    /// Moves the value at the hand position into a new cell, and leaves a holder of it; a holder is
+    /// left unchanged.
+    /// Errors: an allocation fails; nothing changes.
     #[inline(always)]
     pub fn share(&mut self, i: usize) -> Result<Answer, AllocError>
         ensures { Steps result self.old self.new (step self.old (command.Share i)) }
@@ -97,8 +98,8 @@ impl World {
         replied(self.state.share(i))
     }
 
-    /// Puts in the place of a holder at the hand position what is held, without its holders.
-    /// Errors: memory was refused, and all is as before.
+    /// Replaces a holder at the hand position by the held value, flat.
+    /// Errors: an allocation fails; nothing changes.
     #[inline(always)]
     pub fn flatten(&mut self, i: usize) -> Result<Answer, AllocError>
         ensures { Steps result self.old self.new (step self.old (command.Flatten i)) }
@@ -108,7 +109,7 @@ impl World {
     }
 
     /// Makes the value at the hand position a constant.
-    /// Errors: none, since no memory is wanted.
+    /// Errors: none; it allocates nothing.
     #[inline(always)]
     pub fn make_read_only(&mut self, i: usize) -> Result<Answer, AllocError>
         ensures { Steps result self.old self.new (step self.old (command.MakeReadOnly i)) }
@@ -118,7 +119,7 @@ impl World {
     }
 
     /// Sets the tag of the value at the hand position.
-    /// Errors: none, since no memory is wanted.
+    /// Errors: none; it allocates nothing.
     #[inline(always)]
     pub fn set_tag(&mut self, i: usize, tag: Tag) -> Result<Answer, AllocError>
         ensures { Steps result self.old self.new (step self.old (command.SetTag i tag)) }
@@ -127,8 +128,8 @@ impl World {
         replied(self.state.set_tag(i, tag))
     }
 
-    /// Writes over the int that is held at the hand position.
-    /// Errors: none, since no memory is wanted.
+    /// Overwrites the int held at the hand position.
+    /// Errors: none; it allocates nothing.
     #[inline(always)]
     pub fn write_int(&mut self, i: usize, value: INT) -> Result<Answer, AllocError>
         ensures { Steps result self.old self.new (step self.old (command.WriteInt i value)) }
@@ -137,8 +138,9 @@ impl World {
         replied(self.state.write_int(i, value))
     }
 
-    /// Writes the value at the second hand position over the first content of the one at the first, and leaves unit at the second.
-    /// Errors: none, since no memory is wanted.
+    /// Writes the value at the second hand position over the first content of the one at the first,
+    /// and leaves unit at the second.
+    /// Errors: none; it allocates nothing.
     #[inline(always)]
     pub fn write(&mut self, i: usize, j: usize) -> Result<Answer, AllocError>
         ensures { Steps result self.old self.new (step self.old (command.Write i j)) }
@@ -147,8 +149,9 @@ impl World {
         replied(self.state.write(i, j))
     }
 
-    /// Goes through the value at the hand position with a scanner, and answers how many values it came to.
-    /// Errors: none, since no memory is wanted.
+    /// Scans the value at the hand position with a scanner, and returns the number of visited
+    /// values.
+    /// Errors: none; it allocates nothing.
     #[inline(always)]
     pub fn scan(&mut self, i: usize, scanner: Scanner) -> Result<Answer, AllocError>
         ensures { Steps result self.old self.new (step self.old (command.Scan i scanner)) }

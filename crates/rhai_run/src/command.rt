@@ -1,4 +1,4 @@
-//! What a world is told to do, and which call does it.
+//! The commands of a world, and the call that each makes.
 ghost use Rattle.std.specs.Prelude.{◌≡◌, ℕ, ℤ, Bool, List, IfOk};
 ghost use Rattle.rhai_run.specs.declared.command.Command.TheVariants as command;
 ghost use Rattle.rhai_run.specs.declared.command.Place.{Place};
@@ -34,16 +34,16 @@ pub enum Literal {
     Text(ImmutableString),
     /// A blob.
     Blob(Bytes),
-    /// A value of the host's own types.
+    /// A value of one of the host's types.
     Host(Host),
-    /// A range without its end.
+    /// A range that excludes its end.
     Range(ExclusiveRange),
-    /// A range with its end.
+    /// A range that includes its end.
     RangeEq(InclusiveRange),
 }
 
 impl Literal {
-    /// The same literal again. Costs the bytes of a blob.
+    /// Copies the literal. Costs the bytes of a blob.
     pub(crate) fn copy(&self, alloc: Global) -> Result<Literal, AllocError>
         ensures { IfOk result (λ l. l ≡ self.now) }
     {
@@ -61,10 +61,10 @@ impl Literal {
     }
 }
 
-/// What is asked of a value.
+/// A question about a value.
 #[derive(Drop)]
 pub enum Question {
-    /// Its own tag: a number.
+    /// Its own tag, as a number.
     Tag,
     /// Whether it is of one of the host's types.
     Variant,
@@ -72,9 +72,9 @@ pub enum Question {
     Shared,
     /// Whether its first content is a constant.
     ReadOnly,
-    /// Whether it is, or has inside, a holder of a marked cell.
+    /// Whether it is, or contains, a holder of a marked cell.
     Locked,
-    /// The name of the held type: a text.
+    /// The name of the held type, as a text.
     TypeName,
     /// Whether this is the held type.
     Held(TypeId),
@@ -84,28 +84,28 @@ pub enum Question {
     Is(TypeId),
     /// The held unit.
     Unit,
-    /// The held int: a number.
+    /// The held int, as a number.
     Int,
     /// The held boolean.
     Bool,
-    /// The held character: a text.
+    /// The held character, as a text.
     Char,
 }
 
-/// What a scan does with each value that it comes to.
+/// What a scan does with each visited value.
 #[derive(Copy, Clone)]
 pub enum Scanner {
     /// Sets the tag.
     Tags(Tag),
-    /// Makes an int 0.
+    /// Sets an int to 0.
     Zero,
-    /// Makes a holder unit.
+    /// Turns a holder into unit.
     NoShare,
-    /// Keeps this many items of an array, the first ones.
+    /// Keeps the first items of an array, as many as given.
     Cut(usize),
 }
 
-/// What a command writes to.
+/// The target of a command's write.
 #[derive(Drop)]
 pub enum Place {
     /// The value at a hand position.
@@ -114,7 +114,7 @@ pub enum Place {
     Entry(ImmutableString),
 }
 
-/// A place whose name is lent.
+/// A place with a borrowed name.
 #[derive(Copy, Clone)]
 pub enum PlaceRef<'a> {
     /// The value at a hand position.
@@ -134,17 +134,18 @@ impl Place {
     }
 }
 
-/// One command. Hand positions count from 0, and new values go to the end of the hand.
+/// A command. Hand positions count from 0, and new values are appended to the hand.
 #[derive(Drop)]
 pub enum Command {
-    /// Appends a value that is made anew.
+    /// Appends a new value.
     Put(Literal),
-    /// Takes this many values off the end of the hand, and appends the array of them in order.
+    /// Removes this many values from the end of the hand, and appends the array of them in order.
     MakeArray(usize),
-    /// Takes as many values off the end of the hand as there are keys, and appends the map of these to those in order; of equal
-    /// keys the last value stands.
+    /// Removes as many values from the end of the hand as there are keys, and appends the map of
+    /// the keys to those in order; for equal keys the last value is kept.
     MakeMap(Names),
-    /// Takes this many values off the end of the hand, and appends the function pointer of the name with these curried in order.
+    /// Removes this many values from the end of the hand, and appends the function pointer of the
+    /// name with these curried in order.
     MakeFn(ImmutableString, usize),
     /// Appends a copy of the value at the hand position.
     Copy(usize),
@@ -152,100 +153,108 @@ pub enum Command {
     Take(usize),
     /// Drops the last value.
     Drop,
-    /// Moves the value at the hand position into a new cell, and leaves a holder of it; a holder stays.
+    /// Moves the value at the hand position into a new cell, and leaves a holder of it; a holder is
+    /// left unchanged.
     Share(usize),
-    /// Puts in the place of a holder at the hand position what is held, without its holders.
+    /// Replaces a holder at the hand position by the held value, flat.
     Flatten(usize),
-    /// Appends a copy of the value at the hand position without its holders.
+    /// Appends a flat copy of the value at the hand position.
     FlattenClone(usize),
-    /// Appends what the value at the hand position is as this type, copied without its holders.
+    /// Appends a flat copy of the value at the hand position, cast to this type.
     Cast(usize, TypeId),
     /// Makes the value at the hand position a constant.
     MakeReadOnly(usize),
     /// Sets the tag of the value at the hand position.
     SetTag(usize, Tag),
-    /// Asks a question of the value at the hand position.
+    /// Answers a question about the value at the hand position.
     Ask(usize, Question),
-    /// Writes over the int that is held at the hand position.
+    /// Overwrites the int held at the hand position.
     WriteInt(usize, INT),
     /// Writes the value at the second hand position over the first content of the one at the first, and leaves unit at the second.
     Write(usize, usize),
-    /// Appends what the operator answers on the values at the two hand positions.
+    /// Appends the result of the operator on the values at the two hand positions.
     Binary(Token, usize, usize),
     /// Calls the assignment of the operator on the value at the place and the one at the hand position.
     Assign(Token, Place, usize),
-    /// Goes through the value at the hand position with a scanner, and answers how many values it came to.
+    /// Scans the value at the hand position with a scanner, and returns the number of visited
+    /// values.
     Scan(usize, Scanner),
-    /// Moves the value at the hand position into a new entry of the name that may be written, and leaves unit.
+    /// Moves the value at the hand position into a new variable entry of the name, and leaves unit.
     Push(ImmutableString, usize),
-    /// Moves the value at the hand position into a new entry of the name, which is a constant where the value is, and leaves unit.
+    /// Moves the value at the hand position into a new entry of the name, a constant if the value
+    /// is one, and leaves unit.
     PushDynamic(ImmutableString, usize),
-    /// Moves the value at the hand position into a new entry of the name that is a constant, and leaves unit.
+    /// Moves the value at the hand position into a new constant entry of the name, and leaves unit.
     PushConstant(ImmutableString, usize),
     /// Moves the value at the hand position over the value of the last entry of the name, and leaves unit.
     SetEntry(ImmutableString, usize),
-    /// Moves the value at the hand position over the value of the last entry of the name, and leaves unit; where there is
-    /// no such entry that may be written, the value goes into a new one.
+    /// Moves the value at the hand position over the value of the last entry of the name, and
+    /// leaves unit; if there is no entry, or it is a constant, the value goes into a new one.
     SetOrPush(ImmutableString, usize),
-    /// Moves the value at the hand position over the value of the last entry of the name, and leaves unit; where there is
-    /// no such entry, the value goes into a new one.
+    /// Moves the value at the hand position over the value of the last entry of the name, and
+    /// leaves unit; if there is no entry, the value goes into a new one.
     SetValue(ImmutableString, usize),
     /// Drops the last entry.
     Pop,
-    /// Keeps as many entries as the number says, the first ones.
+    /// Keeps the first entries, as many as given.
     Rewind(usize),
     /// Drops all entries.
     Clear,
-    /// Answers how many entries there are.
+    /// Returns the number of entries.
     Len,
-    /// Answers whether there is no entry.
+    /// Returns whether the scope is empty.
     IsEmpty,
-    /// Answers whether an entry has the name.
+    /// Returns whether the name has an entry.
     Contains(ImmutableString),
-    /// Answers the position of the last entry of the name, counted from 0, or nothing.
+    /// Returns the position of the last entry of the name, counted from 0, or `Nothing`.
     Search(ImmutableString),
-    /// Answers whether the last entry of the name is a constant, or nothing.
+    /// Returns whether the last entry of the name is a constant, or `Nothing`.
     IsConstant(ImmutableString),
     /// Appends a copy of the value of the last entry of the name.
     Get(ImmutableString),
-    /// Appends what the value of the last entry of the name is as this type, copied without its holders; or answers nothing.
+    /// Appends a flat copy of the value of the last entry of the name, cast to this type; or
+    /// returns `Nothing`.
     GetValue(ImmutableString, TypeId),
-    /// Appends a copy of what the last entry of the name itself is as this type, by reference; or answers nothing.
+    /// Appends a copy of the last entry's own value, borrowed as this type; or returns `Nothing`.
     GetRef(ImmutableString, TypeId),
-    /// Writes over the int that the last entry of the name itself is; or answers nothing.
+    /// Overwrites the int that the last entry's own value is; or returns `Nothing`.
     SetRef(ImmutableString, INT),
-    /// Takes the last entry of the name out, and appends what its value is as this type, without its holders; or answers nothing.
+    /// Removes the last entry of the name, and appends its flat value, cast to this type; or
+    /// returns `Nothing`.
     Remove(ImmutableString, TypeId),
-    /// Gives the last entry of the name the alias, if it hasn't got it; an empty alias means the name.
+    /// Adds the alias to the last entry of the name, unless it has it; an empty alias means the
+    /// name.
     SetAlias(ImmutableString, ImmutableString),
-    /// Answers the aliases of the last entry of the name, each with a line feed.
+    /// Returns the aliases of the last entry of the name, each with a line feed.
     Aliases(ImmutableString),
-    /// Keeps copies of the last entries of each name, the newest first.
+    /// Replaces the scope by copies of the last entries of each name, the newest first.
     KeepVisible,
-    /// Keeps copies of all entries.
+    /// Replaces the scope by copies of all entries.
     CopyScope,
-    /// Appends copies of the values of all entries, without their holders.
+    /// Appends flat copies of the values of all entries.
     Entries,
-    /// Answers the names of the entries, the newest first, each with a line feed, and with `const ` before that of a constant.
+    /// Returns the names of the entries, the newest first, each followed by a line feed, and with
+    /// `const ` before that of a constant.
     Names,
-    /// Takes as many values off the end of the hand as there are names, and adds an entry of each name with its value, which may be
-    /// written.
+    /// Removes as many values from the end of the hand as there are names, and adds a variable
+    /// entry of each name with its value.
     Extend(Names),
-    /// Takes as many values off the end of the hand as there are names, and adds an entry of each name with its value,
-    /// which is a constant where its name is flagged.
+    /// Removes as many values from the end of the hand as there are names, and adds an entry of
+    /// each name with its value, a constant if its name is flagged.
     ExtendFlagged(FlaggedNames),
-    /// Answers the text of the scope.
+    /// Returns the printed text of the scope.
     ShowScope,
-    /// Answers the hash bytes of the scope.
+    /// Returns the hash bytes of the scope.
     HashScope,
-    /// Marks the cell of the holder at the place: from then on it is read and written by the mark alone. The mark goes to the end of
-    /// the list of marks.
+    /// Marks the cell of the holder at the place: from then on it is read and written only through
+    /// the mark. The mark is appended to the list of marks.
     Mark(Place),
-    /// Takes the mark at this position out of the list, and frees its cell; later marks close up.
+    /// Removes the mark at this position from the list, and unmarks its cell; later marks move
+    /// down.
     Unmark(usize),
     /// Moves the value at the hand position into the cell of the mark at this position, and leaves unit.
     WriteMarked(usize, usize),
-    /// Appends a copy of what is in the cell of the mark at this position.
+    /// Appends a copy of the content of the cell of the mark at this position.
     ReadMarked(usize),
     /// Writes the boolean at the hand position to this bit of the int at the place.
     WriteBit(Place, u8, usize),
@@ -253,25 +262,28 @@ pub enum Command {
     WriteField(Place, INT, u8, usize),
     /// Writes the int at the hand position to the byte of this index of the blob at the place.
     WriteByte(Place, usize, usize),
-    /// Writes the character at the hand position over the one of this index of the text at the place.
+    /// Writes the character at the hand position over the one at this index of the text at the
+    /// place.
     WriteChar(Place, usize, usize),
-    /// Writes what the value at the hand position prints as over the characters from the first index on, up to the second one; this
-    /// one is replaced too unless the slice is exclusive.
+    /// Writes the printed text of the value at the hand position over the characters from the first
+    /// index to the second; the one at the second is replaced too unless the slice is exclusive.
     WriteSlice(Place, usize, usize, bool, usize),
-    /// Answers where a slice of a list of this length starts and how many items it has, for a start and a number of items.
+    /// Returns where a slice of a list of this length starts and how many items it has, for a start
+    /// and a number of items.
     Offset(usize, INT, INT),
-    /// Answers the place of an item of a list of this length, or nothing; with the flag a negative index counts from the end.
+    /// Returns the position of an item in a list of this length, or `Nothing`; with the flag a
+    /// negative index counts from the end.
     Index(usize, INT, bool),
-    /// Answers the text of the value at the hand position, as it is displayed.
+    /// Returns the displayed text of the value at the hand position.
     Show(usize),
-    /// Answers the text of the value at the hand position, as it is debugged.
+    /// Returns the debug text of the value at the hand position.
     Debug(usize),
-    /// Answers the hash bytes of the value at the hand position.
+    /// Returns the hash bytes of the value at the hand position.
     Hash(usize),
 }
 
 impl WorldState {
-    /// Does one command.
+    /// Executes a command.
     #[inline(always)]
     pub(crate) fn apply(&mut self, command: &Command) -> Result<Answer, NotDone>
         requires { Fits self.old }
@@ -349,8 +361,8 @@ impl WorldState {
 }
 
 impl World {
-    /// Does one command, as the free `apply`.
-    /// Errors: memory was refused, and all is as before.
+    /// Executes a command, as the free `apply` does.
+    /// Errors: an allocation fails; nothing changes.
     #[inline(always)]
     pub fn apply(&mut self, command: &Command) -> Result<Answer, AllocError>
         ensures { Steps result self.old self.new (step self.old command.now) }
@@ -360,7 +372,8 @@ impl World {
     }
 }
 
-/// The commands that never want memory, whatever the state is. (There are others that want none in some states: `step` tells.)
+/// The commands that never allocate, whatever the state is. (Others allocate nothing in some
+/// states: see `step`.)
 #[tactic(auto, using(crate::proofs::Free::free_either, crate::proofs::Free::free_given, crate::proofs::Free::free_unless, crate::proofs::Free::free_value, crate::proofs::Free::free_two, crate::proofs::Free::free_write_back))]
 pub fn free_commands_are_granted()
     ensures drop_last { NeverWants command.Drop }

@@ -26,7 +26,8 @@ use rhai_value::{AccessMode, Dynamic, INT, Store, TypeId};
 use rhai_variant::Variant;
 use std::alloc::{AllocError, Global};
 
-/// Takes the entry at a position out, and answers its value without its holders; the entry stays where memory is refused.
+/// Removes the entry at a position, and returns its flat value; the entry is kept if an allocation
+/// fails.
 #[tactic(auto, using(rhai_scope::proofs::ForCallers::length_changed, rhai_scope::proofs::ForCallers::value_changed, rhai_scope::proofs::ForCallers::taken, rhai_scope::proofs::ForCallers::kept_there))]
 fn take_flat(
     scope: &mut Scope,
@@ -43,7 +44,7 @@ fn take_flat(
     Ok(scope.remove_at(k))
 }
 
-/// Writes over the int that a value itself is, and answers whether it is one.
+/// Replaces the value if it is an int, and returns whether it is one.
 fn overwrite_int(value: &mut Dynamic, n: INT) -> bool
     ensures own { result ≡ is_some (viewed type_id.Int value.old) }
     ensures written { result ≡ true → value.new ≡ written_as type_id.Int (fresh (int n)) value.old }
@@ -58,7 +59,8 @@ fn overwrite_int(value: &mut Dynamic, n: INT) -> bool
     }
 }
 
-/// The commands that change entries are calls, so that `apply`, into which most others are inlined, stays short.
+/// The commands that change entries are calls, so that `apply`, into which most others are inlined,
+/// stays short.
 impl WorldState {
     /// Moves a value of the hand into the entry at a position of the scope.
     fn set_at(&mut self, k: usize, i: usize)
@@ -144,7 +146,7 @@ impl WorldState {
         }
     }
 
-    /// A copy of what the last entry of a name itself is as a type, by reference, if it is of the type.
+    /// A copy of the last entry's own value, borrowed as a type, if it is of the type.
     #[tactic(auto, using(crate::proofs::Casts::viewed_cast, crate::proofs::Casts::unviewed_string))]
     fn viewed(&self, name: &ImmutableString, kind: TypeId) -> Result<Option<Dynamic>, NotDone>
         ensures { GivesIfAny result self.now (step self.now (command.GetRef name.now kind)) }
@@ -225,7 +227,7 @@ impl WorldState {
 
 impl World {
     /// Moves the value at the hand position over the value of the last entry of the name, and leaves unit.
-    /// Errors: none, since no memory is wanted.
+    /// Errors: none; it allocates nothing.
     #[inline(always)]
     pub fn set_entry(&mut self, name: &ImmutableString, i: usize) -> Result<Answer, AllocError>
         ensures { Steps result self.old self.new (step self.old (command.SetEntry name.now i)) }
@@ -234,9 +236,9 @@ impl World {
         replied(self.state.set_entry(name, i))
     }
 
-    /// Moves the value at the hand position over the value of the last entry of the name, and leaves unit; where there is no such entry
-    /// that may be written, the value goes into a new one.
-    /// Errors: memory was refused, and all is as before.
+    /// Moves the value at the hand position over the value of the last entry of the name, and
+    /// leaves unit; if there is no entry, or it is a constant, the value goes into a new one.
+    /// Errors: an allocation fails; nothing changes.
     #[inline(always)]
     pub fn set_or_push(&mut self, name: &ImmutableString, i: usize) -> Result<Answer, AllocError>
         ensures { Steps result self.old self.new (step self.old (command.SetOrPush name.now i)) }
@@ -245,9 +247,9 @@ impl World {
         replied(self.state.set_or_push(name, i))
     }
 
-    /// Moves the value at the hand position over the value of the last entry of the name, and leaves unit; where there is no such entry,
-    /// the value goes into a new one.
-    /// Errors: memory was refused, and all is as before.
+    /// Moves the value at the hand position over the value of the last entry of the name, and
+    /// leaves unit; if there is no entry, the value goes into a new one.
+    /// Errors: an allocation fails; nothing changes.
     #[inline(always)]
     pub fn set_value(&mut self, name: &ImmutableString, i: usize) -> Result<Answer, AllocError>
         ensures { Steps result self.old self.new (step self.old (command.SetValue name.now i)) }
@@ -257,7 +259,7 @@ impl World {
     }
 
     /// Appends a copy of the value of the last entry of the name.
-    /// Errors: memory was refused, and all is as before.
+    /// Errors: an allocation fails; nothing changes.
     #[inline(always)]
     pub fn get(&mut self, name: &ImmutableString) -> Result<Answer, AllocError>
         ensures { Steps result self.old self.new (step self.old (command.Get name.now)) }
@@ -266,8 +268,9 @@ impl World {
         replied(self.state.get(name))
     }
 
-    /// Appends what the value of the last entry of the name is as this type, copied without its holders; or answers nothing.
-    /// Errors: memory was refused, and all is as before.
+    /// Appends a flat copy of the value of the last entry of the name, cast to this type; or
+    /// returns `Nothing`.
+    /// Errors: an allocation fails; nothing changes.
     #[inline(always)]
     pub fn get_value(&mut self, name: &ImmutableString, kind: TypeId) -> Result<Answer, AllocError>
         ensures { Steps result self.old self.new (step self.old (command.GetValue name.now kind)) }
@@ -276,8 +279,8 @@ impl World {
         replied(self.state.get_value(name, kind))
     }
 
-    /// Appends a copy of what the last entry of the name itself is as this type, by reference; or answers nothing.
-    /// Errors: memory was refused, and all is as before.
+    /// Appends a copy of the last entry's own value, borrowed as this type; or returns `Nothing`.
+    /// Errors: an allocation fails; nothing changes.
     #[inline(always)]
     pub fn get_ref(&mut self, name: &ImmutableString, kind: TypeId) -> Result<Answer, AllocError>
         ensures { Steps result self.old self.new (step self.old (command.GetRef name.now kind)) }
@@ -286,8 +289,8 @@ impl World {
         replied(self.state.get_ref(name, kind))
     }
 
-    /// Writes over the int that the last entry of the name itself is; or answers nothing.
-    /// Errors: none, since no memory is wanted.
+    /// Overwrites the int that the last entry's own value is; or returns `Nothing`.
+    /// Errors: none; it allocates nothing.
     #[inline(always)]
     pub fn set_ref(&mut self, name: &ImmutableString, value: INT) -> Result<Answer, AllocError>
         ensures { Steps result self.old self.new (step self.old (command.SetRef name.now value)) }
@@ -296,8 +299,9 @@ impl World {
         replied(self.state.set_ref(name, value))
     }
 
-    /// Takes the last entry of the name out, and appends what its value is as this type, without its holders; or answers nothing.
-    /// Errors: memory was refused, and all is as before.
+    /// Removes the last entry of the name, and appends its flat value, cast to this type; or
+    /// returns `Nothing`.
+    /// Errors: an allocation fails; nothing changes.
     #[inline(always)]
     pub fn remove(&mut self, name: &ImmutableString, kind: TypeId) -> Result<Answer, AllocError>
         ensures { Steps result self.old self.new (step self.old (command.Remove name.now kind)) }
@@ -306,8 +310,9 @@ impl World {
         replied(self.state.remove(name, kind))
     }
 
-    /// Gives the last entry of the name the alias, if it hasn't got it; an empty alias means the name.
-    /// Errors: memory was refused, and all is as before.
+    /// Adds the alias to the last entry of the name, unless it has it; an empty alias means the
+    /// name.
+    /// Errors: an allocation fails; nothing changes.
     #[inline(always)]
     pub fn set_alias(&mut self, name: &ImmutableString, alias: &str) -> Result<Answer, AllocError>
         ensures { Steps result self.old self.new (step self.old (command.SetAlias name.now (chars alias.now))) }
@@ -316,8 +321,8 @@ impl World {
         replied(self.state.set_alias(name, alias))
     }
 
-    /// Answers the aliases of the last entry of the name, each with a line feed.
-    /// Errors: memory was refused, and all is as before.
+    /// Returns the aliases of the last entry of the name, each with a line feed.
+    /// Errors: an allocation fails; nothing changes.
     #[inline(always)]
     pub fn aliases(&self, name: &ImmutableString) -> Result<Answer, AllocError>
         ensures { Steps result self.now self.now (step self.now (command.Aliases name.now)) }

@@ -1,4 +1,4 @@
-//! Commands that add entries for names in a list, and those that list the entries.
+//! Commands that add entries for a list of names, and commands that list the entries.
 ghost use Rattle.std.specs.Prelude.{◌≡◌, IfOk};
 ghost use Rattle.rhai_run.specs.Does.{Steps, Does};
 ghost use Rattle.rhai_run.specs.declared.command.Command.TheVariants as command;
@@ -89,8 +89,8 @@ impl WorldState {
 }
 
 impl World {
-    /// Appends copies of the values of all entries, without their holders.
-    /// Errors: memory was refused, and all is as before.
+    /// Appends flat copies of the values of all entries.
+    /// Errors: an allocation fails; nothing changes.
     #[inline(always)]
     pub fn entries(&mut self) -> Result<Answer, AllocError>
         ensures { Steps result self.old self.new (step self.old command.Entries) }
@@ -99,8 +99,9 @@ impl World {
         replied(self.state.entries())
     }
 
-    /// Answers the names of the entries, the newest first, each with a line feed, and with `const ` before that of a constant.
-    /// Errors: memory was refused, and all is as before.
+    /// Returns the names of the entries, the newest first, each followed by a line feed, and with
+    /// `const ` before that of a constant.
+    /// Errors: an allocation fails; nothing changes.
     #[inline(always)]
     pub fn names(&self) -> Result<Answer, AllocError>
         ensures { Steps result self.now self.now (step self.now command.Names) }
@@ -108,9 +109,9 @@ impl World {
         replied(self.state.names())
     }
 
-    /// Takes as many values off the end of the hand as there are names, and adds an entry of each name with its value, which may be
-    /// written.
-    /// Errors: memory was refused, and all is as before.
+    /// Removes as many values from the end of the hand as there are names, and adds a variable
+    /// entry of each name with its value.
+    /// Errors: an allocation fails; nothing changes.
     #[inline(always)]
     pub fn extend(&mut self, names: &Names) -> Result<Answer, AllocError>
         ensures { Steps result self.old self.new (step self.old (command.Extend names.now)) }
@@ -119,9 +120,9 @@ impl World {
         replied(self.state.extend(names))
     }
 
-    /// Takes as many values off the end of the hand as there are names, and adds an entry of each name with its value, which is a constant
-    /// where its name is flagged.
-    /// Errors: memory was refused, and all is as before.
+    /// Removes as many values from the end of the hand as there are names, and adds an entry of
+    /// each name with its value, a constant if its name is flagged.
+    /// Errors: an allocation fails; nothing changes.
     #[inline(always)]
     pub fn extend_flagged(&mut self, names: &FlaggedNames) -> Result<Answer, AllocError>
         ensures { Steps result self.old self.new (step self.old (command.ExtendFlagged names.now)) }

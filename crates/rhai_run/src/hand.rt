@@ -1,4 +1,4 @@
-//! Commands that put values into the hand, and move them there.
+//! Commands that put values into the hand, and move them within it.
 ghost use Rattle.rhai_run.specs.Does.{Steps, Does};
 ghost use Rattle.rhai_run.specs.declared.command.Command.TheVariants as command;
 ghost use Rattle.rhai_run.specs.Step.{step};
@@ -22,7 +22,8 @@ impl WorldState {
         ensures { Does result self.old self.new (step self.old (command.Put literal.now)) }
     {
         self.hand.reserve(1)?;
-        // most are ints: made beside the others, one would be put together of pieces (`apply_put_copy_drop`)
+        // most are ints: built together with the other cases, an int would be assembled from pieces
+        // (`apply_put_copy_drop`)
         if let Literal::Int(value) = literal {
             self.hand.push_reserved(Dynamic::from_int(*value));
             return Ok(Answer::Done);
@@ -123,15 +124,15 @@ impl WorldState {
         if len == 0 {
             return Err(NotDone::Refused(Refusal::NoValue));
         }
-        // in its place: a value that is popped moves first
+        // dropped in place: a popped value is moved first
         self.hand.truncate(len - 1);
         Ok(Answer::Done)
     }
 }
 
 impl World {
-    /// Appends a value that is made anew.
-    /// Errors: memory was refused, and all is as before.
+    /// Appends a new value.
+    /// Errors: an allocation fails; nothing changes.
     #[inline(always)]
     pub fn put(&mut self, literal: &Literal) -> Result<Answer, AllocError>
         ensures { Steps result self.old self.new (step self.old (command.Put literal.now)) }
@@ -140,8 +141,8 @@ impl World {
         replied(self.state.put(literal))
     }
 
-    /// Takes this many values off the end of the hand, and appends the array of them in order.
-    /// Errors: memory was refused, and all is as before.
+    /// Removes this many values from the end of the hand, and appends the array of them in order.
+    /// Errors: an allocation fails; nothing changes.
     #[inline(always)]
     pub fn make_array(&mut self, n: usize) -> Result<Answer, AllocError>
         ensures { Steps result self.old self.new (step self.old (command.MakeArray n)) }
@@ -150,9 +151,9 @@ impl World {
         replied(self.state.make_array(n))
     }
 
-    /// Takes as many values off the end of the hand as there are keys, and appends the map of these to those in order; of equal keys the
-    /// last value stands.
-    /// Errors: memory was refused, and all is as before.
+    /// Removes as many values from the end of the hand as there are keys, and appends the map of
+    /// the keys to those in order; for equal keys the last value is kept.
+    /// Errors: an allocation fails; nothing changes.
     #[inline(always)]
     pub fn make_map(&mut self, keys: &Names) -> Result<Answer, AllocError>
         ensures { Steps result self.old self.new (step self.old (command.MakeMap keys.now)) }
@@ -161,8 +162,9 @@ impl World {
         replied(self.state.make_map(keys))
     }
 
-    /// Takes this many values off the end of the hand, and appends the function pointer of the name with these curried in order.
-    /// Errors: memory was refused, and all is as before.
+    /// Removes this many values from the end of the hand, and appends the function pointer of the
+    /// name with these curried in order.
+    /// Errors: an allocation fails; nothing changes.
     #[inline(always)]
     pub fn make_fn(&mut self, name: &ImmutableString, n: usize) -> Result<Answer, AllocError>
         ensures { Steps result self.old self.new (step self.old (command.MakeFn name.now n)) }
@@ -172,7 +174,7 @@ impl World {
     }
 
     /// Appends a copy of the value at the hand position.
-    /// Errors: memory was refused, and all is as before.
+    /// Errors: an allocation fails; nothing changes.
     #[inline(always)]
     pub fn copy(&mut self, i: usize) -> Result<Answer, AllocError>
         ensures { Steps result self.old self.new (step self.old (command.Copy i)) }
@@ -182,7 +184,7 @@ impl World {
     }
 
     /// Moves the value at the hand position to the end, and leaves unit.
-    /// Errors: memory was refused, and all is as before.
+    /// Errors: an allocation fails; nothing changes.
     #[inline(always)]
     pub fn take(&mut self, i: usize) -> Result<Answer, AllocError>
         ensures { Steps result self.old self.new (step self.old (command.Take i)) }
@@ -192,7 +194,7 @@ impl World {
     }
 
     /// Drops the last value.
-    /// Errors: none, since no memory is wanted.
+    /// Errors: none; it allocates nothing.
     #[inline(always)]
     pub fn drop_last(&mut self) -> Result<Answer, AllocError>
         ensures { Steps result self.old self.new (step self.old command.Drop) }
@@ -201,8 +203,8 @@ impl World {
         replied(self.state.drop_last())
     }
 
-    /// Appends a copy of the value at the hand position without its holders.
-    /// Errors: memory was refused, and all is as before.
+    /// Appends a flat copy of the value at the hand position.
+    /// Errors: an allocation fails; nothing changes.
     #[inline(always)]
     pub fn flatten_clone(&mut self, i: usize) -> Result<Answer, AllocError>
         ensures { Steps result self.old self.new (step self.old (command.FlattenClone i)) }
@@ -211,8 +213,8 @@ impl World {
         replied(self.state.flatten_clone(i))
     }
 
-    /// Appends what the value at the hand position is as this type, copied without its holders.
-    /// Errors: memory was refused, and all is as before.
+    /// Appends a flat copy of the value at the hand position, cast to this type.
+    /// Errors: an allocation fails; nothing changes.
     #[inline(always)]
     pub fn cast(&mut self, i: usize, kind: TypeId) -> Result<Answer, AllocError>
         ensures { Steps result self.old self.new (step self.old (command.Cast i kind)) }

@@ -1,4 +1,4 @@
-//! Questions about places in lists.
+//! Commands on positions in lists.
 ghost use Rattle.rhai_run.specs.Does.{Steps, Does};
 ghost use Rattle.rhai_run.specs.declared.command.Command.TheVariants as command;
 ghost use Rattle.rhai_run.specs.Step.{step};
@@ -30,8 +30,9 @@ impl WorldState {
 }
 
 impl World {
-    /// Answers where a slice of a list of this length starts and how many items it has, for a start and a number of items.
-    /// Errors: none, since no memory is wanted.
+    /// Returns where a slice of a list of this length starts and how many items it has, for a start
+    /// and a number of items.
+    /// Errors: none; it allocates nothing.
     #[inline(always)]
     pub fn offset(&self, length: usize, start: INT, len: INT) -> Result<Answer, AllocError>
         ensures { Steps result self.now self.now (step self.now (command.Offset length start len)) }
@@ -39,8 +40,9 @@ impl World {
         replied(self.state.offset(length, start, len))
     }
 
-    /// Answers the place of an item of a list of this length, or nothing; with the flag a negative index counts from the end.
-    /// Errors: none, since no memory is wanted.
+    /// Returns the position of an item in a list of this length, or `Nothing`; with the flag a
+    /// negative index counts from the end.
+    /// Errors: none; it allocates nothing.
     #[inline(always)]
     pub fn index(&self, length: usize, index: INT, from_end: bool) -> Result<Answer, AllocError>
         ensures { Steps result self.now self.now (step self.now (command.Index length index from_end)) }

@@ -1,4 +1,4 @@
-//! Laws of the machine: each is the contract of a function that does nothing.
+//! Laws of the machine: each is the contract of a function with an empty body.
 ghost use Rattle.std.specs.Prelude.{◌≡◌, ℕ, ◌+◌, ◌<◌, ◌↔◌, Bool, nat_eq, List, [], ◌∷◌, ◌++◌, length, drop, map, reverse, Some, None, option_map, true, false, Result, Vec, Box};
 ghost use Rattle.std.specs.declared.alloc.Global.{Global};
 ghost use Rattle.std.specs.BTreeMap.{is_at};
@@ -48,52 +48,55 @@ pub fn empty_state_fits()
     ensures { (limits : Limits) → Fits (empty_state limits) }
 {}
 
-/// Each command keeps a state fitting.
+/// Each command maps a fitting state to a fitting state.
 pub fn steps_fit()
     ensures { (w : State) (c : Command) → Fits w → Fits (step w c).after }
 {}
 
-/// A method of the state that makes a command's step keeps it fitting.
+/// A method of the state that executes a command's step maps a fitting state to a fitting state.
 pub(crate) fn methods_fit()
     ensures { (done : Result Answer NotDone) (old new : State) (c : Command) → Fits old → Does done old new (step old c) → Fits new }
 {}
 
-/// A refused command leaves the state as it was, and wants no memory but where a hash is asked for of what has none; want of memory
-/// itself is the reason of no refusal.
+/// A refused command leaves the state unchanged, and allocates only to hash a value that isn't
+/// hashable; no refusal is due to a failed allocation.
 pub fn refusals_change_nothing()
     ensures state { (w : State) (c : Command) (why : Refusal) → (step w c).reply ≡ Refused why → (step w c).after ≡ w }
     ensures named { (w : State) (c : Command) (e : AllocError) → (step w c).reply ≡ Refused (Fault (ErrorMemory e)) → ⊥ }
     ensures memory { (w : State) (c : Command) (why : Refusal) → (step w c).reply ≡ Refused why → (step w c).wants ≡ true → why ≡ NotHashable }
 {}
 
-/// A state that fits corresponds to itself, each cell being paired with itself.
+/// A fitting state corresponds to itself, with each cell paired with itself.
 pub fn states_correspond_to_themselves()
     ensures { (w : State) → Fits w → Corresponds (new_pairs 0 0 (length w.store)) w w }
 {}
 
-/// A state corresponds to the same state with one more cell, whatever stands in it: nothing reaches that cell.
+/// A state corresponds to the same state with one more cell, whatever its content: nothing reaches
+/// that cell.
 pub fn unreached_cells_are_not_seen()
     ensures { (w : State) (t : Tree) → Fits w → Fits (with_store w (added w.store t)) → Corresponds (new_pairs 0 0 (length w.store)) w (with_store w (added w.store t)) }
 {}
 
-/// A state corresponds to what is left of it when cells that nothing reaches are taken out and the others are numbered anew, in
-/// any order: each kept cell is paired with its place.
+/// A state corresponds to the result of removing unreachable cells and renumbering the others in
+/// any order: each kept cell is paired with its new place.
 pub fn kept_worlds_correspond()
     ensures { (w : State) (c : List ℕ) → Fits w → KeepsAllReached c w → Corresponds (kept_pairs c) w (kept w c) }
 {}
 
-/// A state corresponds to the same state with its cells made in another order: `c` has each of its cells once.
+/// A state corresponds to the same state with its cells created in another order: `c` has each of
+/// its cells once.
 pub fn reordered_worlds_correspond()
     ensures { (w : State) (c : List ℕ) → Fits w → IsDistinct nat_eq c → ((n : ℕ) → Contains c n ↔ (n < length w.store)) → Corresponds (kept_pairs c) w (kept w c) }
 {}
 
-/// What a state reaches keeps all that is reached, and each list of cells that does has all of it.
+/// The cells that a state reaches satisfy `KeepsAllReached`, and each list of cells that does
+/// contains all of them.
 pub fn reached_cells_are_kept()
     ensures kept { (w : State) → Fits w → (c : List ℕ) → Reaches w c → KeepsAllReached c w }
     ensures least { (w : State) (c d : List ℕ) (n : ℕ) → Reaches w c → KeepsAllReached d w → Contains c n → Contains d n }
 {}
 
-/// A collected world has no cell that nothing reaches.
+/// A collected world has no unreachable cell.
 pub fn collected_worlds_are_reached()
     ensures { (w v : State) → Fits w → Collects w v → (n : ℕ) → n < length v.store → IsReached v.store (roots v) n }
 {}
@@ -108,32 +111,33 @@ pub fn runs_are_alike()
     ensures { (r : Renaming) (w v : State) (commands : List Command) → Corresponds r w v → RunAlike r w v commands }
 {}
 
-/// No run can tell that a world was collected: the answers are those of the world before.
+/// No run can observe a collection: the answers are those of the world before.
 pub fn collecting_is_not_seen()
     ensures { (w v : State) (h : Collects w v) (commands : List Command) → RunAlike (kept_pairs h.cells) w v commands }
 {}
 
-/// What a scanner makes of a value, and of all that stands in it, doesn't depend on the numbers of cells; nor does the number of its
-/// visits.
+/// The result of a scan by a scanner doesn't depend on cell numbers; nor does its number of visits.
 pub fn scanners_are_renamed()
     ensures visit { (r : Renaming) → SameVisits r visited }
     ensures scan { (r : Renaming) → SameVisits r (scan visited) }
 {}
 
-/// Where states correspond, an expression stands for the same commands on both.
+/// If states correspond, an expression stands for the same commands on both.
 #[tactic(auto, using(crate::proofs::Expressions::ProgramsAlike::commands_alike))]
 pub fn expressions_stand_alike()
     ensures { (r : Renaming) (w v : State) (e : Expr) → Corresponds r w v → commands_of w e ≡ commands_of v e }
 {}
 
-/// A map that a command makes has at each key, by its bytes, the value that is given last for it, and nothing at any other key.
+/// A map that a command makes has at each key, by its bytes, the last value given for it, and
+/// nothing at any other key.
 #[tactic(auto, using(crate::proofs::LastRows::last_found))]
 pub fn maps_have_the_last_values()
     ensures { (keys : List (List ℕ)) (values : List Tree) (key : List ℕ)
         → lookup (is_at (bytes_cmp key)) (rows_with [] keys values) ≡ lookup (is_at (bytes_cmp key)) (reverse (zip (map encode_utf8_all keys) values)) }
 {}
 
-/// What each kind of expression does on a state: its parts one after another, each on what those before it have left.
+/// What each kind of expression does to a state: its parts are executed one after another, each on
+/// the state that those before it left.
 pub fn expressions_by_kind()
     ensures literal { (l : Literal) (w : State) → program_of (expr.Literal l) w ≡ all (command.Put l ∷ []) w }
     ensures variable { (x : List ℕ) (w : State) → program_of (expr.Var x) w ≡ all (command.Get x ∷ command.Flatten (length w.hand) ∷ []) w }
@@ -152,8 +156,9 @@ pub fn expressions_by_kind()
         → program_of (expr.Block parts) w ≡ sequence (sequence (last_of (map program_of parts.items)) ∷ all (command.Rewind (length w.entries) ∷ []) ∷ []) w }
 {}
 
-/// A run, or the commands of an expression, that stopped goes on with the rest of its list: the answers so far and those of the rest are the machine's on the whole list,
-/// and so is the state in the end.
+/// A run, or the commands of an expression, that stopped can be continued with the rest of its
+/// list: the answers so far and those of the rest are the machine's on the whole list, and so is
+/// the final state.
 #[tactic(auto, using(crate::proofs::GoingOn::answers_go_on, crate::proofs::GoingOn::state_goes_on))]
 pub fn stopped_runs_go_on()
     ensures answers { (w v : State) (commands : List Command) (replied : List Answer) → StopsAfter w commands replied v
@@ -162,8 +167,9 @@ pub fn stopped_runs_go_on()
         → state_after v (drop (length replied) commands) ≡ state_after w commands }
 {}
 
-/// A variable that is captured, and whose entry is there, is never refused. The entry's first content stays, but for modes, of which a copy has
-/// ReadWrite alone; and where the entry is no constant, it and the captured value, which is new behind the hand of before, name one cell.
+/// Capturing a variable that has an entry is never refused. The entry's first content is unchanged
+/// except for modes, of which a copy has only ReadWrite; and unless the entry is a constant, it and
+/// the captured value, which is appended to the hand, refer to the same cell.
 #[tactic(auto, using(crate::proofs::Captured::granted, crate::proofs::Captured::content_stays, crate::proofs::Captured::cell_shared))]
 pub fn captures_share_a_cell()
     ensures granted { (w : State) (x : List ℕ) (e : Entry) → last_entry x w.entries ≡ Some e → refusal w (commands_of w (expr.Capture x)) ≡ None }
@@ -173,14 +179,14 @@ pub fn captures_share_a_cell()
         → SharesEntry x w (state_after w (commands_of w (expr.Capture x))) }
 {}
 
-/// Where no command of an expression is refused, the hand has one value more, behind those of before, and the scope one entry more for
-/// each `Let` and `Const` that stands in no `Block` of the expression.
+/// If no command of an expression is refused, the hand has one more value at its end, and the scope
+/// one more entry for each `Let` and `Const` that is in no `Block` of the expression.
 pub fn expressions_leave_a_value()
     ensures hand { (w : State) (e : Expr) → refusal w (commands_of w e) ≡ None → (t : Tree) × ((state_after w (commands_of w e)).hand ≡ w.hand ++ t ∷ []) }
     ensures scope { (w : State) (e : Expr) → refusal w (commands_of w e) ≡ None → length (state_after w (commands_of w e)).entries ≡ length w.entries + bindings e }
 {}
 
-/// Where one is refused, the hand is as before, and the scope as long as before.
+/// If one is refused, the hand is unchanged, and so is the length of the scope.
 pub fn refused_expressions_leave_nothing()
     ensures hand { (w : State) (e : Expr) (why : Refusal) → refusal w (commands_of w e) ≡ Some why → (state_after w (commands_of w e)).hand ≡ w.hand }
     ensures scope { (w : State) (e : Expr) (why : Refusal) → refusal w (commands_of w e) ≡ Some why → length (state_after w (commands_of w e)).entries ≡ length w.entries }

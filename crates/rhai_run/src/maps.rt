@@ -1,4 +1,4 @@
-//! Maps that are made of values of the hand.
+//! Maps made from values of the hand.
 ghost use Rattle.std.specs.Prelude.{◌≡◌, [], length, vec_len, is_some, true, IfOk};
 ghost use Rattle.std.specs.BTreeMap.{is_at};
 ghost use Rattle.std.specs.Map.{lookup, set_value};
@@ -10,7 +10,7 @@ use rhai_text::ImmutableString;
 use rhai_value::{Dynamic, Map};
 use std::alloc::{AllocError, Global};
 
-/// The map of the keys, each with unit: all the memory of a map that is made.
+/// The map of the keys, each with unit: makes all allocations of a new map.
 pub(crate) fn map_of_keys(alloc: Global, keys: &[ImmutableString]) -> Result<Map, AllocError>
     ensures { IfOk result (λ m. m ≡ rows_of_keys keys.now) }
 {
@@ -38,7 +38,7 @@ pub(crate) fn move_to_keys(map: &mut Map, keys: &[ImmutableString], values: Vec<
     }
 }
 
-/// Writes over the value of a key that is there.
+/// Replaces the value of an existing key.
 fn set_at(map: &mut Map, key: &str, value: Dynamic)
     requires { is_some (lookup (is_at (bytes_cmp key.now)) map.old) ≡ true }
     ensures { map.new ≡ set_value (is_at (bytes_cmp key.now)) map.old value }

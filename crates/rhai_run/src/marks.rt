@@ -23,7 +23,7 @@ use rhai_value::laws::mark_is_cleared;
 use rhai_value::{Dynamic, Store, WriteToken};
 use std::alloc::{AllocError, AllocFailed};
 
-/// Takes a token out of a list of marks, and frees its cell.
+/// Removes a token from a list of marks, and unmarks its cell.
 #[tactic(auto, using(crate::proofs::MarkLists::mark_is_set, crate::proofs::MarkLists::mark_taken))]
 fn release_at(store: &mut Store, marks: &mut Vec<WriteToken>, k: usize)
     requires within { k < vec_len marks.old }
@@ -37,7 +37,7 @@ fn release_at(store: &mut Store, marks: &mut Vec<WriteToken>, k: usize)
     store.release(token);
 }
 
-/// Frees the cells of all tokens of a list of marks.
+/// Unmarks the cells of all tokens of a list of marks.
 pub(crate) fn release_all(store: &mut Store, mut marks: Vec<WriteToken>)
     requires { MarksAre store.old marks.items }
 {
@@ -48,7 +48,7 @@ pub(crate) fn release_all(store: &mut Store, mut marks: Vec<WriteToken>)
     marks.destroy_empty();
 }
 
-/// Writes over what is in the cell of a token.
+/// Replaces the content of a token's cell.
 fn write_through(store: &mut Store, token: &WriteToken, value: Dynamic)
     requires { is_marked_at store.old token.now ≡ true }
     ensures { store.new ≡ put store.old token.now value }
@@ -123,9 +123,9 @@ impl WorldState {
 }
 
 impl World {
-    /// Marks the cell of the holder at the place: from then on it is read and written by the mark alone. The mark goes to the end of the
-    /// list of marks.
-    /// Errors: memory was refused, and all is as before.
+    /// Marks the cell of the holder at the place: from then on it is read and written only through
+    /// the mark. The mark is appended to the list of marks.
+    /// Errors: an allocation fails; nothing changes.
     #[inline(always)]
     pub fn mark(&mut self, place: PlaceRef<'_>) -> Result<Answer, AllocError>
         ensures { Steps result self.old self.new (step self.old (command.Mark (place_of place.entry))) }
@@ -134,8 +134,9 @@ impl World {
         replied(self.state.mark(place))
     }
 
-    /// Takes the mark at this position out of the list, and frees its cell; later marks close up.
-    /// Errors: none, since no memory is wanted.
+    /// Removes the mark at this position from the list, and unmarks its cell; later marks move
+    /// down.
+    /// Errors: none; it allocates nothing.
     #[inline(always)]
     pub fn unmark(&mut self, k: usize) -> Result<Answer, AllocError>
         ensures { Steps result self.old self.new (step self.old (command.Unmark k)) }
@@ -145,7 +146,7 @@ impl World {
     }
 
     /// Moves the value at the hand position into the cell of the mark at this position, and leaves unit.
-    /// Errors: none, since no memory is wanted.
+    /// Errors: none; it allocates nothing.
     #[inline(always)]
     pub fn write_marked(&mut self, k: usize, i: usize) -> Result<Answer, AllocError>
         ensures { Steps result self.old self.new (step self.old (command.WriteMarked k i)) }
@@ -154,8 +155,8 @@ impl World {
         replied(self.state.write_marked(k, i))
     }
 
-    /// Appends a copy of what is in the cell of the mark at this position.
-    /// Errors: memory was refused, and all is as before.
+    /// Appends a copy of the content of the cell of the mark at this position.
+    /// Errors: an allocation fails; nothing changes.
     #[inline(always)]
     pub fn read_marked(&mut self, k: usize) -> Result<Answer, AllocError>
         ensures { Steps result self.old self.new (step self.old (command.ReadMarked k)) }

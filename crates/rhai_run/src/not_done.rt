@@ -7,7 +7,7 @@ use crate::answer::Refusal;
 use rhai_text::EvalAltResult;
 use std::alloc::{AllocError, AllocFailed};
 
-/// Why a command is not done: it is refused, or memory is.
+/// Why a command is not done: it is refused, or an allocation fails.
 #[derive(Drop)]
 pub(crate) enum NotDone {
     Refused(Refusal),

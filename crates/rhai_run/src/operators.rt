@@ -26,7 +26,7 @@ use rhai_value::Dynamic;
 use std::alloc::AllocError;
 
 impl WorldState {
-    /// What an operator answers on two values of the hand.
+    /// The result of an operator on two values of the hand.
     fn operate(&self, op: Token, i: usize, j: usize) -> Result<Dynamic, NotDone>
         ensures { Gives result self.now (step self.now (command.Binary op i j)) }
     {
@@ -47,7 +47,7 @@ impl WorldState {
         self.append(value)
     }
 
-    /// Calls a row of an assignment on the value in a slot and on another one, which is in none.
+    /// Calls a row of an assignment on the value in a slot and on another one that is in no slot.
     #[tactic(auto, using(crate::proofs::SlotValues::hand_kept, crate::proofs::SlotValues::scope_kept, crate::proofs::SlotValues::placed_length))]
     fn call_at(
         &mut self,
@@ -84,8 +84,8 @@ impl WorldState {
         result
     }
 
-    /// The row of an assignment on the first content of the value at a place and on the one at a hand position, and the slot of the
-    /// place.
+    /// Finds the row of an assignment on the first content of the value at a place and on the one
+    /// at a hand position, and the slot of the place.
     fn assignment(
         &self,
         op: Token,
@@ -122,8 +122,8 @@ impl WorldState {
 }
 
 impl World {
-    /// Appends what the operator answers on the values at the two hand positions.
-    /// Errors: memory was refused, and all is as before.
+    /// Appends the result of the operator on the values at the two hand positions.
+    /// Errors: an allocation fails; nothing changes.
     #[inline(always)]
     pub fn binary(&mut self, op: Token, i: usize, j: usize) -> Result<Answer, AllocError>
         ensures { Steps result self.old self.new (step self.old (command.Binary op i j)) }
@@ -133,7 +133,7 @@ impl World {
     }
 
     /// Calls the assignment of the operator on the value at the place and the one at the hand position.
-    /// Errors: memory was refused, and all is as before.
+    /// Errors: an allocation fails; nothing changes.
     #[inline(always)]
     pub fn assign(&mut self, op: Token, place: PlaceRef<'_>, j: usize) -> Result<Answer, AllocError>
         ensures { Steps result self.old self.new (step self.old (command.Assign op (place_of place.entry) j)) }

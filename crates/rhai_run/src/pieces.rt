@@ -29,7 +29,7 @@ pub(crate) enum Piece {
     Byte(usize),
     /// A character of a text.
     Character(usize),
-    /// Characters of a text that stand together.
+    /// Consecutive characters of a text.
     Characters(Slice),
 }
 
@@ -39,7 +39,7 @@ fn wrong_type(wanted: &'static str, found: &'static str) -> NotDone
     NotDone::Refused(Refusal::Fault(EvalAltResult::mismatch(wanted, found, Position::NONE)))
 }
 
-/// Whether a source holds an int, and an int has the bit.
+/// Fails unless a source holds an int, and an int has the bit.
 fn has_bit(source: &Dynamic, store: &Store, place: u8) -> Result<(), NotDone>
     ensures { Tests result (no_bit (held_part int_of (end store.now [] source.now)) place) }
 {
@@ -52,7 +52,7 @@ fn has_bit(source: &Dynamic, store: &Store, place: u8) -> Result<(), NotDone>
     Ok(())
 }
 
-/// Whether a source holds a blob that has the byte.
+/// Fails unless a source holds a blob that has the byte.
 fn has_byte(source: &Dynamic, store: &Store, index: usize) -> Result<(), NotDone>
     ensures { Tests result (no_byte (held_part blob_of (end store.now [] source.now)) index) }
 {
@@ -63,7 +63,7 @@ fn has_byte(source: &Dynamic, store: &Store, index: usize) -> Result<(), NotDone
     }
 }
 
-/// Whether a source holds a text.
+/// Fails unless a source holds a text.
 fn has_text(source: &Dynamic, store: &Store) -> Result<(), NotDone>
     ensures { Tests result (if is_some (held_part text_of (end store.now [] source.now)) then None else Some WrongSource) }
 {
@@ -74,7 +74,7 @@ fn has_text(source: &Dynamic, store: &Store) -> Result<(), NotDone>
 }
 
 impl Piece {
-    /// Whether a source has the piece.
+    /// Fails unless a source has the piece.
     pub(crate) fn is_in(self, source: &Dynamic, store: &Store) -> Result<(), NotDone>
         ensures { Tests result ((rule self).lack (end store.now [] source.now)) }
     {
@@ -87,7 +87,8 @@ impl Piece {
         }
     }
 
-    /// A value that makes the same of a source as this one: it isn't the source, which may be this one itself.
+    /// Makes a value with the same effect on a source as this one, but distinct from the source,
+    /// which may be this one itself.
     #[tactic(auto, using(crate::proofs::WorkingValues::working_bit, crate::proofs::WorkingValues::working_field, crate::proofs::WorkingValues::working_byte, crate::proofs::WorkingValues::working_character))]
     pub(crate) fn working(
         self,

@@ -1,4 +1,4 @@
-//! What a scan does with each value that it comes to.
+//! What a scan does with each visited value.
 
 ghost use Rattle.std.specs.Prelude.{◌≡◌, pos};
 ghost use Rattle.rhai_value.specs.Tree.{branch, array};
@@ -9,7 +9,7 @@ ghost use Rattle.rhai_value.specs.Parts.{array_of, with_int, with_content};
 use crate::command::Scanner;
 use rhai_value::{Array, Dynamic, INT, Part, Visitor};
 
-/// A scanner, and how many values it came to so far.
+/// A scanner, and the number of values visited so far.
 #[derive(Drop)]
 pub(crate) struct Visits {
     pub(crate) scanner: Scanner,

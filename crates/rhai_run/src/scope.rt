@@ -139,8 +139,8 @@ impl WorldState {
 }
 
 impl World {
-    /// Moves the value at the hand position into a new entry of the name that may be written, and leaves unit.
-    /// Errors: memory was refused, and all is as before.
+    /// Moves the value at the hand position into a new variable entry of the name, and leaves unit.
+    /// Errors: an allocation fails; nothing changes.
     #[inline(always)]
     pub fn push(&mut self, name: &ImmutableString, i: usize) -> Result<Answer, AllocError>
         ensures { Steps result self.old self.new (step self.old (command.Push name.now i)) }
@@ -149,8 +149,9 @@ impl World {
         replied(self.state.push_as(name, AccessMode::ReadWrite, i))
     }
 
-    /// Moves the value at the hand position into a new entry of the name, which is a constant where the value is, and leaves unit.
-    /// Errors: memory was refused, and all is as before.
+    /// Moves the value at the hand position into a new entry of the name, a constant if the value
+    /// is one, and leaves unit.
+    /// Errors: an allocation fails; nothing changes.
     #[inline(always)]
     pub fn push_dynamic(&mut self, name: &ImmutableString, i: usize) -> Result<Answer, AllocError>
         ensures { Steps result self.old self.new (step self.old (command.PushDynamic name.now i)) }
@@ -159,8 +160,8 @@ impl World {
         replied(self.state.push_dynamic(name, i))
     }
 
-    /// Moves the value at the hand position into a new entry of the name that is a constant, and leaves unit.
-    /// Errors: memory was refused, and all is as before.
+    /// Moves the value at the hand position into a new constant entry of the name, and leaves unit.
+    /// Errors: an allocation fails; nothing changes.
     #[inline(always)]
     pub fn push_constant(&mut self, name: &ImmutableString, i: usize) -> Result<Answer, AllocError>
         ensures { Steps result self.old self.new (step self.old (command.PushConstant name.now i)) }
@@ -170,7 +171,7 @@ impl World {
     }
 
     /// Drops the last entry.
-    /// Errors: none, since no memory is wanted.
+    /// Errors: none; it allocates nothing.
     #[inline(always)]
     pub fn pop(&mut self) -> Result<Answer, AllocError>
         ensures { Steps result self.old self.new (step self.old command.Pop) }
@@ -179,8 +180,8 @@ impl World {
         replied(self.state.pop())
     }
 
-    /// Keeps as many entries as the number says, the first ones.
-    /// Errors: none, since no memory is wanted.
+    /// Keeps the first entries, as many as given.
+    /// Errors: none; it allocates nothing.
     #[inline(always)]
     pub fn rewind(&mut self, n: usize) -> Result<Answer, AllocError>
         ensures { Steps result self.old self.new (step self.old (command.Rewind n)) }
@@ -190,7 +191,7 @@ impl World {
     }
 
     /// Drops all entries.
-    /// Errors: none, since no memory is wanted.
+    /// Errors: none; it allocates nothing.
     #[inline(always)]
     pub fn clear(&mut self) -> Result<Answer, AllocError>
         ensures { Steps result self.old self.new (step self.old command.Clear) }
@@ -199,8 +200,8 @@ impl World {
         replied(self.state.clear())
     }
 
-    /// Answers how many entries there are.
-    /// Errors: none, since no memory is wanted.
+    /// Returns the number of entries.
+    /// Errors: none; it allocates nothing.
     #[inline(always)]
     pub fn len(&self) -> Result<Answer, AllocError>
         ensures { Steps result self.now self.now (step self.now command.Len) }
@@ -208,8 +209,8 @@ impl World {
         replied(self.state.len())
     }
 
-    /// Answers whether there is no entry.
-    /// Errors: none, since no memory is wanted.
+    /// Returns whether the scope is empty.
+    /// Errors: none; it allocates nothing.
     #[inline(always)]
     pub fn is_empty(&self) -> Result<Answer, AllocError>
         ensures { Steps result self.now self.now (step self.now command.IsEmpty) }
@@ -217,8 +218,8 @@ impl World {
         replied(self.state.is_empty())
     }
 
-    /// Answers whether an entry has the name.
-    /// Errors: none, since no memory is wanted.
+    /// Returns whether the name has an entry.
+    /// Errors: none; it allocates nothing.
     #[inline(always)]
     pub fn contains(&self, name: &ImmutableString) -> Result<Answer, AllocError>
         ensures { Steps result self.now self.now (step self.now (command.Contains name.now)) }
@@ -226,8 +227,8 @@ impl World {
         replied(self.state.contains(name))
     }
 
-    /// Answers the position of the last entry of the name, counted from 0, or nothing.
-    /// Errors: none, since no memory is wanted.
+    /// Returns the position of the last entry of the name, counted from 0, or `Nothing`.
+    /// Errors: none; it allocates nothing.
     #[inline(always)]
     pub fn search(&self, name: &ImmutableString) -> Result<Answer, AllocError>
         ensures { Steps result self.now self.now (step self.now (command.Search name.now)) }
@@ -235,8 +236,8 @@ impl World {
         replied(self.state.search(name))
     }
 
-    /// Answers whether the last entry of the name is a constant, or nothing.
-    /// Errors: none, since no memory is wanted.
+    /// Returns whether the last entry of the name is a constant, or `Nothing`.
+    /// Errors: none; it allocates nothing.
     #[inline(always)]
     pub fn is_constant(&self, name: &ImmutableString) -> Result<Answer, AllocError>
         ensures { Steps result self.now self.now (step self.now (command.IsConstant name.now)) }
@@ -244,8 +245,8 @@ impl World {
         replied(self.state.is_constant(name))
     }
 
-    /// Keeps copies of the last entries of each name, the newest first.
-    /// Errors: memory was refused, and all is as before.
+    /// Replaces the scope by copies of the last entries of each name, the newest first.
+    /// Errors: an allocation fails; nothing changes.
     #[inline(always)]
     pub fn keep_visible(&mut self) -> Result<Answer, AllocError>
         ensures { Steps result self.old self.new (step self.old command.KeepVisible) }
@@ -254,8 +255,8 @@ impl World {
         replied(self.state.keep_visible())
     }
 
-    /// Keeps copies of all entries.
-    /// Errors: memory was refused, and all is as before.
+    /// Replaces the scope by copies of all entries.
+    /// Errors: an allocation fails; nothing changes.
     #[inline(always)]
     pub fn copy_scope(&mut self) -> Result<Answer, AllocError>
         ensures { Steps result self.old self.new (step self.old command.CopyScope) }
@@ -264,8 +265,8 @@ impl World {
         replied(self.state.copy_scope())
     }
 
-    /// Answers the text of the scope.
-    /// Errors: memory was refused, and all is as before.
+    /// Returns the printed text of the scope.
+    /// Errors: an allocation fails; nothing changes.
     #[inline(always)]
     pub fn show_scope(&self) -> Result<Answer, AllocError>
         ensures { Steps result self.now self.now (step self.now command.ShowScope) }
@@ -273,8 +274,8 @@ impl World {
         replied(self.state.show_scope())
     }
 
-    /// Answers the hash bytes of the scope.
-    /// Errors: memory was refused, and all is as before.
+    /// Returns the hash bytes of the scope.
+    /// Errors: an allocation fails; nothing changes.
     #[inline(always)]
     pub fn hash_scope(&self) -> Result<Answer, AllocError>
         ensures { Steps result self.now self.now (step self.now command.HashScope) }

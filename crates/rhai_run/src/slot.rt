@@ -1,4 +1,4 @@
-//! Where the value of a place stands: it is sought once, and then read and written there.
+//! The site of a place's value: looked up once, and then read and written there.
 ghost use Rattle.std.specs.Prelude.{◌≡◌, [], Some, Ok, true, is_some, option_map, IfOk, IfErr};
 ghost use Rattle.std.specs.Str.{chars};
 ghost use Rattle.rhai_scope.specs.Lookup.{last_entry, last_position};
@@ -13,14 +13,15 @@ use crate::not_done::NotDone;
 use rhai_scope::Scope;
 use rhai_value::Dynamic;
 
-/// Where a value stands that commands write to: at a hand position, or in the entry at a position of the scope.
+/// Where a value is that commands write to: at a hand position, or in the entry at a position of
+/// the scope.
 #[derive(Clone, Copy)]
 pub(crate) enum Slot {
     Hand(usize),
     Entry(usize),
 }
 
-/// The position of the last entry of a name, which is no constant.
+/// The position of the last entry of a name, which must not be a constant.
 fn position(scope: &Scope, name: &str) -> Result<usize, NotDone>
     ensures position { IfOk result (λ k. last_position (chars name.now) scope.now ≡ Some k) }
     ensures value { IfOk result (λ k. option_map Ok (value_in [] scope.now (slot.Entry k)) ≡ Some (entry_found (last_entry (chars name.now) scope.now))) }
@@ -34,7 +35,7 @@ fn position(scope: &Scope, name: &str) -> Result<usize, NotDone>
 }
 
 impl Slot {
-    /// Where the value at a place stands, if it may be written.
+    /// Finds the slot of a place, if its value may be written.
     pub(crate) fn of(hand: &[Dynamic], scope: &Scope, place: PlaceRef<'_>) -> Result<Slot, NotDone>
         ensures slot { IfOk result (λ s. slot_of scope.now (place_of place.entry) ≡ Some s) }
         ensures value { IfOk result (λ s. option_map Ok (value_in hand.now scope.now s) ≡ Some (source hand.now scope.now (place_of place.entry))) }
@@ -47,7 +48,7 @@ impl Slot {
         }
     }
 
-    /// The value there.
+    /// Borrows the value there.
     pub(crate) fn value<'a>(self, hand: &'a [Dynamic], scope: &'a Scope) -> &'a Dynamic
         requires { is_some (value_in hand.now scope.now self) ≡ true }
         ensures { value_in hand.now scope.now self ≡ Some result.now }

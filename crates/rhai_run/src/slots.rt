@@ -1,4 +1,4 @@
-//! Values that are written where they stand.
+//! Values written in place.
 ghost use Rattle.std.specs.Prelude.{◌≡◌, is_some, Some, true};
 ghost use Rattle.std.specs.Borrow.{sem, Lends};
 ghost use Rattle.rhai_value.specs.contracts.value.dynamic.Dynamic as dynamic_type;
@@ -10,7 +10,7 @@ use crate::slot::Slot;
 use rhai_scope::Scope;
 use rhai_value::{Dynamic, InStore, Store};
 
-/// Writes over the first content of a value.
+/// Replaces the first content of a value.
 pub(crate) fn write_over(value: &mut Dynamic, store: &mut Store, content: Dynamic)
     requires { is_some (first store.old value.old) ≡ true }
     ensures value { value.new ≡ value_with_first content value.old }
@@ -22,7 +22,7 @@ pub(crate) fn write_over(value: &mut Dynamic, store: &mut Store, content: Dynami
     }
 }
 
-/// What commands write to: the hand and the scope.
+/// The targets of commands: the hand and the scope.
 #[derive(Drop)]
 pub(crate) struct Slots<'a> {
     pub(crate) hand: &'a mut Vec<Dynamic>,
@@ -30,7 +30,7 @@ pub(crate) struct Slots<'a> {
 }
 
 impl<'a> Slots<'a> {
-    /// The value in a slot, to write.
+    /// Borrows the value in a slot mutably.
     pub(crate) fn at_mut(&mut self, slot: Slot) -> &mut Dynamic
         requires { is_some (value_in self.old.hand.now.items self.old.scope.now slot) ≡ true }
         ensures* writes_back { sem 𝓛 (Lends places_row dynamic_type.the_row self.entry result (placed_in self.old slot)) }

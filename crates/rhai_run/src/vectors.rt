@@ -1,4 +1,4 @@
-//! Values that are moved in, out of and between vectors.
+//! Moving values into, out of and between vectors.
 ghost use Rattle.std.specs.Prelude.{◌≡◌, ◌<◌, ◌++◌, ◌+◌, ◌≤◌, slice_get, slice_set, vec_len, vec_capacity, Some, IfOk, OnOk, OnErr};
 ghost use Rattle.rhai_run.specs.State.{last_values, values_before};
 
@@ -6,7 +6,7 @@ use rhai_value::Dynamic;
 use std::alloc::AllocError;
 use std::mem;
 
-/// Takes a value out of its place, and leaves another there.
+/// Takes a value out of its place, and leaves another.
 pub(crate) fn replace_at(values: &mut Vec<Dynamic>, i: usize, left: Dynamic) -> Dynamic
     requires { i < vec_len values.old }
     ensures value { slice_get values.old.items i ≡ Some result }
@@ -17,7 +17,7 @@ pub(crate) fn replace_at(values: &mut Vec<Dynamic>, i: usize, left: Dynamic) -> 
     mem::replace(&mut values[i], left)
 }
 
-/// Takes the last values off, and leaves room for one.
+/// Removes the last values, and leaves room for one.
 pub(crate) fn take_last(values: &mut Vec<Dynamic>, n: usize) -> Result<Vec<Dynamic>, AllocError>
     requires { n ≤ vec_len values.old }
     ensures taken { IfOk result (λ v. v.items ≡ last_values n values.old.items) }
@@ -29,7 +29,7 @@ pub(crate) fn take_last(values: &mut Vec<Dynamic>, n: usize) -> Result<Vec<Dynam
     Ok(values.split_off(before)?)
 }
 
-/// Takes the last values off; there is room for them to come back.
+/// Removes the last values; there is room to put them back.
 pub(crate) fn split_last(values: &mut Vec<Dynamic>, n: usize) -> Result<Vec<Dynamic>, AllocError>
     requires { n ≤ vec_len values.old }
     ensures taken { IfOk result (λ v. v.items ≡ last_values n values.old.items) }
@@ -41,7 +41,7 @@ pub(crate) fn split_last(values: &mut Vec<Dynamic>, n: usize) -> Result<Vec<Dyna
     Ok(values.split_off(before)?)
 }
 
-/// Puts values at the end, where there is room for them.
+/// Appends values, given enough capacity.
 pub(crate) fn append_in_room(values: &mut Vec<Dynamic>, last: Vec<Dynamic>)
     requires { vec_len values.old + vec_len last ≤ vec_capacity values.old }
     ensures { values.new.items ≡ values.old.items ++ last.items }

@@ -1,4 +1,4 @@
-//! The state of a world in memory.
+//! The memory layout of a world's state.
 ghost use Rattle.std.specs.Prelude.{◌≡◌, ◌≤◌, ◌<◌, length, slice_get, Some, None, IfOk, IfErr, OnOk};
 ghost use Rattle.rhai_run.specs.declared.answer.Refusal.TheVariants.{NoValue};
 ghost use Rattle.rhai_run.specs.declared.not_done.NotDone.TheVariants.{Refused};
@@ -17,7 +17,8 @@ use rhai_value::{Dynamic, Store, WriteToken};
 use std::alloc::Global;
 use std::marker::Model;
 
-/// The state of a world. A command makes its growths before it writes, so that one without memory leaves all as it was.
+/// The state of a world. A command makes its allocations before it writes, so that one whose
+/// allocation fails leaves everything unchanged.
 pub(crate) struct WorldState {
     pub(crate) alloc: Global,
     pub(crate) store: Store,
@@ -54,7 +55,7 @@ impl WorldState {
         }
     }
 
-    /// Frees the marked cells.
+    /// Unmarks the marked cells.
     pub(crate) fn close(self)
         requires { Fits self }
     {
@@ -69,7 +70,7 @@ impl WorldState {
         release_all(&mut store, marks);
     }
 
-    /// The value at a hand position.
+    /// Borrows the value at a hand position.
     pub(crate) fn value(&self, i: usize) -> Result<&Dynamic, NotDone>
         ensures ok { IfOk result (λ v. slice_get self.now.hand i ≡ Some v.now) }
         ensures err { IfErr result (λ e. (e ≡ Refused NoValue) × (slice_get self.now.hand i ≡ None)) }
@@ -80,7 +81,7 @@ impl WorldState {
         }
     }
 
-    /// Whether the hand has so many values.
+    /// Fails unless the hand has this many values.
     pub(crate) fn has_values(&self, n: usize) -> Result<(), NotDone>
         ensures ok { OnOk result (n ≤ length self.now.hand) }
         ensures err { IfErr result (λ e. (e ≡ Refused NoValue) × (length self.now.hand < n)) }
@@ -91,7 +92,7 @@ impl WorldState {
         Ok(())
     }
 
-    /// Puts a value at the end of the hand.
+    /// Appends a value to the hand.
     #[inline(always)]
     pub(crate) fn append(&mut self, value: Dynamic) -> Result<Answer, NotDone>
         ensures { Does result self.old self.new (growing Done (appended self.old value)) }

@@ -119,7 +119,7 @@ impl WorldState {
 
 impl World {
     /// Writes the boolean at the hand position to this bit of the int at the place.
-    /// Errors: none, since no memory is wanted.
+    /// Errors: none; it allocates nothing.
     #[inline(always)]
     pub fn write_bit(
         &mut self,
@@ -134,7 +134,7 @@ impl World {
     }
 
     /// Writes the int at the hand position, shifted left, to the bits of the mask in the int at the place.
-    /// Errors: none, since no memory is wanted.
+    /// Errors: none; it allocates nothing.
     #[inline(always)]
     pub fn write_field(
         &mut self,
@@ -150,7 +150,7 @@ impl World {
     }
 
     /// Writes the int at the hand position to the byte of this index of the blob at the place.
-    /// Errors: none, since no memory is wanted.
+    /// Errors: none; it allocates nothing.
     #[inline(always)]
     pub fn write_byte(
         &mut self,
@@ -164,8 +164,9 @@ impl World {
         replied(self.state.write_byte(place, index, j))
     }
 
-    /// Writes the character at the hand position over the one of this index of the text at the place.
-    /// Errors: memory was refused, and all is as before.
+    /// Writes the character at the hand position over the one at this index of the text at the
+    /// place.
+    /// Errors: an allocation fails; nothing changes.
     #[inline(always)]
     pub fn write_char(
         &mut self,
@@ -179,9 +180,9 @@ impl World {
         replied(self.state.write_char(place, index, j))
     }
 
-    /// Writes what the value at the hand position prints as over the characters from the first index on, up to the second one; this one is
-    /// replaced too unless the slice is exclusive.
-    /// Errors: memory was refused, and all is as before.
+    /// Writes the printed text of the value at the hand position over the characters from the first
+    /// index to the second; the one at the second is replaced too unless the slice is exclusive.
+    /// Errors: an allocation fails; nothing changes.
     #[inline(always)]
     pub fn write_slice(
         &mut self,

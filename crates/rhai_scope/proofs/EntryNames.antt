@@ -1,4 +1,4 @@
--- Entries that come and go, and the index of their names.
+-- Entries added and removed, and the index of their names.
 use Rattle.std.proofs.Common.{◌≡◌, ℕ, suc, ◌<◌, ◌≤◌, List, [], ◌∷◌, ◌++◌, length, take, drop, get_or, slice_set, sym, ap, ◌∙◌, subst}
 use Rattle.std.proofs.lemmas.List.{length-map, length-take-le, map-append, take-append-drop}
 use Rattle.std.proofs.Math.Seq.{drop-cons, map-set_same}
@@ -25,14 +25,14 @@ module _ (x : Index) (es fs : List Entry) where
   pub indexed_parts : (gs : List Entry) → fs ≡ es ++ gs → IsIndexOf x (names_of fs) → IsIndexOf x (names_of es ++ names_of gs)
   indexed_parts gs is h = subst (IsIndexOf x) (ap names_of is ∙ names_append es gs) h
 
-  -- one more, and one less
+  -- one more, and one fewer
   pub indexed_pushed : (e : Entry) (name : List ℕ) → fs ≡ es ++ e ∷ [] → name ≡ e.name → IsIndexOf x (names_of es ++ name ∷ []) → IsIndexOf x (names_of fs)
   indexed_pushed e name is named h = indexed_more (e ∷ []) is (subst (λ n. IsIndexOf x (names_of es ++ n ∷ [])) named h)
 
   pub indexed_popped : (e : Entry) (name : List ℕ) → fs ≡ es ++ e ∷ [] → name ≡ e.name → IsIndexOf x (names_of fs) → IsIndexOf x (names_of es ++ name ∷ [])
   indexed_popped e name is named h = subst (λ n. IsIndexOf x (names_of es ++ n ∷ [])) (sym named) (indexed_parts (e ∷ []) is h)
 
--- one of the entries, and those before and behind it
+-- one of the entries, and those before and after it
 module _ (x : Index) (es : List Entry) (i : ℕ) where
   pub length_before : i ≤ length es → length (names_of (take i es)) ≡ i
   length_before h = length_names (take i es) ∙ length-take-le i es h
@@ -48,6 +48,6 @@ module _ (x : Index) (es : List Entry) (i : ℕ) where
   pub indexed_without : (fs : List Entry) → fs ≡ remove es i → IsIndexOf x (names_of (take i es) ++ names_of (drop (suc i) es)) → IsIndexOf x (names_of fs)
   indexed_without fs is h = indexed_more x (take i es) fs (drop (suc i) es) is h
 
-  -- it is written over by one of its name
+  -- it is replaced by one with its name
   pub indexed_written : (e f : Entry) → e ≡ get_or es i e → f.name ≡ e.name → IsIndexOf x (names_of es) → IsIndexOf x (names_of (slice_set es i f))
   indexed_written e f is named h = subst (IsIndexOf x) (sym (map-set_same (λ (y : Entry). y.name) es i f e (named ∙ ap (λ (y : Entry). y.name) is))) h

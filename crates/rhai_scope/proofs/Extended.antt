@@ -1,4 +1,4 @@
--- Entries that come from elsewhere, one by one.
+-- Appending entries one by one.
 use Rattle.std.proofs.Common.{◌≡◌, ℕ, Bool, List, [], ◌∷◌, ◌++◌, length, map, take, append_assoc, refl, sym, ap, ap₂, ◌∙◌, arith}
 use Rattle.std.proofs.lemmas.Simd.{map-map}
 use Rattle.std.specs.List.{zip}
@@ -26,7 +26,7 @@ taken_back es xs = rw take-append_seam
 pub flagged_back : (es : List Entry) (xs : List (List ℕ × Bool × Tree)) → take (length es) (extended_flagged es xs) ≡ es
 flagged_back es xs = rw take-append_seam
 
--- one heading and one value less to come, and one entry more
+-- one heading and one value fewer remain, and one more entry is appended
 module _ {H : Type 0} (name_of : H → List ℕ) (mode_of : H → AccessMode) (es fs gs : List Entry) (h : H) (t : Tree) (p : List ℕ × AccessMode) (hs ks : List H) (ts us : List Tree) where
   pub headed_step : hs ≡ h ∷ ks → ts ≡ t ∷ us → p ≡ (name_of h, mode_of h) → fs ≡ pushed p.1 p.0 t es
       → es ++ headed name_of mode_of hs ts ≡ gs → fs ++ headed name_of mode_of ks us ≡ gs

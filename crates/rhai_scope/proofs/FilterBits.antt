@@ -24,7 +24,7 @@ module _ (ws : List ℕ) (m : ℕ) (within : m / 64 < length ws) where
   pub came : is_in (with_bit ws m) m ≡ true
   came = ap (λ n. nat_eq n 1) (ap (λ x. bit_at x (m % 64)) (same_word (m / 64) refl) ∙ bit_at_set_same w64 (get_or ws (m / 64) 0) (m % 64) (bit_within m))
 
-  -- another one is as it was
+  -- every other bit is unchanged
   other : (k : ℕ) → (k ≢ m) → is_in (with_bit ws m) k ≡ is_in ws k
   other k apart = ap (λ n. nat_eq n 1) (at (eqb_tells (k / 64) (m / 64)))
     where

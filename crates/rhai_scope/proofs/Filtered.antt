@@ -1,4 +1,4 @@
--- Texts that are listed have their filter, once a list has changed.
+-- Listed texts pass the filter, after a list has changed.
 use Rattle.std.proofs.Common.{◌≡◌, ℕ, Bool, true, false, cond, List, Option, None, refl, sym, ap, ◌∙◌}
 use Rattle.std.proofs.lemmas.Slice.Eq.{bytes_eq-Decides}
 use Rattle.std.specs.Str.{bytes_eq}
@@ -10,7 +10,7 @@ module _ (p r : NameIndex) (old : AllPass p) where
   unlisted_before : r.filter ≡ p.filter → (q : List ℕ) → passes r.filter q ≡ false → listed p q ≡ None
   unlisted_before same q none = old q (ap (λ m. passes m q) (sym same) ∙ none)
 
-  -- no list is there that wasn't there, and the filter is the same
+  -- no new list exists, and the filter is the same
   pub still_pass : (g : Option (List ℕ) → Option (List ℕ)) → g None ≡ None → ((q : List ℕ) → listed r q ≡ g (listed p q)) → r.filter ≡ p.filter → AllPass r
   still_pass g away new same q none = new q ∙ ap g (unlisted_before same q none) ∙ away
 
@@ -25,7 +25,7 @@ module _ (p r : NameIndex) (old : AllPass p) where
         at true = ap f was ∙ away
         at false = was
 
-    -- only a text that passes may have come
+    -- only a text that passes may be new
     pub pass_more : passes r.filter text ≡ true → ((q : List ℕ) → passes r.filter q ≡ false → passes p.filter q ≡ false) → AllPass r
     pass_more here kept q none = new q ∙ at (bytes_eq text q) refl
       where

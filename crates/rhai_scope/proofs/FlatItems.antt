@@ -1,4 +1,4 @@
--- What several calls of `next` of `Scope::iter` gave, and the flat value of what is no holder.
+-- The results of several calls of `next` of `Scope::iter`, and the flat value of a value that isn't a holder.
 use Rattle.std.proofs.Common.{◌≡◌, ℕ, Bool, List, [], ◌∷◌, ◌++◌, Result, IfOk, None, is_some, false, unwrap_or, refl, sym, ap, ◌∙◌}
 use Rattle.std.specs.Borrow.{Bor}
 use Rattle.std.specs.Iterator.{Yields}
@@ -14,7 +14,7 @@ use Rattle.rhai_scope.specs.declared.iter.Iter.{Iter}
 abbrev pub Given : Type 0
 Given = Result (Bor (List ℕ) × Bool × Tree) AllocError
 
--- what went of the list of items: each is what was given, unless memory was refused
+-- the items removed from the list: each is the one returned, unless an allocation failed
 pub record Gone (s t : Iter) (xs : List Given) : Type 0 where
   pub items : List Named
   pub splits : flat_left s ≡ items ++ flat_left t

@@ -1,4 +1,4 @@
--- Which entry a name means.
+-- The entry that a name means.
 use Rattle.std.proofs.Common.{◌≡◌, ℕ, zero, suc, ◌<◌, Bool, true, false, nat_eq, if◌then◌else◌, List, [], ◌∷◌, ◌++◌, length, map, drop, get_or, slice_get, Option, Some, None, option_map, option_and_then, is_some, refl, sym, ap, ap₂, ◌∙◌, subst, arith}
 use Rattle.std.proofs.lemmas.Option.{slice_get_read}
 use Rattle.std.specs.Prelude.{◌≢◌}
@@ -82,7 +82,7 @@ pub append_last : (name : List ℕ) (xs ys : List Entry) → last_of name (xs ++
 append_last name [] ys = sym (or_none (last_of name ys))
 append_last name (x ∷ xs) ys = ap (λ o. or o (here name x)) (append_last name xs ys) ∙ or_assoc (last_of name ys) (last_of name xs) (here name x)
 
--- what is kept of an entry that is new, or not
+-- the entry itself, if it has the name and no later one does
 abbrev pub kept_here : Option ℕ → Entry → Bool → Option Entry
 kept_here None e b = if b then Some e else None
 kept_here (Some k) e b = None
@@ -115,12 +115,12 @@ pub copied_last : (name : List ℕ) (es : List Entry) → last_of name (map copi
 copied_last name [] = refl
 copied_last name (e ∷ es) = ap (λ o. or o (if pointwise nat_eq e.name name then Some (copied_entry e) else None)) (copied_last name es) ∙ copied_or (last_of name es) (pointwise nat_eq e.name name) e
 
--- a name means the same in the copy of what is visible
+-- a name means the same in the copy of the visible entries
 pub visible_means : (name : List ℕ) (es : List Entry) → last_entry name (map copied_entry (visible es)) ≡ option_map copied_entry (last_entry name es)
 visible_means name es =
     last_is name (map copied_entry (visible es)) ∙ (copied_last name (visible es) ∙ ap (option_map copied_entry) (visible_last name es ∙ sym (last_is name es)))
 
--- ---- an entry that is found is one of the entries, and has the name
+-- ---- an entry that is found is in the list, and has the name
 
 within_step : (o : Option ℕ) (here : Bool) (n i : ℕ) → ((k : ℕ) → o ≡ Some k → k < n) → later_or_here o here ≡ Some i → i < suc n
 within_step (Some k) here n i before e = let same : suc k ≡ i = cc in omega (arith, before k refl)
@@ -150,7 +150,7 @@ found_name name es i e is read =
     let names : Some e.name ≡ Some name = sym (ap (option_map (λ (x : Entry). x.name)) there) ∙ named_at name es i is in
     cc
 
--- ---- a walk from the last entry on
+-- ---- a linear search from the last entry on
 
 pub found_here : (name : List ℕ) (es : List Entry) (i : ℕ) (e : Entry) → i < length es → e ≡ get_or es i e → pointwise nat_eq e.name name ≡ true → last_position name (drop (suc i) es) ≡ None → last_position name es ≡ Some i
 found_here name [] i e l is same none = absurd (omega (arith, l))

@@ -1,4 +1,4 @@
--- The last entry of each name, found from the last entry on.
+-- The last entry of each name, searched from the last entry on.
 use Rattle.std.proofs.Common.{◌≡◌, ℕ, suc, ◌+◌, ◌<◌, List, [], ◌∷◌, ◌++◌, length, map, take, drop, get_or, Option, Some, None, refl, sym, ap, ap₂, ◌∙◌, arith}
 use Rattle.std.proofs.lemmas.List.{append-nil, length-take-le, map-append, take-append-drop}
 use Rattle.std.proofs.Math.Seq.{drop-cons}
@@ -8,7 +8,7 @@ use Rattle.rhai_scope.proofs.Found.{same}
 use Rattle.rhai_scope.proofs.Indexed.{later}
 
 module _ (es : List Entry) (i : ℕ) (e : Entry) (l : i < length es) (is : e ≡ get_or es i e) where
-  -- the entry, and those behind it
+  -- the entry, and those after it
   from_here : drop i es ≡ e ∷ drop (suc i) es
   from_here = drop-cons es i e l ∙ ap (λ y. y ∷ drop (suc i) es) (sym is)
 

@@ -1,4 +1,4 @@
--- Lists of places while names come or go, one by one.
+-- Lists of places while names are added or removed, one by one.
 use Rattle.std.proofs.Common.{◌≡◌, ℕ, ◌+◌, ◌<◌, ◌≤◌, List, [], ◌∷◌, ◌++◌, length, map, take, get_or, append_assoc, sym, ap, ◌∙◌, subst}
 use Rattle.std.proofs.lemmas.List.{append-nil, length-append, length-map, length-take-le, map-append, take_all, take_more}
 use Rattle.rhai_scope.specs.NameIndex.{ListsNames}

@@ -1,4 +1,4 @@
--- An index, once entries have come or gone.
+-- An index, after entries are added or removed.
 use Rattle.std.proofs.Common.{◌≡◌, ℕ, suc, ◌+◌, ◌-◌, ◌<◌, ◌≤◌, nat_eq, List, [], ◌∷◌, ◌++◌, length, take, drop, Option, Some, None, option_map, option_and_then, refl, sym, ap, ◌∙◌, subst, arith}
 use Rattle.std.proofs.lemmas.List.{length-append, length-map, length-take, length-take-le, map-append, take-append-drop, take-append-le, take-map, take-take, take_all}
 use Rattle.std.proofs.Math.Seq.{take-add, take-append-add}
@@ -16,12 +16,12 @@ use Rattle.rhai_scope.specs.declared.index.Index.{Index}
 use Rattle.rhai_scope.specs.declared.name_index.NameIndex.{NameIndex}
 use Rattle.rhai_scope.proofs.LastTrue.{last_more}
 
--- what holds after a refusal, where it holds anyway
+-- a fact that holds anyway holds after an error
 pub whatever : {T E P : Type 0} (r : Result T E) → P → OnErr r P
 whatever (Ok x) p = tt
 whatever (Err e) p = p
 
--- what holds after both
+-- a fact that holds after both holds
 pub either : {T E P : Type 0} (r : Result T E) → OnOk r P → OnErr r P → P
 either (Ok x) ok err = ok
 either (Err e) ok err = err
@@ -68,7 +68,7 @@ few x es index = subst (λ n. n ≤ x.indexed + most_walked) (length-map es (λ 
 first_names : (x : Index) (es : List Entry) → IsIndexOf x (names_of es) → ListsNames x.places (names_of (take x.indexed es))
 first_names x es index = subst (ListsNames x.places) (take-map (λ e. e.name) x.indexed es) index.lists
 
--- what the lists say where none of the others has the name
+-- the result of the lists if none of the other entries has the name
 pub found_listed : (x : Index) (es : List Entry) (text : List ℕ) → IsIndexOf x (names_of es) → IsUtf8 text → last_position (chars text) (drop x.indexed es) ≡ None
     → option_and_then last_item (listed x.places text) ≡ last_position (chars text) es
 found_listed x es text index u none =
@@ -76,27 +76,27 @@ found_listed x es text index u none =
     last_listed x.places text (take x.indexed es) (first_names x es index) u
     ∙ sym (ap (last_position name) (sym (take-append-drop x.indexed es)) ∙ earlier name (take x.indexed es) (drop x.indexed es) none)
 
--- ---- names that come
+-- ---- adding names
 
 abbrev pub index : ℕ → NameIndex → Index
 index n p = record { indexed = n; places = p }
 
 module _ (n : ℕ) (p : NameIndex) (ns : List (List ℕ)) where
-  -- and aren't listed
+  -- and not indexing them
   pub walked_with : (ms : List (List ℕ)) → IsIndexOf (index n p) ns → length ns + length ms ≤ n + most_walked → IsIndexOf (index n p) (ns ++ ms)
   walked_with ms x h =
       let long = length-append ns ms in
       record { within = omega (arith, x.within); few = omega arith; lists = subst (ListsNames p) (sym (take-append-le n ns ms x.within)) x.lists }
 
-  -- all are listed
+  -- all are indexed
   pub all_listed : n ≡ length ns → ListsNames p ns → IsIndexOf (index n p) ns
   all_listed all lists = record { within = omega arith; few = omega arith; lists = subst (ListsNames p) (sym (take_all n ns (omega arith))) lists }
 
-  -- all but the last few are listed
+  -- all but the last few are indexed
   pub listed_with : (ms : List (List ℕ)) → n ≡ length ns → ListsNames p ns → length ms ≤ most_walked → IsIndexOf (index n p) (ns ++ ms)
   listed_with ms all lists h = walked_with ms (all_listed all lists) (omega arith)
 
--- the names of some first entries, and of the others up to a place
+-- the names of some first entries, and of the others up to an index
 pub first_and_others : (es : List Entry) (i j : ℕ) → i ≤ j → names_of (take i es) ++ names_of (take (j - i) (drop i es)) ≡ names_of (take j es)
 first_and_others es i j h =
     let all : i + (j - i) ≡ j = omega arith in
@@ -109,16 +109,16 @@ module _ (x : Index) (es : List Entry) (indexed : IsIndexOf x (names_of es)) whe
   pub length_first : length (names_of (take x.indexed es)) ≡ x.indexed
   length_first = length-map (take x.indexed es) (λ e. e.name) ∙ length-take-le x.indexed es (within x es indexed)
 
-  -- those that weren't listed are
+  -- those that weren't indexed are
   pub listed_others : (p : NameIndex) → ListsNames p (names_of (take x.indexed es) ++ names_of (take (length es - x.indexed) (drop x.indexed es))) → ListsNames p (names_of es)
   listed_others p lists =
       subst (ListsNames p) (first_and_others es x.indexed (length es) (within x es indexed) ∙ ap names_of (take_all (length es) es (omega arith))) lists
 
-  -- only the first ones are still listed
+  -- only the first ones are still indexed
   pub first_again : (p : NameIndex) → ListsNames p (names_of (take x.indexed es)) → IsIndexOf (index x.indexed p) (names_of es)
   first_again p lists = record { within = indexed.within; few = indexed.few; lists = subst (ListsNames p) (sym (take-map (λ e. e.name) x.indexed es)) lists }
 
-  -- ---- entries that go from the end
+  -- ---- removing entries from the end
 
   pub rewound : (size : ℕ) → x.indexed ≤ size → IsIndexOf x (names_of (take size es))
   rewound size h =
@@ -139,7 +139,7 @@ module _ (x : Index) (es : List Entry) (indexed : IsIndexOf x (names_of es)) whe
   pub unlisted_end : (size : ℕ) → size ≤ x.indexed → ListsNames x.places (names_of (take size es) ++ names_of (take (x.indexed - size) (drop size es)))
   unlisted_end size h = subst (ListsNames x.places) (sym (first_and_others es size x.indexed h)) (first_names x es indexed)
 
--- ---- a name that goes from between
+-- ---- removing a name from the middle
 
 module _ (p r : NameIndex) (w place : ℕ) (ms ns : List (List ℕ)) (n : List ℕ) (is : length ms ≡ place) (x : IsIndexOf (index w p) (ms ++ n ∷ ns)) where
   pub walked_gone : w ≤ place → IsIndexOf (index w p) (ms ++ ns)

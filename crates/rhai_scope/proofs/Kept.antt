@@ -25,7 +25,7 @@ mutual
   kept_fields no_fields = tt
   kept_fields (field_then k t fs) = (refl, kept_copy t, kept_fields fs)
 
--- painting goes through arrays and maps, and not into curried values
+-- painting goes through arrays and maps, but not into curried values
 mutual
   pub painted_copy : (m : AccessMode) (t : Tree) → SameButModes (paint m (copy t)) t
   painted_copy m (node c g n) = (painted_content m c, refl)
@@ -58,6 +58,6 @@ constant_through : (o : Option Entry) → option_map is_constant_entry (option_m
 constant_through None = refl
 constant_through (Some e) = ap Some (kept_constant e)
 
--- whether a name is a constant stays in the copy of what is visible
+-- whether a name is a constant is unchanged in the copy of the visible entries
 pub constants_kept : (name : List ℕ) (es : List Entry) → option_map is_constant_entry (last_entry name (map copied_entry (visible es))) ≡ option_map is_constant_entry (last_entry name es)
 constants_kept name es = ap (option_map is_constant_entry) (visible_means name es) ∙ constant_through (last_entry name es)

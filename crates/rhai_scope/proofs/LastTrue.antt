@@ -1,4 +1,4 @@
--- The last of the places of true.
+-- The last of the indices of true.
 use Rattle.std.proofs.Common.{◌≡◌, ℕ, suc, ◌+◌, ◌-◌, Bool, true, false, List, [], ◌∷◌, length, slice_get, Option, Some, None, is_some, option_map, refl, sym, ap, ◌∙◌, arith}
 use Rattle.std.proofs.lemmas.Bool.{false≢true}
 use Rattle.rhai_scope.specs.Lookup.{later_or_here}
@@ -15,7 +15,7 @@ last_some : (p : ℕ) (ps : List ℕ) → is_some (last_item (p ∷ ps)) ≡ tru
 last_some p [] = refl
 last_some p (q ∷ ps) = ap is_some (last_two p q ps) ∙ last_some q ps
 
--- one that stands here, and one that doesn't
+-- true here, and false here
 last_here : (i : ℕ) (ps : List ℕ) (o : Option ℕ) → last_item ps ≡ option_map (λ k. suc i + k) o → last_item (i ∷ ps) ≡ option_map (λ k. i + k) (later_or_here o true)
 last_here i [] None h = let here : i ≡ i + 0 = omega arith in ap Some here
 last_here i [] (Some k) h = cc

@@ -1,4 +1,4 @@
--- The lines of a scope, one behind another.
+-- The lines of a scope, one after another.
 use Rattle.std.proofs.Common.{◌≡◌, ℕ, suc, ◌-◌, Bool, List, [], ◌++◌, length, codes, Result, OnOk, refl, ap, ◌∙◌, arith}
 use Rattle.std.specs.Fmt.{decimal}
 use Rattle.std.specs.Str.{chars}

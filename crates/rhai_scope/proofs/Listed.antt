@@ -1,4 +1,4 @@
--- Lists of places, once one of them has changed.
+-- Lists of places, after one of them has changed.
 use Rattle.std.proofs.Common.{◌≡◌, ℕ, Bool, true, false, cond, List, [], ◌∷◌, ◌++◌, String, Global, Option, Some, None, option_map, refl, sym, ap, ◌∙◌, subst}
 use Rattle.std.proofs.lemmas.Map.Text.{btree_map_updates_text}
 use Rattle.std.proofs.lemmas.Slice.Eq.{bytes_eq-Decides}
@@ -18,7 +18,7 @@ NameLists = BTreeMap (String Global) (List ℕ)
 abbrev pub Puts : List ℕ → NameLists → NameLists → Option (List ℕ) → Type 0
 Puts text m n w = UpdatesBy string_cmp (λ k. slice_cmp nat_cmp text (string_bytes k)) m n w
 
--- what is found at a text that is this one
+-- looking up a text equal to this one
 by_text : {A : Type 0} (text q : List ℕ) (a b d : A) → (text ≡ q → a ≡ b) → cond (bytes_eq text q) a d ≡ cond (bytes_eq text q) b d
 by_text text q a b d h = at (bytes_eq text q) (λ e. h ((bytes_eq-Decides text q).0 e))
   where
@@ -34,7 +34,7 @@ again : {A : Type 0} (t : Bool) (a b d : A) → cond t a (cond t b d) ≡ cond t
 again true a b d = refl
 again false a b d = refl
 
--- the list of a text has become what f makes of it
+-- the list of a text is changed by f
 module _ (f : Option (List ℕ) → Option (List ℕ)) (text : List ℕ) (m : NameLists) where
   abbrev pub Changed : NameLists → Type 0
   Changed n = (q : List ℕ) → get_by_text n q ≡ cond (bytes_eq text q) (f (get_by_text m q)) (get_by_text m q)
@@ -55,7 +55,7 @@ module _ (f : Option (List ℕ) → Option (List ℕ)) (text : List ℕ) (m : Na
 pub same_lists : (text : List ℕ) (m n : NameLists) (v w : List ℕ) → Some v ≡ get_by_text m text → w ≡ v → Puts text m n (Some w) → (q : List ℕ) → get_by_text n q ≡ get_by_text m q
 same_lists text m n v w there same h q = changed (λ o. o) text m n (Some w) h (ap Some same ∙ there) q ∙ both (bytes_eq text q) (get_by_text m q)
 
--- a place more
+-- one more place
 pub pushed_on : (place : ℕ) (text : List ℕ) (m : NameLists) (v w : List ℕ) → Some v ≡ get_by_text m text → w ≡ v ++ place ∷ [] → Some w ≡ with_place place (get_by_text m text)
 pushed_on place text m v w there more = ap Some more ∙ ap (with_place place) there
 
@@ -66,7 +66,7 @@ pushed_first place text m n k w key one none h =
     subst (λ t. Changed (with_place place) t m n) key
     (changed (with_place place) (string_bytes k) m n (Some w) h (ap Some one ∙ ap (with_place place) (sym (ap (get_by_text m) key ∙ none))))
 
--- fewer places: some are left, or none
+-- fewer places: some remain, or none
 module _ (f : List ℕ → List ℕ) (text : List ℕ) (m n : NameLists) (v w : List ℕ) (b : Bool) (there : Some v ≡ get_by_text m text) (less : cond b (Some w) None ≡ unless_empty (f v)) (puts : Puts text m n (Some w)) where
   left : (t : Bool) → b ≡ t → cond t (Some w) None ≡ shortened f (get_by_text m text)
   left t h = ap (λ c. cond c (Some w) None) (sym h) ∙ less ∙ ap (shortened f) there
@@ -77,7 +77,7 @@ module _ (f : List ℕ → List ℕ) (text : List ℕ) (m n : NameLists) (v w : 
   pub none_left : (x : NameLists) → b ≡ false → Puts text n x None → Changed (shortened f) text m x
   none_left x h gone = changed_twice (shortened f) text m n x (Some w) None puts gone (left false h)
 
--- what a closure that always answers true leaves of each list, where it makes g of a list
+-- the effect on each list of a closure that always returns true, if it maps a list by g
 module _ {F K X : Type 0} (T : F → K → X → Bool → X → F → Type 0) (g : X → X) (state : F)
     (each : (k : K) (v : X) (b : Bool) (w : X) (next : F) → T state k v b w next → (b ≡ true) × (w ≡ g v) × (next ≡ state)) (test : K → Bool) where
   there : (t : Bool) (v w : X) (o p : Option X) → w ≡ g v → p ≡ option_map g o → cond t (Some w) p ≡ option_map g (cond t (Some v) o)

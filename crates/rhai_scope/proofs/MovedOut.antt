@@ -1,4 +1,4 @@
--- Entries of which one changes, or loses its value for a while.
+-- Entries of which one changes, or loses its value temporarily.
 use Rattle.std.proofs.Common.{◌≡◌, ℕ, zero, suc, ◌-◌, ◌<◌, List, [], ◌∷◌, ◌++◌, length, take, get_or, slice_get, slice_set, Option, Some, None, option_map, refl, sym, ap, ◌∙◌, arith}
 use Rattle.std.proofs.lemmas.List.{append-nil, drop_all}
 use Rattle.std.specs.Prelude.{remove}
@@ -14,7 +14,7 @@ length_changed f [] i = refl
 length_changed f (e ∷ es) zero = refl
 length_changed f (e ∷ es) (suc i) = ap suc (length_changed f es i)
 
--- and every other entry stays
+-- and every other entry is unchanged
 pub others_stay : (f : Entry → Entry) (es : List Entry) (i j : ℕ) → (j ≡ i → ⊥) → slice_get (changed_at f es i) j ≡ slice_get es j
 others_stay f [] i j apart = refl
 others_stay f (e ∷ es) zero zero apart = absurd (apart refl)
@@ -22,42 +22,42 @@ others_stay f (e ∷ es) zero (suc j) apart = refl
 others_stay f (e ∷ es) (suc i) zero apart = refl
 others_stay f (e ∷ es) (suc i) (suc j) apart = others_stay f es i j (λ h. apart (ap suc h))
 
--- the entry at a place, written over
+-- the entry at an index, replaced
 pub set_changed : (f : Entry → Entry) (es : List Entry) (i : ℕ) (e : Entry) → i < length es → e ≡ get_or es i e → slice_set es i (f e) ≡ changed_at f es i
 set_changed f [] i e l is = absurd (omega (arith, l))
 set_changed f (x ∷ es) zero e l is = ap (λ y. f y ∷ es) is
 set_changed f (x ∷ es) (suc i) e l is = ap (λ xs. x ∷ xs) (set_changed f es i e (omega (arith, l)) is)
 
--- the last entry, written over
+-- the last entry, replaced
 pub last_changed : (f : Entry → Entry) (es : List Entry) (e g : Entry) → g ≡ get_or (es ++ e ∷ []) (length es) g → slice_set (es ++ e ∷ []) (length es) (f g) ≡ es ++ f e ∷ []
 last_changed f [] e g is = ap (λ y. f y ∷ []) is
 last_changed f (x ∷ es) e g is = ap (λ xs. x ∷ xs) (last_changed f es e g is)
 
--- the last entry goes
+-- removing the last entry
 pub last_taken : (es : List Entry) (i : ℕ) → length es - i ≡ 1 → popped es ≡ remove es i
 last_taken es i h =
     let last : length es - 1 ≡ i = omega arith in
     ap (λ n. take n es) last ∙ sym (ap (λ xs. take i es ++ xs) (drop_all (suc i) es (omega arith)) ∙ append-nil (take i es))
 
--- an entry goes whatever its value became
+-- removing an entry, whatever its value is now
 pub taken : (t : Tree) (es : List Entry) (i : ℕ) → remove (changed_at (with_value t) es i) i ≡ remove es i
 taken t [] i = refl
 taken t (e ∷ es) zero = refl
 taken t (e ∷ es) (suc i) = ap (λ xs. e ∷ xs) (taken t es i)
 
--- another value stands there
+-- replacing its value
 pub value_changed : (t u : Tree) (es : List Entry) (i : ℕ) → option_map (λ (e : Entry). e.value) (slice_get es i) ≡ Some t → option_map (λ (e : Entry). e.value) (slice_get (changed_at (with_value u) es i) i) ≡ Some u
 value_changed t u [] i h = cc
 value_changed t u (e ∷ es) zero h = refl
 value_changed t u (e ∷ es) (suc i) h = value_changed t u es i h
 
--- a value that comes back
+-- putting a value back
 pub put_back : (t u : Tree) (es : List Entry) (i : ℕ) → option_map (λ (e : Entry). e.value) (slice_get es i) ≡ Some t → changed_at (with_value t) (changed_at (with_value u) es i) i ≡ es
 put_back t u [] i h = refl
 put_back t u (e ∷ es) zero h = let same : e.value ≡ t = cc in ap (λ x. with_value x e ∷ es) (sym same)
 put_back t u (e ∷ es) (suc i) h = ap (λ xs. e ∷ xs) (put_back t u es i h)
 
--- a value that is written where it stands
+-- writing a value in place
 pub written_there : (k : TypeId) (w t : Tree) (es : List Entry) (i : ℕ) → option_map (λ (e : Entry). e.value) (slice_get es i) ≡ Some t → changed_at (with_value (written_as k w t)) es i ≡ changed_at (written_entry k w) es i
 written_there k w t [] i h = refl
 written_there k w t (e ∷ es) zero h = let same : e.value ≡ t = cc in ap (λ x. with_value (written_as k w x) e ∷ es) (sym same)
@@ -67,7 +67,7 @@ pub written_at : (k : TypeId) (w t : Tree) (es : List Entry) (o : Option ℕ) �
 written_at k w t es None h = refl
 written_at k w t es (Some i) h = written_there k w t es i (sym h)
 
--- and one that is written over itself
+-- and writing one over itself
 pub kept_there : (t : Tree) (es : List Entry) (i : ℕ) → option_map (λ (e : Entry). e.value) (slice_get es i) ≡ Some t → changed_at (with_value t) es i ≡ es
 kept_there t [] i h = refl
 kept_there t (e ∷ es) zero h = let same : e.value ≡ t = cc in ap (λ x. with_value x e ∷ es) (sym same)

@@ -12,7 +12,7 @@ both_true true b f g = sym (f refl)
 both_true false true f g = g refl
 both_true false false f g = refl
 
--- texts are the same where their bytes are
+-- texts are equal if their bytes are
 pub same_bytes : (xs ys : List ℕ) → IsUtf8 xs → IsUtf8 ys → pointwise nat_eq xs ys ≡ pointwise nat_eq (chars xs) (chars ys)
 same_bytes xs ys ux uy =
     both_true (pointwise nat_eq xs ys) (pointwise nat_eq (chars xs) (chars ys))

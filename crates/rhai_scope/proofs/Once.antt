@@ -14,7 +14,7 @@ all_append : (P : List ℕ → Type 0) (xs ys : List (List ℕ)) → AllByRecurs
 all_append P [] ys h k = k
 all_append P (x ∷ xs) ys h k = (h.0, all_append P xs ys h.1 k)
 
--- none there, and none here
+-- neither there nor here
 parts_none : (o : Option ℕ) (b : Bool) → later_or_here o b ≡ None → (o ≡ None) × (b ≡ false)
 parts_none (Some k) b h = cc
 parts_none None true h = cc

@@ -1,4 +1,4 @@
--- A list of places, of which the last one stands apart.
+-- A list of places, whose last item is stored separately.
 use Rattle.std.proofs.Common.{◌≡◌, ℕ, ◌-◌, Bool, true, false, not, nat_eq, if◌then◌else◌, List, [], ◌∷◌, ◌++◌, length, map, take, slice_get, Some, None, refl, sym, ap, ◌∙◌, arith}
 use Rattle.std.proofs.lemmas.Bool.Decides.{nat_tests}
 use Rattle.std.proofs.lemmas.List.{append-nil, length-append, map-append}
@@ -24,7 +24,7 @@ some_apart : (ps : List ℕ) (p : ℕ) → Some (ps ++ p ∷ []) ≡ unless_empt
 some_apart [] p = refl
 some_apart (q ∷ ps) p = refl
 
--- the last place goes, and one of the earlier ones is the last, or none is left
+-- the last place is removed, and one of the earlier ones is the last, or none is left
 pub one_left : (ps qs : List ℕ) (p q : ℕ) → ps ≡ qs ++ q ∷ [] → Some (qs ++ q ∷ []) ≡ unless_empty (front (ps ++ p ∷ []))
 one_left ps qs p q is = some_apart qs q ∙ ap unless_empty (sym is ∙ sym (front_apart ps p))
 
@@ -57,6 +57,6 @@ module _ (place : ℕ) (ps qs : List ℕ) (p : ℕ) (is : qs ≡ others place ps
       some_apart qs p
       ∙ ap unless_empty (ap (λ xs. xs ++ p ∷ []) is ∙ sym (others_apart place ps p ∙ ap (λ xs. others place ps ++ xs) (others_one place p false (other_place p place h))))
 
--- places that move down
+-- places that move down by one
 pub lowered_apart : (gone : ℕ) (ps : List ℕ) (p : ℕ) → map (lowered gone) ps ++ lowered gone p ∷ [] ≡ map (lowered gone) (ps ++ p ∷ [])
 lowered_apart gone ps p = sym (map-append (lowered gone) ps (p ∷ []))

@@ -1,4 +1,4 @@
--- The places of all names, once a name has come or gone.
+-- The places of all names, after a name is added or removed.
 use Rattle.std.proofs.Common.{◌≡◌, ℕ, ◌+◌, ◌-◌, Bool, true, false, cond, nat_eq, List, [], ◌∷◌, ◌++◌, length, map, take, Option, option_map, refl, sym, ap, ap₂, ◌∙◌, subst, arith}
 use Rattle.std.proofs.lemmas.List.{length-append, length-map, map-append}
 use Rattle.std.proofs.lemmas.Slice.Eq.{bytes_eq-Decides}
@@ -13,7 +13,7 @@ use Rattle.rhai_scope.proofs.Names.{same_bytes}
 use Rattle.rhai_value.proofs.ForCallers.{false_more, true_more}
 use Rattle.rhai_scope.proofs.Trues.{gap_made, gap_closed}
 
--- ---- lists, one of which has become what f makes of it
+-- ---- lists, one of which is changed by f
 
 module _ (text : List ℕ) (utf8 : IsUtf8 text) (p r : NameIndex) where
   relisted : (f : Option (List ℕ) → Option (List ℕ)) (stood stand : List ℕ → List Bool) → Lists p stood
@@ -35,7 +35,7 @@ module _ (text : List ℕ) (utf8 : IsUtf8 text) (p r : NameIndex) where
   itself : (n : List ℕ) → pointwise nat_eq n n ≡ true
   itself n = (bytes_decides n n).1 refl
 
-  -- a name comes
+  -- a name is added
   added : (place : ℕ) (ps : List ℕ) → with_place place (unless_empty ps) ≡ unless_empty (ps ++ place ∷ [])
   added place [] = refl
   added place (q ∷ ps) = refl
@@ -51,7 +51,7 @@ module _ (text : List ℕ) (utf8 : IsUtf8 text) (p r : NameIndex) where
       (λ q other. sym (ap (trues_from 0) (named_more ns (chars text) q false other) ∙ false_more (are_named ns q)))
       (more old.pass).0 (more old.pass).1
 
-  -- the last name goes
+  -- the last name is removed
   without_last : (ps : List ℕ) (place : ℕ) → shortened front (unless_empty (ps ++ place ∷ [])) ≡ unless_empty ps
   without_last ps place = at (ps ++ place ∷ []) refl
     where
@@ -71,7 +71,7 @@ module _ (text : List ℕ) (utf8 : IsUtf8 text) (p r : NameIndex) where
       (λ q other. ap (trues_from 0) (named_more ns (chars text) q false other) ∙ false_more (are_named ns q))
       (relisted_pass p r old.pass (shortened front) text new refl same) new
 
-  -- a name goes, and leaves a gap
+  -- a name is removed, and leaves a gap
   fewer : (place : ℕ) (ps : List ℕ) → shortened (others place) (unless_empty ps) ≡ unless_empty (others place ps)
   fewer place [] = refl
   fewer place (q ∷ ps) = refl
@@ -89,7 +89,7 @@ module _ (text : List ℕ) (utf8 : IsUtf8 text) (p r : NameIndex) where
       (λ q other. ap (trues_from 0) (named_between ms ns (chars text) q false other))
       (relisted_pass p r old.pass (shortened (others place)) text new refl same) new
 
--- the gap is closed up
+-- the gap is closed
 lowered_lists : (f : ℕ → ℕ) (ps : List ℕ) → option_map (map f) (unless_empty ps) ≡ unless_empty (map f ps)
 lowered_lists f [] = refl
 lowered_lists f (q ∷ ps) = refl

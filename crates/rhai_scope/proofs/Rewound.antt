@@ -1,4 +1,4 @@
--- What pushes leave of the entries before.
+-- The effect of pushes on earlier entries.
 use Rattle.std.proofs.Common.{◌≡◌, ℕ, List, [], ◌∷◌, ◌++◌, length, take, append_assoc, sym, ap, ◌∙◌}
 use Rattle.std.proofs.Math.Seq.{take-append_seam}
 use Rattle.rhai_value.specs.declared.value.access_mode.AccessMode.{AccessMode}
@@ -7,7 +7,7 @@ use Rattle.rhai_scope.specs.Entry.{Entry, new_entry, pushed}
 use Rattle.rhai_scope.specs.Pushes.{all_pushed}
 use Rattle.std.proofs.lemmas.List.{append-nil}
 
--- pushes leave what was there, with more behind it
+-- pushes keep the earlier entries, and append more
 record Longer (es fs : List Entry) : Type 0 where
   pub more : List Entry
   pub is : fs ≡ es ++ more

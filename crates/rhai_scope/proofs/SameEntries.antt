@@ -1,4 +1,4 @@
--- Entries that are equal up to the numbers of cells, and what the calls of the scope make of them.
+-- Entries that are equal up to a renaming of cells, and the effect of the scope's calls on them.
 use Rattle.std.proofs.Common.{◌≡◌, ℕ, zero, suc, ◌-◌, Bool, nat_eq, if◌then◌else◌, List, [], ◌∷◌, length, map, take, drop, slice_get, Option, Some, None, option_map, option_and_then, refl, ap, ap₂, ◌∙◌, subst}
 use Rattle.std.specs.Prelude.{remove}
 use Rattle.std.specs.Cmp.Lexicographic.{pointwise}
@@ -82,7 +82,7 @@ module _ (r : Renaming) where
   same_writable name es fs h =
       same_writable_at es fs (last_position name es) h ∙ ap (λ o. option_and_then (λ k. option_and_then (unless_constant k) (slice_get fs k)) o) (same_position name es fs h)
 
-  -- ---- entries that come and go
+  -- ---- entries added and removed
 
   pub same_pushed : (m : AccessMode) (name : List ℕ) (t u : Tree) (es fs : List Entry) → Related r t u → RelatedEntries r es fs → RelatedEntries r (pushed m name t es) (pushed m name u fs)
   same_pushed m name t u es fs k h = zip_append (RelatedEntry r) es (new_entry name (paint m t) ∷ []) fs (new_entry name (paint m u) ∷ []) h ((refl, refl, same_paint r m t u k), tt)
@@ -100,7 +100,7 @@ module _ (r : Renaming) where
   same_removed_at None es fs h = h
   same_removed_at (Some i) es fs h = same_removed i es fs h
 
-  -- ---- entries that change
+  -- ---- entries changed
 
   same_changed_at : (f g : Entry → Entry) (i : ℕ) (es fs : List Entry) → RespectEntries r f g → RelatedEntries r es fs → RelatedEntries r (changed_at f es i) (changed_at g fs i)
   same_changed_at f g i [] [] k h = tt
@@ -167,7 +167,7 @@ module _ (r : Renaming) where
       (same_map (RelatedNamed r) (RelatedEntry r) (λ x. new_entry x.0 (paint (flagged_mode x.1) x.2)) (λ x. new_entry x.0 (paint (flagged_mode x.1) x.2))
       (λ x y j. (j.0, refl, subst (λ m. Related r (paint (flagged_mode x.1) x.2) (paint m y.2)) (ap flagged_mode j.1) (same_paint r (flagged_mode x.1) x.2 y.2 j.2))) xs ys k)
 
-  -- ---- values beside their names
+  -- ---- values with their names
 
   pub same_zip : {A : Type 0} (ns : List A) (ts us : List Tree) → AllZip (Related r) ts us → AllZip (λ x y. (x.0 ≡ y.0) × Related r x.1 y.1) (zip ns ts) (zip ns us)
   same_zip [] ts us h = tt

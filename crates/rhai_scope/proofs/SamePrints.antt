@@ -1,4 +1,4 @@
--- Texts, bytes and items of entries that are equal up to the numbers of cells.
+-- Texts, bytes and items of entries that are equal up to a renaming of cells.
 use mathlib.Core.List.{reverse_aux}
 use Rattle.std.proofs.Common.{◌≡◌, ℕ, suc, List, [], ◌∷◌, ◌++◌, map, reverse, Option, Some, None, option_map, refl, ap, ap₂, ◌∙◌}
 use Rattle.std.specs.List.{AllZip, flat_map}

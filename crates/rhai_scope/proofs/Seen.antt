@@ -27,7 +27,7 @@ module _ (es : List Entry) (i : ℕ) (e : Entry) (l : i < length es) (is : e ≡
       false≢true (sym none ∙ ap (passes n) (sym texts) ∙ here)))
       (behind q v (kept q none))
 
-  -- a name of a hidden entry passes already
+  -- a name of a hidden entry already passes
   pub hidden_passes : (m : NameFilter) → NamesPass m (drop (suc i) es) → (last_position (chars text) es ≡ Some i → ⊥) → passes m text ≡ true
   hidden_passes m behind hidden = at (passes m text) refl
     where

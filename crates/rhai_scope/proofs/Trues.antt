@@ -1,4 +1,4 @@
--- The places of true around a gap.
+-- The indices of true around a gap.
 use Rattle.std.proofs.Common.{◌≡◌, ℕ, suc, ◌+◌, ◌<◌, ◌≤◌, Bool, true, false, not, nat_eq, List, [], ◌∷◌, ◌++◌, length, map, refl, sym, ap, ap₂, ◌∙◌, arith}
 use Rattle.std.proofs.lemmas.Bool.Decides.{nat_tests}
 use Rattle.std.proofs.lemmas.List.{map-append}
@@ -7,7 +7,7 @@ use Rattle.rhai_value.specs.Reach.{trues_from}
 use Rattle.rhai_value.proofs.ForCallers.{from_zero}
 use Rattle.rhai_scope.specs.NameIndex.{others, lowered}
 
--- ---- a gap, which a place leaves that is dropped
+-- ---- a gap, left by a dropped place
 
 apart_below : (i place : ℕ) → i < place → nat_eq i place ≡ false
 apart_below i place h = grind (arith, nat_tests)
@@ -36,7 +36,7 @@ gap_made bs cs =
     ∙ ap₂ ◌++◌ (others_before place 0 bs (omega arith)) (others_here place (trues_from (suc place) cs) ∙ others_behind place (suc place) cs (omega arith))
     ∙ sym (from_zero bs (false ∷ cs))
 
--- ---- and which is closed up
+-- ---- closing it
 
 stays : (place i : ℕ) → i < place → lowered place i ≡ i
 stays place i h = grind (arith, nat_tests)

@@ -45,7 +45,7 @@ module _ (xs ys : List ℕ) (bx : AreBytes xs) (by : AreBytes ys) where
       at i l (inr (inl below)) = item 0 i front (omega arith) below
       at i l (inr (inr above)) = item (length ys - 4) i back (omega arith) (omega (arith, l, long))
 
-  -- where the last four bytes are the same, the first four tell
+  -- if the last four bytes are equal, the first four decide
   pub first_tell : length xs ≡ length ys → 4 ≤ length ys → length ys ≤ 8 → word_at xs (length ys - 4) ≡ word_at ys (length ys - 4) → nat_eq (word_at xs 0) (word_at ys 0) ≡ pointwise nat_eq xs ys
   first_tell long least most back = at (eqb_tells (word_at xs 0) (word_at ys 0))
     where

@@ -8,7 +8,7 @@ use Rattle.rhai_scope.specs.declared.index.Index.{Index}
 abbrev pub most_walked : ℕ
 most_walked = 32
 
--- The first names are listed with their places, and behind them there are few.
+-- The first names are indexed with their places, and few follow them.
 pub record IsIndexOf (x : Index) (ns : List (List ℕ)) : Type 0 where
   pub within : x.indexed ≤ length ns
   pub few : length ns ≤ x.indexed + most_walked

@@ -1,11 +1,11 @@
--- Names in a scope: an entry hides those of its name before it.
+-- Names in a scope: an entry hides earlier ones of its name.
 use Rattle.std.specs.Prelude.{◌≡◌, ℕ, suc, nat_eq, Bool, if◌then◌else◌, List, [], ◌∷◌, ◌++◌, drop, slice_get, Option, Some, None, MatchOption, option_map, option_and_then}
 use Rattle.std.specs.Cmp.Lexicographic.{pointwise}
 use Rattle.rhai_value.specs.Tree.{Tree}
 use Rattle.rhai_scope.specs.Entry.{Entry, is_constant_entry, with_value}
 pub use Rattle.rhai_value.specs.Store.{changed_at}
 
--- the position of the last entry of a name, seen from the rest of the entries and from the first one
+-- the position of the last entry of a name, given that in the later entries, counted from the first entry
 abbrev pub later_or_here : Option ℕ → Bool → Option ℕ
 later_or_here (Some k) here = Some (suc k)
 later_or_here None here = if here then Some 0 else None
@@ -15,7 +15,7 @@ abbrev pub last_position : List ℕ → List Entry → Option ℕ
 last_position name [] = None
 last_position name (e ∷ es) = later_or_here (last_position name es) (pointwise nat_eq e.name name)
 
--- the position of the last entry of the name, where the first n aren't looked at: there is none where no other one has the name
+-- the position of the last entry of the name, ignoring the first n; none if no other one has the name
 abbrev pub IsLastBehind : ℕ → List ℕ → List Entry → Option ℕ → Type 0
 IsLastBehind n name es o = MatchOption o (last_position name (drop n es) ≡ None) (λ i. last_position name es ≡ Some i)
 
@@ -31,7 +31,7 @@ value_named name es = option_map (λ e. e.value) (last_entry name es)
 abbrev pub aliases_named : List ℕ → List Entry → Option (List (List ℕ))
 aliases_named name es = option_map (λ e. e.aliases) (last_entry name es)
 
--- the position, if that entry's own value may be written
+-- the position, unless that entry's own value is a constant
 abbrev pub unless_constant : ℕ → Entry → Option ℕ
 unless_constant k e = if is_constant_entry e then None else Some k
 

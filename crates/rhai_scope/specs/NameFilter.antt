@@ -1,4 +1,4 @@
--- Bits of texts. A text has one of them, by the bytes at its ends, and texts may share one.
+-- Bits of texts. A text has one bit, computed from the bytes at its ends, and texts may share one.
 use Rattle.std.specs.Prelude.{ℕ, ◌+◌, ◌*◌, ◌-◌, ◌/◌, ◌%◌, ◌^◌, nat_eq, nat_le, Bool, if◌then◌else◌, List, [], ◌∷◌, length, slice_index}
 use Rattle.std.specs.Int.{w32, bit_at, from_le_bytes}
 use Rattle.rhai_scope.specs.declared.name_filter.NameFilter.{NameFilter}
@@ -11,7 +11,7 @@ word_at bs i = from_le_bytes w32 (slice_index bs i ∷ slice_index bs (i + 1) �
 abbrev pub three_of : List ℕ → ℕ
 three_of bs = (slice_index bs 0 * 256 + slice_index bs (length bs / 2)) * 256 + slice_index bs (length bs - 1)
 
--- 2^32 by the golden ratio
+-- 2^32 divided by the golden ratio
 abbrev pub spread : ℕ
 spread = 2654435769
 

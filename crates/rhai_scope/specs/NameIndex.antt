@@ -1,4 +1,4 @@
--- Where each name stands.
+-- The places of each name.
 use Rattle.std.specs.Prelude.{◌≡◌, ℕ, ◌-◌, nat_eq, nat_lt, Bool, false, not, if◌then◌else◌, List, [], ◌∷◌, ◌++◌, length, take, map, slice_get, option_and_then, Option, Some, None}
 use Rattle.std.specs.BTreeMap.{get_by_text}
 use Rattle.std.specs.Cmp.Lexicographic.{pointwise}
@@ -10,24 +10,24 @@ use Rattle.rhai_scope.specs.declared.name_index.NameIndex.{NameIndex}
 
 -- ---- the list of a name
 
--- the list that stands at a text, if there is one
+-- the list of a text, if there is one
 abbrev pub listed : NameIndex → List ℕ → Option (List ℕ)
 listed p text = get_by_text p.lists text
 
--- each text that is listed passes the filter
+-- each indexed text passes the filter
 abbrev pub AllPass : NameIndex → Type 0
 AllPass p = (q : List ℕ) → passes p.filter q ≡ false → listed p q ≡ None
 
--- the list of this text became what f makes of it, and no other changed
+-- the list of this text is changed by f, and no other list is
 abbrev pub Relists : (Option (List ℕ) → Option (List ℕ)) → List ℕ → (List ℕ → Option (List ℕ)) → (List ℕ → Option (List ℕ)) → Type 0
 Relists f text old new = (q : List ℕ) → new q ≡ (if bytes_eq text q then f (old q) else old q)
 
--- an empty list isn't listed
+-- an empty list isn't kept
 abbrev pub unless_empty : List ℕ → Option (List ℕ)
 unless_empty [] = None
 unless_empty (p ∷ ps) = Some (p ∷ ps)
 
--- the last of a list
+-- the last item of a list
 abbrev pub last_item : List ℕ → Option ℕ
 last_item ps = slice_get ps (length ps - 1)
 
@@ -36,7 +36,7 @@ abbrev pub with_place : ℕ → Option (List ℕ) → Option (List ℕ)
 with_place p None = Some (p ∷ [])
 with_place p (Some ps) = Some (ps ++ p ∷ [])
 
--- a list of which f leaves something, or nothing
+-- a list shortened by f, or none if nothing is left
 abbrev pub shortened : (List ℕ → List ℕ) → Option (List ℕ) → Option (List ℕ)
 shortened f o = option_and_then (λ ps. unless_empty (f ps)) o
 
@@ -47,13 +47,14 @@ front ps = take (length ps - 1) ps
 abbrev pub others : ℕ → List ℕ → List ℕ
 others place ps = filter (λ p. not (nat_eq p place)) ps
 
--- a place, once a place is closed up: those behind it move down by one
+-- a place after another one is removed: those behind it move down by one
 abbrev pub lowered : ℕ → ℕ → ℕ
 lowered place p = if nat_lt place p then p - 1 else p
 
 -- ---- the lists of all names
 
--- For each text there are exactly the places at which that name stands by `stands`, rising, and no list is empty; and each is pass.
+-- Each text has exactly the places of that name by `stands`, ascending, and no list is empty; and
+-- each listed text passes.
 pub record Lists (p : NameIndex) (stands : List ℕ → List Bool) : Type 0 where
   pub pass : AllPass p
   pub places : (text : List ℕ) → IsUtf8 text → listed p text ≡ unless_empty (trues_from 0 (stands (chars text)))
@@ -62,7 +63,7 @@ pub record Lists (p : NameIndex) (stands : List ℕ → List Bool) : Type 0 wher
 abbrev pub are_named : List (List ℕ) → List ℕ → List Bool
 are_named ns name = map (λ n. pointwise nat_eq n name) ns
 
--- the same with a place between them at which no name stands
+-- the same with a place between them that has no name
 abbrev pub with_gap : List (List ℕ) → List (List ℕ) → List ℕ → List Bool
 with_gap ms ns name = are_named ms name ++ false ∷ are_named ns name
 

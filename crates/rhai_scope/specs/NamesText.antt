@@ -1,4 +1,4 @@
--- Texts of names: a line for each of them.
+-- Texts of names: one line each.
 use Rattle.std.specs.Prelude.{ℕ, Bool, false, List, ◌++◌, codes, map, reverse}
 use Rattle.std.specs.List.{flat_map}
 use Rattle.rhai_value.specs.declared.cells.store.Cell.{Cell}

@@ -1,4 +1,4 @@
--- Entries that are equal up to the numbers of cells.
+-- Entries that are equal up to a renaming of cells.
 use Rattle.std.specs.Prelude.{◌≡◌, ℕ, Bool, List}
 use Rattle.std.specs.List.{AllZip}
 use Rattle.rhai_value.specs.Relation.{Renaming, Related}
@@ -9,15 +9,15 @@ use Rattle.rhai_scope.specs.Entry.{Entry}
 abbrev pub RelatedEntry : Renaming → Entry → Entry → Type 0
 RelatedEntry r e f = (e.name ≡ f.name) × (e.aliases ≡ f.aliases) × Related r e.value f.value
 
--- place by place
+-- item by item
 abbrev pub RelatedEntries : Renaming → List Entry → List Entry → Type 0
 RelatedEntries r = AllZip (RelatedEntry r)
 
--- what f makes of an entry and g of a related one is related
+-- f and g map related entries to related entries
 abbrev pub RespectEntries : Renaming → (Entry → Entry) → (Entry → Entry) → Type 0
 RespectEntries r f g = (e h : Entry) → RelatedEntry r e h → RelatedEntry r (f e) (g h)
 
--- the same name and related values, and the same of triples with a flag
+-- the same name and related values, and the same for triples with a flag
 abbrev pub RelatedPair : Renaming → List ℕ × Tree → List ℕ × Tree → Type 0
 RelatedPair r x y = (x.0 ≡ y.0) × Related r x.1 y.1
 

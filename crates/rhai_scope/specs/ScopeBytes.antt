@@ -6,7 +6,7 @@ use Rattle.rhai_show.specs.HashBytes.{count_bytes, name_bytes, plain_bytes}
 use Rattle.rhai_show.specs.Plain.{Plain, plain}
 use Rattle.rhai_scope.specs.Entry.{Entry}
 
--- aliases behind their number
+-- aliases prefixed by their number
 abbrev pub aliases_bytes : List (List ℕ) → List ℕ
 aliases_bytes bs = count_bytes (length bs) ++ flat_map name_bytes bs
 
@@ -14,20 +14,20 @@ aliases_bytes bs = count_bytes (length bs) ++ flat_map name_bytes bs
 abbrev pub plain_entry_bytes : Entry → Plain → List ℕ
 plain_entry_bytes e p = name_bytes e.name ++ plain_bytes p ++ aliases_bytes e.aliases
 
--- there are none where the value isn't plain
+-- none if the value isn't plain
 abbrev pub entry_bytes : List Cell → Entry → Option (List ℕ)
 entry_bytes s e = option_map (plain_entry_bytes e) (plain s [] e.value)
 
--- both, one behind the other, where there are both
+-- the concatenation of both, if both exist
 abbrev pub both_bytes : Option (List ℕ) → Option (List ℕ) → Option (List ℕ)
 both_bytes None o = None
 both_bytes (Some xs) o = option_map (λ ys. xs ++ ys) o
 
--- the bytes of all entries, one behind the other, where each has some
+-- the concatenation of the bytes of all entries, if each has some
 abbrev pub entries_bytes : List Cell → List Entry → Option (List ℕ)
 entries_bytes s [] = Some []
 entries_bytes s (e ∷ es) = both_bytes (entry_bytes s e) (entries_bytes s es)
 
--- the same behind the number of the entries; tags, modes and constants aren't seen
+-- the same prefixed by the number of entries; tags, modes and constants have no effect
 abbrev pub scope_bytes : List Cell → List Entry → Option (List ℕ)
 scope_bytes s es = both_bytes (Some (count_bytes (length es))) (entries_bytes s es)

@@ -7,7 +7,7 @@ use Rattle.rhai_show.specs.Text.{printed}
 use Rattle.rhai_show.specs.declared.form.Form.TheVariants.{Debug}
 use Rattle.rhai_scope.specs.Entry.{Entry}
 
--- what stands before the name of a constant
+-- the text before the name of a constant
 abbrev pub constant_mark : Bool → List ℕ
 constant_mark true = codes "const "
 constant_mark false = []
@@ -20,7 +20,7 @@ line i b name text = codes "[" ++ decimal i ++ codes "] " ++ constant_mark b ++ 
 abbrev pub entry_line : List Cell → ℕ → Entry → List ℕ
 entry_line s i e = line i (constant_in (first s e.value)) e.name (printed s [] e.value Debug)
 
--- a line for each entry, the first of which has this number
+-- a line for each entry, numbered from this number
 abbrev pub lines_from : List Cell → ℕ → List Entry → List ℕ
 lines_from s i [] = []
 lines_from s i (e ∷ es) = entry_line s i e ++ lines_from s (suc i) es

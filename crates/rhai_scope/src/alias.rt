@@ -1,4 +1,4 @@
-//! Other names of an entry.
+//! Aliases of entries.
 
 use rhai_text::ImmutableString;
 use smallvec::SmallVec;
@@ -8,14 +8,14 @@ use std::marker::Model;
 
 /// Another name of an entry. Contracts see it as its characters.
 ///
-/// An alias list keeps blanks at its unused places, which must take no memory; so the blank is an alias of no text, which
-/// is the empty name.
+/// An alias list fills its unused slots with blanks, which must not allocate; so the blank is an
+/// alias of no text, which is the empty name.
 #[derive(Drop)]
 pub struct Alias {
     name: Option<ImmutableString>,
 }
 
-/// The aliases of an entry, up to three in place.
+/// The aliases of an entry, up to three inline.
 pub type AliasList = SmallVec<Alias, 3>;
 
 impl Model for Alias {
@@ -41,7 +41,7 @@ impl Alias {
         Alias { name: Some(name) }
     }
 
-    /// Lends the name.
+    /// Borrows the name.
     /// Cost: constant; no memory.
     #[tactic(auto, using(crate::proofs::Names::no_characters))]
     pub fn as_str(&self) -> &str
@@ -53,7 +53,7 @@ impl Alias {
         }
     }
 
-    /// Whether both are one name; lengths are compared first.
+    /// Whether both names are equal; compares lengths first.
     #[tactic(auto, using(crate::proofs::Names::same_bytes))]
     pub(crate) fn is_same(&self, other: &Alias) -> bool
         ensures { result ≡ pointwise nat_eq self.now other.now }
@@ -61,8 +61,8 @@ impl Alias {
         self.as_str() == other.as_str()
     }
 
-    /// Copies the name, sharing its bytes.
-    /// Errors: memory is refused, as to `ImmutableString::copy`.
+    /// Copies the name; the copy shares its bytes.
+    /// Errors: an allocation fails, as in `ImmutableString::copy`.
     /// Cost: that of `ImmutableString::copy`.
     pub fn copy(&self, alloc: Global) -> Result<Alias, AllocError>
         ensures { IfOk result (λ a. a ≡ self.now) }

@@ -1,4 +1,4 @@
-//! The aliases of entries, and giving them some.
+//! The aliases of entries, and adding some.
 ghost use Rattle.std.specs.Prelude.{None, IsOk, ◌≡◌, ◌<◌, nat_eq, length, option_copied, IfOk, OnOk, OnErr};
 ghost use Rattle.std.specs.Cmp.Lexicographic.{pointwise};
 ghost use Rattle.std.specs.List.{list_any};
@@ -11,7 +11,7 @@ use crate::scope::Scope;
 use rhai_text::ImmutableString;
 use std::alloc::{AllocError, Global};
 
-/// Whether one of the aliases is this one; lengths are compared first.
+/// Whether the list has this alias; compares lengths first.
 fn has_alias(list: &[Alias], alias: &Alias) -> bool
     ensures { result ≡ list_any (pointwise nat_eq alias.now) list.now }
 {
@@ -23,7 +23,7 @@ fn has_alias(list: &[Alias], alias: &Alias) -> bool
     false
 }
 
-/// Adds an alias at the end, unless it is there.
+/// Appends an alias unless the list has it.
 pub(crate) fn add_once(list: &mut Vec<Alias>, alias: Alias) -> Result<(), AllocError>
     ensures ok { OnOk result (list.new.items ≡ with_alias alias list.old.items) }
     ensures err { OnErr result (list.new.items ≡ list.old.items) }
@@ -37,7 +37,7 @@ pub(crate) fn add_once(list: &mut Vec<Alias>, alias: Alias) -> Result<(), AllocE
     }
 }
 
-/// The alias that is meant, which shares the bytes of the name if it is empty.
+/// The alias to add: the name itself, sharing its bytes, if `alias` is empty.
 fn meant(alloc: Global, name: &ImmutableString, alias: &str) -> Result<Alias, AllocError>
     ensures { IfOk result (λ a. a ≡ meant_alias name.now (chars alias.now)) }
 {
@@ -50,7 +50,7 @@ fn meant(alloc: Global, name: &ImmutableString, alias: &str) -> Result<Alias, Al
 }
 
 impl Scope {
-    /// Adds an alias to the entry at a place, unless it is there.
+    /// Adds an alias to the entry at a position unless the entry has it.
     fn add_alias(&mut self, i: usize, alias: Alias) -> Result<(), AllocError>
         requires { i < length self.old }
         ensures ok { OnOk result (self.new ≡ changed_at (aliased alias) self.old i) }
@@ -59,9 +59,9 @@ impl Scope {
         self.records[i].add_alias(alias)
     }
 
-    /// Lends the aliases of the last entry of a name, in the order in which they came.
+    /// Borrows the aliases of the last entry of a name, oldest first.
     /// Cost: that of `search`; no memory.
-    /// rhai: its iterators alone show aliases.
+    /// rhai: only its iterators show aliases.
     pub fn aliases(&self, name: &str) -> Option<&[Alias]>
         ensures { option_copied result ≡ aliases_named (chars name.now) self.now }
     {
@@ -71,10 +71,10 @@ impl Scope {
         }
     }
 
-    /// Gives the last entry of a name one more alias, the name itself if `alias` is empty. No entry of the name, or one
-    /// that has the alias: nothing changes.
-    /// Errors: memory is refused; nothing changes.
-    /// Cost: that of `search`, and the number of aliases that the entry has.
+    /// Adds an alias to the last entry of a name; the name itself if `alias` is empty. If the name
+    /// has no entry, or the entry has the alias, nothing changes.
+    /// Errors: an allocation fails; nothing changes.
+    /// Cost: that of `search`, and the number of the entry's aliases.
     /// rhai: `Scope::set_alias`.
     pub fn set_alias(&mut self, name: &str, alias: &str) -> Result<(), AllocError>
         ensures ok { OnOk result (self.new ≡ changed_named (aliased (meant_alias (chars name.now) (chars alias.now))) (chars name.now) self.old) }

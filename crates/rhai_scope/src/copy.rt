@@ -8,7 +8,7 @@ use crate::scope::{Scope, make_room};
 use rhai_value::Dynamic;
 use std::alloc::{AllocError, Global};
 
-/// A copy with the value's own mode.
+/// A copy that keeps the value's own mode.
 pub(crate) fn copied_value(alloc: Global, value: &Dynamic) -> Result<Dynamic, AllocError>
     ensures { IfOk result (λ d. d ≡ copied_value value.now) }
 {
@@ -29,7 +29,7 @@ pub(crate) fn copied_list(alloc: Global, list: &[Alias]) -> Result<Vec<Alias>, A
     Ok(copied)
 }
 
-/// Adds a copy of an entry behind the others.
+/// Appends a copy of an entry.
 pub(crate) fn push_copy(
     alloc: Global,
     copies: &mut Vec<Record>,
@@ -53,9 +53,9 @@ fn copies_of(alloc: Global, entries: &[Record]) -> Result<Vec<Record>, AllocErro
 }
 
 impl Scope {
-    /// Copies the entries with their aliases. Each value is copied and painted with its own mode; the copy of a holder
-    /// names the same cell. Names and aliases share their bytes.
-    /// Errors: memory is refused.
+    /// Copies the entries with their aliases. Each copied value is painted with its own mode; the
+    /// copy of a holder refers to the same cell. Names and aliases share their bytes.
+    /// Errors: an allocation fails.
     /// Cost: the number of entries, and that of `Dynamic::copy` for each value.
     /// rhai: `Clone` of `Scope`.
     pub fn copy(&self) -> Result<Scope, AllocError>

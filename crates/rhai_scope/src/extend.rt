@@ -1,4 +1,4 @@
-//! Entries that come from an iterator.
+//! Entries from an iterator.
 ghost use Rattle.std.specs.Prelude.{◌≡◌, ℕ, Bool, List, [], IfOk, OnOk, OnErr};
 ghost use Rattle.std.specs.Iterator.{IsFinite, Drains};
 ghost use Rattle.rhai_value.specs.Tree.{Tree};
@@ -11,9 +11,10 @@ use rhai_value::{AccessMode, Dynamic};
 use std::alloc::{AllocError, Global};
 
 impl Scope {
-    /// Adds an entry for each name with its value, painted ReadWrite, in the order in which they come. No name is copied.
-    /// Errors: memory is refused; none of the entries stays.
-    /// Cost: that of a push for each; room is made once where the iterator knows how many come.
+    /// Appends an entry for each name with its value, painted ReadWrite, in the iterator's order.
+    /// No name is copied.
+    /// Errors: an allocation fails; none of the entries is kept.
+    /// Cost: that of a push for each; one allocation if the iterator knows its length.
     /// rhai: `Extend` of pairs, of `Scope`.
     #[tactic(auto, using(crate::proofs::Extended::extended_last, crate::proofs::Extended::taken_back))]
     pub fn extend<U: IntoIterator<Item = (ImmutableString, Dynamic)>>(
@@ -36,9 +37,9 @@ impl Scope {
         Ok(())
     }
 
-    /// Adds an entry for each name with its value, painted ReadOnly where `true` stands before it, and else ReadWrite, as
-    /// `extend` does.
-    /// Errors: memory is refused; none of the entries stays.
+    /// Appends an entry for each name with its value, painted ReadOnly if its flag is `true`, and
+    /// otherwise ReadWrite, as `extend` does.
+    /// Errors: an allocation fails; none of the entries is kept.
     /// Cost: that of `extend`.
     /// rhai: `Extend` of triples, of `Scope`.
     #[tactic(auto, using(crate::proofs::Extended::flagged_last, crate::proofs::Extended::flagged_back))]
@@ -65,8 +66,8 @@ impl Scope {
         Ok(())
     }
 
-    /// Makes a scope of these entries, as by `extend`.
-    /// Errors: memory is refused.
+    /// Makes a scope of these entries, as `extend` does.
+    /// Errors: an allocation fails.
     /// Cost: that of `extend`.
     /// rhai: `FromIterator` of pairs, of `Scope`.
     pub fn from_pairs<U: IntoIterator<Item = (ImmutableString, Dynamic)>>(
@@ -81,8 +82,8 @@ impl Scope {
         Ok(scope)
     }
 
-    /// Makes a scope of these entries, as by `extend_flagged`.
-    /// Errors: memory is refused.
+    /// Makes a scope of these entries, as `extend_flagged` does.
+    /// Errors: an allocation fails.
     /// Cost: that of `extend`.
     /// rhai: `FromIterator` of triples, of `Scope`.
     pub fn from_flagged<U: IntoIterator<Item = (ImmutableString, bool, Dynamic)>>(

@@ -1,4 +1,4 @@
-//! Entries that come from vectors, which come back where memory is refused.
+//! Entries from vectors, which are returned if an allocation fails.
 ghost use Rattle.std.specs.Prelude.{◌≡◌, ◌+◌, ◌≤◌, ◌++◌, length, vec_len, vec_capacity, OnOk, IfErr};
 ghost use Rattle.std.specs.List.{zip};
 ghost use Rattle.rhai_scope.specs.Extended.{extended, extended_flagged, flagged_values, headed};
@@ -10,7 +10,7 @@ use rhai_text::ImmutableString;
 use rhai_value::Dynamic;
 use std::alloc::Global;
 
-/// Adds an entry for each heading with the value at its place, where there is room for them.
+/// Appends an entry for each heading with the value at its index, given enough capacity.
 fn add_in_room<H: Heading>(
     alloc: Global,
     records: &mut Vec<Record>,
@@ -28,7 +28,8 @@ fn add_in_room<H: Heading>(
 }
 
 impl Scope {
-    /// Adds an entry for each heading with the value at its place. All growths are made before anything is moved.
+    /// Appends an entry for each heading with the value at its index. All allocations precede all
+    /// moves.
     fn extend_headed<H: Heading>(
         &mut self,
         headings: Vec<H>,
@@ -51,10 +52,11 @@ impl Scope {
         }
     }
 
-    /// Adds an entry for each name with the value at its place, painted ReadWrite, in their order. No name is copied.
-    /// Errors: names and values come back where memory is refused, and the scope is as it was.
-    /// Cost: that of a push for each; room is made once, before all else.
-    /// rhai: `extend` alone, which takes an iterator.
+    /// Appends an entry for each name with the value at its index, painted ReadWrite, in order. No
+    /// name is copied.
+    /// Errors: names and values, if an allocation fails; the scope is unchanged.
+    /// Cost: that of a push for each; one allocation, before all else.
+    /// rhai: only `extend`, which takes an iterator.
     pub fn extend_moved(
         &mut self,
         names: Vec<ImmutableString>,
@@ -67,9 +69,9 @@ impl Scope {
         self.extend_headed(names, values)
     }
 
-    /// Adds an entry for each name with the value at its place, painted ReadOnly where `true` stands beside its name, and
-    /// else ReadWrite, as `extend_moved` does.
-    /// Errors: names and values come back where memory is refused, and the scope is as it was.
+    /// Appends an entry for each name with the value at its index, painted ReadOnly if the flag
+    /// beside the name is `true`, and otherwise ReadWrite, as `extend_moved` does.
+    /// Errors: names and values, if an allocation fails; the scope is unchanged.
     /// Cost: that of `extend_moved`.
     pub fn extend_flagged_moved(
         &mut self,

@@ -19,8 +19,8 @@ fn values_of(alloc: Global, items: Iter<'_>) -> Result<Vec<Dynamic>, AllocError>
 }
 
 impl Scope {
-    /// Copies the values that `iter` gives, from the first entry to the last.
-    /// Errors: memory is refused, for one of them or for the vector.
+    /// Copies the values that `iter` yields, from the first entry to the last.
+    /// Errors: an allocation fails, for a value or for the vector.
     /// Cost: that of `Dynamic::flatten_clone` for each.
     pub fn flat_values(&self, store: &Store) -> Result<Vec<Dynamic>, AllocError>
         ensures { IfOk result (λ v. v.items ≡ flat_values store.now self.now) }

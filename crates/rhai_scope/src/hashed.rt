@@ -21,14 +21,14 @@ fn add_bytes(out: &mut Vec<u8>, bytes: &[u8]) -> Result<(), AllocError>
     out.extend_from_slice(bytes)
 }
 
-/// Adds how many entries, bytes or aliases follow.
+/// Appends a number of entries, bytes or aliases.
 fn add_count(out: &mut Vec<u8>, count: usize) -> Result<(), AllocError>
     ensures { OnOk result (out.new.items ≡ out.old.items ++ count_bytes count) }
 {
     add_bytes(out, &count.to_le_bytes())
 }
 
-/// Adds bytes behind their number.
+/// Appends bytes, prefixed by their number.
 fn add_sized(out: &mut Vec<u8>, bytes: &[u8]) -> Result<(), AllocError>
     ensures { OnOk result (out.new.items ≡ out.old.items ++ sized bytes.now) }
 {
@@ -36,14 +36,14 @@ fn add_sized(out: &mut Vec<u8>, bytes: &[u8]) -> Result<(), AllocError>
     add_bytes(out, bytes)
 }
 
-/// Adds a name behind the number of its bytes.
+/// Appends a name, prefixed by its number of bytes.
 fn add_name(out: &mut Vec<u8>, name: &str) -> Result<(), AllocError>
     ensures { OnOk result (out.new.items ≡ out.old.items ++ name_bytes (chars name.now)) }
 {
     add_sized(out, name.as_bytes())
 }
 
-/// Adds aliases behind their number.
+/// Appends aliases, prefixed by their number.
 fn add_aliases(out: &mut Vec<u8>, aliases: &[Alias]) -> Result<(), AllocError>
     ensures { OnOk result (out.new.items ≡ out.old.items ++ aliases_bytes aliases.now) }
 {
@@ -54,7 +54,7 @@ fn add_aliases(out: &mut Vec<u8>, aliases: &[Alias]) -> Result<(), AllocError>
     Ok(())
 }
 
-/// The bytes with those of an entry behind them, where it has some.
+/// Appends the hash bytes of an entry, if it has some.
 fn with_entry(
     alloc: Global,
     mut out: Vec<u8>,
@@ -92,10 +92,10 @@ fn bytes_of(alloc: Global, entries: &[Record], store: &Store) -> Result<Option<V
 }
 
 impl Scope {
-    /// Answers the hash bytes of the scope, `None` where a value isn't hashable: the number of entries, and of each its
-    /// name, its value and its aliases, with the numbers of bytes and of aliases before them. Tags, modes and sharing
-    /// aren't seen.
-    /// Errors: memory is refused.
+    /// Returns the hash bytes of the scope, or `None` if a value isn't hashable: the number of
+    /// entries, and for each its name, its value and its aliases, prefixed by the numbers of bytes
+    /// and of aliases. Tags, modes and sharing have no effect.
+    /// Errors: an allocation fails.
     /// Cost: that of `rhai_show::hashed` for each value, and the number of the bytes.
     /// rhai: `Hash` of `Scope`, which feeds any hasher.
     pub fn hashed(&self, store: &Store) -> Result<Option<Hashed>, AllocError>

@@ -1,4 +1,4 @@
-//! What new entries are made of besides their values.
+//! What a new entry has besides its value.
 ghost use Rattle.std.specs.Prelude.{◌≡◌, ℕ, List};
 ghost use Rattle.std.specs.Str.{chars};
 ghost use Rattle.rhai_value.specs.declared.value.access_mode.AccessMode.{AccessMode};
@@ -8,7 +8,7 @@ ghost use Rattle.rhai_scope.specs.Extended.{flagged_mode};
 use rhai_text::ImmutableString;
 use rhai_value::AccessMode;
 
-/// What has the name of an entry.
+/// Something with the name of an entry.
 pub(crate) trait Named: Sized + Drop {
     ghost name_of: { Self → List ℕ };
 
@@ -16,7 +16,7 @@ pub(crate) trait Named: Sized + Drop {
         ensures { chars result.now ≡ name_of self.now };
 }
 
-/// A name, and how the value beside it is painted.
+/// A name, and the mode with which its value is painted.
 pub(crate) trait Heading: Named {
     ghost mode_of: { Self → AccessMode };
 
@@ -48,7 +48,7 @@ impl Named for (ImmutableString, bool) {
     }
 }
 
-/// `true` stands beside the name of a constant.
+/// `true` marks the name of a constant.
 impl Heading for (ImmutableString, bool) {
     ghost mode_of = { λ p. flagged_mode p.1 };
 

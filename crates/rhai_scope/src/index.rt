@@ -12,19 +12,19 @@ use crate::name_length::NameLength;
 use crate::records::Record;
 use std::alloc::{AllocError, Global};
 
-/// The most last entries whose names aren't listed: by a walk through so few a name is found as soon as in the lists, and no memory
-/// is taken for them.
+/// The most last entries whose names aren't indexed: a linear search of so few is as fast as the
+/// index, and they need no memory for it.
 pub(crate) const WALKED_ENTRIES: usize = 32;
 
-/// The places of the names of the first entries. The others, which are few, are walked through.
+/// The places of the names of the first entries. The others, which are few, are searched linearly.
 #[derive(Drop)]
 pub(crate) struct Index {
-    /// The number of the first entries, whose names are listed.
+    /// The number of first entries, whose names are indexed.
     pub(crate) indexed: usize,
     pub(crate) places: NameIndex,
 }
 
-/// The position of the last entry that has the name, where it isn't one of the first.
+/// The position of the last entry with this name among those that aren't indexed.
 #[inline(always)]
 fn last_behind(entries: &[Record], first: usize, name: &str, len: NameLength) -> Option<usize>
     requires within { first ≤ length entries.now }
@@ -51,7 +51,7 @@ impl Index {
         }
     }
 
-    /// Lists the names of entries but for the last ones, which are walked through.
+    /// Indexes the names of entries except the last ones, which are searched linearly.
     pub(crate) fn of(alloc: Global, entries: &[Record]) -> Result<Index, AllocError>
         ensures { IfOk result (λ x. IsIndexOf x (names_of entries.now)) }
     {
@@ -68,7 +68,7 @@ impl Index {
         self.places.clear();
     }
 
-    /// The position of the last entry of a name. It takes no memory.
+    /// The position of the last entry of a name. Allocates nothing.
     pub(crate) fn search(&self, entries: &[Record], name: &str) -> Option<usize>
         requires { IsIndexOf self.now (names_of entries.now) }
         ensures { result ≡ last_position (chars name.now) entries.now }
@@ -79,7 +79,8 @@ impl Index {
         }
     }
 
-    /// The same for any name; out of line, so that the walk for one of four to eight bytes keeps nothing on the stack.
+    /// The same for any name; out of line, so that the search for a name of four to eight bytes
+    /// keeps nothing on the stack.
     #[inline(never)]
     fn search_other(&self, entries: &[Record], name: &str) -> Option<usize>
         requires { IsIndexOf self.now (names_of entries.now) }
@@ -104,7 +105,8 @@ impl Index {
         }
     }
 
-    /// Lists the names of all entries where no more can come without. Where memory is refused, the index stays as it is.
+    /// Indexes the names of all entries if one more entry requires it. If an allocation fails, the
+    /// index is unchanged.
     pub(crate) fn admit_one(&mut self, alloc: Global, entries: &[Record]) -> Result<(), AllocError>
         requires { IsIndexOf self.old (names_of entries.now) }
         ensures index { IsIndexOf self.new (names_of entries.now) }
@@ -117,7 +119,7 @@ impl Index {
         self.list_all(alloc, entries)
     }
 
-    /// Lists the names of all entries.
+    /// Indexes the names of all entries.
     #[cold]
     #[inline(never)]
     fn list_all(&mut self, alloc: Global, entries: &[Record]) -> Result<(), AllocError>
@@ -131,8 +133,8 @@ impl Index {
         Ok(())
     }
 
-    /// Makes room for names of entries that are to come behind these, by listing all names where they are many. Where memory is
-    /// refused, there is no trace of those that are to come.
+    /// Makes room for the names of entries that are about to be appended, by indexing all names if
+    /// they are many. If an allocation fails, none of the new names is in the index.
     pub(crate) fn admit_all<N: Named>(
         &mut self,
         alloc: Global,
@@ -154,7 +156,7 @@ impl Index {
         Ok(())
     }
 
-    /// Keeps the names of the first entries. It takes no memory.
+    /// Keeps the names of the first entries. Allocates nothing.
     pub(crate) fn rewind(&mut self, entries: &[Record], size: usize)
         requires { IsIndexOf self.old (names_of entries.now) }
         ensures { IsIndexOf self.new (names_of (take size entries.now)) }
@@ -164,7 +166,8 @@ impl Index {
         }
     }
 
-    /// The same where names that are listed go. Where few of many stay, they are walked through from now on.
+    /// The same if indexed names are removed. If few of many remain, they are searched linearly
+    /// from now on.
     #[cold]
     fn rewind_listed(&mut self, entries: &[Record], size: usize)
         requires index { IsIndexOf self.old (names_of entries.now) }
@@ -178,8 +181,9 @@ impl Index {
         self.indexed = size;
     }
 
-    /// Drops the name of the entry at a place, so that the entries behind it move down by one. It takes no memory. Where that entry's
-    /// name isn't listed, the lists stay as they are; else the time is in the number of all places that are listed.
+    /// Removes the name of the entry at a place, so that the entries behind it move down by one.
+    /// Allocates nothing. If that name isn't indexed, the lists are unchanged; otherwise the time
+    /// is in the number of all indexed places.
     pub(crate) fn remove(&mut self, name: &str, place: usize)
         ensures { (ms ns : List (List ℕ)) → length ms ≡ place → IsIndexOf self.old (ms ++ chars name.now ∷ ns) → IsIndexOf self.new (ms ++ ns) }
     {

@@ -1,4 +1,4 @@
-//! Taking a scope apart.
+//! Consuming a scope.
 
 use crate::alias::AliasList;
 use crate::records::Record;
@@ -9,7 +9,7 @@ use std::iter::{ExactSizeIterator, FusedIterator, IntoIterator, Iterator};
 use std::marker::Model;
 use std::vec;
 
-/// The entries of a scope that are left, from the first to the last. Contracts see the list of them.
+/// The remaining entries of a scope, from the first to the last. Contracts see the list of them.
 #[derive(Drop)]
 pub struct IntoIter {
     records: vec::IntoIter<Record>,
@@ -71,9 +71,9 @@ impl Scope {
     ghost use Rattle.std.specs.Prelude.{◌≡◌, ◌<◌, ◌∷◌, ◌++◌, [], length};
     ghost use Rattle.rhai_scope.specs.Items.{moved_entry};
 
-    /// Takes the last entry out, and answers its name, its own value and its aliases.
-    /// Cost: no memory; of an entry that is in the index, the time of a look-up there.
-    /// rhai: `Scope::pop_entry`, which is private, and answers `None` without an entry.
+    /// Removes the last entry, and returns its name, its own value and its aliases.
+    /// Cost: no memory; for an indexed entry, that of a look-up in the index.
+    /// rhai: `Scope::pop_entry`, which is private, and returns `None` without an entry.
     pub fn pop_last(&mut self) -> (ImmutableString, Dynamic, AliasList)
         requires { 0 < length self.old }
         ensures { self.old ≡ self.new ++ moved_entry result ∷ [] }
@@ -84,7 +84,7 @@ impl Scope {
     }
 }
 
-/// Name, own value and aliases of each entry, from the first to the last.
+/// Yields the name, the own value and the aliases of each entry, from the first to the last.
 impl IntoIterator for Scope {
     ghost use Rattle.std.specs.Prelude.{◌≡◌};
 

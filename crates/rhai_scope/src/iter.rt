@@ -1,4 +1,4 @@
-//! Going over the entries of a scope that stays.
+//! Iterating over the entries of a borrowed scope.
 ghost use Rattle.std.specs.Prelude.{◌≡◌, length, Some, IfOk, IfSome, IsOk};
 ghost use Rattle.std.specs.Iterator.{UpTo};
 ghost use Rattle.std.specs.Iterator.SizeHint.{IsWithinCount};
@@ -15,7 +15,7 @@ use std::alloc::{AllocError, Global};
 use std::iter::{ExactSizeIterator, FusedIterator, IntoIterator, Iterator};
 use std::marker::Model;
 
-/// The entries that are left, from the first to the last. Contracts see the list of them.
+/// The remaining entries, from the first to the last. Contracts see the list of them.
 #[derive(Drop)]
 pub struct Entries<'a> {
     rest: Rest<'a>,
@@ -69,7 +69,7 @@ impl<'a> ExactSizeIterator for Entries<'a> {
 
 impl<'a> FusedIterator for Entries<'a> {}
 
-/// Name, own value and aliases of each entry, from the first to the last.
+/// Yields the name, the own value and the aliases of each entry, from the first to the last.
 impl<'a> IntoIterator for &'a Scope {
     ghost use Rattle.std.specs.Prelude.{◌≡◌};
 
@@ -86,7 +86,7 @@ impl<'a> IntoIterator for &'a Scope {
     }
 }
 
-/// A value's flat copy. Most values are no holders, and these are copied without a look at the store.
+/// A value's flat copy. Most values aren't holders, and these are copied without reading the store.
 #[inline(always)]
 #[tactic(auto, using(crate::proofs::FlatItems::flat_own))]
 fn flat_copy(alloc: Global, store: &Store, value: &Dynamic) -> Result<Dynamic, AllocError>
@@ -119,7 +119,7 @@ fn flat_item<'a>(
     Ok((name.as_str(), is_constant, flat_copy(alloc, store, value)?))
 }
 
-/// The entries that are left to `Scope::iter`, which makes their values flat.
+/// The remaining entries of `Scope::iter`, which flattens their values.
 #[derive(Drop)]
 pub struct Iter<'a> {
     alloc: Global,
@@ -163,7 +163,7 @@ impl<'a> ExactSizeIterator for Iter<'a> {
 
 impl<'a> FusedIterator for Iter<'a> {}
 
-/// The entries that are left to `Scope::iter_raw`, which goes from the last to the first.
+/// The remaining entries of `Scope::iter_raw`, from the last to the first.
 #[derive(Drop)]
 pub struct IterRaw<'a> {
     store: &'a Store,
@@ -207,8 +207,9 @@ impl Scope {
     ghost use Rattle.std.specs.Prelude.{◌≡◌, map, reverse};
     ghost use Rattle.rhai_scope.specs.Items.{flat_left, raw_left, shown_flat, shown_raw};
 
-    /// Goes through the entries, from the first to the last: the name, whether it is a constant by `Dynamic::is_read_only`,
-    /// and the flat value. Where that is refused memory, the item is an `Err`, and the next one goes on behind it.
+    /// Iterates over the entries, from the first to the last: the name, whether it is a constant by
+    /// `Dynamic::is_read_only`, and the flat value. If an allocation fails, the item is an `Err`,
+    /// and the next call goes on behind it.
     /// Cost: that of `Dynamic::flatten_clone` for each item.
     /// rhai: `Scope::iter`.
     pub fn iter<'a>(&'a self, store: &'a Store) -> Iter<'a>
@@ -221,8 +222,8 @@ impl Scope {
         }
     }
 
-    /// Goes through the entries, from the last to the first: the name, whether it is a constant by `Dynamic::is_read_only`,
-    /// and the value itself.
+    /// Iterates over the entries, from the last to the first: the name, whether it is a constant by
+    /// `Dynamic::is_read_only`, and the value itself.
     /// Cost: constant for each item; no memory.
     /// rhai: `Scope::iter_raw`.
     pub fn iter_raw<'a>(&'a self, store: &'a Store) -> IterRaw<'a>

@@ -1,4 +1,4 @@
-//! Laws of the scope, each the contract of a function that does nothing.
+//! Laws of the scope, each the contract of a function with an empty body.
 ghost use Rattle.std.specs.Prelude.{◌≡◌, ◌≢◌, ◌∷◌, ◌++◌, ℕ, List, length, map, nat_eq, slice_get, take, Some, None, option_map};
 ghost use Rattle.std.specs.Cmp.Lexicographic.{pointwise};
 ghost use Rattle.std.specs.List.{AllByRecursion, IsDistinct};
@@ -13,13 +13,13 @@ use crate::scope::MIN_SCOPE_ENTRIES;
 
 pub mod renamed;
 
-/// After pushes alone `rewind` to the number of entries before gives the entries and the aliases from before.
+/// After pushes only, `rewind` to the former number of entries restores entries and aliases.
 #[tactic(auto, using(crate::proofs::Rewound::rewound))]
 pub fn rewind_undoes_pushes()
     ensures { (ps : List (AccessMode × List ℕ × Tree)) (es : List Entry) → take (length es) (all_pushed ps es) ≡ es }
 {}
 
-/// A name means its last entry, and nothing where no entry has it.
+/// A name means its last entry, or nothing if no entry has it.
 #[tactic(auto, using(crate::proofs::Found::found, crate::proofs::Found::found_entry, crate::proofs::Found::missing))]
 pub fn a_name_means_its_last_entry()
     ensures position { (name : List ℕ) (before after : List Entry) (e : Entry) → e.name ≡ name → AllByRecursion (λ (x : Entry). x.name ≢ name) after
@@ -36,7 +36,8 @@ pub fn the_visible_copy_keeps_what_names_mean()
     ensures means { (name : List ℕ) (es : List Entry) → last_entry name (map copied_entry (visible es)) ≡ option_map copied_entry (last_entry name es) }
 {}
 
-/// The copy of an entry keeps its name, its aliases, the content and the tags of its value, and whether it is a constant.
+/// The copy of an entry keeps its name, its aliases, the content and tags of its value, and whether
+/// it is a constant.
 #[tactic(auto, using(crate::proofs::Kept::kept_value, crate::proofs::Kept::kept_constant))]
 pub fn copies_keep_entries()
     ensures name { (e : Entry) → (copied_entry e).name ≡ e.name }
@@ -45,8 +46,8 @@ pub fn copies_keep_entries()
     ensures constant { (e : Entry) → is_constant_entry (copied_entry e) ≡ is_constant_entry e }
 {}
 
-/// A value is written at one position alone: the value that stood there, written again, leaves all as it was; the number of entries
-/// stays; what was written stands there; and each other entry is as it was.
+/// A write changes one position only: writing the old value again changes nothing; the number of
+/// entries is unchanged; the written value is found there; and each other entry is unchanged.
 #[tactic(auto, using(crate::proofs::MovedOut::kept_there, crate::proofs::MovedOut::length_changed, crate::proofs::MovedOut::value_changed, crate::proofs::MovedOut::others_stay))]
 pub fn positions_are_written_alone()
     ensures same { (t : Tree) (es : List Entry) (i : ℕ) → value_at es (Some i) ≡ Some t → changed_at (with_value t) es i ≡ es }
@@ -55,7 +56,7 @@ pub fn positions_are_written_alone()
     ensures elsewhere { (f : Entry → Entry) (es : List Entry) (i j : ℕ) → (j ≡ i → ⊥) → slice_get (changed_at f es i) j ≡ slice_get es j }
 {}
 
-/// The room that a scope makes for its first entry is for eight.
+/// The first allocation of a scope has room for eight entries.
 pub fn first_room_is_for_eight()
     ensures { MIN_SCOPE_ENTRIES ≡ 8 }
 {}

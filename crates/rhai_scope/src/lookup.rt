@@ -1,4 +1,4 @@
-//! Entries by their names: the newest is found first.
+//! Entries by name: the newest is found first.
 ghost use Rattle.std.specs.Prelude.{◌≡◌, ◌<◌, length, IfSome, Some, option_copied, option_map, is_some, slice_get};
 ghost use Rattle.std.specs.Borrow.{Lends, LendsIf, sem};
 ghost use Rattle.std.specs.Option.{option_copied_mut};
@@ -16,9 +16,9 @@ use rhai_value::{AccessMode, Dynamic};
 
 impl Scope {
     /// Finds the position of the last entry of a name.
-    /// Cost: no memory. The last entries, at most 32, are walked through, and then the name is sought in the index, an
-    /// ordered map, so the time is in the logarithm of the number of different names; of most names that aren't there it is
-    /// the walk's alone.
+    /// Cost: no memory. The last entries, at most 32, are searched linearly, and then the name is
+    /// looked up in the index, an ordered map: the logarithm of the number of different names. For
+    /// most absent names only the linear search is needed.
     /// rhai: `Scope::search`, which is private.
     #[tactic(auto, using(crate::proofs::Found::position_within))]
     pub fn search(&self, name: &str) -> Option<usize>
@@ -28,7 +28,7 @@ impl Scope {
         self.index.search(&self.records, name)
     }
 
-    /// The last entry of a name.
+    /// Borrows the last entry of a name.
     pub(crate) fn entry_named(&self, name: &str) -> Option<&Record>
         ensures { option_copied result ≡ last_entry (chars name.now) self.now }
     {
@@ -50,7 +50,7 @@ impl Scope {
         }
     }
 
-    /// Lends the value at a position: `Scope::search` gives that of a name.
+    /// Borrows the value at a position; `Scope::search` returns that of a name.
     /// Cost: constant.
     pub fn at(&self, i: usize) -> &Dynamic
         requires { i < length self.now }
@@ -59,9 +59,9 @@ impl Scope {
         self.records[i].value()
     }
 
-    /// Lends the name of the entry at a position.
+    /// Borrows the name of the entry at a position.
     /// Cost: constant.
-    /// rhai: the name that `Scope::get_entry_by_index` answers, which is private.
+    /// rhai: the name that `Scope::get_entry_by_index` returns, which is private.
     pub fn name_at(&self, i: usize) -> &ImmutableString
         requires { i < length self.now }
         ensures { option_map (λ e. e.name) (slice_get self.now i) ≡ Some result.now }
@@ -69,7 +69,7 @@ impl Scope {
         self.records[i].name()
     }
 
-    /// Lends the value at a position, to write to, also of a constant. No cell is written.
+    /// Borrows the value at a position mutably, even of a constant. No cell is written.
     /// Cost: constant.
     /// rhai: `Scope::get_mut_by_index`, which is private.
     pub fn at_mut(&mut self, i: usize) -> &mut Dynamic
@@ -80,7 +80,7 @@ impl Scope {
         self.records[i].value_mut()
     }
 
-    /// Tells whether there is an entry of the name.
+    /// Returns whether the name has an entry.
     /// Cost: that of `search`.
     /// rhai: `Scope::contains`.
     pub fn contains(&self, name: &str) -> bool
@@ -89,7 +89,7 @@ impl Scope {
         self.search(name).is_some()
     }
 
-    /// Lends the value itself of the last entry of a name.
+    /// Borrows the own value of the last entry of a name.
     /// Cost: that of `search`.
     /// rhai: `Scope::get`.
     pub fn get(&self, name: &str) -> Option<&Dynamic>
@@ -101,8 +101,8 @@ impl Scope {
         }
     }
 
-    /// Lends the value itself of the last entry of a name, to write to, unless its own mode is ReadOnly. No cell is
-    /// written.
+    /// Borrows the own value of the last entry of a name mutably, unless its own mode is ReadOnly.
+    /// No cell is written.
     /// Cost: that of `search`.
     /// rhai: `Scope::get_mut`.
     pub fn get_mut(&mut self, name: &str) -> Option<&mut Dynamic>
@@ -115,7 +115,7 @@ impl Scope {
         }
     }
 
-    /// The value of the last entry of a name, to write to, also of a constant.
+    /// Borrows the value of the last entry of a name mutably, even of a constant.
     pub(crate) fn last_mut(&mut self, name: &str) -> Option<&mut Dynamic>
         ensures* writes_back { sem 𝓛 (LendsIf scope_type.the_row dynamic_type.the_row self.entry result (with_value_at self.old (last_position (chars name.now) self.old)) self.old) }
         ensures value { option_copied_mut result ≡ value_at self.old (last_position (chars name.now) self.old) }
@@ -126,7 +126,7 @@ impl Scope {
         }
     }
 
-    /// Tells whether the last entry of a name is a constant by its own mode.
+    /// Returns whether the last entry of a name is a constant by its own mode.
     /// Cost: that of `search`.
     /// rhai: `Scope::is_constant`.
     pub fn is_constant(&self, name: &str) -> Option<bool>
@@ -136,7 +136,7 @@ impl Scope {
         Some(self.is_constant_at(i))
     }
 
-    /// Tells whether the entry at a position is a constant by its own mode.
+    /// Returns whether the entry at a position is a constant by its own mode.
     /// Cost: constant.
     pub fn is_constant_at(&self, i: usize) -> bool
         requires { i < length self.now }

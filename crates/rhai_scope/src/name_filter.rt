@@ -1,14 +1,16 @@
-//! A filter, by which most names that aren't listed are known without a look-up.
+//! A filter that rejects most unindexed names without a look-up.
 ghost use Rattle.std.specs.Prelude.{◌≡◌, ◌+◌, ◌<◌, ◌≤◌, ℕ, List, true, false, length};
 ghost use Rattle.rhai_scope.specs.NameFilter.{word_at, ends_of, bit_of, passes};
 
 /// The number of bits, in words of 64.
 const WORDS: usize = 16;
 
-/// An odd number without a pattern in its digits (2^32 by the golden ratio), so that texts that are much alike have bits far apart.
+/// An odd number with no pattern in its digits (2^32 divided by the golden ratio), so that similar
+/// texts get distant bits.
 const SPREAD: u32 = 0x9E37_79B9;
 
-/// A set of 1,024 bits. Each text has one of them, which it shares with other texts, and passes where that is set.
+/// A Bloom filter of 1,024 bits. Each text has one bit, shared with other texts, and passes if it
+/// is set.
 #[derive(Drop)]
 pub(crate) struct NameFilter {
     words: [u64; WORDS],
@@ -22,7 +24,8 @@ pub(crate) fn word_at(bytes: &[u8], i: usize) -> u32
     u32::from_le_bytes([bytes[i], bytes[i + 1], bytes[i + 2], bytes[i + 3]])
 }
 
-/// The first four bytes and the last four, as a number; of fewer bytes the first, the middle and the last one.
+/// The first four bytes and the last four, as a number; for fewer bytes, the first, the middle and
+/// the last one.
 fn ends_of(bytes: &[u8]) -> u32
     ensures { result ≡ ends_of bytes.now }
 {

@@ -9,7 +9,8 @@ use crate::place_list::PlaceList;
 use std::alloc::{AllocError, Global};
 use std::collections::BTreeMap;
 
-/// For each name the rising list of its places; no list is empty, and each name with a list passes the filter.
+/// For each name the ascending list of its places; no list is empty, and each indexed name passes
+/// the filter.
 #[derive(Drop)]
 pub(crate) struct NameIndex {
     pub(crate) lists: BTreeMap<String, PlaceList>,
@@ -35,8 +36,8 @@ impl NameIndex {
         }
     }
 
-    /// The last place of a name. It takes no memory. Where the name doesn't pass the filter, the time is constant; else it is in the
-    /// name's bytes and in the logarithm of the number of names.
+    /// The last place of a name. Allocates nothing. If the name doesn't pass the filter, the time
+    /// is constant; otherwise it is in the name's bytes and the logarithm of the number of names.
     #[inline(never)]
     pub(crate) fn last(&self, name: &str) -> Option<usize>
         requires { AllPass self.now }
@@ -51,7 +52,8 @@ impl NameIndex {
         }
     }
 
-    /// Adds a place behind those of its name. A name that doesn't pass the filter isn't sought before.
+    /// Appends a place to the list of its name. A name that doesn't pass the filter isn't looked up
+    /// first.
     fn push(&mut self, alloc: Global, name: &str, place: usize) -> Result<(), AllocError>
         ensures ok { OnOk result (AllPass self.old → AllPass self.new × Relists (with_place place) name.now (listed self.old) (listed self.new)) }
         ensures err { OnErr result ((q : List ℕ) → listed self.new q ≡ listed self.old q) }
@@ -66,7 +68,8 @@ impl NameIndex {
         }
     }
 
-    /// Adds the first place of a name. The last growth is that of the map, which stays as it is where memory is refused.
+    /// Adds the first place of a name. The last allocation is that of the map, which is unchanged
+    /// if it fails.
     fn push_first(&mut self, alloc: Global, name: &str, place: usize) -> Result<(), AllocError>
         requires { AllPass self.old → listed self.old name.now ≡ None }
         ensures ok { OnOk result (AllPass self.old → AllPass self.new × Relists (with_place place) name.now (listed self.old) (listed self.new)) }
@@ -83,7 +86,7 @@ impl NameIndex {
         }
     }
 
-    /// Drops the last place of a name, and the name with its only one. It takes no memory.
+    /// Drops the last place of a name, and the name if that was the only one. Allocates nothing.
     fn pop(&mut self, name: &str)
         ensures lists { Relists (shortened front) name.now (listed self.old) (listed self.new) }
         ensures filter { self.new.filter ≡ self.old.filter }
@@ -95,7 +98,8 @@ impl NameIndex {
         }
     }
 
-    /// Adds names, the first of them at this place, behind all others. Where memory is refused, there is no trace of them.
+    /// Appends names, the first of them at this place. If an allocation fails, none of them is
+    /// added.
     pub(crate) fn push_all<N: Named>(
         &mut self,
         alloc: Global,
@@ -119,7 +123,7 @@ impl NameIndex {
         Ok(())
     }
 
-    /// Drops the last names. It takes no memory.
+    /// Drops the last names. Allocates nothing.
     pub(crate) fn pop_all<N: Named>(&mut self, names: &[N])
         ensures { (ns : List (List ℕ)) → ListsNames self.old (ns ++ map N.name_of names.now) → ListsNames self.new ns }
     {
@@ -130,7 +134,7 @@ impl NameIndex {
         }
     }
 
-    /// Drops a place of a name, and the name with its only one.
+    /// Drops a place of a name, and the name if that was the only one.
     fn unlist(&mut self, name: &str, place: usize)
         ensures lists { Relists (shortened (others place)) name.now (listed self.old) (listed self.new) }
         ensures filter { self.new.filter ≡ self.old.filter }
@@ -142,7 +146,7 @@ impl NameIndex {
         }
     }
 
-    /// Moves all places behind one that is gone down by one.
+    /// Decrements all places behind a removed one.
     fn lower(&mut self, gone: usize)
         ensures lists { (q : List ℕ) → listed self.new q ≡ option_map (map (lowered gone)) (listed self.old q) }
         ensures filter { self.new.filter ≡ self.old.filter }
@@ -153,7 +157,8 @@ impl NameIndex {
         });
     }
 
-    /// Drops a place of a name, and moves all places behind it down by one. It takes no memory; the time is in the number of all places.
+    /// Drops a place of a name, and decrements all places behind it. Allocates nothing; the time is
+    /// in the number of all places.
     pub(crate) fn remove(&mut self, name: &str, place: usize)
         ensures { (ms ns : List (List ℕ)) → length ms ≡ place → ListsNames self.old (ms ++ chars name.now ∷ ns) → ListsNames self.new (ms ++ ns) }
     {

@@ -1,11 +1,11 @@
-//! How a name that is sought is told from others: by bytes at its ends where it is short, as most are.
+//! Comparing a sought name with others: by bytes at its ends if it is short, as most names are.
 ghost use Rattle.std.specs.Prelude.{◌≡◌, ◌≤◌, nat_eq, length};
 ghost use Rattle.std.specs.Cmp.Lexicographic.{pointwise};
 ghost use Rattle.rhai_scope.specs.NameLength.{HasLength};
 
 use crate::name_filter::word_at;
 
-/// The length of a name, by which it is compared.
+/// The length class of a name, which selects how it is compared.
 #[derive(Clone, Copy)]
 pub(crate) enum NameLength {
     /// One to three bytes.
@@ -16,7 +16,7 @@ pub(crate) enum NameLength {
     Any,
 }
 
-/// Whether texts are the same, of which one has this length.
+/// Whether two texts are equal, one of which has this length class.
 #[inline(always)]
 pub(crate) fn is_same(own: &str, name: &str, len: NameLength) -> bool
     requires { HasLength len name.now }
@@ -33,8 +33,8 @@ pub(crate) fn is_same(own: &str, name: &str, len: NameLength) -> bool
     }
 }
 
-/// The last byte, the one in the middle and the first. The last comes first, since names of one script begin alike more often than
-/// they end alike.
+/// Compares the last byte, the middle one and the first. The last comes first, since names of one
+/// script share beginnings more often than ends.
 fn is_same_by_bytes(own: &[u8], name: &[u8]) -> bool
     requires { (1 ≤ length name.now) × (length name.now ≤ 3) × (length own.now ≡ length name.now) }
     ensures { result ≡ pointwise nat_eq own.now name.now }
@@ -43,7 +43,7 @@ fn is_same_by_bytes(own: &[u8], name: &[u8]) -> bool
     own[last] == name[last] && own[middle] == name[middle] && own[0] == name[0]
 }
 
-/// The last four bytes and the first four, which may overlap.
+/// Compares the last four bytes and the first four, which may overlap.
 fn is_same_by_words(own: &[u8], name: &[u8]) -> bool
     requires { (4 ≤ length name.now) × (length name.now ≤ 8) × (length own.now ≡ length name.now) }
     ensures { result ≡ pointwise nat_eq own.now name.now }

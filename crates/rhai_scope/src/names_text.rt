@@ -1,4 +1,4 @@
-//! Texts of names, a line each.
+//! Lists of names as text, one per line.
 ghost use Rattle.std.specs.Prelude.{◌≡◌, ◌++◌, IfOk, OnOk, string_bytes};
 ghost use Rattle.std.specs.List.{flat_map};
 ghost use Rattle.std.specs.Str.{chars};
@@ -13,7 +13,7 @@ use rhai_show::Shown;
 use rhai_value::Store;
 use std::alloc::{AllocError, Global};
 
-/// Adds the line of a name.
+/// Appends the line of a name.
 fn add_name_line(out: &mut String, is_constant: bool, name: &str) -> Result<(), AllocError>
     ensures { OnOk result (chars (string_bytes out.new) ≡ chars (string_bytes out.old) ++ name_line is_constant (chars name.now)) }
 {
@@ -33,8 +33,8 @@ fn lines_of(alloc: Global, items: IterRaw<'_>) -> Result<String, AllocError>
     Ok(out)
 }
 
-/// Writes aliases as `Scope::aliases` gives them, a line each: an alias and a line feed.
-/// Errors: memory is refused.
+/// Writes the aliases that `Scope::aliases` returns, one per line, each followed by a line feed.
+/// Errors: an allocation fails.
 /// Cost: the length of the text; memory for it.
 #[tactic(auto, using(crate::proofs::Names::no_characters))]
 pub fn aliases_shown(alloc: Global, aliases: &[Alias]) -> Result<Shown, AllocError>
@@ -48,9 +48,9 @@ pub fn aliases_shown(alloc: Global, aliases: &[Alias]) -> Result<Shown, AllocErr
 }
 
 impl Scope {
-    /// Writes the names of the entries, a line each, from the last to the first: `x`, and `const y` for a constant by
-    /// `Dynamic::is_read_only`. It is what `iter_raw` gives as a text.
-    /// Errors: memory is refused.
+    /// Writes the names of the entries, one per line, from the last to the first: `x`, and
+    /// `const y` for a constant by `Dynamic::is_read_only`. It is the result of `iter_raw` as text.
+    /// Errors: an allocation fails.
     /// Cost: the length of the text; memory for it.
     pub fn names_shown(&self, store: &Store) -> Result<Shown, AllocError>
         ensures { IfOk result (λ x. x ≡ names_text store.now self.now) }

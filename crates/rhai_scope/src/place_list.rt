@@ -5,7 +5,8 @@ ghost use Rattle.rhai_scope.specs.NameIndex.{unless_empty, last_item, front, oth
 use std::alloc::{AllocError, Global};
 use std::marker::Model;
 
-/// The rising list of the places of one name, of which there is at least one. Of a name that stands once it takes no memory.
+/// The ascending list of the places of one name, of which there is at least one. A single place is
+/// stored inline, without an allocation.
 #[derive(Drop)]
 pub(crate) struct PlaceList {
     earlier: Vec<usize>,
@@ -20,14 +21,14 @@ impl Model for PlaceList {
     ghost view = { λ l. l.earlier.items ++ l.last ∷ [] };
 }
 
-/// Where a place stands once the one at `gone` is closed up.
+/// The new value of a place after the one at `gone` is removed.
 fn lowered(gone: usize, place: usize) -> usize
     ensures { result ≡ lowered gone place }
 {
     if gone < place { place - 1 } else { place }
 }
 
-/// Moves each place behind one that is gone down by one.
+/// Decrements each place behind a removed one.
 fn close_up(list: &mut Vec<usize>, gone: usize)
     ensures { list.new.items ≡ map (lowered gone) list.old.items }
 {
@@ -72,7 +73,7 @@ impl PlaceList {
         }
     }
 
-    /// Drops the last place, and answers whether there was another.
+    /// Drops the last place, and returns whether there was another.
     pub(crate) fn pop(&mut self) -> bool
         ensures { (if result then Some self.new else None) ≡ unless_empty (front self.old) }
     {
@@ -85,7 +86,7 @@ impl PlaceList {
         }
     }
 
-    /// Drops a place, and answers whether there was another.
+    /// Drops a place, and returns whether there was another.
     pub(crate) fn take_out(&mut self, place: usize) -> bool
         ensures { (if result then Some self.new else None) ≡ unless_empty (others place self.old) }
     {
@@ -96,7 +97,7 @@ impl PlaceList {
         true
     }
 
-    /// Moves each place behind one that is gone down by one.
+    /// Decrements each place behind a removed one.
     pub(crate) fn lower(&mut self, gone: usize)
         ensures { self.new ≡ map (lowered gone) self.old }
     {

@@ -1,4 +1,4 @@
-//! Entries as they lie in memory.
+//! The layout of entries in memory.
 
 use crate::alias::{Alias, AliasList};
 use crate::aliases::add_once;
@@ -14,7 +14,7 @@ use std::marker::Model;
 /// An entry. Contracts see its name, its value and its aliases.
 #[derive(Drop)]
 pub(crate) struct Record {
-    // first: fields lie in this order, and a value is aligned to 16 bytes
+    // first: fields are laid out in this order, and a value is aligned to 16 bytes
     value: Dynamic,
     name: ImmutableString,
     aliases: Vec<Alias>,
@@ -52,7 +52,7 @@ impl Record {
     ghost use Rattle.rhai_scope.specs.Records.{entry_of};
     ghost use Rattle.rhai_scope.specs.contracts.records.Record as record_type;
 
-    /// A new entry, which has no alias.
+    /// A new entry without aliases.
     pub(crate) fn new(alloc: Global, name: ImmutableString, value: Dynamic) -> Record
         ensures { result ≡ new_entry name value }
     {
@@ -63,7 +63,7 @@ impl Record {
         }
     }
 
-    /// The same entry again: its name and its aliases share their bytes, and its value is copied.
+    /// Copies the entry: its name and its aliases share their bytes, and its value is copied.
     pub(crate) fn copy(&self, alloc: Global) -> Result<Record, AllocError>
         ensures { IfOk result (λ e. e ≡ copied_entry self.now) }
     {
@@ -115,7 +115,7 @@ impl Record {
         is_same(self.name.as_str(), name, len)
     }
 
-    /// The value, to write to.
+    /// Borrows the value mutably.
     pub(crate) fn value_mut(&mut self) -> &mut Dynamic
         ensures* writes_back { sem 𝓛 (Lends record_type.the_row dynamic_type.the_row self.entry result (λ w. with_value w self.old)) }
         ensures value { result.now ≡ self.old.value }
@@ -123,7 +123,7 @@ impl Record {
         &mut self.value
     }
 
-    /// Adds an alias at the end, unless it is there.
+    /// Appends an alias unless the entry has it.
     pub(crate) fn add_alias(&mut self, alias: Alias) -> Result<(), AllocError>
         ensures name { self.new.name ≡ self.old.name }
         ensures ok { OnOk result (self.new ≡ aliased alias self.old) }

@@ -1,4 +1,4 @@
-//! Entries that are lent one by one, from either end.
+//! Entries borrowed one by one, from either end.
 
 use crate::alias::Alias;
 use crate::records::Record;
@@ -6,7 +6,7 @@ use rhai_text::ImmutableString;
 use rhai_value::Dynamic;
 use std::marker::Model;
 
-/// Entries that stand one behind another in a scope.
+/// Consecutive entries of a scope.
 #[derive(Drop)]
 pub(crate) struct Rest<'a> {
     entries: &'a [Record],
@@ -41,7 +41,7 @@ impl<'a> Rest<'a> {
         self.entries.len()
     }
 
-    /// The first entry, which goes.
+    /// Removes and returns the first entry.
     pub(crate) fn next(&mut self) -> Option<(&'a ImmutableString, &'a Dynamic, &'a [Alias])>
         ensures { MatchOption result ((self.old ≡ []) × (self.new ≡ [])) (λ x. self.old ≡ entry_of x ∷ self.new) }
     {
@@ -50,7 +50,7 @@ impl<'a> Rest<'a> {
         Some(first.parts())
     }
 
-    /// The last entry, which goes.
+    /// Removes and returns the last entry.
     pub(crate) fn next_back(&mut self) -> Option<(&'a ImmutableString, &'a Dynamic, &'a [Alias])>
         ensures { MatchOption result ((self.old ≡ []) × (self.new ≡ [])) (λ x. self.old ≡ self.new ++ entry_of x ∷ []) }
     {

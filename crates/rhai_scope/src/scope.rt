@@ -14,12 +14,12 @@ use rhai_value::{AccessMode, Dynamic};
 use std::alloc::{AllocError, Global};
 use std::marker::Model;
 
-/// The least number of entries that a scope has room for, once it has one.
+/// The least capacity of a scope that has had an entry.
 pub const MIN_SCOPE_ENTRIES: usize = 8;
 
 /// The named values of a script. Contracts see the list of entries, the newest last.
 ///
-/// It keeps the allocator that it was made with.
+/// It stores the allocator that it was made with.
 /// rhai: `Scope`.
 #[derive(Drop)]
 pub struct Scope {
@@ -44,7 +44,7 @@ impl Model for Scope {
     ghost invariant = { λ s. IsIndexOf s.index (names_of s.records.items) };
 }
 
-/// Makes room for one more entry; where there is none yet, for the least number of a scope's entries.
+/// Makes room for one more entry; the first allocation has room for the least capacity.
 pub(crate) fn make_room(records: &mut Vec<Record>) -> Result<(), AllocError>
     ensures items { records.new.items ≡ records.old.items }
     ensures room { OnOk result (vec_len records.new + 1 ≤ vec_capacity records.new) }
@@ -58,7 +58,7 @@ pub(crate) fn make_room(records: &mut Vec<Record>) -> Result<(), AllocError>
     records.reserve(more)
 }
 
-/// Makes all growths that one more entry wants.
+/// Makes all allocations that one more entry needs.
 fn admit(alloc: Global, records: &mut Vec<Record>, index: &mut Index) -> Result<(), AllocError>
     requires { IsIndexOf index.old (names_of records.old.items) }
     ensures items { records.new.items ≡ records.old.items }
@@ -70,7 +70,8 @@ fn admit(alloc: Global, records: &mut Vec<Record>, index: &mut Index) -> Result<
     index.admit_one(alloc, records.as_slice())
 }
 
-/// Adds an entry where there is room for it. Its value is painted in its place, so that what is written isn't moved again.
+/// Appends an entry, given enough capacity. Its value is painted in place, so that it isn't moved
+/// again after the write.
 #[inline(always)]
 pub(crate) fn push_in_room(
     alloc: Global,
@@ -90,7 +91,7 @@ pub(crate) fn push_in_room(
 }
 
 impl Scope {
-    /// Makes a scope of no entries.
+    /// Makes an empty scope.
     /// Cost: constant; no memory.
     /// rhai: `Scope::new`.
     pub fn new(alloc: Global) -> Scope
@@ -103,9 +104,9 @@ impl Scope {
         }
     }
 
-    /// Makes a scope of no entries, with room for so many.
-    /// Errors: memory for the room is refused.
-    /// Cost: the room.
+    /// Makes an empty scope with room for this many entries.
+    /// Errors: the allocation fails.
+    /// Cost: that of the allocation.
     /// rhai: `Scope::with_capacity`.
     pub fn with_capacity(alloc: Global, capacity: usize) -> Result<Scope, AllocError>
         ensures { IfOk result (λ s. s ≡ []) }
@@ -134,7 +135,7 @@ impl Scope {
         self.records.reserve(more)
     }
 
-    /// Drops all entries with their aliases, and keeps the room for them.
+    /// Drops all entries with their aliases, and keeps the capacity.
     /// Cost: their drop.
     /// rhai: `Scope::clear`.
     pub fn clear(&mut self)
@@ -144,7 +145,7 @@ impl Scope {
         self.index.clear();
     }
 
-    /// Tells the number of entries.
+    /// Returns the number of entries.
     /// rhai: `Scope::len`.
     pub fn len(&self) -> usize
         ensures { result ≡ length self.now }
@@ -152,7 +153,7 @@ impl Scope {
         self.records.len()
     }
 
-    /// Tells whether there is no entry.
+    /// Returns whether the scope is empty.
     /// rhai: `Scope::is_empty`.
     pub fn is_empty(&self) -> bool
         ensures { IsTrue result ↔ (self.now ≡ []) }
@@ -160,10 +161,10 @@ impl Scope {
         self.len() == 0
     }
 
-    /// Adds an entry behind the others, its value painted with a mode.
-    /// Errors: name and value come back where memory is refused, and the scope is as it was.
-    /// Cost: constant, and that of `Dynamic::set_access_mode`; where the entry comes into the index that of a look-up
-    /// there, and now and then the list of entries grows.
+    /// Appends an entry with its value painted with a mode.
+    /// Errors: name and value, if an allocation fails; the scope is unchanged.
+    /// Cost: constant, and that of `Dynamic::set_access_mode`; if the entry is indexed, that of a
+    /// look-up in the index; occasionally the list of entries grows.
     /// rhai: `Scope::push_entry`, which is private.
     #[inline(always)]
     pub fn push_entry(
@@ -185,8 +186,8 @@ impl Scope {
         }
     }
 
-    /// Adds an entry behind the others. Its value is a constant where it was one.
-    /// Errors: memory is refused; the scope is as it was, and the value is gone.
+    /// Appends an entry. Its value is a constant if it was one.
+    /// Errors: an allocation fails; the scope is unchanged, and the value is dropped.
     /// Cost: that of `push_entry`, and the length of the name.
     /// rhai: `Scope::push_dynamic`.
     #[inline(always)]
@@ -198,8 +199,8 @@ impl Scope {
         self.push_named(name, access, value)
     }
 
-    /// Adds a constant behind the other entries.
-    /// Errors: memory is refused; the scope is as it was, and the value is gone.
+    /// Appends a constant.
+    /// Errors: an allocation fails; the scope is unchanged, and the value is dropped.
     /// Cost: that of `push_entry`, and the length of the name.
     /// rhai: `Scope::push_constant_dynamic`.
     pub fn push_constant_dynamic(&mut self, name: &str, value: Dynamic) -> Result<(), AllocError>
@@ -219,7 +220,7 @@ impl Scope {
         ensures ok { OnOk result (self.new ≡ pushed access (chars name.now) value self.old) }
         ensures err { OnErr result (self.new ≡ self.old) }
     {
-        // Room is made before the name, so that the value goes straight to its place.
+        // Room is made before the name, so that the value is written directly to its place.
         let alloc = self.alloc;
         admit(alloc, &mut self.records, &mut self.index)?;
         let name = ImmutableString::from_str(alloc, name)?;
@@ -228,7 +229,7 @@ impl Scope {
     }
 
     /// Drops the last entry with its aliases.
-    /// Cost: its drop; of an entry that is in the index that of a look-up there.
+    /// Cost: its drop; for an indexed entry, that of a look-up in the index.
     /// rhai: `Scope::pop`, which panics without an entry.
     pub fn pop(&mut self)
         requires { 0 < length self.old }
@@ -252,8 +253,8 @@ impl Scope {
         self.index.remove(gone.name().as_str(), i);
     }
 
-    /// Keeps the first `size` entries with their aliases, and all where there are no more.
-    /// Cost: the number of the entries that go.
+    /// Keeps the first `size` entries with their aliases, or all if there are no more.
+    /// Cost: the number of dropped entries.
     /// rhai: `Scope::rewind`.
     pub fn rewind(&mut self, size: usize)
         ensures { self.new ≡ take size self.old }

@@ -11,7 +11,7 @@ use rhai_show::{Shown, debug_text};
 use rhai_value::Store;
 use std::alloc::{AllocError, Global};
 
-/// Adds a text at the end.
+/// Appends a text.
 pub(crate) fn add_text(out: &mut String, text: &str) -> Result<(), AllocError>
     ensures { OnOk result (chars (string_bytes out.new) ≡ chars (string_bytes out.old) ++ chars text.now) }
 {
@@ -19,7 +19,7 @@ pub(crate) fn add_text(out: &mut String, text: &str) -> Result<(), AllocError>
     out.push_str(text)
 }
 
-/// Adds the decimal digits of a number.
+/// Appends the decimal digits of a number.
 fn add_number(out: &mut String, number: usize) -> Result<(), AllocError>
     ensures { OnOk result (chars (string_bytes out.new) ≡ chars (string_bytes out.old) ++ decimal number) }
 {
@@ -37,7 +37,7 @@ pub(crate) fn add_mark(out: &mut String, is_constant: bool) -> Result<(), AllocE
     }
 }
 
-/// Adds the line of an entry.
+/// Appends the line of an entry.
 fn add_line(
     out: &mut String,
     number: usize,
@@ -78,9 +78,10 @@ fn text_of(alloc: Global, entries: &[Record], store: &Store) -> Result<String, A
 }
 
 impl Scope {
-    /// Writes the entries, a line each, from the first to the last: `[1] x = 42`, and `[2] const y = 1` for a constant by
-    /// `Dynamic::is_read_only`; the value is printed as `debug_text` prints it.
-    /// Errors: memory is refused.
+    /// Writes the entries, one per line, from the first to the last: `[1] x = 42`, and
+    /// `[2] const y = 1` for a constant by `Dynamic::is_read_only`; values are printed as
+    /// `debug_text` does.
+    /// Errors: an allocation fails.
     /// Cost: that of `debug_text` for each.
     /// rhai: `Display` of `Scope`.
     pub fn shown(&self, store: &Store) -> Result<Shown, AllocError>

@@ -1,4 +1,4 @@
-//! Entries by types of Rust.
+//! Entries by Rust types.
 ghost use Rattle.std.specs.Prelude.{◌≡◌, ◌<◌, true, false, is_some, None, Some, length, option_map, option_and_then, remove, slice_get, IfSome, IfOk, OnOk, OnErr, IsOk};
 ghost use Rattle.std.specs.Borrow.{LendsIf, sem};
 ghost use Rattle.std.specs.Str.{chars};
@@ -19,7 +19,7 @@ use rhai_value::{AccessMode, Dynamic, Store};
 use rhai_variant::Variant;
 use std::alloc::{AllocError, Global};
 
-/// The value that is made of one of Rust's.
+/// The value made from a Rust value.
 fn made<T: Variant>(alloc: Global, value: T) -> Result<Dynamic, AllocError>
     ensures value { IfOk result (λ d. d ≡ T.tree value) }
     ensures free { is_type T.KIND type_id.String ≡ false → IsOk result }
@@ -30,7 +30,7 @@ fn made<T: Variant>(alloc: Global, value: T) -> Result<Dynamic, AllocError>
     }
 }
 
-/// What is read of the flat copy of a value, if it is of the type.
+/// Reads the type from the flat copy of a value, if the value is of it.
 fn read_flat<T: Variant>(
     alloc: Global,
     value: &Dynamic,
@@ -48,7 +48,7 @@ fn read_flat<T: Variant>(
 }
 
 impl Scope {
-    /// Takes the entry at a position out with its aliases, and answers its value as it is.
+    /// Removes the entry at a position with its aliases, and returns its own value.
     /// Cost: the number of entries behind it; no memory.
     #[tactic(auto, using(crate::proofs::MovedOut::taken, crate::proofs::MovedOut::length_changed))]
     pub fn remove_at(&mut self, i: usize) -> Dynamic
@@ -61,7 +61,7 @@ impl Scope {
         value
     }
 
-    /// Sets the value at a place.
+    /// Replaces the value at a position.
     fn put(&mut self, i: usize, value: Dynamic)
         requires { i < length self.old }
         ensures { self.new ≡ changed_at (with_value value) self.old i }
@@ -69,7 +69,7 @@ impl Scope {
         *self.at_mut(i) = value;
     }
 
-    /// Moves the value at a place out, and leaves unit.
+    /// Moves the value at a position out, and leaves unit.
     fn lift(&mut self, i: usize) -> Dynamic
         requires { i < length self.old }
         ensures value { option_map (λ e. e.value) (slice_get self.old i) ≡ Some result }
@@ -78,7 +78,8 @@ impl Scope {
         self.at_mut(i).take()
     }
 
-    /// Takes the entry at a place out, if there is one, and casts its value; the entry stays where memory is refused.
+    /// Removes the entry at a position, if there is one, and casts its value; the entry is kept if
+    /// an allocation fails.
     #[tactic(auto, using(crate::proofs::MovedOut::taken, crate::proofs::MovedOut::length_changed))]
     fn take_at<T: Variant>(
         &mut self,
@@ -112,8 +113,8 @@ impl Scope {
 }
 
 impl Scope {
-    /// Adds an entry behind the others. The text of the name is copied.
-    /// Errors: memory is refused; the scope is as it was, and the value is gone.
+    /// Appends an entry. The text of the name is copied.
+    /// Errors: an allocation fails; the scope is unchanged, and the value is dropped.
     /// Cost: that of `push_entry`, and the length of the name.
     /// rhai: `Scope::push`.
     pub fn push<T: Variant>(&mut self, name: &str, value: T) -> Result<(), AllocError>
@@ -124,8 +125,8 @@ impl Scope {
         self.push_named(name, AccessMode::ReadWrite, value)
     }
 
-    /// Adds a constant behind the other entries.
-    /// Errors: memory is refused; the scope is as it was, and the value is gone.
+    /// Appends a constant.
+    /// Errors: an allocation fails; the scope is unchanged, and the value is dropped.
     /// Cost: that of `push`.
     /// rhai: `Scope::push_constant`.
     pub fn push_constant<T: Variant>(&mut self, name: &str, value: T) -> Result<(), AllocError>
@@ -136,9 +137,10 @@ impl Scope {
         self.push_named(name, AccessMode::ReadOnly, value)
     }
 
-    /// Gives the last entry of a name another value, which isn't painted, unless that entry is a constant by its own mode.
-    /// Then, and where there is none of the name, it adds an entry behind the others. No cell is written.
-    /// Errors: memory is refused; the scope is as it was, and the value is gone.
+    /// Replaces the value of the last entry of a name, without painting, unless that entry is a
+    /// constant by its own mode. In that case, or if the name has no entry, appends an entry. No
+    /// cell is written.
+    /// Errors: an allocation fails; the scope is unchanged, and the value is dropped.
     /// Cost: that of `search`; for a new entry that of `push`.
     /// rhai: `Scope::set_or_push`.
     pub fn set_or_push<T: Variant>(&mut self, name: &str, value: T) -> Result<(), AllocError>
@@ -151,9 +153,9 @@ impl Scope {
         self.set_at(place, name, value)
     }
 
-    /// Gives the last entry of a name another value, which isn't painted; where there is none of the name, it adds an entry
-    /// behind the others. No cell is written.
-    /// Errors: memory is refused; the scope is as it was, and the value is gone.
+    /// Replaces the value of the last entry of a name, without painting; if the name has no entry,
+    /// appends one. No cell is written.
+    /// Errors: an allocation fails; the scope is unchanged, and the value is dropped.
     /// Cost: that of `search`; for a new entry that of `push`.
     /// rhai: `Scope::set_value`, which panics on a constant.
     pub fn set_value<T: Variant>(&mut self, name: &str, value: T) -> Result<(), AllocError>
@@ -182,8 +184,8 @@ impl Scope {
         }
     }
 
-    /// Copies what the last entry's value of a name, without its holders, has of this type.
-    /// Errors: memory is refused, for the copy or for a `String`.
+    /// Copies, as this type, the flat value of the last entry of a name, if it is of the type.
+    /// Errors: an allocation fails, for the copy or for a `String`.
     /// Cost: that of `search`, and that of `Dynamic::flatten_clone`.
     /// rhai: `Scope::get_value`.
     pub fn get_value<T: Variant>(&self, name: &str, store: &Store) -> Result<Option<T>, AllocError>
@@ -197,7 +199,8 @@ impl Scope {
         }
     }
 
-    /// Lends what the value itself of the last entry of a name has of this type: no value has a `String`.
+    /// Borrows, as this type, the own value of the last entry of a name, if it is of the type. No
+    /// value has a `String`.
     /// Cost: that of `search`.
     /// rhai: `Scope::get_value_ref`, which panics on a shared value.
     pub fn get_value_ref<T: Variant>(&self, name: &str) -> Option<&T>
@@ -210,8 +213,9 @@ impl Scope {
         }
     }
 
-    /// Lends what the value itself of the last entry of a name has of this type, to write, also of a constant: what is
-    /// written is then the content of the value, tag and mode staying; of a `Dynamic` it is the whole value.
+    /// Borrows, as this type, the own value of the last entry of a name mutably, even of a
+    /// constant. A write replaces the content of the value, and keeps tag and mode; for `Dynamic`
+    /// it replaces the whole value.
     /// Cost: that of `search`.
     /// rhai: `Scope::get_value_mut`, which panics on a shared value.
     pub fn get_value_mut<T: Variant>(&mut self, name: &str) -> Option<&mut T>
@@ -225,9 +229,9 @@ impl Scope {
         }
     }
 
-    /// Takes the last entry of a name out with its aliases, and answers what its value without its holders has of this
-    /// type. The entry goes also where that is `None`.
-    /// Errors: memory is refused, for a copy out of a cell or for a `String`; the entry stays then.
+    /// Removes the last entry of a name with its aliases, and returns its flat value as this type.
+    /// The entry is removed even if the result is `None`.
+    /// Errors: an allocation fails, for a copy out of a cell or for a `String`; the entry is kept.
     /// Cost: that of `search`, and the number of entries behind it.
     /// rhai: `Scope::remove`.
     pub fn remove<T: Variant>(&mut self, name: &str, store: &Store) -> Result<Option<T>, AllocError>

@@ -1,4 +1,4 @@
-//! The copy of what the names of a scope mean.
+//! The copy of the visible entries of a scope.
 ghost use Rattle.std.specs.Prelude.{◌≡◌, ◌↔◌, ℕ, List, false, Some, IsTrue, map, option_map, IfOk};
 ghost use Rattle.std.specs.Str.{chars};
 ghost use Rattle.rhai_scope.specs.Entry.{copied_entry, is_constant_entry};
@@ -12,7 +12,8 @@ use crate::scope::Scope;
 use std::alloc::AllocError;
 
 impl Scope {
-    /// Whether the last entry of a name stands at a place. It does where the name doesn't pass the filter of those behind it.
+    /// Whether the last entry of a name is at this position. It is if the name doesn't pass the
+    /// filter of those behind it.
     fn is_last(&self, behind: &NameFilter, name: &str, place: usize) -> bool
         requires { passes behind.now name.now ≡ false → last_position (chars name.now) self.now ≡ Some place }
         ensures { IsTrue result ↔ (last_position (chars name.now) self.now ≡ Some place) }
@@ -44,9 +45,10 @@ impl Scope {
         Ok(copies)
     }
 
-    /// Copies the last entry of each name, as `copy` does, the newest first; `is_constant` of each name stays.
-    /// Errors: memory is refused.
-    /// Cost: that of `search` of each name, and that of the copies, which alone take memory.
+    /// Copies the last entry of each name, as `copy` does, the newest first; `is_constant` of each
+    /// name is unchanged.
+    /// Errors: an allocation fails.
+    /// Cost: that of `search` of each name, and that of the copies; only the copies allocate.
     /// rhai: `Scope::clone_visible`.
     #[tactic(auto, using(crate::proofs::Kept::constants_kept))]
     pub fn clone_visible(&self) -> Result<Scope, AllocError>

@@ -1,4 +1,4 @@
--- Tags and modes aren't seen by plain values, at any depth.
+-- Tags and modes have no effect on plain values, at any depth.
 use Rattle.std.proofs.Common.{◌≡◌, ℕ, zero, suc, Bool, true, false, List, [], ◌∷◌, length, map, Option, Some, None, option_map, refl, ap, ap₂, ◌∙◌}
 use Rattle.std.proofs.lemmas.List.{length-map}
 use mathlib.Core.Path.{fun_ext}
@@ -16,7 +16,7 @@ bare_tree path go =
     (λ l g m. refl) (λ k ts g m h. ap (option_map (plain_branch k)) h) (λ fs g m h. ap (option_map plain_map) h) (λ c g m. refl)
     refl (λ t ts p q. ap₂ plain_more p q) refl (λ k t fs p q. ap₂ (plain_field_more k) p q)
 
--- what is read of a cell
+-- reading a cell
 bare_unmarked : (m : Bool) (t : Tree) → unmarked (bare_cell (record { content = t; is_marked = m })) ≡ option_map bare (unmarked (record { content = t; is_marked = m }))
 bare_unmarked true t = refl
 bare_unmarked false t = refl

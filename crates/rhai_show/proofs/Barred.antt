@@ -1,4 +1,4 @@
--- What is read of holders.
+-- Reading holders.
 use Rattle.std.proofs.Common.{◌≡◌, ℕ, false, List, [], ◌∷◌, Some, None, refl, sym, ap, ◌∙◌}
 use Rattle.rhai_value.specs.declared.cells.store.Cell.{Cell}
 use Rattle.rhai_value.specs.End.{first}
@@ -7,7 +7,7 @@ use Rattle.rhai_value.specs.Walk.{is_open, opened, visit_map, visit_of, entry}
 use Rattle.rhai_show.specs.Plain.{plain_held, plain}
 use Rattle.rhai_show.proofs.Plains.{plain_opens, plain-opened}
 
--- a holder of which nothing is read isn't plain
+-- a holder without a first content isn't plain
 pub barred_plain : (s : List Cell) (path : List ℕ) (t : Tree) → first s t ≡ None → plain s path t ≡ None
 barred_plain s path (node (leaf l) g m) e = cc
 barred_plain s path (node (branch k ts) g m) e = cc
@@ -21,7 +21,7 @@ barred_closed s path (node (branch k ts) g m) u is e = absurd (cc)
 barred_closed s path (node (fields fs) g m) u is e = absurd (cc)
 barred_closed s path (node (holder c) g m) u is e = let bad : Some u ≡ None = is ∙ ap (λ o. opened (visit_of o (is_open c path))) e in absurd (cc)
 
--- a value is plain as what is read of it
+-- a value is plain as its first content is
 pub read_plain : (s : List Cell) (t u : Tree) → Some u ≡ first s t → (path : List ℕ) × (plain s path u ≡ plain s [] t)
 read_plain s (node (leaf l) g m) u e = let same : u ≡ node (leaf l) g m = cc in ([], ap (plain s []) same)
 read_plain s (node (branch k ts) g m) u e = let same : u ≡ node (branch k ts) g m = cc in ([], ap (plain s []) same)

@@ -1,4 +1,4 @@
--- A search for plain values through what is left of each value that it is in, the innermost first.
+-- A search for plain values through the frames of a walk, the innermost first.
 use Rattle.std.proofs.Common.{◌≡◌, ℕ, ◌+◌, ◌*◌, ◌≤◌, ◌&&◌, Bool, true, false, List, [], ◌∷◌, is_some, refl, sym, ap, ap₂, ◌∙◌, subst, arith}
 use Rattle.rhai_value.specs.declared.cells.store.Cell.{Cell}
 use Rattle.rhai_value.specs.Rows.{Rows, trees_of, fields_of}
@@ -10,7 +10,7 @@ use Rattle.rhai_show.specs.Weights.{weight}
 use Rattle.rhai_show.proofs.Rests.{weight_left}
 use Rattle.rhai_show.proofs.Searches.{searched_none, searched_more}
 
--- values by their keys, or without
+-- values with keys, or without
 pub items_trees : (xs : List Tree) → trees_in (items_keyed xs) ≡ trees_of xs
 items_trees [] = refl
 items_trees (x ∷ xs) = ap (tree_then x) (items_trees xs)
@@ -23,23 +23,23 @@ pub values_free : (fs : Fields) → FieldsHaveNoHolders fs → HaveNoHolders (va
 values_free no_fields h = tt
 values_free (field_then k t fs) h = (h.0, values_free fs h.1)
 
--- whether all that is left is plain
+-- whether all remaining values are plain
 abbrev pub answer_left : List Cell → List ℕ → List Level → Bool
 answer_left s path [] = true
 answer_left s path (l ∷ ls) = are_plain s path (trees_in l.1) && answer_left s (closed_by l.0 path) ls
 
--- no holder stands in what is left
+-- the remaining values contain no holder
 abbrev pub NoneLeft : List Level → Type 0
 NoneLeft [] = Unit {0}
 NoneLeft (l ∷ ls) = HaveNoHolders (trees_in l.1) × NoneLeft ls
 
--- once the values of each level are searched, so is the whole
+-- if the values of each level are searched, so is the whole
 abbrev pub Finds : List Cell → Tree → List ℕ → List ℕ → List ℕ → List ℕ → List Level → Type 0
 Finds s t first before path seen [] = Searched s first before seen (tree_then t no_trees)
 Finds s t first before path seen (l ∷ ls) =
     (later : List ℕ) → Searched s path seen later (trees_in l.1) → Clean s (has_left later (closed_by l.0 path)) × Finds s t first before (closed_by l.0 path) later ls
 
--- The search is in a value, and has found nothing wrong.
+-- The search is inside a value, and has found no value that isn't plain.
 pub record Searching (s : List Cell) (t : Tree) (first before path seen : List ℕ) (ls : List Level) : Type 0 where
   pub path_after : path_left path ls ≡ first
   pub have_open : HaveOpen path ls
@@ -54,7 +54,7 @@ both_of true b c = refl
 both_of false b c = refl
 
 module _ (s : List Cell) (t : Tree) (first before path seen : List ℕ) (b : Bool) (c : Keyed) (cs : List Keyed) (ls : List Level) (h : Searching s t first before path seen ((b, c ∷ cs) ∷ ls)) where
-  -- a value is plain
+  -- a value is found plain
   pub clean_on : (next later : List ℕ) → next ≡ path → true ≡ is_some (plain s path c.1) → Searched s path seen later (tree_then c.1 no_trees) → Searching s t first before next later ((b, cs) ∷ ls)
   clean_on next later same is one = subst (λ p. Searching s t first before p later ((b, cs) ∷ ls)) (sym same) (record {
     path_after = h.path_after;
@@ -66,7 +66,7 @@ module _ (s : List Cell) (t : Tree) (first before path seen : List ℕ) (b : Boo
     below = omega (arith, h.below);
   })
 
-  -- a value is begun
+  -- a value is entered
   pub clean_down : (next later : List ℕ) (d : Bool) (ks : List Keyed) → closed_by d next ≡ path → HasOpen d next → rest_weight (weight s next) ks ≤ weight s path c.1 → Clean s (has_left later next)
       → are_plain s next (trees_in ks) ≡ is_some (plain s path c.1) → ((end : List ℕ) → Searched s next later end (trees_in ks) → Searched s path seen end (tree_then c.1 no_trees))
       → (HasNoHolder c.1 → HaveNoHolders (trees_in ks)) → Searching s t first before next later ((d, ks) ∷ (b, cs) ∷ ls)
@@ -84,7 +84,7 @@ module _ (s : List Cell) (t : Tree) (first before path seen : List ℕ) (b : Boo
         below = omega (arith, h.below, same, less);
       }
 
--- a value is ended
+-- a value is finished
 pub clean_up : (s : List Cell) (t : Tree) (first before path next seen : List ℕ) (b : Bool) (ls : List Level) → Searching s t first before path seen ((b, []) ∷ ls) → next ≡ closed_by b path → Searching s t first before next seen ls
 clean_up s t first before path next seen b ls h back =
     let found = h.found seen (searched_none s path seen h.clean) in

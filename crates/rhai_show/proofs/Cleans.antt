@@ -16,7 +16,7 @@ pub either : (b : Bool) → (b ≡ true) ⊎ (b ≡ false)
 either true = inl refl
 either false = inr refl
 
--- What names clean cells alone is plain on every path that has none of these open.
+-- A value that refers only to clean cells is plain on every path that has none of these open.
 pub named_plain : (s : List Cell) (d : ℕ → Bool) → Clean s d → (path : List ℕ) → Apart path d → (t : Tree) → Names d t → is_some (plain s path t) ≡ true
 named_plain s d clean path apart = by_value (λ t. Names d t → is_some (plain s path t) ≡ true) (λ ts. AllName d ts → are_plain s path ts ≡ true) (λ fs. FieldsName d fs → are_plain s path (values_in fs) ≡ true)
     (λ l g m n. sym (plain-leaf s path (node (leaf l) g m) l g m refl))
@@ -25,11 +25,11 @@ named_plain s d clean path apart = by_value (λ t. Names d t → is_some (plain 
     (λ c g m n. ap is_some (plain-holders s path c g (pos 0) m ReadWrite) ∙ clean.held c n path apart)
     (λ n. refl) (λ t ts p q n. and_from _ _ (p n.0) (q n.1)) (λ n. refl) (λ k t fs p q n. and_from _ _ (p n.0) (q n.1))
 
--- no cell is found clean yet
+-- no cell is known to be clean yet
 pub clean_none : (s : List Cell) (d : ℕ → Bool) → ((c : ℕ) → d c ≡ false) → Clean s d
 clean_none s d none = record { held = λ c h path apart. let no : d c ≡ false = none c in cc }
 
--- the same cells in other words
+-- an equivalent set of cells
 pub clean_same : (s : List Cell) (d e : ℕ → Bool) → ((c : ℕ) → d c ≡ e c) → Clean s d → Clean s e
 clean_same s d e same clean = record { held = λ c h path apart. clean.held c (same c ∙ h) path (λ x o. same x ∙ apart x o) }
 
@@ -51,7 +51,7 @@ unequal x c away = elim (either (nat_eq x c)) [ inr f ↦ f | inl e ↦ absurd (
 pub further : (c : ℕ) (path : List ℕ) (y : ℕ) → (y ≡ c → ⊥) → is_open y (c ∷ path) ≡ true → is_open y path ≡ true
 further c path y away o = or_else (nat_eq y c) (is_open y path) (unequal y c away) o
 
--- A cell whose content names clean cells alone is clean, if it isn't one of these.
+-- A cell whose content refers only to clean cells is clean, if it isn't one of these.
 pub clean_more : (s : List Cell) (d e : ℕ → Bool) (c : ℕ) (t : Tree) → Clean s d → at s c ≡ Some t → d c ≡ false → Names d t
     → ((x : ℕ) → d x ≡ true → e x ≡ true) → ((x : ℕ) → e x ≡ true → (x ≡ c) ⊎ (d x ≡ true)) → e c ≡ true → Clean s e
 clean_more s d e c t clean there new names grows only own = record {

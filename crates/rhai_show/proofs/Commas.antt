@@ -15,7 +15,7 @@ module _ {A : Type 0} (f : A → List ℕ) where
   listed_none true = refl
   listed_none false = refl
 
-  -- one more text is added, and the comma before it
+  -- one more text is appended, after its comma
   pub listed_step : (b : Bool) (x : A) (xs ys : List A) (out more next : List ℕ) → ys ≡ x ∷ xs → more ≡ out ++ comma_unless b → next ≡ more ++ f x → next ++ listed f false xs ≡ out ++ listed f b ys
   listed_step b x xs ys out more next e p q =
       let rest = listed f false xs in
@@ -36,7 +36,7 @@ module _ {A : Type 0} (f : A → List ℕ) where
   listed_end b xs i out all l = listed_all b (drop i xs) out all (drop_of_length-le xs l)
 
 module _ {A B : Type 0} (f : B → List ℕ) (g : A → B) where
-  -- the texts of what becomes of the items
+  -- the texts of mapped items
   pub further-map : (xs : List A) → further f (map g xs) ≡ further (λ x. f (g x)) xs
   further-map [] = refl
   further-map (x ∷ xs) = ap (λ t. (comma ++ f (g x)) ++ t) (further-map xs)

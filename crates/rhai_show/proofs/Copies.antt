@@ -1,4 +1,4 @@
--- A copy of a value prints as the value.
+-- A copy prints as the value does.
 use Rattle.std.proofs.Common.{◌≡◌, ℕ, List, ◌∷◌, refl, sym, ap, ap₂, ◌∙◌}
 use Rattle.rhai_value.specs.declared.cells.store.Cell.{Cell}
 use Rattle.rhai_value.specs.Tree.{Tree, copy, copy_trees, copy_fields}

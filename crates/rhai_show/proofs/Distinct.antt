@@ -1,4 +1,4 @@
--- Hash bytes tell plain values apart, whatever comes behind them.
+-- Hash bytes distinguish plain values, whatever follows them.
 use Rattle.std.proofs.Common.{◌≡◌, ◌↔◌, ℕ, List, [], ◌∷◌, ◌++◌, refl, sym, ap, ap₂, ◌∙◌, append_assoc}
 use Rattle.std.proofs.lemmas.List.{append-nil}
 use Rattle.rhai_show.specs.Plain.{Plain, plain_leaf, plain_branch, plain_map, Plains, no_plains, plain_then, PlainFields, no_plain_fields, plain_field_then}
@@ -6,7 +6,7 @@ use Rattle.rhai_show.specs.HashBytes.{count_bytes, name_bytes, kind_bytes, how_m
 use Rattle.rhai_show.specs.InRange.{IsInRange, AreInRange, FieldsInRange}
 use Rattle.rhai_show.proofs.Heads.{Head, a_leaf, a_branch, a_map, read_head, leaf_read, kind_read, map_read, read_name, name_read}
 
--- what a value's bytes begin with, and what comes behind that
+-- the head of a value's bytes, and the bytes after it
 abbrev head_of : Plain → Head
 head_of (plain_leaf l) = a_leaf l
 head_of (plain_branch k ps) = a_branch k (how_many ps)
@@ -75,7 +75,7 @@ mutual
   fields_distinct no_plain_fields (plain_field_then j q gs) x y f g n e = cc
   fields_distinct (plain_field_then k p fs) no_plain_fields x y f g n e = cc
 
--- plain values have equal hash bytes exactly where they are equal
+-- plain values have equal hash bytes exactly if they are equal
 pub distinct_bytes : (p q : Plain) → IsInRange p → IsInRange q → (plain_bytes p ≡ plain_bytes q) ↔ (p ≡ q)
 distinct_bytes p q f g =
     (λ e. (by_heads p q [] [] f g (heads_same p q [] [] f g (append-nil (plain_bytes p) ∙ e ∙ sym (append-nil (plain_bytes q))))).0, λ e. ap plain_bytes e)

@@ -1,6 +1,6 @@
--- What the proofs of crates above may cite, besides the laws: everything else in this folder is private.
--- plain values and printed text, of related values
+-- Lemmas for the proofs of crates above, besides the laws; everything else in this folder is private.
+-- plain values and printed text of related values
 pub use Rattle.rhai_show.proofs.SamePlain.{same_plain}
 pub use Rattle.rhai_show.proofs.SamePrinted.{same_printed}
--- texts that are added to a text
+-- appending texts to a text
 pub use Rattle.rhai_show.proofs.Pushed.{added_as, added_fixed, added_more, added_twice, fixed, pushed_ascii, pushed_chars}

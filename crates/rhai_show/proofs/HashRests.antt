@@ -1,4 +1,4 @@
--- The hash bytes of what is left of each value that a walk is in, the innermost first.
+-- The hash bytes of the frames of a walk, the innermost first.
 use Rattle.std.proofs.Common.{◌≡◌, ℕ, ◌++◌, Bool, true, List, [], ◌∷◌, refl, sym, ap, ◌∙◌, subst, append_assoc}
 use Rattle.std.specs.List.{All, flat_map}
 use Rattle.std.specs.Str.{chars}
@@ -14,7 +14,7 @@ use Rattle.rhai_show.specs.InRange.{IsPlainInRange, IsRowInRange}
 use Rattle.rhai_show.specs.Rests.{Keyed, items_keyed, rows_keyed, closed_by, HasOpen, Each, Level, path_left, HaveOpen}
 use Rattle.rhai_show.proofs.Hashes.{first_of_both, second_of_both}
 
--- values by their keys, or without
+-- values with keys, or without
 pub items_bytes : (f : Tree → List ℕ) (xs : List Tree) → rest_bytes f (items_keyed xs) ≡ flat_map f xs
 items_bytes f [] = refl
 items_bytes f (x ∷ xs) = ap (λ bs. f x ++ bs) (items_bytes f xs)
@@ -53,8 +53,8 @@ abbrev pub EachLeft : (List ℕ → Keyed → Type 0) → List ℕ → List Leve
 EachLeft P path [] = Unit {0}
 EachLeft P path (l ∷ ls) = Each (P path) l.1 × EachLeft P (closed_by l.0 path) ls
 
--- The bytes of a value are being added: these and the path after it are so, once nothing is left, and the value is in range where
--- all that is left is.
+-- The bytes of a value are being appended: these are the bytes and the path once nothing remains,
+-- and the value is in range if all remaining ones are.
 pub record Hashing (s : List Cell) (whole first : List ℕ) (InRange : Type 0) (out path : List ℕ) (ls : List Level) : Type 0 where
   pub bytes : out ++ bytes_left s path ls ≡ whole
   pub path_after : path_left path ls ≡ first
@@ -69,7 +69,7 @@ module _ (s : List Cell) (whole first : List ℕ) (InRange : Type 0) (out path :
       append_assoc out one (bytes_left s path ((b, cs) ∷ ls))
       ∙ ap (λ x. out ++ x) (sym (append_assoc one (rest_bytes (hash_bytes s path) cs) (bytes_left s (closed_by b path) ls))) ∙ h.bytes
 
-  -- a value is added
+  -- a value is appended
   pub hash_on : (later next : List ℕ) → later ≡ out ++ keyed_bytes (hash_bytes s path) c → IsKeyedInRange s path c → next ≡ path → Hashing s whole first InRange later next ((b, cs) ∷ ls)
   hash_on later next e range same = subst (λ p. Hashing s whole first InRange later p ((b, cs) ∷ ls)) (sym same) (record {
     bytes = ap (λ x. x ++ bytes_left s path ((b, cs) ∷ ls)) e ∙ one_less;
@@ -79,7 +79,7 @@ module _ (s : List Cell) (whole first : List ℕ) (InRange : Type 0) (out path :
     range = λ r. h.range ((range, r.0), r.1);
   })
 
-  -- a value is begun
+  -- a value is entered
   pub hash_down : (later next : List ℕ) (d : Bool) (ks : List Keyed) → later ++ rest_bytes (hash_bytes s next) ks ≡ out ++ keyed_bytes (hash_bytes s path) c → closed_by d next ≡ path → HasOpen d next
       → Each (IsKeyedPlain s next) ks → (Each (IsKeyedInRange s next) ks → IsKeyedInRange s path c) → Hashing s whole first InRange later next ((d, ks) ∷ (b, cs) ∷ ls)
   hash_down later next d ks e back own plain range =
@@ -93,7 +93,7 @@ module _ (s : List Cell) (whole first : List ℕ) (InRange : Type 0) (out path :
         range = λ r. let left = subst (λ p. EachLeft (IsKeyedInRange s) p others) back r.1 in h.range ((range r.0, left.0), left.1);
       }
 
--- a value is ended
+-- a value is finished
 pub hash_up : (s : List Cell) (whole first : List ℕ) (InRange : Type 0) (out path next : List ℕ) (b : Bool) (ls : List Level) → Hashing s whole first InRange out path ((b, []) ∷ ls) → next ≡ closed_by b path
     → Hashing s whole first InRange out next ls
 hash_up s whole first InRange out path next b ls h back = subst (λ p. Hashing s whole first InRange out p ls) (sym back) (record { bytes = h.bytes; path_after = h.path_after; have_open = h.have_open.1; plain = h.plain.1; range = λ r. h.range (tt, r) })

@@ -27,7 +27,7 @@ there (Some a) e = (a, refl)
 there None e = cc
 
 module _ (s : List Cell) (path : List ℕ) where
-  -- where all children are plain, their bytes are those of each
+  -- if all children are plain, their bytes are those of each
   all_there : (xs : List Tree) → are_plain s path (trees_of xs) ≡ true
       → (ps : Plains) × (all_plain path (plain_within s path) (trees_of xs) ≡ Some ps) × (how_many ps ≡ length xs) × (all_bytes ps ≡ flat_map (hash_bytes s path) xs)
   all_there [] e = (no_plains, refl, refl, refl)
@@ -65,7 +65,7 @@ module _ (s : List Cell) (path : List ℕ) where
       ap₂ (λ n bs. 7 ∷ count_bytes n ++ bs) (sym h.2) (sym h.3)
       ∙ sym (ap some_bytes (by_parts s path t (node (fields (fields_of rs)) g m) e ∙ ap (option_map plain_map) h.1))
 
--- the bytes of a leaf are added, which are those of the value
+-- appends the bytes of a leaf, which are those of the value
 pub leaf_hashed : (new old : List ℕ) (s : List Cell) (path : List ℕ) (t : Tree) (l : Leaf) (g : ℤ) (m : AccessMode) → t ≡ node (leaf l) g m → new ≡ old ++ leaf_bytes l → new ≡ old ++ hash_bytes s path t
 leaf_hashed new old s path t l g m e h = h ∙ ap (λ x. old ++ x) (hashed-leaf s path t l g m e)
 
@@ -84,8 +84,8 @@ module _ (s : List Cell) (path next : List ℕ) (t u : Tree) (c : ℕ) (g : ℤ)
       let opens : next ≡ c ∷ path = subst (λ x. IfSome (cell_of x) (λ k. next ≡ k ∷ path)) e is in
       ap (λ p. plain s p u) opens ∙ sym (plain-opened s path t u c g m e some)
 
--- bytes of items, one after the other
+-- the concatenated bytes of items
 module _ {A : Type 0} (f : A → List ℕ) where
-  -- the bytes of one more are added
+  -- the bytes of one more are appended
   pub each_step : (xs ys : List A) (x : A) (out next : List ℕ) → ys ≡ x ∷ xs → next ≡ out ++ f x → next ++ flat_map f xs ≡ out ++ flat_map f ys
   each_step xs ys x out next e q = ap (λ t. t ++ flat_map f xs) q ∙ append_assoc out (f x) (flat_map f xs) ∙ ap (λ zs. out ++ flat_map f zs) (sym e)

@@ -1,4 +1,4 @@
--- What hash bytes begin with can be read from them: a leaf, or which children follow.
+-- The head of hash bytes can be read from them: a leaf, or the kind and number of children.
 use Rattle.std.proofs.Common.{◌≡◌, ℕ, ◌+◌, ◌*◌, ◌/◌, ◌%◌, ◌<◌, ◌^◌, ℤ, true, false, cond, nat_eq, List, [], ◌∷◌, ◌++◌, length, take, drop, refl, ap, ap₂, ◌∙◌, append_assoc, arith}
 use native.Mathlib.Nat as nat
 use Rattle.std.specs.Prelude.{FitsSigned}
@@ -15,7 +15,7 @@ use Rattle.rhai_value.specs.Tree.{Leaf, unit, bool, int, char, text, blob, host,
 use Rattle.rhai_show.specs.HashBytes.{count_bytes, int_bytes, sized, name_bytes, host_bytes, leaf_bytes, kind_bytes}
 use Rattle.rhai_show.specs.InRange.{IsCount, IsName, IsHost, IsLeaf, IsKind}
 
--- a leaf, or a kind of children and how many there are
+-- a leaf, or a kind of children and their number
 pub data Head : Type 0 where
   a_leaf : Leaf → Head
   a_branch : Kind → ℕ → Head
@@ -29,7 +29,7 @@ joined_8 : (a b c d e f g h n p q r s t u v w : ℕ) → n ≡ a + p * 256 → p
     → a + b * 256 + c * 65536 + d * 16777216 + e * 4294967296 + f * 1099511627776 + g * 281474976710656 + h * 72057594037927936 + w * 18446744073709551616 ≡ n
 joined_8 a b c d e f g h n p q r s t u v w at_0 at_1 at_2 at_3 at_4 at_5 at_6 at_7 = omega arith
 
--- a number in sixteen bytes is read from them
+-- a number is read back from its sixteen bytes
 from_le_bytes-to_le_bytes_16 : (n : ℕ) → n < 2 ^ 128 → from_le_bytes w128 (to_le_bytes w128 n) ≡ n
 from_le_bytes-to_le_bytes_16 n fits =
     let first : n ≡ n % 256 + n / 256 * 256 = omega arith in
@@ -42,7 +42,7 @@ abbrev pub first_byte : List ℕ → ℕ
 first_byte [] = 0
 first_byte (b ∷ bs) = b
 
--- a count, an int, bytes behind their number, and a name are read, and what comes behind them
+-- reading a count, an int, sized bytes, and a name, and the bytes after them
 abbrev pub read_count : List ℕ → ℕ
 read_count bs = from_le_bytes w64 bs
 
@@ -129,7 +129,7 @@ read_by k bs =
     (cond (nat_eq k 8) (a_branch (function (read_name bs).0) (read_count (read_name bs).1), drop 8 (read_name bs).1)
     (a_leaf (host (read_host (first_byte bs) (drop 1 bs)).0), (read_host (first_byte bs) (drop 1 bs)).1)))))))))
 
--- what comes first, and what comes behind it
+-- the head, and the bytes after it
 abbrev pub read_head : List ℕ → Head × List ℕ
 read_head bs = read_by (first_byte bs) (drop 1 bs)
 

@@ -5,7 +5,7 @@ use Rattle.rhai_value.specs.declared.value.access_mode.AccessMode.{AccessMode}
 use Rattle.rhai_value.specs.Tree.{Tree, node, leaf, branch, fields, holder, unit, bool, int, char, text, blob, host}
 use Rattle.rhai_value.specs.Parts.{int_of}
 
--- what has an int is a leaf of it
+-- a value with an int is a leaf
 pub int_tree : (t : Tree) (n : ℤ) → int_of t ≡ Some n → (g : ℤ) × (m : AccessMode) × (t ≡ node (leaf (int n)) g m)
 int_tree (node (leaf (int k)) g m) n e = (g, m, ap (λ x. node (leaf (int x)) g m) (same_Some k n e))
 int_tree (node (leaf unit) g m) n e = cc

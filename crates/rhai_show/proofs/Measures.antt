@@ -1,4 +1,4 @@
--- What bounds how long a value is printed: the cells that aren't open, and the nodes of what is left.
+-- Bounds on how long printing takes: the cells that aren't open, and the remaining nodes.
 use Rattle.std.proofs.Common.{◌≡◌, Option, None, ℕ, zero, suc, ◌+◌, ◌*◌, ◌<◌, ◌≤◌, Bool, true, false, List, [], ◌∷◌, length, get_or, Some, IfSome, sym, ap, arith}
 use Rattle.std.proofs.Math.Nat.{mul-le-mul_right}
 use Rattle.rhai_value.specs.declared.cells.store.Cell.{Cell}
@@ -43,12 +43,12 @@ fewer a b m k l h =
     let e : suc a * m ≡ a * m + m = omega arith in
     omega arith
 
--- less is left once a cell is open
+-- less is left after a cell is opened
 pub left-entry : (s : List Cell) (path next : List ℕ) (v t : Tree) (n : ℕ) → Some t ≡ entry s path v → IfSome (cell_of v) (λ c. next ≡ c ∷ path) → left_in s next + 4 * nodes t < left_in s path + n
 left-entry s path next v t n e is =
     omega (arith, fewer (unopened next (length s)) (unopened path (length s)) (4 * nodes_in s + 1) (4 * nodes t) (unopened-entry s path next v t e is) (omega (arith, nodes_entered s path v t e)))
 
--- no item has more nodes than all have
+-- no item has more nodes than all together
 pub nodes_item : (xs : List Tree) (i : ℕ) (x : Tree) → i < length xs → x ≡ get_or xs i x → nodes x ≤ nodes_trees (trees_of xs)
 nodes_item [] i x l e = absurd (omega arith)
 nodes_item (y ∷ xs) zero x l e = omega (arith, ap nodes e)

@@ -1,4 +1,4 @@
--- Which values are plain, by their parts.
+-- Plain values, by their parts.
 use Rattle.std.proofs.Common.{◌≡◌, ℕ, ℤ, ◌&&◌, true, false, List, ◌∷◌, Option, Some, None, is_some, option_map, refl, sym, ap, ap₂, ◌∙◌}
 use Rattle.rhai_value.specs.declared.value.access_mode.AccessMode.{AccessMode}
 use Rattle.rhai_value.specs.declared.cells.store.Cell.{Cell}
@@ -8,7 +8,7 @@ use Rattle.rhai_value.proofs.ForCallers.{walk_opens}
 use Rattle.rhai_show.specs.Plain.{Plain, Plains, PlainFields, plain_branch, plain_map, plain_then, plain_field_then, plain_more, plain_field_more, plain_held, plain_of, all_plain, fields_plain, plain}
 use Rattle.rhai_show.specs.Clean.{are_plain, values_in}
 
--- what each holder's cell leads to
+-- the result for the cell of each holder
 abbrev pub plain_within : List Cell → List ℕ → ℕ → Visit (Option Plain)
 plain_within s path c = visit_map (plain s (c ∷ path)) (visit s path c)
 
@@ -44,7 +44,7 @@ fields_open s path (field_then k t fs) =
 pub by_parts : (s : List Cell) (path : List ℕ) (t u : Tree) → t ≡ u → plain s path t ≡ plain_of path (plain_within s path) u
 by_parts s path t u e = ap (plain s path) e ∙ plain_opens s path u
 
--- a leaf is plain, and what holds children is where all of these are
+-- a leaf is plain, and a value with children is if all of them are
 pub plain-leaf : (s : List Cell) (path : List ℕ) (t : Tree) (l : Leaf) (g : ℤ) (m : AccessMode) → t ≡ node (leaf l) g m → true ≡ is_some (plain s path t)
 plain-leaf s path t l g m e = sym (ap is_some (by_parts s path t (node (leaf l) g m) e))
 
@@ -54,7 +54,7 @@ plain-branch s path t k ts g m e = ap is_some (by_parts s path t (node (branch k
 pub plain-map : (s : List Cell) (path : List ℕ) (t : Tree) (fs : Fields) (g : ℤ) (m : AccessMode) → t ≡ node (fields fs) g m → is_some (plain s path t) ≡ are_plain s path (values_in fs)
 plain-map s path t fs g m e = ap is_some (by_parts s path t (node (fields fs) g m) e) ∙ some_map plain_map (fields_plain path (plain_within s path) fs) ∙ fields_open s path fs
 
--- holders of one cell are alike
+-- holders of one cell are equal
 pub plain-holders : (s : List Cell) (path : List ℕ) (c : ℕ) (g h : ℤ) (m n : AccessMode) → plain s path (node (holder c) g m) ≡ plain s path (node (holder c) h n)
 plain-holders s path c g h m n = plain_opens s path (node (holder c) g m) ∙ sym (plain_opens s path (node (holder c) h n))
 
@@ -85,7 +85,7 @@ plain-enters s path t c g m e is = at (entry s path t) refl
         let no : false ≡ true = sym (ap is_some (plain-closed s path t c g m e (sym found))) ∙ is in
         cc
 
--- tags and modes aren't seen, nor is sharing
+-- tags and modes have no effect, nor has sharing
 pub plain_bare : (s : List Cell) (path : List ℕ) (c : Content) (g h : ℤ) (m n : AccessMode) → plain s path (node c g m) ≡ plain s path (node c h n)
 plain_bare s path c g h m n = plain_opens s path (node c g m) ∙ sym (plain_opens s path (node c h n))
 

@@ -16,7 +16,7 @@ use Rattle.rhai_show.specs.Leaves.{in_debug, leaf_printed}
 use Rattle.rhai_show.specs.Text.{joined, further, item_form, content_form, field_printed, name_printed, holder_printed, printed_of, all_printed, fields_printed, printed}
 use Rattle.rhai_show.specs.Listed.{row_printed}
 
--- what each holder's cell leads to
+-- the result for the cell of each holder
 abbrev pub within : List Cell → List ℕ → ℕ → Visit (Form → List ℕ)
 within s path c = visit_map (printed s (c ∷ path)) (visit s path c)
 
@@ -48,7 +48,7 @@ printed-opened s path next t u form c g m e some is =
     let opens : next ≡ c ∷ path = subst (λ x. IfSome (cell_of x) (λ k. next ≡ k ∷ path)) e is in
     ap (λ p. printed s p u (content_form form) ++ codes " (shared)") opens ∙ open_text (visit s path c) form _ u (some ∙ ap (entry s path) e) ∙ sym (by_parts s path t (node (holder c) g m) form e)
 
--- the text of a leaf is added, which is that of the value
+-- appends the text of a leaf, which is that of the value
 pub added_leaf : {A E : Type 0} (r : Result A E) (new old : List ℕ) (s : List Cell) (path : List ℕ) (t : Tree) (form : Form) (l : Leaf) (g : ℤ) (m : AccessMode) → t ≡ node (leaf l) g m → OnOk r (new ≡ old ++ leaf_printed form l) → OnOk r (new ≡ old ++ printed s path t form)
 added_leaf r new old s path t form l g m e h = added_as r new old (leaf_printed form l) (printed s path t form) (sym (by_parts s path t (node (leaf l) g m) form e)) h
 

@@ -1,4 +1,4 @@
--- Texts that are added to a text.
+-- Appending texts to a text.
 use Rattle.std.proofs.Common.{◌≡◌, ◌++◌, ◌&&◌, ◌<◌, ◌≤◌, ◌/◌, ◌%◌, ◌^◌, ℤ, pos, negsuc, ◌∷◌, [], zero, suc, Bool, true, false, cond, List, ℕ, Result, Ok, Err, OnOk, is_ok, refl, ap, sym, ◌∙◌, subst, append_assoc, arith}
 use Rattle.std.specs.Prelude.{nat_lt}
 use Rattle.std.specs.List.{list_all}
@@ -12,7 +12,7 @@ use lib.IntN.{nat_abs}
 use lib.Signed.{le_z, mag}
 use Rattle.rhai_show.specs.Leaves.{hex_digits}
 
--- a text is pushed, and one in ASCII
+-- a text is appended, and one in ASCII
 pub pushed_chars : {A E : Type 0} (r : Result A E) (new old text : List ℕ) → IsUtf8 old → new ≡ cond (is_ok r) (old ++ text) old → OnOk r (chars new ≡ chars old ++ chars text)
 pushed_chars (Ok x) new old text utf8 e = ap chars e ∙ chars-append old text utf8
 pushed_chars (Err x) new old text utf8 e = tt
@@ -21,15 +21,15 @@ pub pushed_ascii : {A E : Type 0} (r : Result A E) (new old text : List ℕ) →
 pushed_ascii (Ok x) new old text utf8 ascii e = ap chars e ∙ chars-append old text utf8 ∙ ap (λ t. chars old ++ t) (chars-IsAscii text ascii)
 pushed_ascii (Err x) new old text utf8 ascii e = tt
 
--- what is added is another spelling of what should be
+-- the appended text equals the expected one
 pub added_as : {A E : Type 0} (r : Result A E) (new old text wanted : List ℕ) → text ≡ wanted → OnOk r (new ≡ old ++ text) → OnOk r (new ≡ old ++ wanted)
 added_as r new old text wanted e h = subst (λ x. OnOk r (new ≡ old ++ x)) e h
 
--- a text is added in two parts
+-- a text is appended in two parts
 pub added_twice : {A E : Type 0} (r : Result A E) (new mid old first second wanted : List ℕ) → mid ≡ old ++ first → first ++ second ≡ wanted → OnOk r (new ≡ mid ++ second) → OnOk r (new ≡ old ++ wanted)
 added_twice r new mid old first second wanted e f h = subst (λ x. OnOk r (new ≡ x)) (ap (λ x. x ++ second) e ∙ append_assoc old first second ∙ ap (λ x. old ++ x) f) h
 
--- one more part is added
+-- one more part is appended
 pub added_more : (new mid old first second : List ℕ) → mid ≡ old ++ first → new ≡ mid ++ second → new ≡ old ++ (first ++ second)
 added_more new mid old first second e f = f ∙ ap (λ x. x ++ second) e ∙ append_assoc old first second
 
@@ -49,7 +49,7 @@ plain_ascii (b ∷ bs) e (suc i) = plain_ascii bs (both (nat_lt b 128) (is_plain
 pub fixed : (bs : List ℕ) → is_plain bs ≡ true → chars bs ≡ bs
 fixed bs e = chars-IsAscii bs (plain_ascii bs e)
 
--- a fixed text is added
+-- a fixed text is appended
 pub added_fixed : (new old bs : List ℕ) → is_plain bs ≡ true → new ≡ old ++ chars bs → new ≡ old ++ bs
 added_fixed new old bs e h = h ∙ ap (λ x. old ++ x) (fixed bs e)
 
@@ -77,7 +77,7 @@ pub enclosed : {A E : Type 0} (r : Result A E) (new mid start old opens inner en
 enclosed r new mid start old opens inner ends p q e f =
     added_twice r new mid old (opens ++ inner) (chars ends) (opens ++ inner ++ ends) (added_more mid start old opens inner (added_fixed start old opens p e) f) (ap (λ x. opens ++ inner ++ x) (fixed ends q))
 
--- the digits of a number are those of its tens, and the last
+-- the digits of a number are those of its quotient by ten, and the last
 pub two_digits : (n : ℕ) → 10 ≤ n → n < 2 ^ 64 → decimal (n / 10) ++ decimal (n % 10) ≡ decimal n
 two_digits n lo hi = ap (λ ds. decimal (n / 10) ++ ds) (decimal_digit (n % 10) (omega arith)) ∙ sym (decimal_step n lo hi)
 

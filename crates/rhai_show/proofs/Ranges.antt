@@ -1,4 +1,4 @@
--- What is written of a value that can be hashed is in range.
+-- The bytes written for a hashable value are in range.
 use Rattle.std.proofs.Common.{◌≡◌, ◌↔◌, ℕ, ℤ, suc, List, [], ◌∷◌, length, Option, Some, None, IfSome, Result, Ok, Err, OnOk, option_map, refl, sym, ap, ◌∙◌, subst}
 use Rattle.std.specs.List.{All}
 use Rattle.std.specs.Str.{chars, IsUtf8}
@@ -14,12 +14,12 @@ use Rattle.rhai_show.specs.InRange.{IsCount, IsName, IsLeaf, IsKind, IsInRange, 
 use Rattle.rhai_show.proofs.Distinct.{distinct_bytes}
 use Rattle.rhai_show.proofs.Plains.{plain_within, plain_opens, by_parts}
 
--- where a call succeeds
+-- if a call succeeds
 pub on_then : {A E : Type 0} (r : Result A E) {P Q : Type 0} → (P → Q) → OnOk r P → OnOk r Q
 on_then (Ok x) f h = f h
 on_then (Err e) f h = tt
 
--- a text of so many bytes is a name
+-- a text with a bounded number of bytes is a name
 pub a_name : (bs : List ℕ) → IsUtf8 bs → IsCount (length bs) → IsName (chars bs)
 a_name bs u count = (scalars-chars bs u, subst (λ x. IsCount (length x)) (sym (encodes-chars bs u)) count)
 
@@ -66,11 +66,11 @@ module _ (s : List Cell) (path : List ℕ) where
   map_ranged t rs g m e h =
       subst (λ o. IfSome o IsInRange) (sym (by_parts s path t (node (fields (fields_of rs)) g m) e)) (map_of (fields_plain path (plain_within s path) (fields_of rs)) (length rs) h.0 (rows_ranged rs h.1))
 
--- one more is in range, so that all are where those behind it are
+-- one more is in range, so that all are if those after it are
 pub one_more : {A : Type 0} (P : A → Type 0) (all left next : List A) (x : A) → left ≡ x ∷ next → P x → (All P left → All P all) → All P next → All P all
 one_more P all left next x e p so_far rest = so_far (subst (All P) (sym e) (All-cons P x next p rest))
 
--- the bytes that were made of a value in range
+-- the bytes made for a value in range
 pub is_hashed : (s : List Cell) (t : Tree) (o : Option (List ℕ)) → o ≡ option_map plain_bytes (plain s [] t) → IsPlainInRange s [] t → IfSome o (IsHashed s t)
 is_hashed s t o e h = by (plain s [] t) refl e h
   where
@@ -78,7 +78,7 @@ is_hashed s t o e h = by (plain s [] t) refl e h
     by None is made range = subst (λ x. IfSome x (IsHashed s t)) (sym made) tt
     by (Some p) is made range = subst (λ x. IfSome x (IsHashed s t)) (sym made) (p, is, range, refl)
 
--- hash bytes of two values are equal exactly where the values are, without tags, modes and holders
+-- the hash bytes of two values are equal exactly if their plain values are
 pub hashed_apart : (s z : List Cell) (t u : Tree) (a b : List ℕ) → IsHashed s t a → IsHashed z u b → (a ≡ b) ↔ (plain s [] t ≡ plain z [] u)
 hashed_apart s z t u a b f g =
     let tell = distinct_bytes f.0 g.0 f.2 g.2 in (

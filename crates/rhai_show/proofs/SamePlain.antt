@@ -1,4 +1,4 @@
--- Plain values in stores that are the same up to the numbers of their cells.
+-- Plain values in stores that are equal up to a renaming of cells.
 use Rattle.std.proofs.Common.{◌≡◌, ℕ, List, [], Option, option_map, refl, ap, ap₂}
 use Rattle.rhai_value.specs.declared.cells.store.Cell.{Cell}
 use Rattle.rhai_value.specs.Tree.{Tree}
@@ -16,7 +16,7 @@ plain_kept r path road h k t u same to =
     (λ l g m. refl) (λ i ts us g m e q. ap (option_map (plain_branch i)) q) (λ fs hs g m e q. ap (option_map plain_map) q) (λ c d g m p. same_held (h c) (k d) (to c d p))
     refl (λ t u ts us p q. ap₂ plain_more p q) refl (λ n t u fs hs p q. ap₂ (plain_field_more n) p q) t u
 
--- what a value is without its holders doesn't depend on the numbers of cells, whichever paired cells are open
+-- the plain value of a value doesn't depend on cell numbers, whichever paired cells are open
 pub same_plain_from : (r : Renaming) (s z : List Cell) (path road : List ℕ) (t u : Tree) → IsOneToOne r → RelatedCells r s z → RelatedPaths r path road → Related r t u → plain s path t ≡ plain z road u
 unfolding plain
 same_plain_from r s z path road t u one cells same h = same_walk_from r plain_of plain_of ◌≡◌ s z (plain_kept r) one cells path road same t u h

@@ -1,4 +1,4 @@
--- Texts of values in stores that are the same up to the numbers of their cells.
+-- Texts of values in stores that are equal up to a renaming of cells.
 use Rattle.std.proofs.Common.{◌≡◌, ℕ, List, [], ◌∷◌, refl, ap, ap₂}
 use mathlib.Core.Path.{fun_ext}
 use Rattle.rhai_value.specs.declared.cells.store.Cell.{Cell}
@@ -18,7 +18,7 @@ printed_kept r path road h k t u same to =
     (λ l g m. refl) (λ i ts us g m e q. ap (λ vs form. branch_printed form i vs) q) (λ fs hs g m e q. ap (λ vs form. map_printed form vs) q) (λ c d g m p. fun_ext (same_holder (h c) (k d) (to c d p)))
     refl (λ t u ts us p q. ap₂ (λ v vs. v ∷ vs) p q) refl (λ n t u fs hs p q. ap₂ (λ v vs. (λ form. field_printed form n (v form)) ∷ vs) p q) t u
 
--- the text of a value doesn't depend on the numbers of cells, whichever paired cells are open
+-- the text of a value doesn't depend on cell numbers, whichever paired cells are open
 pub same_printed_from : (r : Renaming) (s z : List Cell) (path road : List ℕ) (t u : Tree) → IsOneToOne r → RelatedCells r s z → RelatedPaths r path road → Related r t u → printed s path t ≡ printed z road u
 unfolding printed
 same_printed_from r s z path road t u one cells same h = same_walk_from r printed_of printed_of ◌≡◌ s z (printed_kept r) one cells path road same t u h

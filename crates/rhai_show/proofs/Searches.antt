@@ -12,7 +12,7 @@ use Rattle.rhai_show.specs.Clean.{are_plain, values_in, has_left, Apart, Names, 
 use Rattle.rhai_show.proofs.Plains.{plain-opened}
 use Rattle.rhai_show.proofs.Cleans.{named_plain, clean_same, clean_more, unequal}
 
--- of two tests, both hold
+-- if both tests hold, the first does
 first_of_both : (a b : Bool) → (a && b) ≡ true → a ≡ true
 first_of_both true b e = refl
 first_of_both false b e = cc
@@ -50,7 +50,7 @@ left_more seen later path more c h = left_is _ _ (more c (first_of_both _ _ h)) 
 pub searched_none : (s : List Cell) (path seen : List ℕ) → Clean s (has_left seen path) → Searched s path seen seen no_trees
 searched_none s path seen clean = record { clean = clean; more = λ c h. h; named = tt }
 
--- a leaf, and what holds children
+-- a leaf, and a value with children
 pub searched_leaf : (s : List Cell) (path seen : List ℕ) (t : Tree) → Clean s (has_left seen path) → ((d : ℕ → Bool) → Names d t) → Searched s path seen seen (tree_then t no_trees)
 searched_leaf s path seen t clean named = record { clean = clean; more = λ c h. h; named = (named _, tt) }
 
@@ -65,7 +65,7 @@ searched_more s path seen mid later t ts h k = record {
   named = (each_weaker (λ c. has_left mid path c ≡ true) (λ c. has_left later path c ≡ true) (left_more mid later path k.more) t h.named.0, k.named);
 }
 
--- A search through children has come to these: nothing is wrong so far.
+-- A search through children has reached these: nothing wrong so far.
 pub record SoFar (s : List Cell) (path first seen : List ℕ) (rest all : Trees) : Type 0 where
   pub clean : Clean s (has_left seen path)
   pub answer : are_plain s path rest ≡ are_plain s path all
@@ -117,7 +117,7 @@ module _ (s : List Cell) (path seen : List ℕ) (c : ℕ) (g : ℤ) (m : AccessM
   is_seen : None ≡ entry s seen (node (holder c) g m) → is_open c seen ≡ true
   is_seen e = none_seen (is_open c seen) (e ∙ ap (λ o. opened (visit_of o (is_open c seen))) is_there.0)
 
-  -- its cell was left before, so it isn't looked into again
+  -- its cell was left before, so it isn't searched again
   pub again_searched : None ≡ entry s seen (node (holder c) g m) → Clean s (has_left seen path) → Searched s path seen seen (tree_then (node (holder c) g m) no_trees)
   again_searched e clean = record { clean = clean; more = λ x h. h; named = (left_is _ _ (is_seen e) is_there.1, tt) }
 
@@ -170,7 +170,7 @@ module _ (s : List Cell) (path seen : List ℕ) (c : ℕ) (g : ℤ) (m : AccessM
       or_on true b e = refl
       or_on false b e = e
 
--- the same of a value that is a holder, the path and the cells seen being told by what was opened
+-- the same for a value that is a holder, with the path and the seen cells given by what was opened
 module _ (s : List Cell) (path next seen : List ℕ) (v t : Tree) (c : ℕ) (g : ℤ) (m : AccessMode) (e : v ≡ node (holder c) g m) (is : Some t ≡ entry s path v) (on : IfSome (cell_of v) (λ k. next ≡ k ∷ path)) (clean : Clean s (has_left seen path)) where
   here : Some t ≡ entry s path (node (holder c) g m)
   here = is ∙ ap (entry s path) e
@@ -213,11 +213,11 @@ map_leaves s path seen later v fs g m e h = rw e (searched_branch s path seen la
 pub leaf_leaves : (s : List Cell) (path seen : List ℕ) (v : Tree) (l : Leaf) (g : ℤ) (m : AccessMode) → v ≡ node (leaf l) g m → Clean s (has_left seen path) → Searched s path seen seen (tree_then v no_trees)
 leaf_leaves s path seen v l g m e clean = rw e (searched_leaf s path seen (node (leaf l) g m) clean (λ d. tt))
 
--- an answer in other words
+-- an equivalent answer
 pub answered : {E : Type 0} (r : Result Bool E) (a b : Bool) → a ≡ b → IfOk r (λ x. x ≡ b) → IfOk r (λ x. x ≡ a)
 answered r a b e h = rw e h
 
--- what was searched in other words
+-- an equivalent search
 pub searched_by : {E : Type 0} (r : Result Bool E) (P Q : Type 0) → (P → Q) → IfOk r (λ b. b ≡ true → P) → IfOk r (λ b. b ≡ true → Q)
 searched_by (Ok b) P Q f h = λ yes. f (h yes)
 searched_by (Err e) P Q f h = tt

@@ -1,4 +1,4 @@
--- A cell that was opened for a holder hides nothing: what a value is without its holders is made of what its parts are.
+-- Opening a cell for a holder hides nothing: the plain value of a value is composed of those of its parts.
 use Rattle.std.proofs.Common.{◌≡◌, ◌⊎◌, ℕ, ℤ, zero, suc, Bool, true, false, ◌||◌, nat_eq, List, [], ◌∷◌, length, Option, Some, None, option_map, refl, sym, ap, ap₂, ◌∙◌, inl, inr}
 use Rattle.std.proofs.lemmas.Bool.{cases_eq}
 use mathlib.Core.Path.{fun_ext}
@@ -12,7 +12,7 @@ use Rattle.rhai_show.specs.Plain.{Plain, Plains, PlainFields, plain_branch, plai
 use Rattle.rhai_show.proofs.Cleans.{unequal}
 use Rattle.rhai_show.proofs.Plains.{plain_opens}
 
--- ---- where holders stay what they were, or something else holds
+-- ---- holders are unchanged, or something else holds
 
 mapped : {A B : Type 0} (E : Type 0) (f : A → B) (o q : Option A) (b : B) → option_map f o ≡ Some b → ((a : A) → o ≡ Some a → (q ≡ Some a) ⊎ E) → (option_map f q ≡ Some b) ⊎ E
 mapped E f None q b e h = absurd (cc)
@@ -68,7 +68,7 @@ closed_too : (a b : Bool) → (b ≡ true → a ≡ true) → a ≡ false → b 
 closed_too a false h e = refl
 closed_too a true h e = let yes : a ≡ true = h refl in cc
 
--- each open cell of the one is open in the other
+-- each open cell of the first is open in the second
 abbrev pub Within : List ℕ → List ℕ → Type 0
 Within path road = (x : ℕ) → is_open x path ≡ true → is_open x road ≡ true
 
@@ -98,7 +98,7 @@ pub fewer_open : (s : List Cell) (road path : List ℕ) (t : Tree) (p : Plain) �
 unfolding plain
 fewer_open s road path t p less e = fewer_in (length s) s road path t p less e
 
--- ---- one more open cell, which is passed or not
+-- ---- one more open cell, visited or not
 
 module _ (s : List Cell) (c : ℕ) (u : Tree) (there : at s c ≡ Some u) where
   -- the content of the cell is plain while the cell is open
@@ -150,7 +150,7 @@ module _ (s : List Cell) (c : ℕ) (u : Tree) (there : at s c ≡ Some u) where
       settle None None f g = refl
       settle None (Some p) f g = elim (g p refl) [ inl e ↦ cc | inr x ↦ (let no : None ≡ Some x.0 = x.1 in cc) ]
 
--- ---- a value by what its parts are
+-- ---- a value by the plain values of its parts
 
 opened_alone : (s : List Cell) (c : ℕ) (o : Option Tree) → at s c ≡ o → visit_map (plain s (c ∷ [])) (visit_of o false) ≡ visit_map (plain s []) (visit_of o false)
 opened_alone s c None e = refl

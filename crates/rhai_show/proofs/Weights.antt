@@ -1,4 +1,4 @@
--- How much there is to do for a value, by its parts.
+-- The work for a value, by its parts.
 use Rattle.std.proofs.Common.{◌≡◌, ℕ, ℤ, zero, suc, ◌+◌, ◌<◌, ◌≤◌, length, get_or, List, [], ◌∷◌, Some, IfSome, sym, ap, ap₂, ◌∙◌, subst, arith, refl}
 use Rattle.rhai_value.specs.declared.value.access_mode.AccessMode.{AccessMode}
 use Rattle.rhai_value.specs.declared.cells.store.Cell.{Cell}
@@ -9,7 +9,7 @@ use Rattle.rhai_value.proofs.ForCallers.{walk_opens}
 use Rattle.rhai_show.specs.Rests.{items_keyed, rows_keyed, rest_weight}
 use Rattle.rhai_show.specs.Weights.{held_weight, weight_of, all_weight, fields_weight, weight}
 
--- what each holder's cell leads to
+-- the result for the cell of each holder
 abbrev pub weight_within : List Cell → List ℕ → ℕ → Visit ℕ
 weight_within s path c = visit_map (weight s (c ∷ path)) (visit s path c)
 
@@ -26,7 +26,7 @@ open_weight (entered u) go t e = let same : t ≡ u = cc in ap (λ x. suc (go x)
 open_weight barred go t e = cc
 open_weight revisited go t e = cc
 
--- the cell of a holder is open then
+-- the cell of a holder is then open
 pub opened_path : (t : Tree) (c : ℕ) (g : ℤ) (m : AccessMode) (next path : List ℕ) → t ≡ node (holder c) g m → IfSome (cell_of t) (λ k. next ≡ k ∷ path) → next ≡ c ∷ path
 opened_path t c g m next path e is = subst (λ x. IfSome (cell_of x) (λ k. next ≡ k ∷ path)) e is
 
@@ -50,7 +50,7 @@ module _ (s : List Cell) (path : List ℕ) where
   held-weight next t u c g m e some is =
       ap (λ p. suc (weight s p u)) (opened_path t c g m next path e is) ∙ open_weight (visit s path c) _ u (some ∙ ap (entry s path) e) ∙ sym (by_parts s path t (node (holder c) g m) e)
 
--- there is less to do for an item than for all
+-- the work for an item is less than for all
 pub weight_item : (w : Tree → ℕ) (xs : List Tree) (i : ℕ) (x : Tree) → i < length xs → x ≡ get_or xs i x → suc (w x) ≤ rest_weight w (items_keyed xs)
 weight_item w [] i x l e = absurd (omega arith)
 weight_item w (y ∷ xs) zero x l e = omega (arith, ap w e)

@@ -1,4 +1,4 @@
--- Values with tag 0 and mode ReadWrite at every depth, all else staying.
+-- Values with tag 0 and mode ReadWrite at every depth; everything else is unchanged.
 use Rattle.rhai_value.specs.declared.cells.store.Cell.{Cell}
 use Rattle.rhai_value.specs.Tree.{Tree, node, Content, leaf, branch, fields, holder, Trees, no_trees, tree_then, Fields, no_fields, field_then, made}
 
@@ -20,6 +20,6 @@ abbrev mutual
   bare_fields no_fields = no_fields
   bare_fields (field_then k t fs) = field_then k (bare t) (bare_fields fs)
 
--- a cell with such a content, its mark staying
+-- a cell with such a content and the same mark
 abbrev pub bare_cell : Cell → Cell
 bare_cell x = record x { content = bare x.content }

@@ -24,7 +24,7 @@ has_left seen path c = is_open c seen && not (is_open c path)
 abbrev pub Apart : List ℕ → (ℕ → Bool) → Type 0
 Apart path d = (c : ℕ) → is_open c path ≡ true → d c ≡ false
 
--- each holder in a value, in these, and in the values of a map names a cell of d
+-- each holder in a value, in these, and in the values of a map refers to a cell of d
 abbrev pub Names : (ℕ → Bool) → Tree → Type 0
 Names d t = EachCell (λ c. d c ≡ true) t
 
@@ -34,22 +34,23 @@ AllName d ts = EachInAll (λ c. d c ≡ true) ts
 abbrev pub FieldsName : (ℕ → Bool) → Fields → Type 0
 FieldsName d fs = EachInFields (λ c. d c ≡ true) fs
 
--- no holder stands in the value, at any depth
+-- the value contains no holder, at any depth
 abbrev pub HasNoHolder : Tree → Type 0
 HasNoHolder t = Names (λ c. false) t
 
--- the same of all of these, and of the values of a map
+-- the same for all of these, and for the values of a map
 abbrev pub HaveNoHolders : Trees → Type 0
 HaveNoHolders ts = AllName (λ c. false) ts
 
 abbrev pub FieldsHaveNoHolders : Fields → Type 0
 FieldsHaveNoHolders fs = FieldsName (λ c. false) fs
 
--- A holder of a cell of d is plain, whatever cells are open, if none of them is one of d.
+-- A holder of a cell of d is plain, whatever cells are open, if none of them is in d.
 pub record Clean (s : List Cell) (d : ℕ → Bool) : Type 0 where
   pub held : (c : ℕ) → d c ≡ true → (path : List ℕ) → Apart path d → is_some (plain s path (made (holder c))) ≡ true
 
--- A search from these values was clean: the cells that it has left are, the values name these alone, and no cell was forgotten.
+-- A search from these values was clean: the cells that it has left are clean, the values refer only
+-- to these, and no cell was forgotten.
 pub record Searched (s : List Cell) (path seen later : List ℕ) (ts : Trees) : Type 0 where
   pub clean : Clean s (has_left later path)
   pub more : (c : ℕ) → is_open c seen ≡ true → is_open c later ≡ true

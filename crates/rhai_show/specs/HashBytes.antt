@@ -17,15 +17,15 @@ count_bytes n = to_le_bytes w64 n
 unfoldable pub int_bytes : ℤ → List ℕ
 int_bytes n = to_le_bytes w64 (cast_unsigned w64 n)
 
--- bytes behind their number
+-- bytes prefixed by their number
 abbrev pub sized : List ℕ → List ℕ
 sized bs = count_bytes (length bs) ++ bs
 
--- a text, a key or a name: its UTF-8 behind the number of these bytes
+-- a text, a key or a name: its UTF-8, prefixed by its number of bytes
 abbrev pub name_bytes : List ℕ → List ℕ
 name_bytes cs = sized (encode_utf8_all cs)
 
--- the kind of a number or a range of the host, and then the numbers in their own width
+-- the kind of a host's integer or range, and then the numbers in their own width
 abbrev pub host_bytes : Host → List ℕ
 host_bytes (host_kind.U8 n) = 0 ∷ n ∷ []
 host_bytes (host_kind.U16 n) = 1 ∷ to_le_bytes w16 n
@@ -39,7 +39,7 @@ host_bytes (host_kind.I128 n) = 8 ∷ to_le_bytes w128 (cast_unsigned w128 n)
 host_bytes (host_kind.ExclusiveRange r) = 9 ∷ int_bytes r.start ++ int_bytes r.end
 host_bytes (host_kind.InclusiveRange r) = 10 ∷ int_bytes r.start ++ int_bytes r.end
 
--- the kind of a value, and then what it is
+-- the kind of a value, and then its content
 abbrev pub leaf_bytes : Leaf → List ℕ
 leaf_bytes unit = 0 ∷ []
 leaf_bytes (bool b) = 1 ∷ cond b 1 0 ∷ []
@@ -49,7 +49,7 @@ leaf_bytes (int n) = 4 ∷ int_bytes n
 leaf_bytes (blob bs) = 6 ∷ sized bs
 leaf_bytes (host h) = 9 ∷ host_bytes h
 
--- what comes before the children: the kind, a function's name
+-- the bytes before the children: the kind, a function's name
 abbrev pub kind_bytes : Kind → List ℕ
 kind_bytes array = 5 ∷ []
 kind_bytes (function f) = 8 ∷ name_bytes f
@@ -62,7 +62,7 @@ abbrev pub how_many_fields : PlainFields → ℕ
 how_many_fields no_plain_fields = 0
 how_many_fields (plain_field_then k p fs) = suc (how_many_fields fs)
 
--- the hash bytes of a plain value: children come behind their number, and in a map each key comes before its value
+-- the hash bytes of a plain value: children are prefixed by their number, and in a map each key precedes its value
 abbrev mutual
   pub plain_bytes : Plain → List ℕ
   plain_bytes (plain_leaf l) = leaf_bytes l
@@ -77,7 +77,7 @@ abbrev mutual
   fields_bytes no_plain_fields = []
   fields_bytes (plain_field_then k p fs) = name_bytes k ++ plain_bytes p ++ fields_bytes fs
 
--- the bytes of a value that can be hashed; of another, none
+-- the bytes of a value that can be hashed; none for another
 abbrev pub some_bytes : Option Plain → List ℕ
 some_bytes o = option_map_or plain_bytes o []
 

@@ -30,7 +30,7 @@ IsHost (host_kind.I128 n) = FitsSigned w128 n
 IsHost (host_kind.ExclusiveRange r) = FitsSigned w64 r.start × FitsSigned w64 r.end
 IsHost (host_kind.InclusiveRange r) = FitsSigned w64 r.start × FitsSigned w64 r.end
 
--- of a blob's bytes nothing is asked: they are hashed as they are
+-- nothing is required of a blob's bytes: they are hashed as they are
 abbrev pub IsLeaf : Leaf → Type 0
 IsLeaf unit = ⊤
 IsLeaf (bool b) = ⊤
@@ -58,14 +58,14 @@ abbrev mutual
   FieldsInRange no_plain_fields = ⊤
   FieldsInRange (plain_field_then k p fs) = IsName k × IsInRange p × FieldsInRange fs
 
--- what a value is without tags, modes and holders is in range, if it is something
+-- the plain value of a value is in range, if it exists
 abbrev pub IsPlainInRange : List Cell → List ℕ → Tree → Type 0
 IsPlainInRange s path t = IfSome (plain s path t) IsInRange
 
--- the same of the value in a row of a map, whose key is the bytes of a name
+-- the same for the value in a row of a map, whose key is the bytes of a name
 abbrev pub IsRowInRange : List Cell → List ℕ → List ℕ × Tree → Type 0
 IsRowInRange s path r = IsName (chars r.0) × IsPlainInRange s path r.1
 
--- the hash bytes of a value: those of what it is without tags, modes and holders, which is in range
+-- the hash bytes of a value: those of its plain value, which is in range
 abbrev pub IsHashed : List Cell → Tree → List ℕ → Type 0
 IsHashed s t bs = (p : Plain) × (plain s [] t ≡ Some p) × IsInRange p × (bs ≡ plain_bytes p)

@@ -1,4 +1,4 @@
--- How values are printed that hold no other value.
+-- The printed form of values without children.
 use Rattle.std.specs.Prelude.{ℕ, suc, ◌/◌, ◌%◌, ◌^◌, ◌-◌, ℤ, pos, Bool, true, false, ◌==◌, ◌&&◌, nat_lt, if◌then◌else◌, List, [], ◌∷◌, ◌++◌, codes}
 use Rattle.std.specs.Fmt.{decimal, signed_decimal, digit_glyph}
 use Rattle.std.specs.Ordering.{int_eq}
@@ -14,7 +14,7 @@ abbrev pub bool_text : Bool → List ℕ
 bool_text true = codes "true"
 bool_text false = codes "false"
 
--- the first in Debug, and else the second
+-- the first in Debug, otherwise the second
 abbrev pub in_debug : Form → List ℕ → List ℕ → List ℕ
 in_debug Display quoted plain = plain
 in_debug Inner quoted plain = plain
@@ -36,7 +36,7 @@ bytes_from i (b ∷ bs) = space_before i ++ hex_digits b ++ bytes_from (suc i) b
 abbrev pub blob_printed : List ℕ → List ℕ
 blob_printed bs = codes "[" ++ bytes_from 0 bs ++ codes "]"
 
--- the end of a range, which isn't said where it is the greatest integer
+-- the end of a range, omitted if it is the greatest integer
 abbrev pub end_printed : ℤ → List ℕ
 end_printed n = if int_eq n (pos (2 ^ 63 - 1)) then [] else signed_decimal n
 
@@ -54,7 +54,8 @@ host_printed (host_kind.I128 n) = signed_decimal n
 host_printed (host_kind.ExclusiveRange r) = signed_decimal r.start ++ codes ".." ++ end_printed r.end
 host_printed (host_kind.InclusiveRange r) = signed_decimal r.start ++ codes "..=" ++ end_printed r.end
 
--- Unit prints nothing but in Debug; numbers are plain decimal; characters and texts stand as they are, and quoted in Debug.
+-- Unit prints nothing except in Debug; numbers are plain decimal; characters and texts are printed
+-- as they are, and quoted in Debug.
 abbrev pub leaf_printed : Form → Leaf → List ℕ
 leaf_printed form unit = in_debug form (codes "()") []
 leaf_printed form (bool b) = bool_text b

@@ -10,11 +10,11 @@ abbrev pub comma_unless : Bool → List ℕ
 comma_unless true = []
 comma_unless false = comma
 
--- the texts of these with a comma between two, and where they aren't the first, also before them
+-- the texts of these, separated by commas; if they aren't the first, also with a comma before them
 abbrev pub listed : {A : Type 0} → (A → List ℕ) → Bool → List A → List ℕ
 listed f true xs = joined f xs
 listed f false xs = further f xs
 
--- a row of a map, its key being bytes
+-- a row of a map, whose key is bytes
 abbrev pub row_printed : Form → (Tree → List ℕ) → List ℕ × Tree → List ℕ
 row_printed form f r = field_printed form (chars r.0) (f r.1)

@@ -1,4 +1,4 @@
--- Values without tags, modes and holders.
+-- Plain values: values without tags, modes and holders.
 use Rattle.std.specs.Prelude.{ℕ, List, Option, Some, None, option_map, option_and_then}
 use Rattle.rhai_value.specs.declared.cells.store.Cell.{Cell}
 use Rattle.rhai_value.specs.Tree.{Leaf, Kind, Tree, node, Content, leaf, branch, fields, holder, Trees, no_trees, tree_then, Fields, no_fields, field_then}
@@ -20,15 +20,15 @@ mutual
     no_plain_fields : PlainFields
     plain_field_then : List ℕ → Plain → PlainFields → PlainFields
 
--- one more child, where there are all
+-- one more child, if all exist
 abbrev pub plain_more : Option Plain → Option Plains → Option Plains
 plain_more first o = option_and_then (λ p. option_map (plain_then p) o) first
 
--- one more field, where there are all
+-- one more field, if all exist
 abbrev pub plain_field_more : List ℕ → Option Plain → Option PlainFields → Option PlainFields
 plain_field_more k first o = option_and_then (λ p. option_map (plain_field_then k p) o) first
 
--- a holder is its cell's content; it is none where the cell is open, marked or foreign
+-- a holder is its cell's content; none if the cell is open, marked or foreign
 abbrev pub plain_held : Visit (Option Plain) → Option Plain
 plain_held (entered o) = o
 plain_held barred = None
@@ -52,6 +52,6 @@ abbrev mutual
   fields_plain path go no_fields = Some no_plain_fields
   fields_plain path go (field_then k t fs) = plain_field_more k (plain_of path go t) (fields_plain path go fs)
 
--- the value without tags, modes and holders, these cells being open; none where it has to go through an open, marked or foreign cell
+-- the plain value, with these cells open; none if it goes through an open, marked or foreign cell
 unfoldable pub plain : List Cell → List ℕ → Tree → Option Plain
 plain s path t = walk plain_of s path t

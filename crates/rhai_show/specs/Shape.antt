@@ -1,4 +1,4 @@
--- A value by its cases, as the walks of this crate see it.
+-- A value by cases, as the walks of this crate see it.
 use Rattle.std.specs.Prelude.{ℕ, ℤ, ◌≡◌}
 use Rattle.rhai_value.specs.declared.value.access_mode.AccessMode.{AccessMode}
 use Rattle.rhai_value.specs.Rows.{trees_of, fields_of}
@@ -18,7 +18,7 @@ leaf_of (Text s) = tree.text s.now
 leaf_of (Blob bs) = tree.blob bs.now
 leaf_of (Host h) = tree.host h.now
 
--- this content under some tag and mode
+-- this content with some tag and mode
 abbrev pub IsNode : Content → Tree → Type 0
 IsNode c t = (g : ℤ) × (m : AccessMode) × (t ≡ node c g m)
 

@@ -1,4 +1,4 @@
--- How a value is printed.
+-- The printed form of a value.
 use Rattle.std.specs.Prelude.{ℕ, List, [], ◌∷◌, ◌++◌, codes}
 use Rattle.std.specs.List.{flat_map, join_by}
 use Rattle.rhai_text.specs.Quote.{quoted_text}
@@ -9,13 +9,13 @@ use Rattle.rhai_show.specs.Leaves.{in_debug, leaf_printed}
 use Rattle.rhai_show.specs.declared.form.Form.{Form}
 use Rattle.rhai_show.specs.declared.form.Form.TheVariants.{Display, Inner, Debug}
 
--- the form of what stands in a cell
+-- the form of a cell's content
 abbrev pub content_form : Form → Form
 content_form Display = Inner
 content_form Inner = Inner
 content_form Debug = Debug
 
--- the form of what stands in an array or a map
+-- the form of the values inside an array or a map
 abbrev pub item_form : Form → Form
 item_form Display = Debug
 item_form Inner = Inner
@@ -25,11 +25,11 @@ item_form Debug = Debug
 abbrev pub comma : List ℕ
 comma = codes ", "
 
--- the texts of these, with a comma between two
+-- the texts of these, separated by commas
 abbrev pub joined : {A : Type 0} → (A → List ℕ) → List A → List ℕ
 joined f xs = join_by f comma xs
 
--- the texts of these, each behind a comma
+-- the texts of these, each preceded by a comma
 abbrev pub further : {A : Type 0} → (A → List ℕ) → List A → List ℕ
 further f xs = flat_map (λ x. comma ++ f x) xs
 
@@ -50,7 +50,7 @@ branch_printed form (function f) vs = codes "Fn(" ++ name_printed form f ++ in_d
 abbrev pub map_printed : Form → List (Form → List ℕ) → List ℕ
 map_printed form vs = codes "#{" ++ joined (λ v. v (item_form form)) vs ++ codes "}"
 
--- a holder is its cell's content with a mark behind it; where the cell is open, marked or foreign, it is the mark alone
+-- a holder is its cell's content followed by ` (shared)`; only `<shared>` if the cell is open, marked or foreign
 abbrev pub holder_printed : Form → Visit (Form → List ℕ) → List ℕ
 holder_printed form (entered t) = t (content_form form) ++ codes " (shared)"
 holder_printed form barred = codes "<shared>"
@@ -75,6 +75,6 @@ abbrev mutual
   fields_printed path go no_fields = []
   fields_printed path go (field_then k t fs) = (λ form. field_printed form k (printed_of path go t form)) ∷ fields_printed path go fs
 
--- the characters of a value in a form, these cells being open
+-- the characters of a value in a form, with these cells open
 unfoldable pub printed : List Cell → List ℕ → Tree → Form → List ℕ
 printed s path t = walk printed_of s path t

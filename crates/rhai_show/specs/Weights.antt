@@ -1,4 +1,4 @@
--- How much there is to do for a value, what stands in a cell being counted each time that it is reached.
+-- The work for a value; a cell's content counts each time that it is reached.
 use Rattle.std.specs.Prelude.{ℕ, suc, ◌+◌, List}
 use Rattle.rhai_value.specs.declared.cells.store.Cell.{Cell}
 use Rattle.rhai_value.specs.Tree.{Tree, node, Content, leaf, branch, fields, holder, Trees, no_trees, tree_then, Fields, no_fields, field_then}
@@ -27,6 +27,6 @@ abbrev mutual
   fields_weight path go no_fields = 0
   fields_weight path go (field_then k t fs) = suc (weight_of path go t) + fields_weight path go fs
 
--- these cells being open
+-- with these cells open
 unfoldable pub weight : List Cell → List ℕ → Tree → ℕ
 weight s path t = walk weight_of s path t

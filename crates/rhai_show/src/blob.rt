@@ -6,7 +6,7 @@ ghost use Rattle.rhai_show.specs.Leaves.{blob_printed, hex_digits, space_before}
 use crate::leaf::add_text;
 use std::alloc::AllocError;
 
-/// Adds the bytes of a blob, as hexadecimal digits in groups of eight bytes.
+/// Appends the bytes of a blob, as hexadecimal digits in groups of eight bytes.
 pub(crate) fn add_blob(out: &mut String, bytes: &[u8]) -> Result<(), AllocError>
     ensures { OnOk result (chars (string_bytes out.new) ≡ chars (string_bytes out.old) ++ blob_printed bytes.now) }
 {
@@ -18,7 +18,7 @@ pub(crate) fn add_blob(out: &mut String, bytes: &[u8]) -> Result<(), AllocError>
     add_text(out, "]")
 }
 
-/// Adds the space that stands before each group of bytes but the first.
+/// Appends the space before each group of bytes but the first.
 fn add_space(out: &mut String, index: usize) -> Result<(), AllocError>
     ensures { OnOk result (chars (string_bytes out.new) ≡ chars (string_bytes out.old) ++ space_before index) }
 {

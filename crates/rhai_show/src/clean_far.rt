@@ -1,4 +1,4 @@
-//! What a search for plain values finds at one value that may be nested deep.
+//! The step of a search for plain values at one value that may be deeply nested.
 ghost use Rattle.std.specs.Prelude.{◌≡◌, ◌<◌, ◌≤◌, ℕ, ℤ, suc, true, ◌∷◌, None, List, drop, length, map, reverse, IfOk, IsOk, MatchResult, is_some};
 ghost use Rattle.rhai_value.specs.declared.value.access_mode.AccessMode.{AccessMode};
 ghost use Rattle.rhai_value.specs.End.{first};
@@ -13,7 +13,7 @@ use crate::shape::{Shape, shape_of};
 use rhai_value::{Dynamic, Path, Store};
 use std::alloc::AllocError;
 
-/// Whether a value that holds no others is plain, or else the values in it.
+/// Whether a value without children is plain, or otherwise its children.
 pub(crate) fn opened<'a>(
     store: &'a Store,
     path: &mut Path,
@@ -49,7 +49,8 @@ pub(crate) fn opened<'a>(
     }
 }
 
-/// Whether a holder is plain, where that is told without its content; else its content, and its cell is open.
+/// Whether a holder is plain, if that is known without its content; otherwise its content, with its
+/// cell opened.
 #[tactic(auto, using(crate::proofs::Barred::barred_closed))]
 pub(crate) fn opened_holder<'a>(
     store: &'a Store,

@@ -26,7 +26,7 @@ impl Form {
         }
     }
 
-    /// The form of what stands in an array or a map.
+    /// The form of the values inside an array or a map.
     pub(crate) fn of_items(self) -> Form
         ensures { result ≡ item_form self }
     {

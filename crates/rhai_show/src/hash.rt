@@ -21,11 +21,11 @@ use crate::shape::{Shape, shape_of};
 use rhai_value::{Dynamic, INT, Map, NEAR, Part, Path, Store};
 use std::alloc::{AllocError, Global};
 
-/// How many bytes there is room for at first where a value may hold others, so that short ones don't grow.
+/// The initial capacity for a value with children, so that short results need no growth.
 const FIRST_ROOM: usize = 64;
 
-/// Adds the hash bytes of a value that has some, the cells of the path being open. It is inlined in the loops, where most values
-/// hold no other.
+/// Appends the hash bytes of a hashable value; the cells of the path are open. Inlined into the
+/// loops, since most values contain no others.
 #[cycle(write)]
 #[inline(always)]
 fn add_value(
@@ -72,7 +72,7 @@ fn add_value(
     }
 }
 
-/// Adds the hash bytes of what a holder's cell has.
+/// Appends the hash bytes of the content of a holder's cell.
 #[cycle(write)]
 #[inline(never)]
 fn add_held(
@@ -94,7 +94,7 @@ fn add_held(
     Ok(())
 }
 
-/// Adds the number of items, and then the items.
+/// Appends the number of items, and then the items.
 #[cycle(write)]
 #[inline(never)]
 fn add_items(
@@ -117,7 +117,7 @@ fn add_items(
     Ok(())
 }
 
-/// Adds the number of entries, and then each key with its value.
+/// Appends the number of entries, and then each key with its value.
 #[cycle(write)]
 #[inline(never)]
 fn add_map(
@@ -142,7 +142,7 @@ fn add_map(
     Ok(())
 }
 
-/// The hash bytes of a value that may hold others, once it is found hashable.
+/// The hash bytes of a value with children, once it is known to be hashable.
 #[inline(never)]
 #[tactic(auto, using(crate::proofs::Barred::barred_plain))]
 fn hashed_below(alloc: Global, value: &Dynamic, store: &Store) -> Result<Option<Hashed>, AllocError>
@@ -159,13 +159,14 @@ fn hashed_below(alloc: Global, value: &Dynamic, store: &Store) -> Result<Option<
     Ok(Some(Hashed::from_bytes(bytes)))
 }
 
-/// Answers the hash bytes of a value, `None` exactly where it isn't hashable.
-/// Errors: memory is refused.
-/// Cost: of an int, also as what a holder's cell has, constant, and no memory. Of a unit, boolean, character, text, blob or
-/// value of the host the number of its bytes, for which memory is asked once. Of another value that of `is_hashable`, the number of the bytes, and for
-/// each holder on the way the logarithm of how many cells are open then. A cell that is reached on many ways gives its
-/// bytes on each, so that these can be very many more than the values are. Each level below the 64th takes memory in a
-/// list.
+/// Returns the hash bytes of a value, or `None` exactly if it isn't hashable.
+/// Errors: an allocation fails.
+/// Cost: for an int, also as the content of a holder's cell, constant, and no memory. For a unit,
+/// boolean, character, text, blob or host value the number of its bytes, with one allocation. For
+/// another value that of `is_hashable`, the number of the bytes, and for each holder on the way the
+/// logarithm of the number of cells then open. A cell that is reached on several ways contributes
+/// its bytes each time, so that these can be very many more than the values. Each level below the
+/// 64th takes memory on a work list.
 /// rhai: `Hash` of `Dynamic`, which feeds any hasher.
 #[tactic(auto, using(crate::proofs::Barred::barred_plain))]
 pub fn hashed(alloc: Global, value: &Dynamic, store: &Store) -> Result<Option<Hashed>, AllocError>
@@ -183,7 +184,7 @@ pub fn hashed(alloc: Global, value: &Dynamic, store: &Store) -> Result<Option<Ha
     hashed_content(alloc, content, value, store)
 }
 
-/// The hash bytes of a value whose first content is at hand.
+/// The hash bytes of a value, given its first content.
 #[inline(never)]
 fn hashed_content(
     alloc: Global,

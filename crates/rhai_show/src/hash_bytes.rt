@@ -1,4 +1,5 @@
-//! The hash bytes of values that hold no other value, and of names and counts. Room for the bytes of a value is made at once.
+//! The hash bytes of values without children, and of names and counts. One allocation for the bytes
+//! of a value.
 ghost use Rattle.std.specs.Prelude.{◌≡◌, ◌++◌, ◌∷◌, ◌+◌, ◌*◌, ◌%◌, length, take, FitsSigned, OnOk};
 ghost use Rattle.std.specs.Int.{w64, to_le_bytes};
 ghost use Rattle.std.specs.List.{flat_map};
@@ -13,13 +14,13 @@ use rhai_text::ImmutableString;
 use rhai_value::{Host, INT};
 use std::alloc::AllocError;
 
-/// How many bytes a kind has with a number behind it.
+/// The number of bytes of a kind followed by a number.
 pub(crate) const FRONT_BYTES: usize = 9;
 
-/// What the last byte of a number of eight is worth.
+/// The place value of the last of a number's eight bytes.
 const LAST_BYTE: u64 = 0x100_0000_0000_0000;
 
-/// Makes the bytes of a kind and of a number behind it, and then zeros, as two words.
+/// Makes the bytes of a kind, a number and padding zeros, as two words.
 pub(crate) fn front(kind: u8, number: u64) -> [[u8; 8]; 2]
     ensures { take FRONT_BYTES (flat_map (λ w. w) result) ≡ kind ∷ to_le_bytes w64 number }
 {
@@ -30,8 +31,8 @@ pub(crate) fn front(kind: u8, number: u64) -> [[u8; 8]; 2]
     ]
 }
 
-/// A byte, and behind it all of a number but its last byte. It is called, so that they are written at once, as a hasher reads
-/// them: else it waits.
+/// A byte followed by all bytes of a number but the last. It is a call, so that they are written at
+/// once, as a hasher reads them: otherwise store forwarding stalls.
 #[inline(never)]
 fn word(first: u8, number: u64) -> u64
     ensures { result ≡ number % LAST_BYTE * 256 + first }
@@ -39,14 +40,14 @@ fn word(first: u8, number: u64) -> u64
     number % LAST_BYTE * 256 + first as u64
 }
 
-/// Adds a kind and a number behind it.
+/// Appends a kind followed by a number.
 fn add_front(out: &mut Vec<u8>, kind: u8, number: u64) -> Result<(), AllocError>
     ensures { OnOk result (out.new.items ≡ out.old.items ++ kind ∷ to_le_bytes w64 number) }
 {
     add_bytes(out, &front(kind, number).as_flattened()[..FRONT_BYTES])
 }
 
-/// Adds the hash bytes of a leaf.
+/// Appends the hash bytes of a leaf.
 #[inline(always)]
 pub(crate) fn add_leaf(out: &mut Vec<u8>, leaf: Leaf) -> Result<(), AllocError>
     ensures bytes { OnOk result (out.new.items ≡ out.old.items ++ leaf_bytes (leaf_of leaf.entry)) }
@@ -63,7 +64,7 @@ pub(crate) fn add_leaf(out: &mut Vec<u8>, leaf: Leaf) -> Result<(), AllocError>
     }
 }
 
-/// Adds bytes at the end.
+/// Appends bytes.
 pub(crate) fn add_bytes(out: &mut Vec<u8>, bytes: &[u8]) -> Result<(), AllocError>
     ensures { OnOk result (out.new.items ≡ out.old.items ++ bytes.now) }
 {
@@ -112,7 +113,7 @@ fn add_blob(out: &mut Vec<u8>, value: &[u8]) -> Result<(), AllocError>
     add_kind_sized(out, 6, value)
 }
 
-/// Adds a kind, and bytes behind their number.
+/// Appends a kind, and bytes prefixed by their number.
 fn add_kind_sized(out: &mut Vec<u8>, kind: u8, bytes: &[u8]) -> Result<(), AllocError>
     ensures bytes { OnOk result (out.new.items ≡ out.old.items ++ kind ∷ sized bytes.now) }
     ensures range { OnOk result (IsCount (length bytes.now)) }
@@ -122,7 +123,7 @@ fn add_kind_sized(out: &mut Vec<u8>, kind: u8, bytes: &[u8]) -> Result<(), Alloc
     add_bytes(out, bytes)
 }
 
-/// Adds bytes behind their number.
+/// Appends bytes, prefixed by their number.
 fn add_sized(out: &mut Vec<u8>, bytes: &[u8]) -> Result<(), AllocError>
     ensures bytes { OnOk result (out.new.items ≡ out.old.items ++ sized bytes.now) }
     ensures range { OnOk result (IsCount (length bytes.now)) }
@@ -131,7 +132,7 @@ fn add_sized(out: &mut Vec<u8>, bytes: &[u8]) -> Result<(), AllocError>
     add_bytes(out, bytes)
 }
 
-/// Adds how many bytes, items or entries follow.
+/// Appends the number of bytes, items or entries that follow.
 pub(crate) fn add_count(out: &mut Vec<u8>, count: usize) -> Result<(), AllocError>
     ensures bytes { OnOk result (out.new.items ≡ out.old.items ++ count_bytes count) }
     ensures range { OnOk result (IsCount count) }
@@ -139,7 +140,7 @@ pub(crate) fn add_count(out: &mut Vec<u8>, count: usize) -> Result<(), AllocErro
     add_bytes(out, &count.to_le_bytes())
 }
 
-/// Adds a key or a name.
+/// Appends a key or a name.
 pub(crate) fn add_name(out: &mut Vec<u8>, name: &str) -> Result<(), AllocError>
     ensures bytes { OnOk result (out.new.items ≡ out.old.items ++ name_bytes (chars name.now)) }
     ensures range { OnOk result (IsName (chars name.now)) }
@@ -147,7 +148,7 @@ pub(crate) fn add_name(out: &mut Vec<u8>, name: &str) -> Result<(), AllocError>
     add_sized(out, name.as_bytes())
 }
 
-/// Adds the eight bytes of an integer.
+/// Appends the eight bytes of an integer.
 fn add_number(out: &mut Vec<u8>, value: &INT) -> Result<(), AllocError>
     ensures bytes { OnOk result (out.new.items ≡ out.old.items ++ int_bytes value.now) }
     ensures range { OnOk result (FitsSigned w64 value.now) }
@@ -174,7 +175,7 @@ fn add_host(out: &mut Vec<u8>, value: &Host) -> Result<(), AllocError>
     }
 }
 
-/// Adds the kind of a host's value, the kind of a number and its bytes.
+/// Appends the kind of a host value, the kind of a number and its bytes.
 fn add_width(out: &mut Vec<u8>, kind: u8, number: &[u8]) -> Result<(), AllocError>
     ensures { OnOk result (out.new.items ≡ out.old.items ++ 9 ∷ kind ∷ number.now) }
 {
@@ -184,7 +185,7 @@ fn add_width(out: &mut Vec<u8>, kind: u8, number: &[u8]) -> Result<(), AllocErro
     add_bytes(out, number)
 }
 
-/// Adds the kind of a host's value, the kind of a range and its two ends.
+/// Appends the kind of a host value, the kind of a range and its two ends.
 fn add_range(out: &mut Vec<u8>, kind: u8, start: &INT, end: &INT) -> Result<(), AllocError>
     ensures bytes { OnOk result (out.new.items ≡ out.old.items ++ (9 ∷ kind ∷ int_bytes start.now ++ int_bytes end.now)) }
     ensures range { OnOk result (FitsSigned w64 start.now × FitsSigned w64 end.now) }

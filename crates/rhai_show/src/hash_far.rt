@@ -1,4 +1,4 @@
-//! The hash bytes of a value that is nested deep.
+//! The hash bytes of a deeply nested value.
 ghost use Rattle.std.specs.Prelude.{◌≡◌, ◌≤◌, ◌++◌, ◌∷◌, ℕ, ℤ, List, Some, true, IfOk, IfSome, MatchOption, OnOk, is_some};
 ghost use Rattle.rhai_value.specs.declared.value.access_mode.AccessMode.{AccessMode};
 ghost use Rattle.rhai_value.specs.Tree.{Tree, cell_of, holder, node};
@@ -17,7 +17,8 @@ use rhai_value::{Dynamic, Path, Store};
 use std::alloc::AllocError;
 use std::mem;
 
-/// Adds the hash bytes of a value that holds no others, or else the bytes before these.
+/// Appends the hash bytes of a value without children, or otherwise the bytes before those of its
+/// children.
 fn opened<'a>(
     store: &'a Store,
     path: &mut Path,
@@ -82,7 +83,7 @@ fn opened_holder<'a>(
     Ok(Rest::Held(Some(content)))
 }
 
-/// Opens the cell of a holder that has hash bytes, and gives what it has.
+/// Opens the cell of a hashable holder, and returns its content.
 pub(crate) fn opened_cell<'a>(
     store: &'a Store,
     path: &mut Path,
@@ -93,11 +94,11 @@ pub(crate) fn opened_cell<'a>(
     ensures found { IfOk result (λ t. Some t.now ≡ entry store.now path.old value.now) }
     ensures opened { IfOk result (λ t. IfSome (cell_of value.now) (λ c. path.new ≡ c ∷ path.old)) }
 {
-    // Which holders can be hashed was found by a search before: each of them opens.
+    // An earlier search found the holder hashable, so its cell opens.
     Ok(path.enter(store, value)?.unwrap())
 }
 
-/// Adds the key of a value, if it has one.
+/// Appends the key of a value, if it has one.
 fn unkeyed<'a>(child: Child<'a>, out: &mut Vec<u8>) -> Result<&'a Dynamic, AllocError>
     ensures value { IfOk result (λ v. v.now ≡ (child_of child.entry).1) }
     ensures bytes { IfOk result (λ v. (f : Tree → List ℕ) → out.new.items ++ f v.now ≡ out.old.items ++ keyed_bytes f (child_of child.entry)) }
@@ -112,8 +113,8 @@ fn unkeyed<'a>(child: Child<'a>, out: &mut Vec<u8>) -> Result<&'a Dynamic, Alloc
     }
 }
 
-/// Adds the hash bytes of a value that has some, the cells of the path being open. What is left of each level stands in a list, so
-/// that calls don't nest.
+/// Appends the hash bytes of a hashable value; the cells of the path are open. A work list has the
+/// rest of each level, so that calls don't nest.
 #[inline(never)]
 pub(crate) fn add_far(
     store: &Store,

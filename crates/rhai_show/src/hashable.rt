@@ -14,9 +14,9 @@ use rhai_value::{Dynamic, Map, NEAR, Path, Store};
 use std::alloc::{AllocError, Global};
 use std::mem;
 
-/// Whether the value is plain, the cells of `path` being open. The cells of `seen` were opened before; of those that are still open
-/// none opens again, and those that were left are known to be clean, so that none of these is looked into a second time. It is inlined in the
-/// loops, where most values hold no other.
+/// Whether the value is plain; the cells of `path` are open. The cells of `seen` were opened
+/// before; those still open don't open again, and those left are known to be clean, so that no cell
+/// is searched twice. Inlined into the loops, since most values contain no others.
 #[cycle(search)]
 #[inline(always)]
 fn is_clean(
@@ -92,8 +92,8 @@ fn is_held_clean(
     }
 }
 
-/// The same of a value of any depth. What is left of each level stands in a list, so that calls don't nest; where memory for the list
-/// is refused, it goes on by calls.
+/// The same for a value of any depth. A work list has the rest of each level, so that calls don't
+/// nest; if its allocation fails, it recurses.
 #[cycle(search)]
 #[inline(never)]
 fn is_far_clean(
@@ -151,7 +151,7 @@ fn is_far_clean(
     }
 }
 
-/// The same of items.
+/// The same for items.
 #[cycle(search)]
 #[inline(never)]
 fn are_clean(
@@ -176,7 +176,7 @@ fn are_clean(
     Ok(true)
 }
 
-/// The same of the values of a map.
+/// The same for the values of a map.
 #[cycle(search)]
 #[inline(never)]
 fn is_map_clean(
@@ -201,12 +201,12 @@ fn is_map_clean(
     Ok(true)
 }
 
-/// Tells whether the value can be hashed: not where it has to go through a cell that is marked, no cell of the store, or in
-/// a loop.
-/// Errors: memory is refused; never for a value in which no holder stands.
-/// Cost: the number of values inside and in the cells, each cell being looked into once; for each holder the logarithm of
-/// the number of cells that were reached, with which memory grows. Below 64 levels it asks for a list, and goes on by calls
-/// for another 64 levels where that is refused.
+/// Returns whether the value can be hashed: not if that would go through a cell that is marked, not
+/// in the store, or in a loop.
+/// Errors: an allocation fails; never for a value that contains no holder.
+/// Cost: the number of values inside and in the cells, each cell being searched once; for each
+/// holder the logarithm of the number of reached cells; memory grows with that number. Below 64
+/// levels it allocates a work list; if that fails, it recurses for another 64 levels.
 /// rhai: `Dynamic::is_hashable`, which is private.
 pub fn is_hashable(alloc: Global, value: &Dynamic, store: &Store) -> Result<bool, AllocError>
     ensures answer { IfOk result (λ b. b ≡ is_some (plain store.now [] value.now)) }

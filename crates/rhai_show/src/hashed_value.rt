@@ -16,15 +16,15 @@ use std::alloc::{AllocError, Global};
 use std::hash::{Hash, Hasher};
 use std::marker::Model;
 
-/// Where hash bytes stand: those of an int here, others in a block of memory.
+/// The storage of hash bytes: those of an int inline, others in an allocation.
 #[derive(Drop)]
 pub(crate) enum HashedBytes {
-    /// How many are used, and the bytes, as two words.
+    /// The number of used bytes, and the bytes, as two words.
     Short(usize, [[u8; 8]; 2]),
     Long(Vec<u8>),
 }
 
-/// The hash bytes of a value, which contracts see as the list of these.
+/// The hash bytes of a value, which contracts see as the list of them.
 #[derive(Drop)]
 pub struct Hashed {
     bytes: HashedBytes,
@@ -42,7 +42,7 @@ impl Model for Hashed {
 }
 
 impl Hashed {
-    /// Takes bytes that are at hand.
+    /// Wraps bytes.
     pub fn from_bytes(bytes: Vec<u8>) -> Hashed
         ensures { result ≡ bytes.items }
     {
@@ -51,7 +51,7 @@ impl Hashed {
         }
     }
 
-    /// Makes those of an int, for which no memory is asked.
+    /// Makes the hash bytes of an int, without an allocation.
     pub(crate) fn of_int(value: &INT) -> Hashed
         ensures bytes { result ≡ leaf_bytes (an_int value.now) }
         ensures range { IsLeaf (an_int value.now) }
@@ -61,7 +61,7 @@ impl Hashed {
         }
     }
 
-    /// Lends the bytes.
+    /// Borrows the bytes.
     pub fn bytes(&self) -> &[u8]
         ensures { result.now ≡ self.now }
     {
@@ -72,7 +72,8 @@ impl Hashed {
     }
 
     /// Moves the bytes out.
-    /// Errors: memory is refused; it is asked for those of an int alone, which stand in no block of memory.
+    /// Errors: an allocation fails; only the bytes of an int need one, since they are stored
+    /// inline.
     pub fn into_bytes(self, alloc: Global) -> Result<Vec<u8>, AllocError>
         ensures ok { IfOk result (λ bytes. bytes.items ≡ self) }
         ensures err { OnErr result (AreOfInt self) }
@@ -84,7 +85,7 @@ impl Hashed {
     }
 }
 
-/// The first bytes of all.
+/// The used bytes of the two words.
 fn short_bytes(len: usize, words: &[[u8; 8]; 2]) -> &[u8]
     ensures { result.now ≡ take len (flat_map (λ w. w) words.now) }
 {
@@ -109,7 +110,7 @@ impl Eq for Hashed {
     ghost laws = { nat_list_eq_equiv };
 }
 
-/// Hash bytes are hashed as the slice of them is: equal ones feed a hasher the same.
+/// Hash bytes hash as the slice of them does: equal ones feed a hasher the same.
 impl Hash for Hashed {
     ghost hash_input = { fed.slice fed.u8 };
 

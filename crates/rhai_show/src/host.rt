@@ -1,4 +1,4 @@
-//! The texts of the host's numbers and ranges.
+//! The texts of the host's integers and ranges.
 ghost use Rattle.std.specs.Prelude.{◌≡◌, ◌++◌, OnOk, string_bytes};
 ghost use Rattle.std.specs.Str.{chars};
 ghost use Rattle.std.specs.Fmt.{decimal, signed_decimal};
@@ -48,7 +48,7 @@ fn add_range(out: &mut String, start: &INT, between: &str, end: &INT) -> Result<
     add_end(out, end)
 }
 
-/// Adds the end of a range; nothing where it is the greatest integer.
+/// Appends the end of a range; nothing if it is the greatest integer.
 fn add_end(out: &mut String, end: &INT) -> Result<(), AllocError>
     ensures { OnOk result (chars (string_bytes out.new) ≡ chars (string_bytes out.old) ++ end_printed end.now) }
 {

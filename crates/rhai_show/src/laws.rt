@@ -1,4 +1,4 @@
-//! Laws of printed text, each the contract of a function that does nothing.
+//! Laws of printed text, each the contract of a function with an empty body.
 ghost use Rattle.std.specs.Prelude.{◌≡◌, ◌∷◌, [], ◌++◌, ℕ, ℤ, true, false, List, Some, None, codes};
 ghost use Rattle.rhai_value.specs.declared.value.access_mode.AccessMode.{AccessMode};
 ghost use Rattle.rhai_value.specs.declared.cells.store.Cell.{Cell};
@@ -15,14 +15,14 @@ ghost use Rattle.rhai_show.specs.Text.{joined, further, item_form, content_form,
 
 pub mod hashes;
 
-/// The text of a value by its parts, in all forms: no length of the store is in it.
+/// The text of a value by its parts, in all forms; the store's length isn't mentioned.
 #[tactic(auto, using(crate::proofs::Printed::printed_opens))]
 pub fn printed_opens()
     ensures { (s : List Cell) (path : List ℕ) (t : Tree)
         → printed s path t ≡ printed_of path (λ c. visit_map (printed s (c ∷ path)) (visit s path c)) t }
 {}
 
-/// The text of a value, kind by kind. A tag or a mode is never seen.
+/// The text of a value, kind by kind. Tags and modes have no effect.
 #[tactic(auto, using(crate::proofs::Printed::leaf_text, crate::proofs::Printed::array_text, crate::proofs::Printed::map_text, crate::proofs::Printed::function_text))]
 pub fn printed_by_kind()
     ensures leaf { (s : List Cell) (path : List ℕ) (form : Form) (g : ℤ) (m : AccessMode) (l : Leaf)
@@ -38,8 +38,8 @@ pub fn printed_by_kind()
         ≡ codes "Fn(" ++ name_printed form name ++ in_debug form (further (λ u. printed s path u Debug) curry) [] ++ codes ")" }
 {}
 
-/// The text of a holder: its cell's content with a mark behind it; the mark alone where the cell is marked or foreign, or is open
-/// already.
+/// The text of a holder: its cell's content followed by ` (shared)`; only `<shared>` if the cell is
+/// marked or foreign, or is already open.
 #[tactic(auto, using(crate::proofs::Printed::opened_text, crate::proofs::Printed::barred_text, crate::proofs::Printed::revisited_text))]
 pub fn printed_of_holders()
     ensures opened { (s : List Cell) (path : List ℕ) (form : Form) (g : ℤ) (m : AccessMode) (c : ℕ) (u : Tree)
@@ -51,13 +51,14 @@ pub fn printed_of_holders()
         → at s c ≡ Some u → is_open c path ≡ true → printed s path (node (holder c) g m) form ≡ codes "<shared>" }
 {}
 
-/// A copy prints as the value: a mode is never seen.
+/// A copy prints as the value does: modes have no effect.
 #[tactic(auto, using(crate::proofs::Copies::copy_printed))]
 pub fn copies_print_alike()
     ensures { (s : List Cell) (path : List ℕ) (t : Tree) → printed s path (copy t) ≡ printed s path t }
 {}
 
-/// The text of a value doesn't depend on the numbers of cells: where no cell is open, and where those that are open are paired.
+/// The text of a value doesn't depend on cell numbers: with no open cells, and with open cells that
+/// are paired.
 #[tactic(auto, using(crate::proofs::SamePrinted::same_printed, crate::proofs::SamePrinted::same_printed_from))]
 pub fn printed_is_renamed()
     ensures whole { (r : Renaming) (s z : List Cell) (t u : Tree)

@@ -1,4 +1,4 @@
-//! The texts of values that hold no other value.
+//! The texts of values without children.
 ghost use Rattle.std.specs.Prelude.{◌≡◌, ◌++◌, ◌<◌, OnOk, string_bytes};
 ghost use Rattle.std.specs.Str.{chars};
 ghost use Rattle.std.specs.Fmt.{decimal, signed_decimal};
@@ -14,7 +14,7 @@ use rhai_text::{ImmutableString, quoted_char_into};
 use rhai_value::INT;
 use std::alloc::AllocError;
 
-/// Adds a text at the end.
+/// Appends a text.
 pub(crate) fn add_text(out: &mut String, text: &str) -> Result<(), AllocError>
     ensures { OnOk result (chars (string_bytes out.new) ≡ chars (string_bytes out.old) ++ chars text.now) }
 {
@@ -22,7 +22,7 @@ pub(crate) fn add_text(out: &mut String, text: &str) -> Result<(), AllocError>
     out.push_str(text)
 }
 
-/// Adds the text of a leaf.
+/// Appends the text of a leaf.
 #[inline(always)]
 pub(crate) fn add_leaf(out: &mut String, leaf: Leaf, form: Form) -> Result<(), AllocError>
     ensures { OnOk result (chars (string_bytes out.new) ≡ chars (string_bytes out.old) ++ leaf_printed form (leaf_of leaf.entry)) }
@@ -58,7 +58,7 @@ fn add_bool(out: &mut String, value: bool) -> Result<(), AllocError>
     }
 }
 
-/// Adds the decimal digits of an int.
+/// Appends the decimal digits of an int.
 pub(crate) fn add_int(out: &mut String, value: &INT) -> Result<(), AllocError>
     ensures { OnOk result (chars (string_bytes out.new) ≡ chars (string_bytes out.old) ++ signed_decimal value.now) }
 {
@@ -70,7 +70,7 @@ pub(crate) fn add_int(out: &mut String, value: &INT) -> Result<(), AllocError>
     write!(out, "{value}")
 }
 
-/// Adds one digit or two as characters: digits from a buffer are waited for.
+/// Appends one digit or two as characters: reading digits back from a buffer would stall.
 fn add_short(out: &mut String, number: u8) -> Result<(), AllocError>
     requires { number < 100 }
     ensures { OnOk result (string_bytes out.new ≡ string_bytes out.old ++ decimal number) }

@@ -1,15 +1,16 @@
-//! What is left of a value that a walk is in.
+//! Frames of walks.
 
 use rhai_value::{Dynamic, Entries, Path};
 
-/// A value that stands in another, in a map with its key.
+/// A child of a value, in a map with its key.
 #[derive(Clone, Copy)]
 pub(crate) enum Child<'a> {
     Item(&'a Dynamic),
     Entry(&'a str, &'a Dynamic),
 }
 
-/// What is left of the values that stand in an array, with a function or in a map, or in the cell that a holder has opened.
+/// The remaining children of an array, a function or a map, or the remaining content of the cell
+/// that a holder has opened.
 #[derive(Drop)]
 pub(crate) enum Rest<'a> {
     Items(&'a [Dynamic]),
@@ -61,7 +62,7 @@ impl<'a> Rest<'a> {
         }
     }
 
-    /// Closes the cell in which they stand, if they do.
+    /// Closes their cell, if they are in one.
     pub(crate) fn close(&self, path: &mut Path)
         requires { HasOpen (is_held self.now) path.old }
         ensures { path.new ≡ closed_by (is_held self.now) path.old }

@@ -1,4 +1,4 @@
-//! Whether two values are the same.
+//! Whether two values are equal as plain values.
 ghost use Rattle.std.specs.Prelude.{◌≡◌, ◌↔◌, ◌&&◌, [], IfOk, IfSome, IsOk, IsTrue, None, is_some};
 ghost use Rattle.rhai_value.specs.End.{first};
 ghost use Rattle.rhai_show.specs.Plain.{plain};
@@ -8,9 +8,9 @@ use crate::laws::hashes::hash_bytes_tell_values_apart;
 use rhai_value::{Dynamic, Store};
 use std::alloc::{AllocError, Global};
 
-/// Tells whether two values are equal without tags, modes and holders, as their hash bytes are; `None` exactly where one of
-/// them isn't hashable.
-/// Errors: memory for the hash bytes is refused; never where nothing is read of one of them.
+/// Returns whether two values are equal as plain values, as their hash bytes are; `None` exactly if
+/// one of them isn't hashable.
+/// Errors: an allocation fails; never if one of the values has no first content.
 /// Cost: that of `hashed` of both.
 #[tactic(auto, using(crate::proofs::Barred::barred_plain))]
 pub fn same_value(

@@ -1,10 +1,10 @@
-//! A value by its cases: a leaf, children, the fields of a map, or a holder.
+//! A value by cases: a leaf, children, the fields of a map, or a holder.
 ghost use Rattle.rhai_show.specs.Shape.{HasShape};
 
 use rhai_text::ImmutableString;
 use rhai_value::{Dynamic, FnPtr, Host, INT, Map, Union};
 
-/// A content that holds no other value.
+/// A content without children.
 #[derive(Clone, Copy)]
 pub(crate) enum Leaf<'a> {
     Unit,
@@ -16,7 +16,7 @@ pub(crate) enum Leaf<'a> {
     Host(&'a Host),
 }
 
-/// A content by what values stand in it.
+/// A content by the children it has.
 #[derive(Clone, Copy)]
 pub(crate) enum Shape<'a> {
     Leaf(Leaf<'a>),

@@ -10,7 +10,7 @@ use std::alloc::{AllocError, Global};
 use std::fmt;
 use std::marker::Model;
 
-/// A text that was made to be printed, or is an answer. Contracts see the list of its characters.
+/// A text made for printing, or an answer. Contracts see the list of its characters.
 #[derive(Drop)]
 pub struct Shown {
     text: String,
@@ -30,8 +30,8 @@ impl Model for Shown {
 }
 
 impl Shown {
-    /// Makes what `{}` prints of a value.
-    /// Errors: memory is refused.
+    /// Makes the text that `{}` prints for a value.
+    /// Errors: an allocation fails.
     /// Cost: that of `display_text`.
     /// rhai: `Display` of `Dynamic`.
     pub fn display(alloc: Global, value: &Dynamic, store: &Store) -> Result<Shown, AllocError>
@@ -41,8 +41,8 @@ impl Shown {
         Ok(Shown { text })
     }
 
-    /// Makes what `{:?}` prints of a value.
-    /// Errors: memory is refused.
+    /// Makes the text that `{:?}` prints for a value.
+    /// Errors: an allocation fails.
     /// Cost: that of `debug_text`.
     /// rhai: `Debug` of `Dynamic`.
     pub fn debug(alloc: Global, value: &Dynamic, store: &Store) -> Result<Shown, AllocError>
@@ -52,14 +52,14 @@ impl Shown {
         Ok(Shown { text })
     }
 
-    /// Takes a text that is at hand.
+    /// Wraps a text.
     pub fn from_text(text: String) -> Shown
         ensures { result ≡ chars (string_bytes text) }
     {
         Shown { text }
     }
 
-    /// Lends the text.
+    /// Borrows the text.
     pub fn as_str(&self) -> &str
         ensures characters { chars result.now ≡ self.now }
         ensures bytes { result.now ≡ encode_utf8_all self.now }

@@ -16,7 +16,8 @@ use rhai_text::quoted_text_into;
 use rhai_value::{Dynamic, FnPtr, Map, NEAR, Path, Store};
 use std::alloc::{AllocError, Global};
 
-/// Adds the text of a value, the cells of the path being open. It is inlined in the loops, where most values hold no other.
+/// Appends the text of a value; the cells of the path are open. Inlined into the loops, since most
+/// values contain no others.
 #[cycle(print)]
 #[inline(always)]
 fn add_value(
@@ -60,7 +61,7 @@ fn add_value(
     }
 }
 
-/// Adds the text of a holder.
+/// Appends the text of a holder.
 #[cycle(print)]
 #[inline(never)]
 fn add_held(
@@ -105,7 +106,8 @@ fn add_array(
     add_text(out, "]")
 }
 
-/// Adds the items of an array, or curried values, with a comma between two; where they aren't the first, also before them.
+/// Appends the items of an array, or curried values, separated by commas; if they aren't the first,
+/// also with a comma before them.
 #[cycle(print)]
 fn add_items(
     store: &Store,
@@ -148,7 +150,7 @@ fn add_map(
     add_text(out, "}")
 }
 
-/// Adds the keys of a map with their values, with a comma between two.
+/// Appends the keys of a map with their values, separated by commas.
 #[cycle(print)]
 fn add_fields(
     store: &Store,
@@ -195,7 +197,7 @@ fn add_function(
     add_text(out, ")")
 }
 
-/// Adds curried values, in Debug alone.
+/// Appends curried values, only in Debug form.
 #[cycle(print)]
 fn add_curried(
     store: &Store,
@@ -216,7 +218,7 @@ fn add_curried(
     }
 }
 
-/// Adds a key or the name of a function.
+/// Appends a key or the name of a function.
 pub(crate) fn add_name(out: &mut String, name: &str, form: Form) -> Result<(), AllocError>
     ensures { OnOk result (chars (string_bytes out.new) ≡ chars (string_bytes out.old) ++ name_printed form (chars name.now)) }
 {
@@ -227,7 +229,7 @@ pub(crate) fn add_name(out: &mut String, name: &str, form: Form) -> Result<(), A
     }
 }
 
-/// Adds the comma that stands before a text, unless that is the first.
+/// Appends the comma before a text, unless that is the first.
 pub(crate) fn add_comma(out: &mut String, is_first: bool) -> Result<(), AllocError>
     ensures { OnOk result (chars (string_bytes out.new) ≡ chars (string_bytes out.old) ++ comma_unless is_first) }
 {
@@ -248,9 +250,9 @@ fn text_of(alloc: Global, value: &Dynamic, store: &Store, form: Form) -> Result<
 }
 
 /// Makes the text of a value as `{}` prints it.
-/// Errors: memory is refused.
-/// Cost: the length of the text, and for each holder on the way the logarithm of how many cells are open then; memory for
-/// the text, and for each level below the 64th in a list.
+/// Errors: an allocation fails.
+/// Cost: the length of the text, and for each holder on the way the logarithm of the number of
+/// cells then open; memory for the text, and for each level below the 64th on a work list.
 /// rhai: `Display` of `Dynamic`.
 pub fn display_text(alloc: Global, value: &Dynamic, store: &Store) -> Result<String, AllocError>
     ensures { IfOk result (λ t. chars (string_bytes t) ≡ printed store.now [] value.now Display) }
@@ -259,7 +261,7 @@ pub fn display_text(alloc: Global, value: &Dynamic, store: &Store) -> Result<Str
 }
 
 /// Makes the text of a value as `{:?}` prints it.
-/// Errors: memory is refused.
+/// Errors: an allocation fails.
 /// Cost: that of `display_text`.
 /// rhai: `Debug` of `Dynamic`.
 pub fn debug_text(alloc: Global, value: &Dynamic, store: &Store) -> Result<String, AllocError>

@@ -1,4 +1,4 @@
-//! The text of a value that is nested deep.
+//! The text of a deeply nested value.
 ghost use Rattle.std.specs.Prelude.{◌≡◌, ◌≤◌, ◌++◌, ◌+◌, ℕ, ℤ, suc, [], List, IfOk, IfSome, MatchOption, OnOk, string_bytes};
 ghost use Rattle.std.specs.Str.{chars};
 ghost use Rattle.rhai_value.specs.declared.value.access_mode.AccessMode.{AccessMode};
@@ -19,8 +19,8 @@ use rhai_value::{Dynamic, FnPtr, Path, Store};
 use std::alloc::AllocError;
 use std::mem;
 
-/// A value whose text is under way: the values in it that are left, the form of these, whether the next is the first, and the text
-/// behind them.
+/// Frame of printing: the remaining children, their form, whether the next is the first, and the
+/// text behind them.
 #[derive(Drop)]
 struct Frame<'a> {
     rest: Rest<'a>,
@@ -29,7 +29,7 @@ struct Frame<'a> {
     ending: &'a str,
 }
 
-/// Adds the text of a value that holds no others, or else the text before these.
+/// Appends the text of a value without children, or otherwise the text before them.
 fn opened<'a>(
     store: &'a Store,
     path: &mut Path,
@@ -83,7 +83,7 @@ fn opened<'a>(
     }
 }
 
-/// Adds the text of a holder whose cell doesn't open; opens another's.
+/// Appends the text of a holder whose cell doesn't open; otherwise opens the cell.
 fn opened_holder<'a>(
     store: &'a Store,
     path: &mut Path,
@@ -115,7 +115,7 @@ fn opened_holder<'a>(
     }
 }
 
-/// The curried values that are printed.
+/// The curried values to print.
 fn shown_curry<'a>(function: &'a FnPtr, form: Form) -> &'a [Dynamic]
     ensures text { (f : Tree → List ℕ) → further f result.now ≡ in_debug form (further f function.now.1) [] }
     ensures left { (w : Tree → ℕ) → rest_weight w (items_keyed result.now) ≤ rest_weight w (items_keyed function.now.1) }
@@ -127,7 +127,7 @@ fn shown_curry<'a>(function: &'a FnPtr, form: Form) -> &'a [Dynamic]
     }
 }
 
-/// Adds what stands before the next value, and gives it.
+/// Appends the text before the next value, and returns that value.
 fn next_in<'a>(frame: &mut Frame<'a>, out: &mut String) -> Result<Option<&'a Dynamic>, AllocError>
     ensures text { IfOk result (λ o. MatchOption o
         ((rest_of frame.new.rest ≡ []) × ((f : Tree → Form → List ℕ) → chars (string_bytes out.new) ++ frame_text f frame.new
@@ -155,7 +155,7 @@ fn next_in<'a>(frame: &mut Frame<'a>, out: &mut String) -> Result<Option<&'a Dyn
     }
 }
 
-/// Adds the text behind the values, and closes the cell in which they stand.
+/// Appends the text behind the values, and closes their cell.
 fn close(frame: &Frame, path: &mut Path, out: &mut String) -> Result<(), AllocError>
     requires { HasOpen (is_held frame.now.rest) path.old }
     ensures text { OnOk result (chars (string_bytes out.new) ≡ chars (string_bytes out.old) ++ chars frame.now.ending.now) }
@@ -165,7 +165,8 @@ fn close(frame: &Frame, path: &mut Path, out: &mut String) -> Result<(), AllocEr
     add_text(out, frame.ending)
 }
 
-/// Adds the text of a value, the cells of the path being open. What is left of each level stands in a list, so that calls don't nest.
+/// Appends the text of a value; the cells of the path are open. A work list has the rest of each
+/// level, so that calls don't nest.
 #[inline(never)]
 pub(crate) fn add_far(
     store: &Store,

@@ -1,4 +1,4 @@
--- Where a chain ends once a value was put into the cell at its end.
+-- The end of a chain after a value is written to the cell at its end.
 use Rattle.std.proofs.Common.{◌≡◌, ℕ, ℤ, zero, suc, Bool, true, false, List, [], ◌∷◌, slice_get, Option, Some, None, option_and_then, refl, sym, ap, ap₂, ◌∙◌}
 use Rattle.rhai_value.specs.declared.value.access_mode.AccessMode.{AccessMode}
 use Rattle.rhai_value.specs.declared.cells.chain.Site.{Site}
@@ -11,7 +11,7 @@ use Rattle.rhai_value.specs.End.{held, end_at, site_after, end_of, end}
 use Rattle.rhai_value.proofs.ForCallers.{length_changed}
 use Rattle.rhai_target.proofs.FromBelow.{get_unchanged}
 
--- what is read of a cell that was put, and of the others
+-- reading a cell that was written, and reading others
 read_put : (b : Bool) (t u v : Tree) → unmarked (record { content = t; is_marked = b }) ≡ Some v → unmarked (record { content = u; is_marked = b }) ≡ Some u
 read_put true t u v e = cc
 read_put false t u v e = refl
@@ -24,7 +24,7 @@ at_put (x ∷ s) (suc c) u v e = at_put s c u v e
 at_other : (s : List Cell) (c d : ℕ) (u : Tree) → (d ≡ c → ⊥) → at (put s c u) d ≡ at s d
 at_other s c d u away = ap (option_and_then unmarked) (get_unchanged _ s c d away)
 
--- a value that is no holder ends its chain
+-- a value that isn't a holder ends its chain
 walk_alone : (n : ℕ) (s : List Cell) (path : List ℕ) (t : Tree) → cell_of t ≡ None → walk_in end_of n s path t ≡ held (site_after (slice_get path 0)) t
 walk_alone zero s path (node (leaf l) g m) e = refl
 walk_alone (suc n) s path (node (leaf l) g m) e = refl
@@ -39,12 +39,12 @@ none_held t v site (entered x) h = cc
 none_held t v site barred h = cc
 none_held t v site revisited h = cc
 
--- w is put into the cell c, at which the chain ended with v; neither is a holder
+-- w is written to the cell c, at which the chain ended with v; neither is a holder
 module _ (s : List Cell) (c : ℕ) (v w : Tree) (there : at s c ≡ Some v) (lone : cell_of v ≡ None) (bare : cell_of w ≡ None) where
   abbrev z : List Cell
   z = put s c w
 
-  -- what the cell d, on the chain, has then
+  -- the content of the cell d, on the chain, afterwards
   abbrev After : ℕ → List ℕ → ℕ → Type 0
   After n path d = (y : Tree) × (at z d ≡ Some y) × (walk_in end_of n z (d ∷ path) y ≡ held (InCell c) w)
 

@@ -1,4 +1,4 @@
--- A field that is written back.
+-- Writing a field back.
 use Rattle.std.proofs.Common.{◌≡◌, ℕ, ℤ, List, [], Some, option_map, sym, ap, ◌∙◌, subst}
 use Rattle.std.specs.Borrow.{MutBor}
 use Rattle.rhai_value.specs.declared.cells.store.Cell.{Cell}
@@ -11,7 +11,7 @@ use Rattle.rhai_target.specs.Bits.{with_field}
 use Rattle.rhai_target.specs.Change.{on_int, field_change, value_changed, store_changed}
 use Rattle.rhai_target.specs.Target.{write_back_of, target_written, store_written}
 
--- Two looks at a target find one field; x and z are source and store once the bits were put there.
+-- Two matches of a target give the same field; x and z are source and store after the bits are written.
 pub field_written : (s z : List Cell) (t : Target) (r q : MutBor Tree) (v w x : Tree) (mask other : ℤ) (shift by : ℕ) (n : ℤ) → t ≡ BitField r v mask shift → t ≡ BitField q w other by
     → held_part int_of (end s [] v) ≡ Some n → x ≡ value_after (on_int (with_field mask shift n)) (end s [] q.now) q.now → z ≡ store_after (on_int (with_field mask shift n)) (end s [] q.now) s
     → (BitField (record q { now = x }) w other by ≡ target_written s (write_back_of s t) t) × (z ≡ store_written (write_back_of s t) s)

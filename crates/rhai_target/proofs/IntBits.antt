@@ -15,7 +15,7 @@ digit_below : (b : Bool) → digit b < 2
 digit_below true = omega arith
 digit_below false = omega arith
 
--- a number of k bits is below 2 ^ k
+-- a number of k bits is less than 2 ^ k
 one_more_bit : (b : Bool) (k n : ℕ) → n < 2 ^ k → digit b * 2 ^ k + n < 2 ^ suc k
 one_more_bit true k n h = omega (arith, h, pow-suc 2 k)
 one_more_bit false k n h = omega (arith, h, pow-suc 2 k)
@@ -24,12 +24,12 @@ pub natural_below : (k : ℕ) (f : ℕ → Bool) → natural k f < 2 ^ k
 natural_below zero f = omega arith
 natural_below (suc k) f = one_more_bit (f k) k (natural k f) (natural_below k f)
 
--- a number below 2 is its lowest bit
+-- a number less than 2 is its lowest bit
 lowest : (b : Bool) → bit_at (digit b) 0 ≡ digit b
 lowest true = refl
 lowest false = refl
 
--- each of the k bits is as it was given
+-- each of the k bits is the given one
 pub natural_has : (k : ℕ) (f : ℕ → Bool) (i : ℕ) → i < k → bit_at (natural k f) i ≡ digit (f i)
 natural_has zero f i h = absurd (omega arith)
 natural_has (suc k) f i h = elim (cases_lt i k) [
@@ -55,12 +55,12 @@ test_digit : (b : Bool) → nat_eq (digit b) 1 ≡ b
 test_digit true = refl
 test_digit false = refl
 
--- an int is that of its 64 bits
+-- an int is determined by its 64 bits
 pub int_is : (m : ℕ) (f : ℕ → Bool) → m < 2 ^ 64 → ((i : ℕ) → i < 64 → bit_at m i ≡ digit (f i)) → to_z w64 m ≡ int_of_bits f
 unfolding int_of_bits
 int_is m f h each = ap (to_z w64) (same_from_bits_below 64 m (natural 64 f) h (natural_below 64 f) (λ i l. each i l ∙ sym (natural_has 64 f i l)))
 
--- the bits of an int that was made of bits
+-- the bits of an int made from bits
 pub bit_of_bits : (f : ℕ → Bool) (i : ℕ) → i < 64 → bit (int_of_bits f) i ≡ f i
 unfolding int_of_bits
 bit_of_bits f i h =
@@ -70,7 +70,7 @@ bit_of_bits f i h =
 bits_below : (n : ℤ) → FitsSigned w64 n → of_z w64 n < 2 ^ 64
 bits_below n f = (Fits-of_z f).fits
 
--- an int is made of its own bits, however these are told
+-- an int is made from its own bits, however these are given
 pub int_kept : (n : ℤ) (f : ℕ → Bool) → FitsSigned w64 n → ((i : ℕ) → i < 64 → bit n i ≡ f i) → int_of_bits f ≡ n
 int_kept n f fits same = sym (int_is (of_z w64 n) f (bits_below n fits) (λ i l. bit_digit (of_z w64 n) i ∙ ap digit (same i l))) ∙ to_z-of_z fits
 
@@ -122,7 +122,7 @@ field_is n mask v s fn fm h =
     ∙ ap (max (min (digit (bit n i)) (1 - digit (bit mask i)))) (bit_at_and w m i ∙ ap (λ y. min y (bit_at m i)) (rest_digit (of_z w64 v * 2 ^ s) i l ∙ shifted_digit (of_z w64 v) s i (nat_lt i s) refl) ∙ ap (min (digit (cond (nat_lt i s) false (bit v (i - s))))) (bit_digit m i))
     ∙ merged (bit mask i) (cond (nat_lt i s) false (bit v (i - s))) (bit n i))
 
--- ---- what is read of a bit that was written
+-- ---- reading a bit that was written
 pub bit_written : (place : ℕ) (b : Bool) (n : ℤ) → place < 64 → bit (with_bit place b n) place ≡ b
 bit_written place b n h = bit_of_bits (λ i. cond (nat_eq i place) b (bit n i)) place h ∙ ap (λ t. cond t b (bit n place)) (eq-eqb place place refl)
 
@@ -163,8 +163,8 @@ inside_field mask v n shift i h small fits inside =
     bit_of_bits (λ j. cond (bit mask j) (cond (nat_lt j shift) false (bit v (j - shift))) (bit n j)) i h
     ∙ ap (λ t. cond t b (bit n i)) inside ∙ sym read ∙ ap (λ z. bit z i) (shift_wraps v shift fits small)
 
--- ---- a field that is read
--- ints of the same bits are the same
+-- ---- reading a field
+-- ints with the same bits are equal
 int_of_same : (f g : ℕ → Bool) → ((i : ℕ) → i < 64 → f i ≡ g i) → int_of_bits f ≡ int_of_bits g
 unfolding int_of_bits
 int_of_same f g same =
@@ -192,7 +192,7 @@ field_read_is n mask s u fits same =
     (λ i l. down_digit (bit_and a m) s i ∙ bit_at_and a m (i + s) ∙ ap (λ x. min x (bit_at m (i + s))) (bit_digit a (i + s))
     ∙ ap (min (digit (bit n (i + s)))) (bit_digit m (i + s)) ∙ both_digits (bit n (i + s)) (bit mask (i + s)))
 
--- no bit stands past the 64th
+-- no bit past the 64th is set
 no_bit : (n : ℤ) (i : ℕ) → FitsSigned w64 n → 64 ≤ i → bit n i ≡ false
 no_bit n i fits h = ap (λ d. nat_eq d 1) (bit_at_above (of_z w64 n) 64 i (bits_below n fits) h)
 
@@ -207,7 +207,7 @@ under_mask mask x n shift i low inside =
     ∙ ap (λ t. cond t (cond (nat_lt (i + shift) shift) false (bit x (i + shift - shift))) (bit n (i + shift))) inside
     ∙ ap (λ t. cond t false (bit x (i + shift - shift))) (le-ltb (i + shift) shift (omega arith)) ∙ ap (bit x) place
 
--- what a field is read as that was written: the bits of the value that the mask shows
+-- reading a field that was written gives the bits of the value within the mask
 pub field_written : (mask x n : ℤ) (shift : ℕ) → FitsSigned w64 mask → field mask shift (with_field mask shift x n) ≡ int_of_bits (λ i. bit mask (i + shift) && bit x i)
 field_written mask x n shift fits = int_of_same _ _ (λ i l. elim (cases_lt (i + shift) 64) [
   | inl low ↦ shown (bit mask (i + shift)) _ _ (under_mask mask x n shift i low)
@@ -217,7 +217,7 @@ field_written mask x n shift fits = int_of_same _ _ (λ i l. elim (cases_lt (i +
     differ : true ≡ false → ⊥
     differ e = cc
 
--- a field that is written over itself, whose mask shows no bit below it
+-- writing a field over itself, with a mask that has no bit below it
 over_field : (mask n : ℤ) (shift i : ℕ) → i < 64 → ((j : ℕ) → j < shift → bit mask j ≡ false) → (m : Bool) → bit mask i ≡ m → (b : Bool) → nat_lt i shift ≡ b
     → bit n i ≡ cond m (cond b false (bit (field mask shift n) (i - shift))) (bit n i)
 over_field mask n shift i l none false e b f = refl

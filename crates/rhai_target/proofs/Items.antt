@@ -1,4 +1,4 @@
--- Items of lists, and leaves of values, that are written.
+-- Writes to items of lists, and to leaves of values.
 use Rattle.std.proofs.Common.{◌≡◌, ℕ, zero, suc, ℤ, pos, ◌<◌, List, [], ◌∷◌, length, slice_get, slice_set, Option, Some, None, option_map, refl, sym, ap, arith}
 use Rattle.std.proofs.Math.Nat.{mod-eq_of_lt}
 use Rattle.rhai_value.specs.Tree.{Tree, node, Leaf, int, text, blob, tag_of, mode_of}
@@ -34,7 +34,7 @@ pub leaf_mode : (l : Option Leaf) (t : Tree) → mode_of (with_leaf l t) ≡ mod
 leaf_mode None t = refl
 leaf_mode (Some l) (node c g m) = refl
 
--- a part that a leaf has becomes what its function makes of it
+-- a part of a leaf is changed by its function
 pub changed : {A : Type 0} (part : Leaf → Option A) (make : A → Leaf) → ((a : A) → part (make a) ≡ Some a) → (f : A → A) (t : Tree) (o : Option A) → leaf_part part t ≡ o
     → leaf_part part (with_leaf (option_map (λ a. make (f a)) o) t) ≡ option_map f o
 changed part make has f t None e = e

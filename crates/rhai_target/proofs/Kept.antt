@@ -1,4 +1,4 @@
--- A text that is written over itself.
+-- Writing a text over itself.
 use Rattle.std.proofs.Common.{◌≡◌, ℕ, List, [], Some}
 use Rattle.rhai_value.specs.declared.parts.in_store.InStore.{InStore}
 use Rattle.rhai_value.specs.declared.value.type_id.TypeId.TheVariants as id

@@ -1,4 +1,5 @@
--- What walks over targets share: the types, and that a reference that is let go leaves its value as it was, and one that is handed back follows itself.
+-- Common parts of the proofs about targets: the types, and that a released reference leaves its
+-- value unchanged, and a returned one follows itself.
 use Rattle.std.proofs.Common.{◌≡◌, [], ◌∷◌, List, Option, Some, None, Result, Ok, Err, IfOk, IfErr, ◌++◌, refl, sym, ap, ◌∙◌, subst, MutBor}
 use seplogic.Ra.Ura.{Ura}
 use base.Logic.{emp, ent, id⊢}
@@ -53,14 +54,14 @@ RefOf κ = option.the_row (Ref κ)
 abbrev pub ref_of_laws : (κ : Lft) → Laws (RefOf κ)
 ref_of_laws κ = option_laws.the_row_laws (Ref κ) (ref_laws κ)
 
--- what a call gives beside the reference that it lets go
+-- the result of a call and the reference that it releases
 abbrev pub Beside : RattleType → Lft → RattleType
 Beside R κ = Tuple (R ∷ RefOf κ ∷ [])
 
 abbrev pub beside_laws : (R : RattleType) (L : Laws R) (κ : Lft) → Laws (Beside R κ)
 beside_laws R L κ = tuple_laws (R ∷ RefOf κ ∷ []) (L, (ref_of_laws κ, tt))
 
--- what comes back is no other reference than the one that was there
+-- the returned reference is the one that was there
 abbrev pub IsKept : Option (MutBor Tree) → Option (MutBor Tree) → Type 0
 IsKept o None = Unit {0}
 IsKept o (Some r) = o ≡ Some r
@@ -105,7 +106,7 @@ lone [] one = absurd one
 lone (v ∷ []) one = (v, refl)
 lone (v ∷ u ∷ us) one = absurd one
 
--- the two parts of what a call gives
+-- the two parts of a call's result
 abbrev pub Parted : (R : RattleType) → Lft → R.Denot → Option (MutBor Tree) → Val → Val × Val → Fml
 Parted R κ x o u v = fsep (feq Val u (vstruct (of_list (v.0 ∷ v.1 ∷ [])))) (fsep (R.own_val x (v.0 ∷ [])) ((RefOf κ).own_val o (v.1 ∷ [])))
 
@@ -113,7 +114,7 @@ abbrev pub Parts : (R : RattleType) → Lft → R.Denot → Option (MutBor Tree)
 Parts R κ x o u = fex (Val × Val) (Parted R κ x o u)
 
 module _ {M : Type 1} {𝓤 : Ura M} (𝓛 : Logic 𝓤) where
-  -- a reference that is let go
+  -- a released reference
   pub settled : (κ : Lft) (o : Option (MutBor Tree)) (vs : List Val) → ent 𝓤 (sem 𝓛 ((RefOf κ).own_val o vs)) (sem 𝓛 (Leaves o None))
   unfolding follows_by
   settled κ None vs = qed 𝓛 (‵ ((RefOf κ).own_val None vs) ∷ []) ∵ drop ! $ nothing ! $ done !
@@ -125,7 +126,7 @@ module _ {M : Type 1} {𝓤 : Ura M} (𝓛 : Logic 𝓤) where
   unfolding follows_by
   goes_on o r e = subst (λ u. ent 𝓤 (emp 𝓤) (sem 𝓛 (Leaves u (Some r)))) (sym e) (follows_itself 𝓛 dynamic.the_row r.ghost_name)
 
-  -- of two references the one that isn't handed back is let go
+  -- of two references the one that isn't returned is released
   pub source_left : (o kept : Option (MutBor Tree)) → IsKept o kept → ent 𝓤 (sem 𝓛 (Leaves (let_go o kept) None)) (sem 𝓛 (Leaves o kept))
   source_left o None h = id⊢ 𝓤 _
   source_left o (Some r) h = qed 𝓛 (‵ ftrue ∷ []) ∵ drop ! $ use0 𝓛 (‵ (Leaves o (Some r))) (goes_on o r h) $ done !
@@ -141,11 +142,11 @@ module _ {M : Type 1} {𝓤 : Ura M} (𝓛 : Logic 𝓤) where
       (ap only shape ∙ ap (λ (vs : List Val). vstruct (of_list (vs ++ (vss.1.0 ++ [])))) one.1 ∙ ap (λ (vs : List Val). vstruct (of_list (one.0 ∷ (vs ++ [])))) two.1) $
       fjoin ! $ fpack ! (Val × Val) (Parted R κ x.0 x.1 u) (one.0, two.0) $ done !))))
 
-  -- it has its type, however it is written
+  -- it has its type, however it is represented
   pub typed : (R : RattleType) (L : Laws R) (κ : Lft) (x : R.Denot × Option (MutBor Tree)) (u w : Val) → u ≡ w → Is (Beside R κ) x (u ∷ []) → T (has_ty (layout (Beside R κ)) w) × WT w
   typed R L κ x u w e is = subst (λ v. T (has_ty (layout (Beside R κ)) v) × WT v) e (((beside_laws R L κ).lawful 𝓛).typed x (u ∷ []) is).0
 
--- nothing is said of a target that is gone
+-- nothing is claimed about a consumed target
 pub quiet : {M : Type 1} {𝓤 : Ura M} (𝓛 : Logic 𝓤) (κ : Lft) (x : Target) (w : Last ((TargetOf κ).exit no) x) → ent 𝓤 (emp 𝓤) (sem 𝓛 (left ((TargetOf κ).exit no) x w))
 quiet 𝓛 κ (RefMut r) w = qed 𝓛 [] ∵ nothing ! $ nothing ! $ fjoin ! $ done !
 quiet 𝓛 κ (SharedValue c v) w = qed 𝓛 [] ∵ nothing ! $ nothing ! $ fjoin ! $ nothing ! $ fjoin ! $ done !

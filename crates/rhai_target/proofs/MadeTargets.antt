@@ -1,4 +1,4 @@
--- What is found of a value, as the target that is made of it.
+-- The result for a value, as the target made from it.
 use Rattle.std.proofs.Common.{◌≡◌, List, Some, None, Ok, Err, IfOk, IfErr, refl, sym, ap, ◌∙◌}
 use Rattle.std.specs.Borrow.{MutBor, name_if_ok}
 use Rattle.rhai_text.specs.declared.error.EvalAltResult.TheVariants.{ErrorDataRace}

@@ -1,4 +1,4 @@
--- What was written back is held afterwards, and what is written over itself leaves all as it was.
+-- A part that was written back is held afterwards, and writing a part over itself changes nothing.
 use Rattle.std.proofs.Common.{◌≡◌, ℕ, ℤ, pos, ◌<◌, ◌^◌, ◌*ℤ◌, ◌+◌, Bool, true, false, ◌&&◌, List, [], length, slice_get, slice_set, Option, Some, None, option_map, option_and_then, refl, sym, ap, ◌∙◌, w64, FitsSigned}
 use Rattle.std.specs.Int.{int_wrap}
 use Rattle.rhai_value.specs.declared.cells.chain.Site.TheVariants.{Here, InCell}
@@ -16,7 +16,7 @@ use Rattle.rhai_target.proofs.FromBelow.{put-same, stands}
 use Rattle.rhai_target.proofs.IntBits.{bit_written, other_bits, bit_kept, outside_field, inside_field, field_written, field_kept}
 use Rattle.rhai_target.proofs.Items.{changed, item_written, other_items, item_kept, byte_kept}
 
--- a part that leaves have
+-- a part of leaves
 module _ {A : Type 0} (part : Leaf → Option A) (make : A → Leaf) (has : (a : A) → part (make a) ≡ Some a) (is : (l : Leaf) (a : A) → part l ≡ Some a → make a ≡ l) where
   abbrev on : (A → A) → Tree → Tree
   on f t = with_leaf (option_map (λ a. make (f a)) (leaf_part part t)) t

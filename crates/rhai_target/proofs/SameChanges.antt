@@ -1,4 +1,4 @@
--- Write-backs of values that are the same up to the numbers of their cells.
+-- Write-backs of values that are equal up to a renaming of cells.
 use Rattle.std.proofs.Common.{◌≡◌, ℕ, ℤ, true, List, [], length, Option, Some, None, option_map, refl, subst}
 use Rattle.rhai_text.specs.Text.{with_slice}
 use Rattle.rhai_value.specs.declared.value.access_mode.AccessMode.{AccessMode}
@@ -14,7 +14,7 @@ use Rattle.rhai_target.specs.declared.slice.Slice.{Slice}
 use Rattle.rhai_target.specs.Change.{Change, with_leaf, on_text, sliced, bit_change, field_change, byte_change, char_change, slice_change, value_changed, store_changed}
 use Rattle.rhai_target.proofs.FromBelow.{same_set_mark, same_held_cell, same_printed}
 
--- a change of what leaves have
+-- a change of a part of leaves
 same_leaf : {A : Type 0} (r : Renaming) (g : A → Leaf) (o : Option A) (l : Leaf) (k : ℤ) (m : AccessMode) → Related r (with_leaf (option_map g o) (node (leaf l) k m)) (with_leaf (option_map g o) (node (leaf l) k m))
 same_leaf r g None l k m = (refl, refl, refl)
 same_leaf r g (Some a) l k m = (refl, refl, refl)
@@ -24,7 +24,7 @@ same_leaf_change r part g =
     by_trees r (λ t u. Related r (with_leaf (option_map g (leaf_part part t)) t) (with_leaf (option_map g (leaf_part part u)) u))
     (λ l k m. same_leaf r g (part l) l k m) (λ k ts us i m e. ((refl, e), refl, refl)) (λ fs hs i m e. (e, refl, refl)) (λ c d i m e. (e, refl, refl))
 
--- a change by what is held of a leaf
+-- a change by the held part of a leaf
 alike_self : {A : Type 0} (r : Renaming) (f : A → Tree → Tree) → ((a : A) → Respect r (f a) (f a)) → (o : Option A) → Alike (Respect r) (option_map f o) (option_map f o)
 alike_self r f same None = tt
 alike_self r f same (Some a) = same a
@@ -68,7 +68,7 @@ same_slice_change r s z t u v w slice one cells h q =
     subst (λ p. Respect r (on_text (sliced n v slice)) (on_text (λ cs. with_slice cs slice.start slice.end slice.exclusive (p Display)))) (same_printed r n m v w one marked q)
     (same_leaf_change r leaf_text _)
 
--- what a write-back leaves
+-- the state after a write-back
 pub same_value_changed : (r : Renaming) (c d : Change) (t u : Tree) (e o : End) → Alike (Respect r) c d → Related r t u → RelatedEnds r e o
     → Related r (value_changed c e t) (value_changed d o u)
 same_value_changed r None None t u e o k h q = h

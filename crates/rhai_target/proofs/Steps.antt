@@ -1,4 +1,4 @@
--- What the walks share: the names that they take from the logic.
+-- What the proofs share: the names that they take from the logic.
 pub use Rattle.std.proofs.Common.{◌≡◌, [], ◌∷◌, Option, Some, refl, MutBor, Result, IfOk, IfErr, None, sym, subst, List}
 pub use Rattle.std.proofs.raw_atomic.Walks.{proved, proved_at}
 pub use base.Fraction.{full_share}

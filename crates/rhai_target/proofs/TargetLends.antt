@@ -1,4 +1,4 @@
--- What a target and the store lend, each by itself, as what they are said to lend together.
+-- The separate borrows from a target and the store agree with the borrow from both.
 use Rattle.std.proofs.Common.{◌≡◌, ℕ, true, false, List, Option, Some, None, is_some, option_map, slice_get, refl, sym, ap, ◌∙◌, subst}
 use Rattle.std.specs.Borrow.{MutBor, GName, Fml, follows_if}
 use Rattle.std.specs.Option.{ghost_name_of, option_map_or}
@@ -16,7 +16,7 @@ use Rattle.rhai_target.specs.Lent.{target_row, own_name, far_name, own_value, ma
 abbrev Has : Option (MutBor Tree) → Option Tree
 Has o = option_map (λ d. d.now) o
 
--- a target with no mark lends the value itself, and one with a mark what is in the cell
+-- a target without a mark is the source of the borrow itself, and one with a mark borrows from the cell
 abbrev pub OwnSide : MutBor Target → Option (MutBor Tree) → Fml
 OwnSide t o = follows_if target_row dynamic.the_row t.ghost_name (ghost_name_of o) (λ w. with_value w t.now) t.now
 
@@ -29,7 +29,7 @@ FarSide t m r = follows_if store.the_row dynamic.the_row m.ghost_name (ghost_nam
 abbrev pub FarLent : MutBor Target → MutBor (List Cell) → Option ℕ → GName → Fml
 FarLent t m k n = follows_if store.the_row dynamic.the_row m.ghost_name (far_name k n) (λ w. put_marked (mark_in t.now) w m.now) m.now
 
--- where the one has it, the other has none
+-- if one exists, the other doesn't
 abbrev Apart : Option ℕ → Option Tree → Type 0
 Apart None None = ⊥
 Apart None (Some v) = Unit {0}
@@ -68,7 +68,7 @@ pub far_side : (t : MutBor Target) (m : MutBor (List Cell)) (o r : Option (MutBo
     → FarSide t m r ≡ FarLent t m (mark_in t.now) p.ghost_name
 far_side t m o r p h f e = far_at t m m.now (mark_in t.now) o r p (subst (Apart (mark_in t.now)) (sym h) (apart t.now)) f e
 
--- what is lent is the value that is worked on
+-- the borrow is of the working value
 value_of : (s : List Cell) (t : Target) → either_of (own_value t) (marked_value (mark_in t) s) ≡ value_in s t
 value_of s (RefMut r) = refl
 value_of s (SharedValue c v) = refl

@@ -26,6 +26,6 @@ with_bit k b n = int_of_bits (λ i. if nat_eq i k then b else bit n i)
 abbrev pub with_field : ℤ → ℕ → ℤ → ℤ → ℤ
 with_field mask shift v n = int_of_bits (λ i. if bit mask i then (if nat_lt i shift then false else bit v (i - shift)) else bit n i)
 
--- the bits of the mask, moved down by `shift`; no bit comes in above
+-- the bits of the mask, shifted right by `shift`; the vacated bits are zero
 abbrev pub field : ℤ → ℕ → ℤ → ℤ
 field mask shift n = int_of_bits (λ i. bit mask (i + shift) && bit n (i + shift))

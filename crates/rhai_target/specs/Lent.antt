@@ -1,4 +1,4 @@
--- What is left of a target and the store, where a reference for writing was lent from the one or from the other.
+-- The state of a target and the store after a mutable borrow from one or the other.
 use Rattle.std.specs.Prelude.{ℕ, List, [], Option, Some, None, option_and_then}
 use Rattle.std.specs.Borrow.{MutBor, GName, Fml, RattleType, fsep, follows_if}
 use mathlib.Core.Option as maybe
@@ -13,11 +13,11 @@ use Rattle.rhai_target.specs.declared.target.Target.{Target}
 use Rattle.rhai_target.specs.declared.target.Target.TheVariants.{RefMut, SharedValue, TempValue, Bit, BitField, BlobByte, StringChar, StringSlice}
 use Rattle.rhai_target.specs.Target.{mark_in, with_value, put_marked}
 
--- the type, at the lifetime that stands second in a method's signature
+-- the type, at the second lifetime of a method's signature
 abbrev pub target_row : RattleType
 target_row = target.the_row (record { mir = named 1; lft = [] })
 
--- The name of what is lent, where the target itself lends it, which has no mark; and where the store lends it.
+-- The name of the borrow, if the target itself, which has no mark, is its source; and if the store is.
 abbrev pub own_name : Option ℕ → GName → maybe.Option GName
 own_name None n = maybe.some n
 own_name (Some c) n = maybe.none
@@ -26,12 +26,12 @@ abbrev pub far_name : Option ℕ → GName → maybe.Option GName
 far_name None n = maybe.none
 far_name (Some c) n = maybe.some n
 
--- What lends the reference under the name n ends as what the last value behind it makes of it, and the other as it was.
+-- The source of the borrow named n ends as the last value behind the reference determines, and the other is unchanged.
 abbrev pub LendsTarget : MutBor Target → MutBor (List Cell) → GName → Fml
 LendsTarget t s n = fsep (follows_if target_row dynamic.the_row t.ghost_name (own_name (mark_in t.now) n) (λ w. with_value w t.now) t.now)
     (follows_if store.the_row dynamic.the_row s.ghost_name (far_name (mark_in t.now) n) (λ w. put_marked (mark_in t.now) w s.now) s.now)
 
--- what the target itself has that is worked on, and what is in the cell that it has marked
+-- the target's own working value, and the content of the cell that it has marked
 abbrev pub own_value : Target → Option Tree
 own_value (RefMut r) = Some r.now
 own_value (SharedValue c v) = None

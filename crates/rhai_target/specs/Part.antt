@@ -1,4 +1,4 @@
--- Parts of a source that are found by a whole number.
+-- Parts of a source given by an index.
 use Rattle.std.specs.Prelude.{◌≡◌, ◌<◌, ℕ, ℤ, pos, Bool, true, false, List, [], codes, length, slice_get, nat_lt, Option, Some, None, MatchOption, option_map, option_and_then, is_some, Result, Ok, Err, if◌then◌else◌}
 use Rattle.std.specs.Borrow.{MutBor}
 use Rattle.rhai_value.specs.declared.cells.store.Cell.{Cell}
@@ -18,7 +18,8 @@ use Rattle.rhai_target.specs.Change.{Change, bit_change, field_change, byte_chan
 use Rattle.rhai_target.specs.Offset.{place}
 use Rattle.rhai_target.specs.Read.{slice_in}
 
--- the part of an int, of bytes or of characters, if there is one; a negative number counts from the end of bytes and of characters
+-- the part of an int, of bytes or of characters, if there is one; for bytes and characters a
+-- negative index counts from the end
 abbrev pub bit_part : ℤ → ℤ → Option ReadPart
 bit_part index n = option_map (λ i. record { place = at.Bit i; value = fresh (bool (bit n i)) }) (place 64 index false)
 
@@ -37,15 +38,16 @@ char_part index cs = option_and_then (char_read cs) (place (length cs) index tru
 abbrev pub slice_part : Slice → List ℕ → Option ReadPart
 slice_part slice cs = Some (record { place = at.StringSlice slice; value = fresh (text (slice_in slice cs)) })
 
--- What a read answers: the part of what is held; or the name of another type that is held, or that no part stands there. Want of memory
--- may stand in the place of a part alone, and only where memory may be wanted.
+-- The result of a read: the part of the held value; or the name of the held type if that differs,
+-- or that there is no part there. A failed allocation is possible only in place of a part, and only
+-- if the read may allocate.
 abbrev pub IsRead : {A : Type 0} → Option A → List ℕ → (A → Option ReadPart) → Bool → Result ReadPart NoPart → Type 0
 IsRead held name part may_want (Ok p) = option_and_then part held ≡ Some p
 IsRead held name part may_want (Err (Mismatch found)) = (held ≡ None) × (found.now ≡ name)
 IsRead held name part may_want (Err OutOfRange) = MatchOption held ⊥ (λ a. part a ≡ None)
 IsRead held name part may_want (Err (Memory e)) = (may_want ≡ true) × (is_some (option_and_then part held) ≡ true)
 
--- the source holds an int, a blob that reaches so far, or a text
+-- the source holds an int, a blob that has the byte, or a text
 abbrev pub HasPlace : List Cell → Tree → PartPlace → Type 0
 HasPlace s t (at.Bit i) = (i < 64) × (is_some (held_part int_of (end s [] t)) ≡ true)
 HasPlace s t (at.BitField mask shift) = (shift < 64) × (is_some (held_part int_of (end s [] t)) ≡ true)
@@ -53,7 +55,7 @@ HasPlace s t (at.BlobByte i) = MatchOption (held_part blob_of (end s [] t)) ⊥ 
 HasPlace s t (at.StringChar i) = is_some (held_part text_of (end s [] t)) ≡ true
 HasPlace s t (at.StringSlice slice) = is_some (held_part text_of (end s [] t)) ≡ true
 
--- what the write-back of a part changes, the name of the type that it wants, and whether it may want memory
+-- the change by the write-back of a part, the name of the type it expects, and whether it may allocate
 abbrev pub change_at : List Cell → Tree → PartPlace → Tree → Change
 change_at s t (at.Bit i) v = bit_change s v i
 change_at s t (at.BitField mask shift) v = field_change s v mask shift

@@ -1,4 +1,4 @@
--- What is read of a source: a part of what it holds, by the same places as a write-back.
+-- Reading a part of the held value of a source, at the same places as a write-back.
 use Rattle.std.specs.Prelude.{ℕ, List}
 use Rattle.rhai_text.specs.Text.{slice_of}
 use Rattle.rhai_target.specs.declared.slice.Slice.{Slice}

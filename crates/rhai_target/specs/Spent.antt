@@ -1,4 +1,4 @@
--- What becomes of the value behind the reference in a target that is spent.
+-- The value behind the reference in a consumed target.
 use Rattle.std.specs.Prelude.{Option, Some, None, Result, Ok, Err}
 use Rattle.std.specs.Borrow.{MutBor, Fml, ftrue, follows_if}
 use Rattle.std.specs.Option.{ghost_name_of}
@@ -18,7 +18,7 @@ source_of (BlobByte r v index) = Some r
 source_of (StringChar r v index) = Some r
 source_of (StringSlice r v start end exclusive) = Some r
 
--- The value behind a reference ends as what is left behind the one that is handed back; where none is, it ends as it was.
+-- The value behind a reference ends as that behind the returned one; if none is returned, it ends unchanged.
 abbrev pub Leaves : Option (MutBor Tree) → Option (MutBor Tree) → Fml
 Leaves None kept = ftrue
 Leaves (Some r) kept = follows_if dynamic.the_row dynamic.the_row r.ghost_name (ghost_name_of kept) (λ w. w) r.now
@@ -26,17 +26,17 @@ Leaves (Some r) kept = follows_if dynamic.the_row dynamic.the_row r.ghost_name (
 abbrev pub LeavesSource : Target → Option (MutBor Tree) → Fml
 LeavesSource t kept = Leaves (source_of t) kept
 
--- the reference in the target that comes back, where one does after an `Err` alone
+-- the reference in the returned target, where one is returned only after an `Err`
 abbrev pub kept_on_err : {A : Type 0} → Result A Target → Option (MutBor Tree)
 kept_on_err (Ok x) = None
 kept_on_err (Err t) = source_of t
 
--- the same where a target comes back in any case
+-- the same where a target is always returned
 abbrev pub kept_in : Result Target Target → Option (MutBor Tree)
 kept_in (Ok t) = source_of t
 kept_in (Err t) = source_of t
 
--- the reference that is let go: the one of the two that isn't handed back
+-- the released reference: the one of the two that isn't returned
 abbrev pub let_go : Option (MutBor Tree) → Option (MutBor Tree) → Option (MutBor Tree)
 let_go o None = o
 let_go o (Some r) = None

@@ -1,4 +1,4 @@
--- What a target refers to, what is taken of it, and what its calls leave.
+-- The value of a target, the value taken out of it, and the state after its calls.
 use Rattle.std.specs.Prelude.{◌≡◌, ◌<◌, ℕ, ℤ, Bool, true, false, List, [], codes, length, Option, Some, None, IfSome, MatchOption, is_some, Result, Ok}
 use Rattle.std.specs.Borrow.{MutBor}
 use Rattle.rhai_text.specs.declared.error.EvalAltResult.{EvalAltResult}
@@ -12,7 +12,8 @@ use Rattle.rhai_target.specs.declared.target.Target.{Target}
 use Rattle.rhai_target.specs.declared.target.Target.TheVariants.{RefMut, SharedValue, TempValue, Bit, BitField, BlobByte, StringChar, StringSlice}
 use Rattle.rhai_target.specs.Change.{Change, bit_change, field_change, byte_change, char_change, slice_change, value_changed, store_changed, IsAnswer}
 
--- what a target is made of a value: a reference to it; of a holder the mark of its cell, which must be unmarked, with its copy
+-- the target made from a value: a reference to it; for a holder the mark of its cell, which must be
+-- unmarked, with its copy
 abbrev pub made_target : MutBor Tree → Option ℕ → Option ℕ → Option Target
 made_target d None first = Some (RefMut d)
 made_target d (Some c) None = None
@@ -41,7 +42,7 @@ abbrev pub unmarked_from : Option ℕ → List Cell → List Cell
 unmarked_from None s = s
 unmarked_from (Some c) s = set_mark s c false
 
--- the value that a target refers to; of the parts it is the source, and what is worked on is a value beside it
+-- the value that a target refers to; for parts it is the source, and the working value is a separate value
 abbrev pub source_in : List Cell → Target → Option Tree
 source_in s (RefMut r) = Some r.now
 source_in s (SharedValue c v) = content_at s c
@@ -62,7 +63,7 @@ value_in s (BlobByte r v index) = Some v
 value_in s (StringChar r v index) = Some v
 value_in s (StringSlice r v start end exclusive) = Some v
 
--- what is taken of a target: a copy of the value that a reference leads to, the holder, or the value itself
+-- the value taken out of a target: a copy of the value behind a reference, the holder, or the value itself
 abbrev pub taken : Target → Tree
 taken (RefMut r) = copy r.now
 taken (SharedValue c v) = v
@@ -73,7 +74,7 @@ taken (BlobByte r v index) = v
 taken (StringChar r v index) = v
 taken (StringSlice r v start end exclusive) = v
 
--- a target that holds what is taken of a reference or of a shared value; any other target is itself
+-- a target that owns the value taken out of a reference or a shared value; any other target is unchanged
 abbrev pub owned : Target → Target
 owned (RefMut r) = TempValue (copy r.now)
 owned (SharedValue c v) = TempValue v
@@ -84,7 +85,7 @@ owned (BlobByte r v index) = BlobByte r v index
 owned (StringChar r v index) = StringChar r v index
 owned (StringSlice r v start end exclusive) = StringSlice r v start end exclusive
 
--- the target, and the store, once w was written over what is worked on
+-- the target, and the store, after w was written over the working value
 abbrev pub with_value : Tree → Target → Target
 with_value w (RefMut r) = RefMut (record r { now = w })
 with_value w (SharedValue c v) = SharedValue c v
@@ -99,7 +100,7 @@ abbrev pub put_marked : Option ℕ → Tree → List Cell → List Cell
 put_marked None w s = s
 put_marked (Some c) w s = put s c w
 
--- the questions
+-- the kinds
 abbrev pub is_reference : Target → Bool
 is_reference (RefMut r) = true
 is_reference (SharedValue c v) = true
@@ -141,7 +142,8 @@ reference_in (BlobByte r v index) = None
 reference_in (StringChar r v index) = None
 reference_in (StringSlice r v start end exclusive) = None
 
--- A write-back: its source and its working value, what it changes, the name of the type that is wanted, and whether it may want memory.
+-- A write-back: its source and its working value, its change, the name of the expected type, and
+-- whether it may allocate.
 pub record WriteBack : Type 0 where
   pub source : Tree
   pub value : Tree
@@ -161,7 +163,7 @@ write_back_of s (StringChar r v index) = Some (record { source = r.now; value = 
 write_back_of s (StringSlice r v start end exclusive) =
     Some (record { source = r.now; value = v; change = slice_change s r.now v (record { start = start; end = end; exclusive = exclusive }); wanted = []; wants_memory = true })
 
--- its source has the part: it holds an int, a blob that reaches so far, or a text
+-- its source has the part: it holds an int, a blob that has the byte, or a text
 abbrev pub HasPart : List Cell → Target → Type 0
 HasPart s (RefMut r) = Unit {0}
 HasPart s (SharedValue c v) = Unit {0}
@@ -192,11 +194,11 @@ abbrev pub store_written : Option WriteBack → List Cell → List Cell
 store_written None s = s
 store_written (Some w) s = store_changed w.change (end s [] w.source) s
 
--- what the write-back answers; a target that isn't a part of its source has none, and nothing is wrong
+-- the result of the write-back; a target that isn't a part of its source has no write-back, and succeeds
 abbrev pub IsWrittenBack : List Cell → Position → Option WriteBack → Result (Unit {0}) EvalAltResult → Type 0
 IsWrittenBack s place None result = result ≡ Ok tt
 IsWrittenBack s place (Some w) result = IsAnswer w.wants_memory w.change w.wanted (end_name (end s [] w.value)) place result
 
--- it is some bits of an int
+-- it is a field of an int
 abbrev pub IsField : Target → Type 0
 IsField t = (r : MutBor Tree) × (v : Tree) × (mask : ℤ) × (shift : ℕ) × (t ≡ BitField r v mask shift)

@@ -33,7 +33,7 @@ pub(crate) fn bit_of(number: INT, place: u8) -> bool
     (number.cast_unsigned() >> place as u32) & 1 == 1
 }
 
-/// The bits of the mask, moved down by `shift`; no bit comes in above.
+/// The bits of the mask, shifted right by `shift`; the vacated bits are zero.
 pub(crate) fn field_of(number: INT, mask: INT, shift: u8) -> INT
     requires { shift < 64 }
     ensures { result ≡ specs.field mask shift number }

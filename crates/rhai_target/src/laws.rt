@@ -1,4 +1,4 @@
-//! Laws of the definitions: each is the contract of a function that does nothing.
+//! Laws of the definitions: each is the contract of a function with an empty body.
 ghost use Rattle.std.specs.Prelude.{◌≡◌, ◌≤◌, ◌<◌, ◌+◌, ◌-◌, ◌*ℤ◌, ◌^◌, ℕ, ℤ, pos, Bool, true, false, ◌&&◌, IfSome, List, [], Option, Some, option_map, option_and_then, length, slice_get, FitsSigned};
 ghost use Rattle.std.specs.Int.{w64, int_wrap};
 ghost use Rattle.rhai_value.specs.declared.cells.store.Cell.{Cell};
@@ -13,13 +13,14 @@ ghost use Rattle.rhai_value.specs.Bytes.{low_byte};
 ghost use Rattle.rhai_target.specs.Change.{Change, with_leaf, on_int, on_bytes, on_text, bit_change, field_change, byte_change, char_change, slice_change, value_changed, store_changed, end_changed};
 ghost use Rattle.rhai_target.specs.Offset.{offset, count, place};
 
-/// A slice ends within the list, and an item stands in it.
+/// A slice ends within the list, and the place of an item is within it.
 pub fn places_stay_inside()
     ensures slice { (length : ℕ) (start len : ℤ) → offset length start + count (length - offset length start) len ≤ length }
     ensures item { (length : ℕ) (index : ℤ) (from_end : Bool) → IfSome (place length index from_end) (λ i. i < length) }
 {}
 
-/// A bit that was written back reads as written, and every other bit stays; a bit that is written over itself leaves source and store.
+/// A bit that was written back is read as written, and every other bit is unchanged; writing a bit
+/// over itself leaves source and store unchanged.
 #[tactic(auto, using(crate::proofs::ReadBack::bit_read, crate::proofs::ReadBack::other_bits_read))]
 pub fn bits_read_as_written()
     ensures written { (s : List Cell) (t v : Tree) (place : ℕ) (n : ℤ) (b : Bool) → place < 64
@@ -33,7 +34,8 @@ pub fn bits_read_as_written()
         → (value_changed (bit_change s v place) (end s [] t) t ≡ t) × (store_changed (bit_change s v place) (end s [] t) s ≡ s) }
 {}
 
-/// A field's write-back changes the bits of its mask alone: these become the bits of the value times a power of two, cut to 64.
+/// Writing a field back changes only the bits of its mask: these become the bits of the value times
+/// a power of two, truncated to 64 bits.
 #[tactic(auto, using(crate::proofs::ReadBack::outside_read, crate::proofs::ReadBack::inside_read))]
 pub fn fields_keep_to_the_mask()
     ensures outside { (s : List Cell) (t v : Tree) (mask : ℤ) (shift i : ℕ) (n x : ℤ) → i < 64 → bit mask i ≡ false
@@ -44,8 +46,8 @@ pub fn fields_keep_to_the_mask()
         → option_map (λ m. bit m i) (held_part int_of (end_changed (field_change s v mask shift) s t)) ≡ Some (bit (int_wrap w64 (x *ℤ pos (2 ^ shift))) i) }
 {}
 
-/// A field that was written back reads as the bits of the value that its mask shows; one that is written over itself, under a mask that
-/// shows no bit below it, leaves source and store.
+/// A field that was written back is read as the bits of the value within its mask; writing a field
+/// over itself, with a mask that has no bit below it, leaves source and store unchanged.
 #[tactic(auto, using(crate::proofs::ReadBack::field_read))]
 pub fn fields_read_as_written()
     ensures written { (s : List Cell) (t v : Tree) (mask : ℤ) (shift : ℕ) (n x : ℤ) → FitsSigned w64 mask
@@ -56,8 +58,8 @@ pub fn fields_read_as_written()
         → (value_changed (field_change s v mask shift) (end s [] t) t ≡ t) × (store_changed (field_change s v mask shift) (end s [] t) s ≡ s) }
 {}
 
-/// A byte that was written back reads as the int modulo 256, and every other byte stays; a byte that is written over itself leaves
-/// source and store.
+/// A byte that was written back is read as the int modulo 256, and every other byte is unchanged;
+/// writing a byte over itself leaves source and store unchanged.
 #[tactic(auto, using(crate::proofs::ReadBack::byte_read, crate::proofs::ReadBack::other_bytes_read))]
 pub fn bytes_read_as_written()
     ensures written { (s : List Cell) (t v : Tree) (index : ℕ) (bs : List ℕ) (n : ℤ) → index < length bs
@@ -71,8 +73,8 @@ pub fn bytes_read_as_written()
         → (value_changed (byte_change s v index) (end s [] t) t ≡ t) × (store_changed (byte_change s v index) (end s [] t) s ≡ s) }
 {}
 
-/// A character that was written back reads as written, and every other character stays; a character that is written over
-/// itself leaves source and store.
+/// A character that was written back is read as written, and every other character is unchanged;
+/// writing a character over itself leaves source and store unchanged.
 #[tactic(auto, using(crate::proofs::ReadBack::char_read, crate::proofs::ReadBack::other_chars_read))]
 pub fn characters_read_as_written()
     ensures written { (s : List Cell) (t v : Tree) (index : ℕ) (cs : List ℕ) (c : ℕ) → index < length cs
@@ -86,8 +88,8 @@ pub fn characters_read_as_written()
         → (value_changed (char_change s v index) (end s [] t) t ≡ t) × (store_changed (char_change s v index) (end s [] t) s ≡ s) }
 {}
 
-/// A change of an int, of bytes or of characters keeps tag and mode, changes the content by its function, and leaves a value of
-/// another kind as it is.
+/// A change of an int, of bytes or of characters keeps tag and mode, changes the content by its
+/// function, and leaves a value of another kind unchanged.
 #[tactic(auto, using(crate::proofs::Items::leaf_tag, crate::proofs::Items::leaf_mode, crate::proofs::Items::int_changed, crate::proofs::Items::bytes_changed, crate::proofs::Items::text_changed))]
 pub fn changes_keep_tag_and_mode()
     ensures tag { (l : Option Leaf) (t : Tree) → tag_of (with_leaf l t) ≡ tag_of t }
@@ -97,7 +99,7 @@ pub fn changes_keep_tag_and_mode()
     ensures characters { (f : List ℕ → List ℕ) (t : Tree) → text_of (on_text f t) ≡ option_map f (text_of t) }
 {}
 
-/// What related working values change is changed alike, whatever cells are called.
+/// Related working values make related changes, however cells are numbered.
 #[tactic(auto, using(crate::proofs::SameChanges::same_bit_change, crate::proofs::SameChanges::same_field_change, crate::proofs::SameChanges::same_byte_change, crate::proofs::SameChanges::same_char_change, crate::proofs::SameChanges::same_slice_change))]
 pub fn changes_are_renamed()
     ensures bit { (r : Renaming) (s z : List Cell) (v w : Tree) (place : ℕ) → IsOneToOne r → RelatedCells r s z → Related r v w
@@ -112,7 +114,7 @@ pub fn changes_are_renamed()
         → Alike (Respect r) (slice_change s t v slice) (slice_change z u w slice) }
 {}
 
-/// Write-backs by changes that are alike leave related values and stores.
+/// Write-backs by related changes leave related values and stores.
 #[tactic(auto, using(crate::proofs::SameChanges::same_value_changed, crate::proofs::SameChanges::same_store_changed))]
 pub fn write_back_is_renamed()
     ensures value { (r : Renaming) (c d : Change) (t u : Tree) (e o : End) → Alike (Respect r) c d → Related r t u → RelatedEnds r e o
@@ -121,7 +123,7 @@ pub fn write_back_is_renamed()
         → RelatedCells r (store_changed c e s) (store_changed d o z) }
 {}
 
-/// A write-back makes no cell, and sets and clears no mark.
+/// A write-back makes no cell, and neither sets nor clears a mark.
 #[tactic(auto, using(crate::proofs::SameChanges::length_changed, crate::proofs::SameChanges::marked_changed))]
 pub fn write_back_keeps_marks()
     ensures length { (c : Change) (e : End) (s : List Cell) → length (store_changed c e s) ≡ length s }

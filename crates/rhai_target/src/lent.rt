@@ -1,4 +1,4 @@
-//! What a target lends, with what it leaves.
+//! Borrowing a target's value, with the state after the write.
 ghost use Rattle.std.specs.Prelude.{◌≡◌, true, is_some, option_map, Some};
 ghost use Rattle.std.specs.Borrow.{sem, LendsIf};
 ghost use Rattle.std.specs.Fn.{FnOnceReturnsAtMut};
@@ -12,8 +12,9 @@ use crate::target::Target;
 use rhai_value::{Dynamic, Store};
 
 impl<'a> Target<'a> {
-    /// Lends what `as_mut` does. Once it was written, the target has that value in the place of what is worked on; or,
-    /// where it has a mark, the store has it in the marked cell. All else is as it was.
+    /// Borrows what `as_mut` does. After the write, the target has the written value as its working
+    /// value; or, if it has a mark, the store has it in the marked cell. Everything else is
+    /// unchanged.
     /// Cost: constant; no memory.
     /// rhai: `AsMut` of `Target`.
     #[inline(always)]
@@ -27,8 +28,8 @@ impl<'a> Target<'a> {
         one_of(own, far)
     }
 
-    /// Hands a function what `as_mut` lends, and says what target and store are afterwards: what the function left there is
-    /// in the place of what it found, and all else is as before.
+    /// Calls a function on what `as_mut` borrows. Afterwards, what the function left there replaces
+    /// what it found, and everything else is unchanged.
     /// Cost: that of the function; no memory.
     pub fn with_mut<R, F: FnOnce(&mut Dynamic) -> R + Drop>(&mut self, store: &mut Store, f: F) -> R
         requires marked { IsMarkedIn store.old self.old }
@@ -49,7 +50,7 @@ impl<'a> Target<'a> {
     }
 }
 
-/// What is in the cell that the target has marked, to write.
+/// Borrows the content of the cell that the target has marked mutably.
 #[inline(always)]
 fn marked_mut<'m>(store: &'m mut Store, target: &mut Target<'_>) -> Option<&'m mut Dynamic>
     requires { IsMarkedIn store.old target.old }
@@ -69,7 +70,7 @@ fn marked_mut<'m>(store: &'m mut Store, target: &mut Target<'_>) -> Option<&'m m
     }
 }
 
-/// What the target itself has that is worked on, to write.
+/// Borrows the target's own working value mutably.
 #[inline(always)]
 fn own_value_mut<'s>(target: &'s mut Target<'_>) -> Option<&'s mut Dynamic>
     ensures* writes_back { sem 𝓛 (LendsIf target_row dynamic_type.the_row target.entry result (λ w. with_value w target.old) target.old) }
@@ -87,7 +88,7 @@ fn own_value_mut<'s>(target: &'s mut Target<'_>) -> Option<&'s mut Dynamic>
     }
 }
 
-/// The first of two references, or else the second, one of them being there.
+/// The first of two references, or otherwise the second, one of which exists.
 #[inline(always)]
 fn one_of<'s>(own: Option<&'s mut Dynamic>, far: Option<&'s mut Dynamic>) -> &'s mut Dynamic
     requires { is_some (either_of own far) ≡ true }
@@ -95,7 +96,8 @@ fn one_of<'s>(own: Option<&'s mut Dynamic>, far: Option<&'s mut Dynamic>) -> &'s
 {
     match own {
         Some(value) => value,
-        // That one of the two is lent is known by the kind of the target, which both ask; no type says it of two calls.
+        // The kind of the target, which both calls test, ensures that one of the two exists; no
+        // type expresses this about two calls.
         None => far.unwrap(),
     }
 }

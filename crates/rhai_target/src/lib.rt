@@ -1,4 +1,5 @@
-//! Places under change: write-back of a part of a value, targets, and places in lists by whole numbers.
+//! Places being changed: write-back of a part of a value, targets, and list positions given by
+//! integers.
 #![tactic(auto)]
 
 mod bits;

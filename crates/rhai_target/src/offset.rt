@@ -1,11 +1,11 @@
-//! Places in a list by whole numbers.
+//! List positions given by integers.
 ghost use Rattle.std.specs.Prelude.{◌≡◌, ◌-◌};
 ghost use Rattle.rhai_target.specs.Offset.{offset, count, place};
 
 use rhai_value::INT;
 
-/// Tells where a slice of a list of this length starts, and how many items it has. A negative start counts from the end;
-/// what goes past either end stops there.
+/// Returns where a slice of a list of this length starts, and how many items it has. A negative
+/// start counts from the end; start and length are clamped to the list.
 /// rhai: `calc_offset_len`.
 pub fn calc_offset_len(length: usize, start: INT, len: INT) -> (usize, usize)
     ensures start { result.0 ≡ offset length start }
@@ -24,9 +24,9 @@ pub fn calc_offset_len(length: usize, start: INT, len: INT) -> (usize, usize)
     (start, left.min(len.unsigned_abs() as usize))
 }
 
-/// Tells the place of an item in a list of this length; `None` where there is none. A negative index counts from the end
-/// where `negative_count_from_end` says so.
-/// rhai: `calc_index`, which calls a function where there is no place.
+/// Returns the position of an item in a list of this length; `None` if there is none. A negative
+/// index counts from the end if `negative_count_from_end` is set.
+/// rhai: `calc_index`, which calls a function if there is no such item.
 pub fn calc_index(length: usize, index: INT, negative_count_from_end: bool) -> Option<usize>
     ensures { result ≡ place length index negative_count_from_end }
 {

@@ -1,4 +1,4 @@
-//! Parts of a source that are found by a whole number: read, worked on beside the source, and written back.
+//! Parts of a source given by an index: read, changed beside the source, and written back.
 ghost use Rattle.std.specs.Prelude.{◌≡◌, [], true, false, length, option_and_then, IfOk, OnOk, OnErr};
 ghost use Rattle.rhai_value.specs.End.{end, end_name, held_part};
 ghost use Rattle.rhai_value.specs.Parts.{int_of, text_of, blob_of};
@@ -14,12 +14,12 @@ use rhai_text::{EvalAltResult, ImmutableString, Position};
 use rhai_value::{Dynamic, INT, Store};
 use std::alloc::{AllocError, Global};
 
-/// Where a part stands in what a source holds.
+/// The place of a part in the held value of a source.
 #[derive(Clone, Copy)]
 pub enum PartPlace {
     /// One bit of an int, the lowest being 0.
     Bit(u8),
-    /// The bits of the mask in an int, of which the lowest of the value is bit `shift`.
+    /// The bits of the mask in an int; the value's lowest bit is bit `shift`.
     BitField { mask: INT, shift: u8 },
     /// One byte of a blob.
     BlobByte(usize),
@@ -29,32 +29,34 @@ pub enum PartPlace {
     StringSlice(Slice),
 }
 
-/// A part of a source: where it stands, and its working value, which is read, written over, and then written back. It has no mark, so it
-/// may be let go at any time, and the source then stays as it is.
+/// A part of a source: its place, and its working value, which is read, overwritten, and then
+/// written back. It has no mark, so it may be dropped at any time, and the source is then
+/// unchanged.
 #[derive(Drop)]
 pub struct ReadPart {
-    /// Where it stands in what the source holds.
+    /// Its place in the held value of the source.
     pub place: PartPlace,
-    /// What is worked on.
+    /// The working value.
     pub value: Dynamic,
 }
 
-/// Why a part isn't read.
+/// Why a part wasn't read.
 #[derive(Debug, Drop)]
 pub enum NoPart {
     /// The source holds another type, of this name.
     Mismatch(&'static str),
-    /// No part stands there.
+    /// There is no part at this place.
     OutOfRange,
-    /// Memory for its working value is refused.
+    /// The allocation of its working value failed.
     Memory(AllocError),
 }
 
-/// Reading parts. A source that holds another type is refused first, by the name of that type; then a place that isn't there.
+/// Reading parts. A source that holds another type is refused first, by the name of that type; then
+/// a place outside the value.
 impl ReadPart {
-    /// Reads the bit at that place of the held int, as a boolean.
-    /// Errors: `Mismatch` for another type; `OutOfRange` for a place that isn't one of 0 to 63: a negative one doesn't
-    /// count from the end.
+    /// Reads the bit at a place of the held int, as a boolean.
+    /// Errors: `Mismatch` for another type; `OutOfRange` for a place other than 0 to 63: a negative
+    /// one doesn't count from the end.
     /// Cost: that of `Dynamic::held`; no memory.
     /// rhai: an int indexed by an int.
     pub fn bit_at(source: &Dynamic, store: &Store, index: INT) -> Result<ReadPart, NoPart>
@@ -75,8 +77,8 @@ impl ReadPart {
         })
     }
 
-    /// Reads the bits of the mask in the held int, moved down by `shift`, as an int.
-    /// Errors: `Mismatch` for another type; `OutOfRange` for a shift past 63.
+    /// Reads the bits of the mask in the held int, shifted right by `shift`, as an int.
+    /// Errors: `Mismatch` for another type; `OutOfRange` for a shift above 63.
     /// Cost: that of `Dynamic::held`; no memory.
     /// rhai: an int indexed by a range.
     pub fn field_at(
@@ -101,8 +103,8 @@ impl ReadPart {
         })
     }
 
-    /// Reads the byte at that place of the held blob, as an int. A negative place counts from the end.
-    /// Errors: `Mismatch` for another type; `OutOfRange` where there is no such byte.
+    /// Reads the byte at a place of the held blob, as an int. A negative place counts from the end.
+    /// Errors: `Mismatch` for another type; `OutOfRange` if there is no such byte.
     /// Cost: that of `Dynamic::held`; no memory.
     /// rhai: a blob indexed by an int.
     pub fn byte_at(source: &Dynamic, store: &Store, index: INT) -> Result<ReadPart, NoPart>
@@ -125,10 +127,10 @@ impl ReadPart {
         })
     }
 
-    /// Reads the character at that place of the held text. A negative place counts from the end.
-    /// Errors: `Mismatch` for another type; `OutOfRange` where there is no such character.
-    /// Cost: constant for a text of ASCII, else the length of the text up to the character, and for a negative place all of it first; no
-    /// memory.
+    /// Reads the character at a place of the held text. A negative place counts from the end.
+    /// Errors: `Mismatch` for another type; `OutOfRange` if there is no such character.
+    /// Cost: constant for an ASCII text, otherwise the length of the text up to the character, and
+    /// for a negative place all of it first; no memory.
     /// rhai: a text indexed by an int.
     pub fn char_at(source: &Dynamic, store: &Store, index: INT) -> Result<ReadPart, NoPart>
         ensures read { IsRead (held_part text_of (end store.now [] source.now)) (end_name (end store.now [] source.now)) (char_part index) false result }
@@ -150,8 +152,9 @@ impl ReadPart {
         })
     }
 
-    /// Reads the characters of the slice in the held text, as a text; none where it ends before it starts.
-    /// Errors: `Mismatch` for another type; `Memory` where the new text is refused.
+    /// Reads the characters of a slice of the held text, as a text; none if it ends before it
+    /// starts.
+    /// Errors: `Mismatch` for another type; `Memory` if the allocation of the new text fails.
     /// Cost: the length of the text up to the end of the slice; memory for one new text.
     /// rhai: a text indexed by a range.
     pub fn slice_at(
@@ -179,10 +182,10 @@ impl ReadPart {
 
 /// Writing parts back.
 impl ReadPart {
-    /// Writes the working value back into the source, and spends the part whatever comes: it is the write-back of that kind
-    /// of part.
-    /// Errors: as of `write_bit`, `write_field`, `write_byte`, `write_char` and `write_slice`; source and store are then as
-    /// before.
+    /// Writes the working value back into the source, by the call for this kind of part, and
+    /// consumes the part, even on an error.
+    /// Errors: those of `write_bit`, `write_field`, `write_byte`, `write_char` and `write_slice`;
+    /// source and store are then unchanged.
     /// Cost: that of the write-back.
     /// rhai: `Target::propagate_changed_value`.
     pub fn write_back(
@@ -267,8 +270,8 @@ impl<'a> Target<'a> {
     }
 }
 
-/// The place of a character in a text; a negative one counts from the end, for which the characters are counted. A place past the end is
-/// answered as it is.
+/// The index of a character in a text; a negative place counts from the end, for which the
+/// characters are counted. A place past the end is returned as it is.
 fn char_place(text: &ImmutableString, index: INT) -> Option<usize>
     ensures { option_and_then (char_read text.now) result ≡ char_part index text.now }
 {

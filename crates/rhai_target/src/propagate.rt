@@ -1,4 +1,4 @@
-//! Write-back of a target: its working value becomes the part of its source that the target is.
+//! Write-back of a target: its working value is written to the part of its source.
 ghost use Rattle.std.specs.Prelude.{◌≡◌, OnOk, OnErr};
 ghost use Rattle.rhai_target.specs.Target.{write_back_of, HasPart, IsMarkedIn, target_written, store_written, IsWrittenBack, IsField};
 
@@ -10,11 +10,11 @@ use rhai_value::Store;
 use std::alloc::Global;
 
 impl<'a> Target<'a> {
-    /// Writes the working value of a part back into its source; nothing happens to any other target.
-    /// Errors: a working value of the wrong type, at this place of the script, before anything is written; `ErrorMemory`
-    /// for a character or a slice. Target and store are as before.
-    /// Cost: that of `Dynamic::held` once; a bit, some bits and a byte take no memory, a character and a slice one new
-    /// text.
+    /// Writes the working value of a part back into its source; does nothing for any other target.
+    /// Errors: a working value of the wrong type, at this position of the script, before anything
+    /// is written; `ErrorMemory` for a character or a slice. Target and store are unchanged.
+    /// Cost: that of `Dynamic::held`; no memory for a bit, a field and a byte, one new text for a
+    /// character and a slice.
     /// rhai: `Target::propagate_changed_value`.
     #[inline(always)]
     pub fn propagate_changed_value(
@@ -62,7 +62,7 @@ impl<'a> Target<'a> {
         }
     }
 
-    /// The same of some bits, which are read before the source is lent.
+    /// The same for a field, which is read before the source is borrowed.
     #[inline(always)]
     fn propagate_field(&mut self, store: &mut Store, pos: Position) -> Result<(), EvalAltResult>
         requires part { HasPart store.old self.old }
@@ -90,7 +90,8 @@ impl<'a> Target<'a> {
                 return Ok(());
             }
         }
-        // A field is matched twice, since no pattern lends two parts of a variant with a signed number in it.
+        // A field is matched twice, since no pattern borrows two parts of a variant that contains a
+        // signed number.
         unreachable!()
     }
 }

@@ -1,5 +1,5 @@
-//! Reads of a part of what a source holds, under the conditions of the write-back of that part, and by the terms of its laws. Each finds
-//! the end of the source's chain once.
+//! Reading a part of the held value of a source, with the `requires` of its write-back, and in the
+//! terms of its laws. Each call follows the source's chain once.
 ghost use Rattle.std.specs.Prelude.{◌≡◌, ◌<◌, [], true, length, is_some, slice_get, option_and_then, option_map, IfOk, MatchOption, Some};
 ghost use Rattle.rhai_value.specs.End.{end, held_part};
 ghost use Rattle.rhai_value.specs.Parts.{int_of, text_of, blob_of};
@@ -23,8 +23,8 @@ pub fn read_bit(source: &Dynamic, store: &Store, bit: u8) -> bool
     bit_of(*number, bit)
 }
 
-/// Reads the bits of the mask in the held int, moved down by `shift`: what `write_field` writes. No bit comes in above, so
-/// that what was written is read also at the top of the int.
+/// Reads the bits of the mask in the held int, shifted right by `shift`: what `write_field` writes.
+/// The vacated bits are zero, so that a written value is read back even at the top of the int.
 /// Cost: that of `Dynamic::held`; no memory.
 pub fn read_field(source: &Dynamic, store: &Store, mask: INT, shift: u8) -> INT
     requires place { shift < 64 }
@@ -46,7 +46,8 @@ pub fn read_byte(source: &Dynamic, store: &Store, index: usize) -> u8
 }
 
 /// Reads one character of the held text: what `write_char` writes; `None` past the end of the text.
-/// Cost: constant for a text of ASCII, else the length of the text up to that character; no memory.
+/// Cost: constant for an ASCII text, otherwise the length of the text up to that character; no
+/// memory.
 pub fn read_char(source: &Dynamic, store: &Store, index: usize) -> Option<char>
     requires { is_some (held_part text_of (end store.now [] source.now)) ≡ true }
     ensures { option_and_then (λ cs. slice_get cs index) (held_part text_of (end store.now [] source.now)) ≡ result }
@@ -55,8 +56,9 @@ pub fn read_char(source: &Dynamic, store: &Store, index: usize) -> Option<char>
     text.char_at(index)
 }
 
-/// Reads the characters of the held text that `write_slice` replaces; none where the slice ends before it starts.
-/// Errors: memory for the new text is refused.
+/// Reads the characters of the held text that `write_slice` replaces; none if the slice ends before
+/// it starts.
+/// Errors: the allocation of the new text fails.
 /// Cost: that of `ImmutableString::slice`; memory for one new text.
 pub fn read_slice(
     alloc: Global,

@@ -1,4 +1,4 @@
-//! What a target is made of.
+//! Making targets.
 ghost use Rattle.std.specs.Prelude.{◌≡◌, true, IfOk, IfErr, Some, None};
 ghost use Rattle.std.specs.Borrow.{sem, follows_if, name_if_ok};
 ghost use Rattle.rhai_text.specs.declared.error.EvalAltResult.TheVariants.{ErrorDataRace};
@@ -12,7 +12,7 @@ use crate::target::Target;
 use rhai_text::{EvalAltResult, Position};
 use rhai_value::{AccessMode, Dynamic, Store, Union, WriteToken};
 
-/// A value that is no holder.
+/// A value that isn't a holder.
 #[derive(Drop)]
 pub(crate) struct Whole<'a> {
     value: &'a mut Dynamic,
@@ -24,7 +24,8 @@ pub(crate) struct Marked {
     pub(crate) shared_value: Dynamic,
 }
 
-/// A value that is no holder as it is; of a holder the mark of its cell, the holder being left as it was.
+/// A value that isn't a holder as it is; for a holder, marks its cell, and leaves the holder
+/// unchanged.
 pub(crate) fn resolve<'a>(
     value: &'a mut Dynamic,
     store: &mut Store,
@@ -41,8 +42,9 @@ pub(crate) fn resolve<'a>(
     }
 }
 
-/// Marks the cell of a holder, of which it makes a copy. `ErrorDataRace`, with nothing changed, exactly where there is no cell to
-/// mark: of a value that is no holder, and of a cell that is marked or no cell of the store.
+/// Marks the cell of a holder, and copies the holder. Fails with `ErrorDataRace`, and changes
+/// nothing, exactly if there is no cell to mark: for a value that isn't a holder, and for a cell
+/// that is marked or not in the store.
 pub(crate) fn mark_cell(value: &Dynamic, store: &mut Store) -> Result<Marked, EvalAltResult>
     ensures ok { IfOk result (λ p. (first_cell store.old value.now ≡ Some p.token) × (p.shared_value ≡ copy value.now)) }
     ensures err { IfErr result (λ e. (first_cell store.old value.now ≡ None) × (e ≡ ErrorDataRace Position.NONE)) }
@@ -61,7 +63,7 @@ pub(crate) fn mark_cell(value: &Dynamic, store: &mut Store) -> Result<Marked, Ev
     Err(EvalAltResult::ErrorDataRace(Position::NONE))
 }
 
-/// The target that is made of what was found.
+/// Makes the target from the result of `resolve`.
 pub(crate) fn target_from<'a>(
     resolved: Result<Whole<'a>, Result<Marked, EvalAltResult>>,
 ) -> Result<Target<'a>, EvalAltResult>

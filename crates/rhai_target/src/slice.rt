@@ -1,4 +1,4 @@
-//! Write-back of a slice of a text, whose new characters are printed while the text's cell is marked.
+//! Write-back of a slice of a text; its new characters are printed while the text's cell is marked.
 ghost use Rattle.std.specs.Prelude.{◌≡◌, [], true, is_some, IfOk, IfSome, MatchOption, MatchResult, OnOk, OnErr, string_bytes};
 ghost use Rattle.std.specs.Str.{chars};
 ghost use Rattle.rhai_value.specs.End.{end, held_part};
@@ -13,21 +13,21 @@ use rhai_value::laws::{mark_is_cleared, sites_are_read};
 use rhai_value::{Dynamic, Store, WriteToken};
 use std::alloc::{AllocError, Global};
 
-/// The places of a slice, in characters; past a text a place means its end.
+/// The bounds of a slice, in characters; a place past the text means its end.
 #[derive(Clone, Copy)]
 pub struct Slice {
-    /// The first character that is replaced.
+    /// The first replaced character.
     pub start: usize,
-    /// The first that isn't, or, where the slice is inclusive, the last that is.
+    /// The first character after the slice, or the last one in it if the slice is inclusive.
     pub end: usize,
-    /// Whether `end` isn't replaced.
+    /// Whether `end` is excluded.
     pub exclusive: bool,
 }
 
-/// Writes the text that the working value prints as over the characters of a slice of the held text.
-/// The text is taken while the cell in which the held text stands is marked, so that a holder of it prints as `<shared>`.
-/// Where the slice ends before it starts, the characters between stand twice.
-/// Errors: memory for one of the two texts is refused; nothing changes.
+/// Writes the printed text of the working value over the characters of a slice of the held text. It
+/// is printed while the cell of the held text is marked, so that a holder of that cell prints as
+/// `<shared>`. If the slice ends before it starts, the characters between occur twice.
+/// Errors: the allocation of one of the two texts fails; nothing changes.
 /// Cost: the length of both texts; memory for these.
 /// rhai: an assignment to a range of a text.
 #[inline(never)]
@@ -61,7 +61,7 @@ pub fn write_slice(
     }
 }
 
-/// The same for the text in the cell of a token, with what the working value printed as.
+/// The same for the text in the cell of a token, given the printed text of the working value.
 #[tactic(auto, using(crate::proofs::MarkedTexts::mark_outlasts))]
 fn write_marked_slice(
     token: &WriteToken,
@@ -81,7 +81,7 @@ fn write_marked_slice(
     Ok(())
 }
 
-/// The text of a value with the slice replaced by what the working value printed as.
+/// The text of a value with the slice replaced by the printed text of the working value.
 #[tactic(auto, using(crate::proofs::MarkedTexts::text_held))]
 fn sliced(
     held: &Dynamic,
@@ -97,7 +97,7 @@ fn sliced(
         .with_slice(alloc, slice.start, slice.end, slice.exclusive, printed)
 }
 
-/// A text becomes another, tag and mode staying.
+/// Replaces a text, and keeps tag and mode.
 fn put_text(held: &mut Dynamic, new: ImmutableString)
     ensures { held.new ≡ with_content (leaf (text new)) held.old }
 {

@@ -1,4 +1,4 @@
-//! Targets that are spent: what is handed back of one, and beside it the reference that is let go, whose value stays as it was.
+//! Consuming targets: the result, and beside it the released reference, whose value is unchanged.
 ghost use Rattle.std.specs.Prelude.{◌≡◌, IfOk, IfErr, IsOk, MatchOption, OnOk, OnErr};
 ghost use Rattle.rhai_value.specs.Tree.{TakesNoMemory};
 ghost use Rattle.rhai_target.specs.Spent.{source_of, kept_on_err, kept_in, let_go};
@@ -8,7 +8,7 @@ use crate::target::Target;
 use rhai_value::{Dynamic, Store};
 use std::alloc::Global;
 
-/// The reference in a target; a mark is cleared.
+/// The reference of a target; clears a mark.
 #[inline(always)]
 pub(crate) fn source_out<'a>(target: Target<'a>, store: &mut Store) -> Option<&'a mut Dynamic>
     requires { IsMarkedIn store.old target }
@@ -56,7 +56,7 @@ pub(crate) fn source_out<'a>(target: Target<'a>, store: &mut Store) -> Option<&'
     }
 }
 
-/// The reference that a target is, and the one to the source of a part; a mark is cleared.
+/// The reference that a target is, and the one to the source of a part; clears a mark.
 #[inline(always)]
 pub(crate) fn reference_out<'a>(
     target: Target<'a>,
@@ -79,7 +79,7 @@ pub(crate) fn reference_out<'a>(
     }
 }
 
-/// What `Target::take_or_clone` gives, and the reference that it lets go.
+/// The result of `Target::take_or_clone`, and the reference that it releases.
 #[inline(always)]
 pub(crate) fn value_out<'a>(
     target: Target<'a>,
@@ -138,7 +138,7 @@ pub(crate) fn value_out<'a>(
     }
 }
 
-/// What `Target::into_owned` gives, and the reference that it lets go.
+/// The result of `Target::into_owned`, and the reference that it releases.
 #[inline(always)]
 pub(crate) fn owned_out<'a>(
     target: Target<'a>,

@@ -1,4 +1,4 @@
-//! What an assignment writes to: a value, a shared value, a temporary one, or a part of a value.
+//! The target of an assignment: a value, a shared value, a temporary value, or a part of a value.
 ghost use Rattle.std.specs.Prelude.{◌≡◌, true, is_some, option_map, option_copied, IfOk, IfErr, IsOk, MatchOption, OnOk, OnErr, Some, None};
 ghost use Rattle.std.specs.Borrow.{sem};
 ghost use Rattle.rhai_text.specs.declared.error.EvalAltResult.TheVariants.{ErrorDataRace};
@@ -16,80 +16,80 @@ use rhai_text::{EvalAltResult, Position};
 use rhai_value::{Dynamic, INT, Store, WriteToken};
 use std::alloc::Global;
 
-/// What an assignment writes to. It must be spent, since it may have the mark of a cell: the compiler refuses to let one
-/// go.
-/// rhai: `Target`, which has a guard in place of a mark, and may be dropped.
+/// The target of an assignment. It must be consumed, since it may have the mark of a cell: the
+/// compiler refuses to drop it.
+/// rhai: `Target`, which has a guard instead of a mark, and may be dropped.
 pub enum Target<'a> {
-    /// A value that is no holder.
+    /// A value that isn't a holder.
     RefMut(&'a mut Dynamic),
-    /// What is in the cell of a holder, which is marked meanwhile.
+    /// The content of a holder's cell, which is marked meanwhile.
     SharedValue {
-        /// The right to write to the cell.
+        /// Exclusive access to the cell.
         token: WriteToken,
         /// A copy of the holder.
         shared_value: Dynamic,
     },
-    /// A value of its own; what is written to it is seen nowhere else.
+    /// An owned value; writes to it are seen nowhere else.
     TempValue(Dynamic),
     /// One bit of an int.
     Bit {
-        /// What holds the int.
+        /// The value that holds the int.
         source: &'a mut Dynamic,
         /// The bit, as a boolean.
         value: Dynamic,
-        /// Which bit, the lowest being 0.
+        /// The index of the bit, the lowest being 0.
         bit: u8,
     },
     /// Some bits of an int.
     BitField {
-        /// What holds the int.
+        /// The value that holds the int.
         source: &'a mut Dynamic,
         /// The bits, as an int.
         value: Dynamic,
-        /// Which bits of the source they are.
+        /// The mask of the bits in the source.
         mask: INT,
-        /// Which bit of the source is the lowest of the value.
+        /// The bit of the source that is the value's lowest.
         shift: u8,
     },
     /// One byte of a blob.
     BlobByte {
-        /// What holds the blob.
+        /// The value that holds the blob.
         source: &'a mut Dynamic,
         /// The byte, as an int.
         value: Dynamic,
-        /// Which byte.
+        /// The index of the byte.
         index: usize,
     },
     /// One character of a text.
     StringChar {
-        /// What holds the text.
+        /// The value that holds the text.
         source: &'a mut Dynamic,
         /// The character.
         value: Dynamic,
-        /// Which character.
+        /// The index of the character.
         index: usize,
     },
     /// A slice of a text.
     StringSlice {
-        /// What holds the text.
+        /// The value that holds the text.
         source: &'a mut Dynamic,
-        /// What is put there, as it prints.
+        /// The value whose printed text is written there.
         value: Dynamic,
         /// The first character of the slice.
         start: usize,
-        /// The first character after it, or, where the slice is inclusive, its last.
+        /// The first character after it, or its last one if the slice is inclusive.
         end: usize,
-        /// Whether `end` is no character of it.
+        /// Whether `end` is excluded.
         exclusive: bool,
     },
 }
 
 /// Making targets.
 impl<'a> Target<'a> {
-    /// Makes a target that is this value: the value itself, or the content of a holder's cell, which is marked while the
-    /// holder stays as it is.
-    /// Errors: `ErrorDataRace`, at no place and with nothing changed, exactly for a holder of a cell that is marked or no
-    /// cell of the store.
+    /// Makes a target of this value: the value itself, or the content of a holder's cell, which is
+    /// then marked; the holder is unchanged.
+    /// Errors: `ErrorDataRace`, at no position and with nothing changed, exactly for a holder of a
+    /// cell that is marked or not in the store.
     /// Cost: constant; no memory.
     /// rhai: `TryFrom<&mut Dynamic>` of `Target`.
     pub fn try_from(value: &'a mut Dynamic, store: &mut Store) -> Result<Target<'a>, EvalAltResult>
@@ -102,9 +102,10 @@ impl<'a> Target<'a> {
         target_from(resolve(value, store))
     }
 
-    /// Makes a target of the content of a holder's cell, which is marked; the holder stays as it is.
-    /// Errors: `ErrorDataRace`, at no place and with nothing changed, exactly for a cell that is marked or no cell of the
-    /// store.
+    /// Makes a target of the content of a holder's cell, which is then marked; the holder is
+    /// unchanged.
+    /// Errors: `ErrorDataRace`, at no position and with nothing changed, exactly for a cell that is
+    /// marked or not in the store.
     /// Cost: constant; no memory.
     pub fn marked(holder: &Dynamic, store: &mut Store) -> Result<Target<'a>, EvalAltResult>
         requires { is_some (cell_of holder.now) ≡ true }
@@ -136,9 +137,9 @@ impl<'a> From<Dynamic> for Target<'a> {
     }
 }
 
-/// What a target is.
+/// The kind of a target.
 impl<'a> Target<'a> {
-    /// Tells whether it refers to other data: a value, or what is in a cell.
+    /// Returns whether it refers to other data: a value, or the content of a cell.
     /// rhai: `Target::is_ref`.
     pub const fn is_ref(&self) -> bool
         ensures { result ≡ is_reference self.now }
@@ -146,7 +147,7 @@ impl<'a> Target<'a> {
         matches!(self, Target::RefMut(_) | Target::SharedValue { .. })
     }
 
-    /// Tells whether it is a value of its own.
+    /// Returns whether it is an owned value.
     /// rhai: `Target::is_temp_value`.
     pub const fn is_temp_value(&self) -> bool
         ensures { result ≡ is_temporary self.now }
@@ -154,7 +155,7 @@ impl<'a> Target<'a> {
         matches!(self, Target::TempValue(_))
     }
 
-    /// Tells whether it is shared: what is in a cell, or a holder.
+    /// Returns whether it is shared: the content of a cell, or a holder.
     /// rhai: `Target::is_shared`.
     pub fn is_shared(&self) -> bool
         ensures { result ≡ is_shared_target self.now }
@@ -172,9 +173,9 @@ impl<'a> Target<'a> {
     }
 }
 
-/// What a target refers to.
+/// The value of a target.
 impl<'a> Target<'a> {
-    /// Lends the value that it refers to; of a part of a value that value.
+    /// Borrows the value that it refers to; for a part of a value, that value.
     /// Cost: constant; no memory.
     /// rhai: `Target::source`.
     pub fn source<'s>(&'s self, store: &'s Store) -> &'s Dynamic
@@ -193,7 +194,7 @@ impl<'a> Target<'a> {
         }
     }
 
-    /// Lends the value that it refers to; of a part of a value the working value.
+    /// Borrows the value that it refers to; for a part of a value, the working value.
     /// Cost: constant; no memory.
     /// rhai: `AsRef` and `Borrow` of `Target`.
     pub fn as_ref<'s>(&'s self, store: &'s Store) -> &'s Dynamic
@@ -212,11 +213,12 @@ impl<'a> Target<'a> {
         }
     }
 
-    /// Lends the value that it refers to, to write; of a part of a value the working value.
+    /// Borrows the value that it refers to mutably; for a part of a value, the working value.
     ///
-    /// `lent_mut` is the same call with a clause on what target and store are once it was written. There are two, since a
-    /// proof that the check writes by itself can't make a call with a clause on two lenders: such a caller takes this one,
-    /// or `with_mut` or `put`, which say in plain clauses what is left.
+    /// `lent_mut` is the same call, with a clause that gives target and store after the write. Both
+    /// exist, since an automatic proof can't make a call with a clause on two sources of a borrow:
+    /// such a caller uses this one, or `with_mut` or `put`, whose plain clauses give the state
+    /// afterwards.
     /// Cost: constant; no memory.
     /// rhai: `AsMut` and `BorrowMut` of `Target`.
     pub fn as_mut<'s>(&'s mut self, store: &'s mut Store) -> &'s mut Dynamic
@@ -226,8 +228,8 @@ impl<'a> Target<'a> {
         self.lent_mut(store)
     }
 
-    /// Writes a whole value over what `as_mut` lends.
-    /// Cost: the drop of what was there; no memory.
+    /// Writes a whole value over the one that `as_mut` borrows.
+    /// Cost: the drop of the old value; no memory.
     #[tactic(auto, using(crate::proofs::MarkedTexts::mark_outlasts))]
     pub fn put(&mut self, store: &mut Store, new: Dynamic)
         requires { IsMarkedIn store.old self.old }
@@ -248,20 +250,20 @@ impl<'a> Target<'a> {
     }
 }
 
-/// One value is written over another, in a function of its own, since the old one is dropped.
+/// Replaces one value by another, in a separate function, since the old one is dropped.
 fn write(place: &mut Dynamic, new: Dynamic)
     ensures { place.new ≡ new }
 {
     *place = new;
 }
 
-/// Spending targets. The value behind the reference that a target is, or behind that to the source of a part, is as it was, unless its
-/// reference is handed back.
+/// Consuming targets. The value behind the reference that a target is, or behind that to the source
+/// of a part, is unchanged, unless its reference is returned.
 impl<'a> Target<'a> {
-    /// Spends the target: answers a copy of the value that a reference leads to, the holder of a shared value, or the value
-    /// itself; a mark is cleared.
-    /// Errors: the target comes back with nothing changed, where memory for a copy is refused.
-    /// Cost: that of `Dynamic::copy` for a reference or a part; else constant.
+    /// Consumes the target: returns a copy of the value behind a reference, the holder of a shared
+    /// value, or the owned value itself; clears a mark.
+    /// Errors: the target, with nothing changed, if the allocation of a copy fails.
+    /// Cost: that of `Dynamic::copy` for a reference or a part; otherwise constant.
     /// rhai: `Target::take_or_clone`.
     pub fn take_or_clone(self, alloc: Global, store: &mut Store) -> Result<Dynamic, Target<'a>>
         requires { IsMarkedIn store.old self }
@@ -275,7 +277,8 @@ impl<'a> Target<'a> {
         value_out(self, alloc, store).0
     }
 
-    /// Spends the target, and answers the reference that it is; `None` for any other target, a mark being cleared.
+    /// Consumes the target, and returns the reference that it is; for any other target `None`, and
+    /// clears a mark.
     /// Cost: constant; no memory.
     /// rhai: `Target::take_ref`.
     #[inline(always)]
@@ -288,7 +291,7 @@ impl<'a> Target<'a> {
         reference_out(self, store).0
     }
 
-    /// Spends the target; a mark is cleared.
+    /// Consumes the target; clears a mark.
     /// Cost: constant; no memory.
     #[inline(always)]
     pub fn release(self, store: &mut Store)
@@ -299,9 +302,9 @@ impl<'a> Target<'a> {
         let _source = source_out(self, store);
     }
 
-    /// Makes a reference and a shared value a value of their own, which is what `take_or_clone` gives, and clears a mark;
-    /// any other target stays.
-    /// Errors: the target comes back with nothing changed, where memory for a copy is refused.
+    /// Turns a reference and a shared value into an owned value, the result of `take_or_clone`, and
+    /// clears a mark; any other target is unchanged.
+    /// Errors: the target, with nothing changed, if the allocation of a copy fails.
     /// Cost: that of `take_or_clone`.
     /// rhai: `Target::into_owned`.
     pub fn into_owned(self, alloc: Global, store: &mut Store) -> Result<Target<'a>, Target<'a>>

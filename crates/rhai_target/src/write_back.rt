@@ -1,4 +1,5 @@
-//! Write-back: a working value becomes one part of what a source holds. Each call finds the end of the source's chain once.
+//! Write-back: a working value is written to one part of the held value of a source. Each call
+//! follows the source's chain once.
 ghost use Rattle.std.specs.Prelude.{◌≡◌, ◌<◌, [], true, false, codes, length, is_some, MatchOption, OnOk, OnErr};
 ghost use Rattle.rhai_value.specs.End.{end, end_name, held_part, value_after, store_after};
 ghost use Rattle.rhai_value.specs.Parts.{int_of, text_of, blob_of};
@@ -10,8 +11,9 @@ use rhai_text::{EvalAltResult, ImmutableString, Position};
 use rhai_value::{Blob, Dynamic, INT, InStore, Store};
 use std::alloc::Global;
 
-/// Writes the boolean that the working value holds to one bit of the held int.
-/// Errors: `ErrorMismatchDataType`, at this place of the script, for a working value of another type; nothing changes.
+/// Writes the boolean held by the working value to one bit of the held int.
+/// Errors: `ErrorMismatchDataType`, at this position of the script, for a working value of another
+/// type; nothing changes.
 /// Cost: that of `Dynamic::held`; no memory.
 /// rhai: an assignment to an index of an int.
 #[inline(always)]
@@ -42,8 +44,9 @@ pub fn write_bit(
     Ok(())
 }
 
-/// Writes the int that the working value holds, shifted left, to the bits of the mask in the held int.
-/// Errors: `ErrorMismatchDataType`, at this place of the script, for a working value of another type; nothing changes.
+/// Writes the int held by the working value, shifted left, to the bits of the mask in the held int.
+/// Errors: `ErrorMismatchDataType`, at this position of the script, for a working value of another
+/// type; nothing changes.
 /// Cost: that of `Dynamic::held`; no memory.
 /// rhai: an assignment to a range of an int.
 pub fn write_field(
@@ -69,7 +72,7 @@ pub fn write_field(
     Ok(())
 }
 
-/// Puts these bits into a field of the held int: what `write_field` and the write-back of a target share.
+/// Writes bits to a field of the held int: shared by `write_field` and the write-back of a target.
 #[inline(always)]
 pub(crate) fn put_field(source: &mut Dynamic, store: &mut Store, mask: INT, shift: u8, bits: INT)
     requires place { shift < 64 }
@@ -85,8 +88,9 @@ pub(crate) fn put_field(source: &mut Dynamic, store: &mut Store, mask: INT, shif
     *number = with_field(*number, mask, shift, bits);
 }
 
-/// Writes the int that the working value holds, modulo 256, to one byte of the held blob.
-/// Errors: `ErrorMismatchDataType`, at this place of the script, for a working value of another type; nothing changes.
+/// Writes the int held by the working value, modulo 256, to one byte of the held blob.
+/// Errors: `ErrorMismatchDataType`, at this position of the script, for a working value of another
+/// type; nothing changes.
 /// Cost: that of `Dynamic::held`; no memory.
 /// rhai: an assignment to an index of a blob.
 #[inline(always)]
@@ -116,10 +120,10 @@ pub fn write_byte(
     Ok(())
 }
 
-/// Writes the character that the working value holds over one character of the held text; past the end of the text nothing
-/// changes.
-/// Errors: `ErrorMismatchDataType`, at this place of the script, for a working value of another type; `ErrorMemory`;
-/// nothing changes.
+/// Writes the character held by the working value over one character of the held text; past the end
+/// of the text nothing changes.
+/// Errors: `ErrorMismatchDataType`, at this position of the script, for a working value of another
+/// type; `ErrorMemory`; nothing changes.
 /// Cost: the length of the text; memory for one new text.
 /// rhai: an assignment to an index of a text.
 #[inline(never)]

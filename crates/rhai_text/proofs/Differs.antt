@@ -1,4 +1,4 @@
--- Bytes are equal, or in order, by the first place where they differ.
+-- Equality and order of bytes, by the first index at which they differ.
 use Rattle.std.proofs.Common.{◌≡◌, ◌≢◌, ℕ, zero, suc, ◌+◌, ◌<◌, ◌≤◌, min, true, false, not, List, [], ◌∷◌, length, get_or, nat_eq, ◌==◌, inl, inr, refl, sym, ◌∙◌, ap, arith, true≢false, ext_get_or}
 use Rattle.std.proofs.lemmas.Bool.{cases_Bool, cases_lt, cases_order, eqb-false, eqb-true, eq-eqb}
 use Rattle.std.specs.Cmp.{nat_cmp_is}
@@ -22,7 +22,7 @@ apart_head x y xs ys n =
       | inr (inr more) ↦ sym (nat_cmp_is x y Greater more) ∙ ap (λ o. ordering_then o (slice_cmp nat_cmp xs ys)) (nat_cmp_is x y Greater more)
     ]
 
--- the bytes at the first place where two texts differ decide
+-- the bytes at the first index at which two texts differ decide
 pub by_byte : (xs ys : List ℕ) (i : ℕ) → i < length xs → i < length ys → HoldsNowhere (differ xs ys) 0 i → differ xs ys i ≡ true → nat_cmp (get_or xs i 0) (get_or ys i 0) ≡ slice_cmp nat_cmp xs ys
 by_byte [] ys i a b h d = absurd (omega arith)
 by_byte (x ∷ xs) [] i a b h d = absurd (omega arith)
@@ -38,7 +38,7 @@ raised m n =
       | inr (inr more) ↦ sym (nat_cmp_is m n Greater more) ∙ nat_cmp_is (suc m) (suc n) Greater (omega arith)
     ]
 
--- where one text begins with the other, the lengths decide
+-- if one text is a prefix of the other, the lengths decide
 pub by_lengths : (xs ys : List ℕ) → HoldsNowhere (differ xs ys) 0 (min (length xs) (length ys)) → nat_cmp (length xs) (length ys) ≡ slice_cmp nat_cmp xs ys
 by_lengths [] [] h = refl
 by_lengths [] (y ∷ ys) h = sym (nat_cmp_is 0 (suc (length ys)) Less (omega arith))
@@ -58,7 +58,7 @@ module _ (xs ys : List ℕ) where
     | inr other ↦ sym other
   ]
 
-  -- up to j they are known to be equal, and the rest is marked by m, where some of what is known may be tested again
+  -- the texts are known to be equal up to j, and the rest is marked by m, which may test some known bytes again
   pub equal_front : length xs ≡ length ys → (i n m : ℕ) → Marks (differ xs ys) 0 n m → HoldsNowhere (differ xs ys) i (length xs) → i ≤ n → n ≤ length xs → nat_eq m 0 ≡ pointwise nat_eq xs ys
   equal_front e i n m marks h le fits =
       elim (cases_Bool (nat_eq m 0)) [

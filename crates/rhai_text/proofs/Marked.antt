@@ -1,4 +1,4 @@
--- What a bit for each of some places says of the first where a test holds.
+-- What a bit for each of some indices says about the first one at which a test holds.
 use Rattle.std.proofs.Common.{◌≡◌, ℕ, ◌+◌, ◌-◌, ◌%◌, ◌^◌, ◌<◌, ◌≤◌, Bool, true, false, not, cond, List, length, get_or, ◌==◌, inl, inr, refl, sym, ◌∙◌, ap, subst, arith, true≢false, w64}
 use Rattle.std.proofs.lemmas.Bool.{cases_lt}
 use Rattle.std.proofs.lemmas.List.{get_or_past}

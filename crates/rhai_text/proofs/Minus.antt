@@ -1,4 +1,4 @@
--- The equations of `minus`, and what it is where the pattern is found first or not at all.
+-- The equations of `minus`, and its result if the pattern is found first or not at all.
 use Rattle.std.proofs.Common.{◌≡◌, ◌≢◌, ℕ, zero, suc, ◌<◌, ◌≤◌, Bool, true, false, cond, List, [], ◌∷◌, ◌++◌, length, take, drop, nat_eq, refl, sym, ◌∙◌, ap, arith, length-drop, length-append}
 use Rattle.std.proofs.Math.Seq.{drop-append_seam, take-append_seam}
 use Rattle.std.proofs.lemmas.List.{take-append-drop}
@@ -20,12 +20,12 @@ minus_within_enough (suc m) (suc n) (c ∷ cs) pattern hm hn h =
     (minus_within_enough m n (drop (length pattern) (c ∷ cs)) pattern (omega (arith, shorter)) (omega (arith, shorter)) h i)
     (c ∷ minus_within_enough m n cs pattern (omega arith) (omega arith) h i)
 
--- a text begins with what it is made of first
+-- a text begins with its first part
 pub starts_with-append : (pattern rest : List ℕ) → starts_with nat_eq (pattern ++ rest) pattern ≡ true
 starts_with-append pattern rest =
     (bytes_eq-Decides pattern (take (length pattern) (pattern ++ rest))).1 (sym (take-append_seam pattern rest))
 
--- where it begins with the pattern, the rest follows it
+-- if it begins with the pattern, the rest follows it
 pub append-starts_with : (text pattern : List ℕ) → starts_with nat_eq text pattern ≡ true → text ≡ pattern ++ drop (length pattern) text
 append-starts_with text pattern h =
     sym (take-append-drop (length pattern) text)
@@ -47,7 +47,7 @@ pub minus-nothing : (pattern : List ℕ) → minus [] pattern ≡ []
 minus-nothing [] = refl
 minus-nothing (p ∷ ps) = refl
 
--- the pattern does not stand in front ++ (pattern ++ rest) before the end of front
+-- the pattern doesn't occur in front ++ (pattern ++ rest) before the end of front
 pub record IsFirst (front pattern rest : List ℕ) : Type 0 where
   pub first : (xs ys : List ℕ) → front ++ (pattern ++ rest) ≡ xs ++ (pattern ++ ys) → length front ≤ length xs
 

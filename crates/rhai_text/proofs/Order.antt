@@ -1,4 +1,4 @@
--- Texts stand in the same order by their bytes as by their characters.
+-- Texts have the same order by their bytes as by their characters.
 use Rattle.std.proofs.Common.{◌≡◌, ℕ, ◌+◌, ◌/◌, ◌<◌, ◌≤◌, List, [], ◌∷◌, ◌++◌, refl, sym, ◌∙◌, ap, subst, inl, inr, arith}
 use Rattle.std.proofs.lemmas.Bool.{cases_lt, cases_order, lt-ltb, le-ltb}
 use Rattle.std.proofs.lemmas.Str.{encode_ascii}
@@ -19,7 +19,7 @@ same_front : (bs xs ys : List ℕ) → slice_cmp nat_cmp (bs ++ xs) (bs ++ ys) �
 same_front [] xs ys = refl
 same_front (b ∷ bs) xs ys = same_head b b (bs ++ xs) (bs ++ ys) refl ∙ same_front bs xs ys
 
--- what begins with the first stands before what begins with the second
+-- any text with the first prefix is less than any with the second
 record IsBefore (bs ds : List ℕ) : Type 0 where
   before : (xs ys : List ℕ) → slice_cmp nat_cmp (bs ++ xs) (ds ++ ys) ≡ Less
 
@@ -43,7 +43,7 @@ encode_four : (c : ℕ) → 65536 ≤ c → encode c ≡ (240 + c / 262144) ∷ 
 unfolding encode
 encode_four c h = rw (le-ltb c 128 (omega arith), le-ltb c 2048 (omega arith), le-ltb c 65536 h)
 
--- ---- a lower character stands before a higher one: first by the bytes after the first, where that is the same
+-- ---- a lesser character precedes a greater one: first by the bytes after the first, if that is equal
 
 last_before : (c d : ℕ) → c < d → c / 64 ≡ d / 64 → IsBefore (next c ∷ []) (next d ∷ [])
 last_before c d h e = before_head (next c) (next d) [] [] (omega arith)
@@ -64,7 +64,7 @@ last_three_before c d h e =
       | inr (inr more) ↦ absurd (omega arith)
     ]
 
--- the first byte is x, or y where that is higher, and the rest decides where they are the same
+-- the first byte is x, or y if that is greater, and the rest decides if they are equal
 by_first : (x y : ℕ) (xs ys : List ℕ) → x ≤ y → (x ≡ y → IsBefore xs ys) → IsBefore (x ∷ xs) (y ∷ ys)
 by_first x y xs ys le b =
     elim (cases_order x y) [
@@ -73,7 +73,7 @@ by_first x y xs ys le b =
       | inr (inr more) ↦ absurd (omega arith)
     ]
 
--- a character that takes more bytes begins with a higher one
+-- a character with more bytes begins with a greater one
 record Begins (c low : ℕ) : Type 0 where
   byte : ℕ
   bytes : List ℕ

@@ -1,4 +1,4 @@
--- Characters that are written to the end of a text, one piece after another.
+-- Appending characters to a text, one piece after another.
 use Rattle.std.proofs.Common.{◌≡◌, ℕ, ◌-◌, List, [], ◌∷◌, ◌++◌, length, take, drop, refl, sym, ◌∙◌, ap, subst, arith, length-append, append_assoc, if◌then◌else◌, is_ok, OnOk, OnErr, Result, Ok, Err}
 use Rattle.std.proofs.Math.Seq.{drop-append_seam, take-append_seam}
 use Rattle.std.proofs.lemmas.List.{append-nil, take_at}
@@ -24,7 +24,7 @@ encodes-one_more base {before = before} cs c e f =
 pub Extends-trans : (old middle new : List ℕ) → Extends old middle → Extends middle new → Extends old new
 Extends-trans old middle new (xs, e) (ys, f) = (xs ++ ys, f ∙ ap (λ bs. bs ++ ys) e ∙ append_assoc old xs ys)
 
--- what a call that appends says of its answer
+-- the result of a call that appends
 pub OnOk-appended : {T E : Type 0} (r : Result T E) (now more same : List ℕ) → now ≡ (if is_ok r then more else same) → OnOk r (now ≡ more)
 OnOk-appended (Ok x) now more same e = e
 OnOk-appended (Err x) now more same e = tt
@@ -33,7 +33,7 @@ pub OnErr-always : {T E P : Type 0} (r : Result T E) → P → OnErr r P
 OnErr-always (Ok x) p = tt
 OnErr-always (Err x) p = p
 
--- one text with more after it
+-- a text with more appended
 module _ (old new : List ℕ) (u : IsUtf8 old) (v : IsUtf8 new) (more : List ℕ) (e : new ≡ old ++ more) where
   front : take (length old) new ≡ old
   front = ap (take (length old)) e ∙ take-append_seam old more
@@ -74,7 +74,7 @@ module _ (quote : ℕ) (s cs rest : List ℕ) (c : ℕ) (e : s ≡ encode_utf8_a
     take-run =
         ap (take (length s - width - left)) e ∙ take_at (encode_utf8_all cs) (encode_utf8 c ++ rest) (length s - width - left) seam
 
-  -- what is written for it: the run as it is, c as it is escaped, and then the rest
+  -- the text written for it: the run as it is, c escaped, and then the rest
   pub run-written : IsUtf8 s → IsUtf8 rest → flat_map (escaped quote) cs ≡ cs → (old before now : List ℕ) → before ≡ old ++ encode_utf8_all cs → now ≡ before ++ encode_utf8_all (escaped quote c)
       → now ++ encode_utf8_all (flat_map (escaped quote) (chars rest)) ≡ old ++ encode_utf8_all (flat_map (escaped quote) (chars s))
   run-written u v plain old before now f g =

@@ -1,4 +1,4 @@
--- A text in which each occurrence of a pattern has been replaced by nothing is `minus` of the two.
+-- Replacing each occurrence of a pattern by nothing is `minus`.
 use Rattle.std.proofs.Common.{◌≡◌, ℕ, zero, suc, ◌<◌, ◌≤◌, List, [], ◌++◌, length, take, drop, sym, ◌∙◌, ap, subst, inl, inr, arith, length-drop, length-append, Bor, Option}
 use Rattle.std.proofs.Math.Seq.{drop-append_seam, take-append_seam}
 use Rattle.std.proofs.lemmas.Bool.{cases_lt}
@@ -10,7 +10,7 @@ use Rattle.std.specs.Str.Replace.{ReplacesMatches}
 use Rattle.rhai_text.specs.Text.{minus}
 use Rattle.rhai_text.proofs.Minus.{minus-first, minus-lacks}
 
--- of two ways to cut a list in two, the longer front takes more bytes
+-- of two ways to split a list in two, the longer front has more bytes
 more_bytes : (front xs u v : List ℕ) → front ++ u ≡ xs ++ v → length xs < length front → length (encode_utf8_all xs) < length (encode_utf8_all front)
 more_bytes front xs u v e shorter =
     let n = length xs in
@@ -23,7 +23,7 @@ more_bytes front xs u v e shorter =
     omega (arith, ap length split, length-append (encode_utf8_all xs) (encode_utf8_all (drop n front)), length-le-encodes (drop n front), length-drop n front)
 
 module _ (p : List ℕ) (up : IsUtf8 p) where
-  -- where the characters of p stand in those of the text, its bytes stand in the text's
+  -- if the characters of p occur in those of the text, its bytes occur in the text's
   bytes_at : (s xs ys : List ℕ) → IsUtf8 s → chars s ≡ xs ++ (chars p ++ ys) → s ≡ encode_utf8_all xs ++ (p ++ encode_utf8_all ys)
   bytes_at s xs ys u e =
       sym (encodes-chars s u)
@@ -60,7 +60,7 @@ module _ (p : List ℕ) (up : IsUtf8 p) where
         ∙ chars-append (take a s) (p ++ drop b s) before_text
         ∙ ap (λ cs. chars (take a s) ++ cs) (chars-append p (drop b s) up)
 
-    -- no earlier place in characters, since there is none in bytes
+    -- no earlier index in characters, since there is none in bytes
     no_earlier : (xs ys : List ℕ) → chars (take a s) ++ (chars p ++ chars (drop b s)) ≡ xs ++ (chars p ++ ys) → length (chars (take a s)) ≤ length xs
     no_earlier xs ys e =
         elim (cases_lt (length xs) (length (chars (take a s)))) [

@@ -1,4 +1,4 @@
--- A text that is cut at a character, which stands behind a run of others.
+-- A text split at a character that follows a run of others.
 use Rattle.std.proofs.Common.{◌≡◌, ℕ, false, cond, not, List, [], ◌∷◌, ◌++◌, drop, nat_eq, Option, Some, None, is_some, Bor, refl, sym, ◌∙◌, ap, subst, arith, rules}
 use Rattle.std.proofs.lemmas.Bool.{eq-eqb}
 use Rattle.std.proofs.lemmas.List.{append-nil, take-append-drop}
@@ -33,7 +33,7 @@ pub nothing_more : (rest : Option (Bor (List ℕ))) → false ≡ is_some rest �
 nothing_more None h = refl
 nothing_more (Some t) h = absurd (search rules)
 
--- x is what stands in s before the first c, and rest what follows that c; without a c, x is s, and there is no rest
+-- x is the part of s before the first c, and rest the part after that c; without a c, x is s, and there is no rest
 module _ (c : ℕ) (s x : List ℕ) (rest : Option (Bor (List ℕ))) (u : IsUtf8 s) where
   pub minus_char-split : IsSplitAtFirstMatch (FindsChar c) s x (is_some rest) (text_or_empty rest)
       → IsUtf8 (text_or_empty rest) × (encode_utf8_all (minus_char (chars s) c) ≡ x ++ encode_utf8_all (minus_char (chars (text_or_empty rest)) c))

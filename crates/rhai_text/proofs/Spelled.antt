@@ -1,4 +1,4 @@
--- What a tactic needs of the bytes of characters that are put together.
+-- What a tactic needs about the bytes of concatenated characters.
 use Rattle.std.proofs.lemmas.Str.{encodes-append}
 
 pub ruleset spelled = (encodes-append)

@@ -1,4 +1,5 @@
-// Equality and order of texts by their bytes, of which long ones are read sixty-four and sixteen at a time.
+// Equality and order of texts by their bytes; long ones are compared sixty-four and sixteen bytes
+// at a time.
 ghost use Rattle.std.specs.Prelude.{◌≡◌, ◌+◌, ◌<◌, ◌≤◌, length, min, nat_eq};
 ghost use Rattle.std.specs.Cmp.Lexicographic.{pointwise, slice_cmp};
 ghost use Rattle.std.specs.Ordering.{nat_cmp};
@@ -7,14 +8,15 @@ ghost use Rattle.std.specs.Slice.Scan.{differ, HoldsNowhere, IsFirstPlace, Marks
 use std::cmp::Ordering;
 use std::simd::prelude::*;
 
-// How many bytes are compared at once.
+// The number of bytes compared at once.
 const MANY: usize = 64;
 
 const SOME: usize = 16;
 
 const FEW: usize = 8;
 
-// Up to many bytes the standard library's equality is as fast. It is compiled for each range of lengths by itself.
+// For up to this many bytes the standard library's equality is as fast. It is compiled separately
+// for each range of lengths.
 pub(crate) fn equal_texts(a: &str, b: &str) -> bool
     ensures { result ≡ pointwise nat_eq a.now b.now }
 {
@@ -33,7 +35,8 @@ pub(crate) fn equal_texts(a: &str, b: &str) -> bool
     equal_bytes(a.as_bytes(), b.as_bytes())
 }
 
-// Two runs, which may overlap, are all of texts that are not much longer. Texts that begin alike mostly differ at the end.
+// For texts not much longer than one run, two runs, which may overlap, cover everything. Texts with
+// a common beginning mostly differ at the end.
 fn equal_bytes(a: &[u8], b: &[u8]) -> bool
     requires { (MANY ≤ length a.now) × (length a.now ≡ length b.now) }
     ensures { result ≡ pointwise nat_eq a.now b.now }
@@ -69,7 +72,7 @@ fn order_of_bytes(a: &[u8], b: &[u8], both: usize) -> Ordering
     a.len().cmp(&b.len())
 }
 
-// The first place where the bytes differ, or `to`. Most that differ do so near the front.
+// The first place where the bytes differ, or `to`. Most texts that differ do so near the front.
 fn first_apart(a: &[u8], b: &[u8], to: usize) -> usize
     requires { (SOME ≤ to) × (to ≤ length a.now) × (to ≤ length b.now) }
     ensures { IsFirstPlace (differ a.now b.now) 0 to result }
@@ -93,7 +96,7 @@ fn first_apart(a: &[u8], b: &[u8], to: usize) -> usize
     to - SOME + last.trailing_zeros() as usize
 }
 
-// Goes past each run of many bytes that are the same on both sides.
+// Skips each run of `MANY` bytes that is equal on both sides.
 fn past_many(a: &[u8], b: &[u8], from: usize, to: usize) -> usize
     requires { (from ≤ to) × (to ≤ length a.now) × (to ≤ length b.now) }
     ensures { (from ≤ result) × (result ≤ to) × HoldsNowhere (differ a.now b.now) from result }
@@ -105,7 +108,7 @@ fn past_many(a: &[u8], b: &[u8], from: usize, to: usize) -> usize
     at
 }
 
-// Of the N bytes from `at` on, a bit for each that differs, the first the lowest.
+// A bit for each of the N bytes from `at` on, set if they differ, the first one lowest.
 fn marks<const N: usize>(a: &[u8], b: &[u8], at: usize) -> u64
     requires { (0 < N) × (N ≤ 64) × (at + N ≤ length a.now) × (at + N ≤ length b.now) }
     ensures { Marks (differ a.now b.now) at N result }

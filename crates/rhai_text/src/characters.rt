@@ -1,12 +1,13 @@
-//! Characters of a text by their places. A text of ASCII has one a byte; of any other the characters before are walked over.
+//! Characters of a text by index. An ASCII text has one byte per character; in any other the
+//! preceding characters are counted.
 ghost use Rattle.std.specs.Prelude.{◌≡◌, length, slice_get, option_copied};
 ghost use Rattle.std.specs.Str.{chars};
 
 use crate::immutable_string::ImmutableString;
 
 impl ImmutableString {
-    /// Counts the characters.
-    /// Cost: constant for a text of ASCII, else its length.
+    /// Returns the number of characters.
+    /// Cost: constant for an ASCII text, otherwise its length.
     /// rhai: `str::chars` and `count`.
     pub fn char_count(&self) -> usize
         ensures { result ≡ length self.now }
@@ -19,8 +20,8 @@ impl ImmutableString {
         }
     }
 
-    /// Gives the character at a place, counted in characters from 0; `None` past the end.
-    /// Cost: constant for a text of ASCII, else the length of the text up to that place.
+    /// Returns the character at an index, counted in characters from 0; `None` past the end.
+    /// Cost: constant for an ASCII text, otherwise the length of the text up to that index.
     /// rhai: `str::chars` and `nth`.
     pub fn char_at(&self, index: usize) -> Option<char>
         ensures { result ≡ slice_get self.now index }
@@ -41,14 +42,14 @@ fn byte_at(bytes: &[u8], index: usize) -> Option<&u8>
     bytes.get(index)
 }
 
-/// How many characters a text has, by a walk.
+/// Counts the characters of a text.
 fn count(text: &str) -> usize
     ensures { result ≡ length (chars text.now) }
 {
     text.chars().count()
 }
 
-/// The character at a place, by a walk.
+/// Finds the character at an index, by counting.
 fn nth(text: &str, index: usize) -> Option<char>
     ensures { result ≡ slice_get (chars text.now) index }
 {

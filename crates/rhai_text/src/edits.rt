@@ -1,4 +1,4 @@
-// The edits: each makes a new text of one, and fails only where memory for that is refused.
+// The edits: each makes a new text, and fails only if its allocation fails.
 ghost use Rattle.std.specs.Prelude.{◌≡◌, ◌+◌, ◌-◌, ◌++◌, if◌then◌else◌, IfOk, IsTrue, slice_set, take, drop};
 ghost use Rattle.std.specs.Str.{chars, encode_utf8_all, IsAscii};
 ghost use Rattle.rhai_text.specs.Text.{minus, minus_char, slice_of, with_slice};
@@ -7,9 +7,9 @@ use crate::immutable_string::ImmutableString;
 use std::alloc::{AllocError, Global};
 
 impl ImmutableString {
-    /// Joins this text and `text`.
-    /// Errors: memory for the new text is refused.
-    /// Cost: the length of both; memory for the new text, asked once.
+    /// Concatenates this text and `text`.
+    /// Errors: the allocation of the new text fails.
+    /// Cost: the length of both; one allocation for the new text.
     /// rhai: `+` of two texts.
     pub fn concat(&self, alloc: Global, text: &str) -> Result<ImmutableString, AllocError>
         ensures { IfOk result (λ t. t ≡ self.now ++ chars text.now) }
@@ -17,9 +17,9 @@ impl ImmutableString {
         joined(alloc, self.as_str(), text, "")
     }
 
-    /// Takes the occurrences of `pattern` out of this text, from left to right; they don't overlap.
-    /// An empty pattern takes nothing away.
-    /// Errors: memory for the new text is refused.
+    /// Removes the occurrences of `pattern` from this text, from left to right, without overlaps.
+    /// An empty pattern removes nothing.
+    /// Errors: the allocation of the new text fails.
     /// Cost: for a given pattern the length of this text; memory for the new one, none for an empty pattern.
     /// rhai: `-` of two texts.
     pub fn minus(&self, alloc: Global, pattern: &str) -> Result<ImmutableString, AllocError>
@@ -32,9 +32,9 @@ impl ImmutableString {
         ImmutableString::from_string(alloc, text)
     }
 
-    /// Takes each `character` out of this text.
-    /// Errors: memory is refused.
-    /// Cost: the length of this text; room for all of it from the start.
+    /// Removes each `character` from this text.
+    /// Errors: an allocation fails.
+    /// Cost: the length of this text; one allocation of that length.
     /// rhai: `-` of a text and a character.
     pub fn minus_char(&self, alloc: Global, character: char) -> Result<ImmutableString, AllocError>
         ensures { IfOk result (λ t. t ≡ minus_char self.now character) }
@@ -46,8 +46,9 @@ impl ImmutableString {
         ImmutableString::from_string(alloc, text)
     }
 
-    /// Puts `character` in place of the one at `index`, counted in characters from 0; past the end it copies this text.
-    /// Errors: memory for the new text is refused.
+    /// Replaces the character at `index`, counted in characters from 0, by `character`; past the
+    /// end it copies this text.
+    /// Errors: the allocation of the new text fails.
     /// Cost: the length of this text; memory for the new one.
     /// rhai: an assignment to an index of a text.
     pub fn with_char(
@@ -70,11 +71,11 @@ impl ImmutableString {
         joined(alloc, front, encoded, after.as_str())
     }
 
-    /// Puts `slice` in place of the characters from `start` to `end`, which is included unless `exclusive`.
-    /// Places count characters from 0, and past the text they mean its end. Where `end` lies before `start`, the characters
-    /// between them stand twice, on both sides of `slice`.
-    /// Errors: memory for the new text is refused.
-    /// Cost: the length of this text, twice where `end` lies before `start`; memory for the new one.
+    /// Replaces the characters from `start` to `end`, which is included unless `exclusive`, by
+    /// `slice`. Places count characters from 0; places past the text mean its end. If `end` is
+    /// before `start`, the characters between them occur twice, on both sides of `slice`.
+    /// Errors: the allocation of the new text fails.
+    /// Cost: the length of this text, twice if `end` is before `start`; memory for the new one.
     /// rhai: an assignment to a range of a text.
     pub fn with_slice(
         &self,
@@ -90,10 +91,11 @@ impl ImmutableString {
         joined(alloc, front, slice, back)
     }
 
-    /// Copies the characters from `start` to `end`, which is included unless `exclusive`: those that `with_slice` would
-    /// replace. There are none where `end` lies before `start`.
-    /// Errors: memory for the new text is refused.
-    /// Cost: of a text of ASCII the length of the new one, else that of this text up to `end`; memory for the new one.
+    /// Copies the characters from `start` to `end`, which is included unless `exclusive`: those
+    /// that `with_slice` would replace. There are none if `end` is before `start`.
+    /// Errors: the allocation of the new text fails.
+    /// Cost: for an ASCII text the length of the new one, otherwise that of this text up to `end`;
+    /// memory for the new one.
     /// rhai: a text indexed by a range.
     pub fn slice(
         &self,
@@ -109,7 +111,7 @@ impl ImmutableString {
     }
 }
 
-// The three texts in a row.
+// The concatenation of three texts.
 #[inline(always)]
 fn joined(
     alloc: Global,
@@ -122,8 +124,8 @@ fn joined(
     ImmutableString::of_three(alloc, front, middle, back)
 }
 
-// The first `count` characters of the text, or all where it has fewer, and the rest. This and the next four take characters for bytes where
-// the text is known to be ASCII.
+// The first `count` characters of the text, or all if it has fewer, and the rest. This and the next
+// four count bytes as characters if the text is known to be ASCII.
 fn split_at_char(text: &str, count: usize, is_ascii: bool) -> (&str, &str)
     requires { IsTrue is_ascii → IsAscii text.now }
     ensures front { chars result.0.now ≡ take count (chars text.now) }
@@ -134,7 +136,8 @@ fn split_at_char(text: &str, count: usize, is_ascii: bool) -> (&str, &str)
     text.split_at(text.len() - back.len())
 }
 
-// What stands before `start`, and what stands from `end` on, or from after the character there unless `exclusive`.
+// The text before `start`, and the text from `end` on, or after the character there unless
+// `exclusive`.
 fn parts_around(
     text: &str,
     start: usize,
@@ -154,7 +157,7 @@ fn parts_around(
     }
 }
 
-// The characters from `start` to `end`, or to after the one there unless `exclusive`.
+// The characters from `start` to `end`, including the one there unless `exclusive`.
 fn part_between(text: &str, start: usize, end: usize, exclusive: bool, is_ascii: bool) -> &str
     requires { IsTrue is_ascii → IsAscii text.now }
     ensures { chars result.now ≡ slice_of (chars text.now) start end exclusive }
@@ -167,7 +170,7 @@ fn part_between(text: &str, start: usize, end: usize, exclusive: bool, is_ascii:
     rest.split_at(rest.len() - after.len()).0
 }
 
-// The text from `end` on, or from after the character there unless `exclusive`.
+// The text from `end` on, or after the character there unless `exclusive`.
 fn text_after(text: &str, end: usize, exclusive: bool, is_ascii: bool) -> &str
     requires { IsTrue is_ascii → IsAscii text.now }
     ensures characters { chars result.now ≡ drop (if exclusive then end else end + 1) (chars text.now) }
@@ -181,7 +184,7 @@ fn text_after(text: &str, end: usize, exclusive: bool, is_ascii: bool) -> &str
     }
 }
 
-// The text from after its first `count` characters on.
+// The text after its first `count` characters.
 fn skip_chars(text: &str, count: usize, is_ascii: bool) -> &str
     requires { IsTrue is_ascii → IsAscii text.now }
     ensures { result.now ≡ encode_utf8_all (drop count (chars text.now)) }
@@ -199,7 +202,7 @@ fn skip_chars(text: &str, count: usize, is_ascii: bool) -> &str
     rest.as_str()
 }
 
-// The text from after its first `count` bytes on, each of which is a character.
+// The text after its first `count` bytes, each of which is a character.
 fn skip_bytes(text: &str, count: usize) -> &str
     requires { IsAscii text.now }
     ensures { result.now ≡ encode_utf8_all (drop count (chars text.now)) }

@@ -1,4 +1,4 @@
-// What goes wrong when a script is evaluated.
+// The errors of evaluating a script.
 ghost use Rattle.std.specs.Prelude.{◌≡◌};
 ghost use Rattle.rhai_text.specs.Error.{at_place, is_memory, place_of};
 ghost use Rattle.rhai_text.specs.declared.error.EvalAltResult.TheVariants.{ErrorMemory, ErrorMismatchDataType};
@@ -8,41 +8,41 @@ use crate::type_name::TypeName;
 use std::alloc::AllocError;
 use thiserror::Error;
 
-/// Why an evaluation stopped, and at which place of the script.
-/// rhai: `EvalAltResult`, of which these are the variants that this layer meets.
+/// Why an evaluation stopped, and at which position of the script.
+/// rhai: `EvalAltResult`, of which these are the variants that occur in this layer.
 #[derive(Debug, Drop, Error)]
 pub enum EvalAltResult {
-    /// A value has the wrong type: the name of the type that is wanted, and of the one that is there.
+    /// A value has the wrong type: the name of the expected type, and of the actual one.
     #[error("data type mismatch: expected {}, found {}", .0.as_str(), .1.as_str())]
     ErrorMismatchDataType(TypeName, TypeName, Position),
     /// A shared value is in use.
     #[error("data race")]
     ErrorDataRace(Position),
-    /// An arithmetic operation has no answer.
+    /// An arithmetic operation has no result.
     #[error("arithmetic fault: {0:?}")]
     ErrorArithmetic(ArithmeticFault, Position),
-    /// A value would grow past its limit.
+    /// A value would exceed its limit.
     #[error("too large: {0:?}")]
     ErrorDataTooLarge(SizeKind, Position),
-    /// Memory ran out.
+    /// An allocation failed.
     #[error("out of memory")]
     ErrorMemory(AllocError),
 }
 
-/// Why an arithmetic operation has no answer.
+/// Why an arithmetic operation has no result.
 #[derive(Clone, Copy, Debug, PartialEq, Eq)]
 pub enum ArithmeticFault {
-    /// The exact answer does not fit.
+    /// The exact result does not fit.
     Overflow,
     /// The divisor is 0.
     DivisionByZero,
-    /// The exponent is below 0.
+    /// The exponent is negative.
     NegativePower,
     /// The exponent is above 4294967295.
     PowerTooLarge,
 }
 
-/// Which limit a value would grow past.
+/// The limit that a value would exceed.
 #[derive(Clone, Copy, Debug, PartialEq, Eq)]
 pub enum SizeKind {
     /// The bytes of a text.
@@ -52,7 +52,8 @@ pub enum SizeKind {
 }
 
 impl EvalAltResult {
-    /// Makes the error of a value of the wrong type from the names of the type that is wanted and of the one that is there.
+    /// Makes the error of a value of the wrong type from the names of the expected type and the
+    /// actual one.
     /// Cost: constant; no memory.
     pub fn mismatch(wanted: &'static str, found: &'static str, pos: Position) -> EvalAltResult
         ensures { result ≡ ErrorMismatchDataType wanted.now found.now pos }
@@ -60,7 +61,7 @@ impl EvalAltResult {
         EvalAltResult::ErrorMismatchDataType(TypeName::new(wanted), TypeName::new(found), pos)
     }
 
-    /// Puts this place of the script into the error; want of memory has no place, and stays as it is.
+    /// Sets the error's position; a failed allocation has no position, and is unchanged.
     pub fn with_position(self, pos: Position) -> EvalAltResult
         ensures { result ≡ at_place pos self }
     {
@@ -76,7 +77,7 @@ impl EvalAltResult {
         }
     }
 
-    /// Tells the place of the script; of want of memory it is `Position::NONE`.
+    /// Returns the position in the script; for a failed allocation `Position::NONE`.
     /// rhai: `EvalAltResult::position`.
     pub fn position(&self) -> Position
         ensures { result ≡ place_of self.now }
@@ -90,7 +91,7 @@ impl EvalAltResult {
         }
     }
 
-    /// Tells whether memory was refused. Every other error is a refusal of what the script does.
+    /// Returns whether an allocation failed. Every other error is due to what the script does.
     pub fn is_memory(&self) -> bool
         ensures { result ≡ is_memory self.now }
     {

@@ -1,4 +1,4 @@
-// A text whose copies share its bytes, its reads and its comparisons.
+// A text whose copies share its bytes, with its reads and comparisons.
 ghost use Rattle.std.specs.Prelude.{◌≡◌, ◌↔◌, ◌++◌, [], length, IfOk, IsTrue, OnErr, OnOk, Some, nat_eq, refl, string_bytes};
 ghost use Rattle.std.specs.Cmp.{partial_equiv_from_equiv};
 ghost use Rattle.std.specs.Cmp.Lexicographic.{bytes_decides, pointwise, slice_cmp, nat_list_eq_equiv, nat_list_cmp_total, texts_po, texts_ties};
@@ -18,8 +18,8 @@ use std::hash::{Hash, Hasher};
 use std::marker::Model;
 use std::rc::Rc;
 
-/// A text whose copies share its bytes: it is changed in place only where no copy sees it. Contracts see it as the list of its
-/// characters. It is one pointer wide.
+/// A text whose copies share its bytes: it is changed in place only if no copy shares them.
+/// Contracts see it as the list of its characters. It is one pointer wide.
 /// rhai: `ImmutableString`.
 #[derive(Drop)]
 pub struct ImmutableString {
@@ -37,10 +37,10 @@ impl Model for ImmutableString {
 }
 
 impl ImmutableString {
-    /// Makes the text of a `&str`.
-    /// Errors: memory is refused.
-    /// Cost: the length of the text; memory for the bytes and for a count of the copies, in one block where there are at
-    /// most 24 bytes.
+    /// Makes a text from a `&str`.
+    /// Errors: an allocation fails.
+    /// Cost: the length of the text; memory for the bytes and a reference count, in one allocation
+    /// for at most 24 bytes.
     /// rhai: `From<&str>` of `ImmutableString`.
     pub fn from_str(alloc: Global, text: &str) -> Result<ImmutableString, AllocError>
         ensures characters { IfOk result (λ t. t ≡ chars text.now) }
@@ -53,8 +53,8 @@ impl ImmutableString {
         ImmutableString::of_three(alloc, text, "", "")
     }
 
-    // Three texts in a row, for which room is made once: few bytes are written where they stay. In each caller of its own, so
-    // that an empty one costs nothing.
+    // The concatenation of three texts, with one allocation: a short result is written in place.
+    // Inlined into each caller, so that an empty text costs nothing.
     #[inline(always)]
     pub(crate) fn of_three(
         alloc: Global,
@@ -85,7 +85,7 @@ impl ImmutableString {
         ImmutableString::from_string(alloc, long)
     }
 
-    // The text of a `String`. It takes memory for a count of the copies.
+    // Makes a text from a `String`. It allocates a reference count.
     pub(crate) fn from_string(alloc: Global, text: String) -> Result<ImmutableString, AllocError>
         ensures { IfOk result (λ t. t ≡ chars (string_bytes text)) }
     {
@@ -95,10 +95,11 @@ impl ImmutableString {
         }
     }
 
-    /// Puts a text behind this one: where its bytes stand, if no copy shares them.
-    /// Errors: memory is refused, and the text is as it was.
-    /// Cost: the length of `more`, amortised, and memory where the room is used up; of a text that is shared, and of one of at most
-    /// 24 bytes that gets longer, the length of both, with memory for both.
+    /// Appends a text: in place, if no copy shares the bytes.
+    /// Errors: an allocation fails, and the text is unchanged.
+    /// Cost: the length of `more`, amortised, with an allocation if the capacity is exceeded; for a
+    /// shared text, and for one of at most 24 bytes that becomes longer, the length of both, and
+    /// memory for both.
     /// rhai: `AddAssign<&str>` of `ImmutableString`.
     pub fn push_str(&mut self, alloc: Global, more: &str) -> Result<(), AllocError>
         ensures ok { OnOk result (self.new ≡ self.old ++ chars more.now) }
@@ -111,7 +112,7 @@ impl ImmutableString {
         Ok(())
     }
 
-    /// Lends the text as a `&str`.
+    /// Borrows the text as a `&str`.
     /// rhai: `ImmutableString::as_str`.
     pub fn as_str(&self) -> &str
         ensures characters { chars result.now ≡ self.now }
@@ -128,23 +129,23 @@ impl ImmutableString {
         self.bytes.is_ascii()
     }
 
-    /// Tells the length in UTF-8 bytes.
+    /// Returns the length in UTF-8 bytes.
     pub fn len(&self) -> usize
         ensures { result ≡ length (encode_utf8_all self.now) }
     {
         self.as_str().len()
     }
 
-    /// Tells whether the text has no character.
+    /// Returns whether the text is empty.
     pub fn is_empty(&self) -> bool
         ensures { IsTrue result ↔ (self.now ≡ []) }
     {
         self.len() == 0
     }
 
-    /// Copies the text, sharing its bytes.
-    /// Errors: the count of the copies is at its limit, and memory for a text of its own is refused.
-    /// Cost: a few steps, whatever the length, and no memory; at that limit as `from_str`.
+    /// Copies the text; the copy shares its bytes.
+    /// Errors: the reference count is at its limit, and the allocation of a separate text fails.
+    /// Cost: constant, without memory; at that limit that of `from_str`.
     /// rhai: `Clone` of `ImmutableString`.
     pub fn copy(&self, alloc: Global) -> Result<ImmutableString, AllocError>
         ensures { IfOk result (λ t. t ≡ self.now) }
@@ -155,7 +156,7 @@ impl ImmutableString {
         }
     }
 
-    // The count of the copies is at its limit, so this one gets bytes of its own.
+    // The reference count is at its limit, so this copy gets its own bytes.
     #[cold]
     #[inline(never)]
     fn with_own_bytes(&self, alloc: Global) -> Result<ImmutableString, AllocError>
@@ -192,7 +193,7 @@ impl PartialOrd for ImmutableString {
     }
 }
 
-/// Texts stand in the order of their characters, the first that differs deciding. That is the order of their bytes.
+/// Texts are ordered lexicographically by their characters. That is the order of their bytes.
 impl Ord for ImmutableString {
     ghost cmp = { slice_cmp nat_cmp };
 

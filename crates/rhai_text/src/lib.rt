@@ -1,5 +1,6 @@
-//! The texts of script values: a text that is never changed in place, the edits that make a new text of one, and how texts and
-//! characters stand in quotation marks. Beside them the operators, places, limits and errors that all of the value's operations share.
+//! The texts of script values: a text with shared bytes, the edits that make a new text, and quoted
+//! texts and characters. Also the operators, positions, limits and errors that all operations on
+//! values share.
 #![tactic(auto)]
 
 mod bytes_order;

@@ -1,6 +1,6 @@
-// How large values may grow.
+// Limits on the size of values.
 
-/// The largest sizes that an operator may make. 0 means no limit.
+/// The largest sizes of an operator's result. 0 means no limit.
 /// rhai: `Engine::max_string_size`, `Engine::max_array_size`.
 #[derive(Clone, Copy, Debug, PartialEq, Eq)]
 pub struct Limits {

@@ -5,8 +5,8 @@ ghost use Rattle.std.specs.Str.{IsAscii};
 use std::alloc::AllocError;
 use std::marker::Model;
 
-/// The bytes of a long text, with the answer whether they are known to be ASCII: each character of such a text is one byte, so that one
-/// at a place is found at once. Contracts see the bytes.
+/// The bytes of a long text, and whether they are known to be ASCII: each character of such a text
+/// is one byte, so that a character is found by its index. Contracts see the bytes.
 #[derive(Drop)]
 pub(crate) struct LongText {
     text: String,
@@ -39,7 +39,7 @@ impl LongText {
         self.text.as_str()
     }
 
-    /// Tells whether each character is known to be one byte.
+    /// Returns whether each character is known to be one byte.
     #[inline(always)]
     pub(crate) fn is_ascii(&self) -> bool
         ensures { IsTrue result → IsAscii self.now }
@@ -47,8 +47,8 @@ impl LongText {
         self.is_ascii
     }
 
-    /// Puts a text behind these bytes.
-    /// Errors: memory is refused, and the bytes are as they were.
+    /// Appends a text.
+    /// Errors: an allocation fails, and the bytes are unchanged.
     pub(crate) fn push_str(&mut self, more: &str) -> Result<(), AllocError>
         ensures ok { OnOk result (self.new ≡ self.old ++ more.now) }
         ensures err { OnErr result (self.new ≡ self.old) }

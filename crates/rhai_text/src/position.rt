@@ -1,7 +1,8 @@
-// Places in a script.
+// Positions in a script.
 ghost use Rattle.std.specs.Prelude.{◌≡◌};
 
-/// A place in a script: a line, and a position on it. It is handed through, and nothing here depends on it.
+/// A position in a script: a line, and a column. It is only passed through; nothing here depends on
+/// it.
 /// rhai: `Position`.
 #[derive(Clone, Copy, Debug, PartialEq, Eq)]
 pub struct Position {
@@ -10,13 +11,13 @@ pub struct Position {
 }
 
 impl Position {
-    /// No place: line and position are 0.
+    /// No position: line and position are 0.
     pub const NONE: Position = Position {
         line: 0,
         position: 0,
     };
 
-    /// Makes a place of a line and a position on it, counted from 1.
+    /// Makes a position from a line and a position on it, counted from 1.
     /// rhai: `Position::new`.
     pub fn new(line: u16, position: u16) -> Position
         ensures { result ≡ record { line = line; position = position } }
@@ -27,7 +28,7 @@ impl Position {
         }
     }
 
-    /// Tells the line, 0 where there is no place.
+    /// Returns the line, 0 if there is no position.
     /// rhai: `Position::line`.
     pub fn line(self) -> u32
         ensures { result ≡ self.line }
@@ -35,7 +36,7 @@ impl Position {
         self.line
     }
 
-    /// Tells the position on the line, 0 where there is none.
+    /// Returns the position on the line, 0 if there is none.
     /// rhai: `Position::position`.
     pub fn position(self) -> u32
         ensures { result ≡ self.position }

@@ -1,4 +1,4 @@
-// Texts and characters in quotation marks, with what does not print escaped.
+// Quoted texts and characters, with unprintable characters escaped.
 ghost use Rattle.std.specs.Prelude.{◌≡◌, [], ◌∷◌, ◌++◌, string_bytes, IsTrue, OnOk, OnErr};
 ghost use Rattle.std.specs.Char.Escape.{escape_unicode};
 ghost use Rattle.std.specs.List.{flat_map};
@@ -9,10 +9,10 @@ use crate::immutable_string::ImmutableString;
 use std::alloc::AllocError;
 
 impl ImmutableString {
-    /// Appends this text in double quotation marks, with `"`, the backslash and what does not print escaped. All characters
-    /// past U+007F stand as themselves.
-    /// Errors: memory is refused; `out` is as before.
-    /// Cost: the length of the text; memory where `out` grows.
+    /// Appends this text in double quotation marks, with `"`, the backslash and unprintable
+    /// characters escaped. Characters past U+007F are not escaped.
+    /// Errors: an allocation fails; `out` is unchanged.
+    /// Cost: the length of the text; an allocation if `out` grows.
     /// rhai: `Debug` of a text.
     pub fn quoted_into(&self, out: &mut String) -> Result<(), AllocError>
         ensures characters { OnOk result (chars (string_bytes out.new) ≡ chars (string_bytes out.old) ++ quoted_text self.now) }
@@ -24,8 +24,8 @@ impl ImmutableString {
 }
 
 /// Appends a text in double quotation marks, as `ImmutableString::quoted_into` does.
-/// Errors: memory is refused; `out` is as before.
-/// Cost: the length of the text; memory where `out` grows.
+/// Errors: an allocation fails; `out` is unchanged.
+/// Cost: the length of the text; an allocation if `out` grows.
 pub fn quoted_text_into(text: &str, out: &mut String) -> Result<(), AllocError>
     ensures characters { OnOk result (chars (string_bytes out.new) ≡ chars (string_bytes out.old) ++ quoted_text (chars text.now)) }
     ensures bytes { OnOk result (string_bytes out.new ≡ string_bytes out.old ++ encode_utf8_all (quoted_text (chars text.now))) }
@@ -34,9 +34,9 @@ pub fn quoted_text_into(text: &str, out: &mut String) -> Result<(), AllocError>
     append_quoted(text, '"', out)
 }
 
-/// Appends a character in single quotation marks, with `'`, the backslash and what does not print escaped. All characters
-/// past U+007F stand as themselves.
-/// Errors: memory is refused; `out` is as before.
+/// Appends a character in single quotation marks, with `'`, the backslash and unprintable
+/// characters escaped. Characters past U+007F are not escaped.
+/// Errors: an allocation fails; `out` is unchanged.
 /// rhai: `Debug` of a character.
 pub fn quoted_char_into(character: char, out: &mut String) -> Result<(), AllocError>
     ensures characters { OnOk result (chars (string_bytes out.new) ≡ chars (string_bytes out.old) ++ quoted_char character) }
@@ -47,7 +47,7 @@ pub fn quoted_char_into(character: char, out: &mut String) -> Result<(), AllocEr
     append_quoted(character.encode_utf8(&mut buffer), '\'', out)
 }
 
-// Appends all of the quoted text or nothing.
+// Appends the whole quoted text, or nothing.
 fn append_quoted(text: &str, quote: char, out: &mut String) -> Result<(), AllocError>
     ensures characters { OnOk result (chars (string_bytes out.new) ≡ chars (string_bytes out.old) ++ quoted quote (chars text.now)) }
     ensures bytes { OnOk result (string_bytes out.new ≡ string_bytes out.old ++ encode_utf8_all (quoted quote (chars text.now))) }
@@ -63,7 +63,7 @@ fn append_quoted(text: &str, quote: char, out: &mut String) -> Result<(), AllocE
     }
 }
 
-// The next four append what is asked, or some beginning of it where memory runs out.
+// The next four append their text, or a prefix of it if an allocation fails.
 fn push_quoted(text: &str, quote: char, out: &mut String) -> Result<(), AllocError>
     ensures ok { OnOk result (string_bytes out.new ≡ string_bytes out.old ++ encode_utf8_all (quoted quote (chars text.now))) }
     ensures err { OnErr result (Extends (string_bytes out.old) (string_bytes out.new)) }
@@ -73,7 +73,7 @@ fn push_quoted(text: &str, quote: char, out: &mut String) -> Result<(), AllocErr
     out.push(quote)
 }
 
-// What stands as itself is appended a run at a time.
+// Characters that aren't escaped are appended a run at a time.
 fn push_runs(text: &str, quote: char, out: &mut String) -> Result<(), AllocError>
     ensures ok { OnOk result (string_bytes out.new ≡ string_bytes out.old ++ encode_utf8_all (flat_map (escaped quote) (chars text.now))) }
     ensures err { OnErr result (Extends (string_bytes out.old) (string_bytes out.new)) }

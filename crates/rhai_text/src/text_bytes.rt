@@ -1,4 +1,4 @@
-// Where the bytes of a text stand.
+// The storage of a text's bytes.
 ghost use Rattle.std.specs.Prelude.{◌≡◌, ◌++◌, ◌+◌, ◌≤◌, length, IsTrue, OnErr, OnOk};
 ghost use Rattle.std.specs.Str.{chars, IsAscii};
 ghost use Rattle.rhai_text.specs.Bytes.{text_bytes};
@@ -7,10 +7,10 @@ use crate::long_text::LongText;
 use arrayvec::ArrayString;
 use std::alloc::{AllocError, Global};
 
-/// How many bytes a text has at the most that needs no second block of memory: a name mostly has fewer.
+/// The most bytes of a text that needs no second allocation: a name mostly has fewer.
 pub(crate) const SHORT_BYTES: usize = 24;
 
-/// The bytes of a text: few of them stand beside the count of the copies, others in a block of their own.
+/// The bytes of a text: few are stored beside the reference count, more in their own allocation.
 #[derive(Drop)]
 pub(crate) enum TextBytes {
     Short(ArrayString<SHORT_BYTES>),
@@ -18,7 +18,7 @@ pub(crate) enum TextBytes {
 }
 
 impl TextBytes {
-    /// Puts three texts in a row in the place of a short one, where they stay, and tells whether it is short.
+    /// Stores the concatenation of three texts inline if it is short, and returns whether it is.
     #[inline(always)]
     pub(crate) fn fill(&mut self, front: &str, middle: &str, back: &str) -> bool
         requires { length front.now + (length middle.now + length back.now) ≤ SHORT_BYTES }
@@ -36,8 +36,8 @@ impl TextBytes {
         }
     }
 
-    /// Puts a text behind these bytes, where they stand: few bytes stay beside the count, more get a block that grows.
-    /// Errors: memory is refused, and the bytes are as they were.
+    /// Appends a text in place: few bytes stay beside the count, more get an allocation that grows.
+    /// Errors: an allocation fails, and the bytes are unchanged.
     #[tactic(auto, using(crate::proofs::Texts::chars_two))]
     pub(crate) fn push_str(&mut self, alloc: Global, more: &str) -> Result<(), AllocError>
         ensures ok { OnOk result (chars (text_bytes self.new) ≡ chars (text_bytes self.old) ++ chars more.now) }
@@ -60,7 +60,8 @@ impl TextBytes {
         }
     }
 
-    /// Tells whether each character is known to be one byte. Of few bytes that isn't known: they are walked over as quickly.
+    /// Returns whether each character is known to be one byte. For few bytes that isn't stored:
+    /// counting them is as quick.
     #[inline(always)]
     pub(crate) fn is_ascii(&self) -> bool
         ensures { IsTrue result → IsAscii (text_bytes self.now) }
@@ -82,7 +83,7 @@ impl TextBytes {
     }
 }
 
-/// The bytes for which a text that grows gets room: twice those that it has, or all that it needs.
+/// The new capacity of a growing text: twice its length, or what is needed if that is more.
 fn room_for(len: usize, more: usize) -> usize {
     len.saturating_mul(2).max(len.saturating_add(more))
 }

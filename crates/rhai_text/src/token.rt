@@ -1,6 +1,6 @@
 // The operators of scripts.
 
-/// An operator: the twenty between two operands, and then the eleven that assign.
+/// An operator: the twenty binary ones, and then the eleven assignments.
 /// rhai: `Token`, of which these are the operators of values.
 #[derive(Clone, Copy, Debug, PartialEq, Eq)]
 pub enum Token {

@@ -18,7 +18,7 @@ impl Model for TypeName {
 }
 
 impl TypeName {
-    /// Makes the name of a type of its text.
+    /// Makes the name of a type from its text.
     /// Cost: constant; no memory.
     pub fn new(name: &'static str) -> TypeName
         ensures { result ≡ name.now }
@@ -26,7 +26,7 @@ impl TypeName {
         TypeName { name }
     }
 
-    /// Lends the text.
+    /// Borrows the text.
     pub fn as_str(&self) -> &'static str
         ensures { result.now ≡ self.now }
     {

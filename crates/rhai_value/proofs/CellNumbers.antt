@@ -18,7 +18,7 @@ module _ (P : ℕ → Type 0) where
   abbrev OfAll : List ℕ → Type 0
   OfAll ns = (n : ℕ) → Contains ns n → P n
 
-  -- what each number in the list satisfies, each number in the value satisfies
+  -- a property of each number in the list holds of each number in the value
   pub each_in : (t : Tree) → ((n : ℕ) → Contains (cells_in t) n → P n) → EachCell P t
   each_in = by_value (λ t. OfAll (cells_in t) → EachCell P t) (λ ts. OfAll (cells_in_all ts) → EachInAll P ts) (λ fs. OfAll (cells_in_fields fs) → EachInFields P fs)
       (λ l g m h. tt) (λ k ts g m e h. e h) (λ fs g m e h. e h) (λ c g m h. h c (here c []))
@@ -28,7 +28,7 @@ module _ (P : ℕ → Type 0) where
   of_both : (ms ns : List ℕ) → OfAll ms → OfAll ns → OfAll (ms ++ ns)
   of_both ms ns p q n h = ⊎_elim (p n) (q n) (Contains-append_cases ms ns n h)
 
-  -- and the other way round
+  -- and conversely
   pub each_of : (t : Tree) → EachCell P t → (n : ℕ) → Contains (cells_in t) n → P n
   each_of = by_value (λ t. EachCell P t → OfAll (cells_in t)) (λ ts. EachInAll P ts → OfAll (cells_in_all ts)) (λ fs. EachInFields P fs → OfAll (cells_in_fields fs))
       (λ l g m e n h. absurd (nothing_in n h)) (λ k ts g m q e. q e) (λ fs g m q e. q e) (λ c g m e n h. ⊎_elim (λ is. subst P is e) (λ i. absurd (nothing_in n i)) (here_or_there c n [] h))

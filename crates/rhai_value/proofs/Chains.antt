@@ -1,4 +1,4 @@
--- A count of steps finds where a chain ends.
+-- Counting steps finds the end of a chain.
 use Rattle.std.proofs.Common.{◌≡◌, ℕ, ℤ, zero, suc, ◌≤◌, Bool, true, false, List, [], ◌∷◌, length, slice_get, Option, Some, None, option_map, refl, ap, ap₂, sym, ◌∙◌, arith, eqb, eqb-true, inl, inr}
 use Rattle.std.specs.Option.{option_eq}
 use Rattle.std.proofs.lemmas.Bool.Decides.{eqb_tells}
@@ -12,17 +12,17 @@ use Rattle.rhai_value.specs.Store.{at}
 use Rattle.rhai_value.specs.Walk.{is_open, visit, visit_of, visit_map, unentered, walk_in}
 use Rattle.rhai_value.specs.End.{held_in, End, held, stuck, closed, end_at, end_from, site_after, end_of, end, first, first_site}
 
--- the end within n steps, where no account is kept of the cells that were passed
+-- the end within n steps, without tracking visited cells
 abbrev pub chain : ℕ → List Cell → Site → Tree → End
 chain zero s site t = end_from site (λ c. unentered (visit s [] c)) t
 chain (suc n) s site t = end_from site (λ c. visit_map (chain n s (InCell c)) (visit s [] c)) t
 
--- Where the chain from t closes within each count of steps up to n, so does the chain from a passed cell.
+-- If the chain from t closes within each number of steps up to n, so does the chain from a visited cell.
 abbrev Behind : List Cell → List ℕ → Tree → Type 0
 Behind s path t = (c : ℕ) (u : Tree) (n : ℕ) → is_open c path ≡ true → at s c ≡ Some u
     → ((k : ℕ) → k ≤ n → chain k s (site_after (slice_get path 0)) t ≡ closed) → chain n s (InCell c) u ≡ closed
 
--- the cell that opens is passed too
+-- the cell that opens is visited too
 behind_next : (s : List Cell) (path : List ℕ) (c : ℕ) (u : Tree) (g : ℤ) (a : AccessMode)
     → at s c ≡ Some u → Behind s path (node (holder c) g a) → Behind s (c ∷ path) u
 behind_next s path c u g a some h d v n passed is shut =
@@ -38,7 +38,7 @@ behind_next s path c u g a some h d v n passed is shut =
     earlier zero l = rw some refl
     earlier (suc k) l = rw some (shut k (omega arith))
 
--- a chain that comes back to a passed cell never ends
+-- a chain that returns to a visited cell never ends
 loops : (s : List Cell) (path : List ℕ) (c : ℕ) (u : Tree) (g : ℤ) (a : AccessMode)
     → at s c ≡ Some u → is_open c path ≡ true → Behind s path (node (holder c) g a)
     → (n k : ℕ) → k ≤ n → chain k s (site_after (slice_get path 0)) (node (holder c) g a) ≡ closed
@@ -51,7 +51,7 @@ unentered_either None b = refl
 unentered_either (Some u) true = refl
 unentered_either (Some u) false = refl
 
--- at each count of steps, the chain ends as the walk does that keeps the passed cells
+-- within each number of steps, the chain ends as the walk that tracks visited cells does
 chain_walk : (n : ℕ) (s : List Cell) (path : List ℕ) (t : Tree) → Behind s path t → chain n s (site_after (slice_get path 0)) t ≡ walk_in end_of n s path t
 chain_walk zero s path (node (leaf l) g a) h = refl
 chain_walk (suc n) s path (node (leaf l) g a) h = refl
@@ -75,7 +75,7 @@ pub chain-end : (s : List Cell) (t : Tree) → chain (length s) s Here t ≡ end
 unfolding end
 chain-end s t = chain_walk (length s) s [] t (λ c u n passed. cc)
 
--- from one value another is reached by this many holders
+-- one value leads to another through this many holders
 abbrev pub Reaches : List Cell → ℕ → Tree → Tree → Type 0
 Reaches s zero t u = t ≡ u
 Reaches s (suc n) t u = (c : ℕ) × (v : Tree) × (cell_of t ≡ Some c) × (at s c ≡ Some v) × Reaches s n v u
@@ -84,7 +84,7 @@ reaches_next : (s : List Cell) (n : ℕ) (t u w : Tree) (c : ℕ) → Reaches s 
 reaches_next s zero t u w c h e is = (c, w, ap cell_of h ∙ e, is, refl)
 reaches_next s (suc n) t u w c h e is = (h.0, h.1, h.2, h.3, reaches_next s n h.1 u w c h.4 e is)
 
--- a chain that comes back to a cell never ends
+-- a chain that returns to a cell never ends
 comes_back : (s : List Cell) (c : ℕ) (v u : Tree) (j : ℕ) → at s c ≡ Some v → Reaches s j v u → cell_of u ≡ Some c
     → (n k : ℕ) (site : Site) (t : Tree) → Reaches s k t u → chain n s site t ≡ closed
 comes_back s c v u j is round e zero zero site (node (holder d) g a) r = rw (same_Some d c (ap cell_of r ∙ e), is) refl
@@ -98,7 +98,7 @@ comes_back s c v u j is round e n (suc k) site (node (leaf l) g a) r = absurd (n
 comes_back s c v u j is round e n (suc k) site (node (branch i ts) g a) r = absurd (none-some r.0 r.2)
 comes_back s c v u j is round e n (suc k) site (node (fields fs) g a) r = absurd (none-some r.0 r.2)
 
--- the chain has come to t, some steps behind the content of the cell that is kept, if one is
+-- the chain is at t, some steps after the content of the remembered cell, if there is one
 abbrev pub IsBehind : List Cell → Option ℕ → Tree → Type 0
 IsBehind s None t = Unit {0}
 IsBehind s (Some c) t = (v : Tree) × (j : ℕ) × (at s c ≡ Some v) × Reaches s j v t
@@ -110,7 +110,7 @@ behind_next_step s (Some d) t w c h e is = (h.0, suc h.1, h.2, reaches_next s h.
 pub behind_first : (s : List Cell) (w : Tree) (c : ℕ) → Some w ≡ at s c → IsBehind s (Some c) w
 behind_first s w c is = (w, 0, sym is, refl)
 
--- where a chain has come back to the cell that is kept, it never ends
+-- a chain that has returned to the remembered cell never ends
 pub behind_closed : (s : List Cell) (kept : Option ℕ) (t : Tree) (c n : ℕ) (site : Site) → IsBehind s kept t → true ≡ option_eq eqb kept (Some c) → Some c ≡ cell_of t → chain n s site t ≡ closed
 behind_closed s None t c n site h q e = cc
 behind_closed s (Some d) t c n site h q e = comes_back s d h.0 t h.1 h.2 h.3 (sym (ap Some (eqb-true d c (sym q)) ∙ e)) n 0 site t refl
@@ -132,11 +132,11 @@ chain_alone (suc n) s site (node (fields fs) g a) e = refl
 chain_alone zero s site (node (holder c) g a) e = cc
 chain_alone (suc n) s site (node (holder c) g a) e = cc
 
--- a value that is no holder is held
+-- a value that isn't a holder is held
 pub end_alone : (s : List Cell) (t : Tree) → None ≡ cell_of t → held Here t ≡ end s [] t
 end_alone s t e = chain_alone (length s) s Here t e ∙ chain-end s t
 
--- nothing is held by a holder whose cell is marked or no cell of the store
+-- a holder whose cell is marked or not in the store holds nothing
 chain_stuck : (n : ℕ) (s : List Cell) (site : Site) (t : Tree) (c : ℕ) → Some c ≡ cell_of t → None ≡ at s c → stuck t ≡ chain n s site t
 chain_stuck n s site (node (leaf l) g a) c e is = cc
 chain_stuck n s site (node (branch k ts) g a) c e is = cc
@@ -144,12 +144,12 @@ chain_stuck n s site (node (fields fs) g a) c e is = cc
 chain_stuck zero s site (node (holder d) g a) c e is = rw (same_Some d c (sym e), ← is) refl
 chain_stuck (suc n) s site (node (holder d) g a) c e is = rw (same_Some d c (sym e), ← is) refl
 
--- so is the content of a holder's cell, if it is no holder
+-- the content of a holder's cell is held, if it isn't a holder
 pub end_near : (s : List Cell) (t w : Tree) (c : ℕ) → Some c ≡ cell_of t → Some w ≡ at s c → None ≡ cell_of w → held (InCell c) w ≡ end s [] t
 end_near [] t w c e is alone = cc
 end_near (x ∷ xs) t w c e is alone = chain_alone (length xs) (x ∷ xs) (InCell c) w alone ∙ sym (chain_next (x ∷ xs) t w c (length (x ∷ xs)) (length xs) Here e is refl) ∙ chain-end (x ∷ xs) t
 
--- A first content that is no holder is held where it stands; where there is none, the chain is stuck at once.
+-- A first content that isn't a holder is held at its site; if there is none, the chain is stuck at once.
 first_at : (s : List Cell) (t w : Tree) (site : Site) (c : ℕ) (o : Option Tree) → Some c ≡ cell_of t → o ≡ at s c
     → Some site ≡ option_map (λ x. InCell c) o → Some w ≡ o → None ≡ cell_of w → held site w ≡ end s [] t
 first_at s t w site c None e is p q alone = cc

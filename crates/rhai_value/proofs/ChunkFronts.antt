@@ -1,4 +1,4 @@
--- What a comparison with the first key of a chunk tells of all chunks before it, and of all from it on.
+-- What comparing with the first key of a chunk says about all chunks before it, and all from it on.
 use Rattle.std.proofs.Common.{◌≡◌, ℕ, zero, suc, ◌<◌, List, [], ◌∷◌, ◌++◌, length, take, drop, get_or, Ordering, Less, Equal, Greater, sym, subst, arith}
 use Rattle.std.proofs.lemmas.List.{append_assoc, append-nil}
 use Rattle.std.specs.Cmp.{IsTotalOrder}
@@ -27,7 +27,7 @@ module _ {K X : Type 0} {R : K → K → Ordering} (o : IsTotalOrder R) where
   across x [] ys e h = h.0
   across x (z ∷ zs) ys e h = across x zs ys e h.1
 
-  -- the key stands past the first one of a chunk, or is it: it stands past all before the chunk
+  -- the key is greater than the first one of a chunk, or equal: it is greater than all before the chunk
   pub below_front : (k : K) (xs ys : List (K × X)) (e : K × X) → IsStrictlySortedBy R (keys_of (xs ++ e ∷ ys)) → R k e.0 ≡ Greater → AreBelow R k xs
   below_front k [] ys e s g = tt
   below_front k (x ∷ xs) ys e s g = (past o k x.0 e.0 (across x.0 xs ys e (sorted_head R x.0 (keys_of (xs ++ e ∷ ys)) s)) g, below_front k xs ys e (sorted_tail R x.0 (keys_of (xs ++ e ∷ ys)) s) g)
@@ -36,7 +36,7 @@ module _ {K X : Type 0} {R : K → K → Ordering} (o : IsTotalOrder R) where
   below_front_hit k [] ys e s g = tt
   below_front_hit k (x ∷ xs) ys e s g = (past_equal o k x.0 e.0 (across x.0 xs ys e (sorted_head R x.0 (keys_of (xs ++ e ∷ ys)) s)) g, below_front_hit k xs ys e (sorted_tail R x.0 (keys_of (xs ++ e ∷ ys)) s) g)
 
-  -- it stands before the first one of a chunk: it stands before all from the chunk on
+  -- it is less than the first one of a chunk: it is less than all from the chunk on
   pub above_front : (k : K) (ys : List (K × X)) (e : K × X) → IsStrictlySortedBy R (keys_of (e ∷ ys)) → R k e.0 ≡ Less → AreAbove R k (e ∷ ys)
   above_front k ys e s g = (g, all_above o k e.0 ys g (sorted_head R e.0 (keys_of ys) s))
 
@@ -52,7 +52,8 @@ module _ {K X : Type 0} {R : K → K → Ordering} (o : IsTotalOrder R) where
   first_hit k xs [] ys d lt s g = absurd (omega arith)
   first_hit k xs (e ∷ es) ys d lt s g = below_front_hit k xs (es ++ ys) e s g
 
-  -- by the first key of the chunk at a place: of the chunks from there on, and of those before it with what stands before these
+  -- by the first key of the chunk at an index: about the chunks from it on, and about those before
+  -- it together with earlier keys
   pub above_chunk : (k : K) (cs : List (List (K × X))) (m : ℕ) (c : List (K × X)) (d : K × X) → m < length cs → get_or cs m c ≡ c → 0 < length c → IsStrictlySortedBy R (keys_of (joined cs)) → R k (get_or c 0 d).0 ≡ Less → AreAbove R k (joined (drop m cs))
   above_chunk k [] m c d lt is some s g = absurd (omega arith)
   above_chunk k (b ∷ cs) zero c d lt is some s g = first_above k b (joined cs) d (rw is some) s (rw is g)

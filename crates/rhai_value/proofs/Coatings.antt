@@ -1,4 +1,4 @@
--- The parts of a map that is being painted.
+-- The parts of a map being painted.
 use Rattle.std.proofs.Common.{◌≡◌, ℕ, zero, suc, ◌+◌, ◌<◌, Option, Some, List, [], ◌∷◌, ◌++◌, Global, length, take, drop, get_or, subst, refl, ap, ap₂, sym, ◌∙◌, arith}
 use Rattle.std.proofs.lemmas.List.{append_assoc}
 use Rattle.std.specs.declared.boxed.Box.{Box}
@@ -32,7 +32,7 @@ taken_suc [] i d lt = absurd (omega arith)
 taken_suc (x ∷ xs) zero d lt = refl
 taken_suc (x ∷ xs) (suc i) d lt = ap (λ l. x ∷ l) (taken_suc xs i d (omega arith))
 
--- two places of a list, one past the other
+-- two places of a list, one directly after the other
 pub record IsPast (s t : Seat) : Type 0 where
   pub list : t.list ≡ s.list
   pub at : t.at ≡ suc s.at
@@ -53,14 +53,14 @@ module _ (p : MapParts) (s t : Seat) (n : IsPast s t) (h : IsSeated p s) where
 abbrev seat : ℕ → ℕ → Seat
 seat n i = record { list = n; at = i }
 
--- the place that was taken last
+-- the place taken last
 pub taken_is : (s t : Seat) → IsPast s t → taken_seat t ≡ s
 taken_is s t n = ap₂ seat n.list (omega (arith, n.at))
 
 pub taken_past : (t : Seat) → 0 < t.at → IsPast (taken_seat t) t
 taken_past t some = record { list = refl; at = omega (arith, some) }
 
--- the value at a place is painted, and what stands before and past it stays
+-- the value at a place is painted, and those before and after it are unchanged
 module _ (m : AccessMode) (p q : MapParts) (s t : Seat) (n : IsPast s t) (h : IsSeated p s) (g : IsSeated q s) (before : rows_before q s ≡ rows_before p s) (past : rows_past q s ≡ rows_past p s) where
   pub coat_step : row_at q s ≡ painted_row m (row_at p s) → painted_past m q t ≡ painted_past m p s
   coat_step row =
@@ -68,7 +68,7 @@ module _ (m : AccessMode) (p q : MapParts) (s t : Seat) (n : IsPast s t) (h : Is
       ∙ append_assoc (rows_before p s) (painted_row m (row_at p s) ∷ []) (painted_rows m (rows_past p s))
       ∙ ap (λ ys. rows_before p s ++ painted_rows m ys) (sym (rows_next p s h))
 
-  -- the same of a value that was taken and is under way
+  -- the same for a value that was taken and is in progress
   pub coat_taken : (x : Tree) → (row_at q s).0 ≡ (row_at p s).0 → x ≡ paint m (row_at p s).1 → painted_with m q t x ≡ painted_past m p s
   coat_taken x key is =
       ap (λ u. rows_before q u ++ ((row_at q u).0, x) ∷ painted_rows m (rows_from q t)) (taken_is s t n)
@@ -76,7 +76,7 @@ module _ (m : AccessMode) (p q : MapParts) (s t : Seat) (n : IsPast s t) (h : Is
       ∙ ap₂ (λ k y. rows_before p s ++ (k, y) ∷ painted_rows m (rows_past p s)) key is
       ∙ ap (λ ys. rows_before p s ++ painted_rows m ys) (sym (rows_next p s h))
 
-  -- fewer are left
+  -- fewer remain
   pub nodes_past : nodes_fields (fields_of (rows_from q t)) + nodes (row_at p s).1 ≡ nodes_fields (fields_of (rows_from p s))
   nodes_past = omega (arith, ap (λ rs. nodes_fields (fields_of rs)) (past_from q s t n g ∙ past), ap (λ rs. nodes_fields (fields_of rs)) (rows_next p s h))
 
@@ -86,7 +86,7 @@ module _ (m : AccessMode) (p q : MapParts) (s t : Seat) (n : IsPast s t) (h : Is
   pub still_taken : IsTaken q t
   still_taken = (omega (arith, n.at), subst (IsSeated q) (sym (taken_is s t n)) g)
 
--- what came of the value that was taken last is put back
+-- the result for the value taken last is put back
 module _ (m : AccessMode) (p q : MapParts) (t : Seat) (taken : IsTaken p t) (g : IsSeated q (taken_seat t)) (x : Tree) (before : rows_before q (taken_seat t) ≡ rows_before p (taken_seat t))
     (row : row_at q (taken_seat t) ≡ ((row_at p (taken_seat t)).0, x)) (past : rows_past q (taken_seat t) ≡ rows_past p (taken_seat t)) where
   pub coat_added : painted_past m q t ≡ painted_with m p t x

@@ -1,4 +1,4 @@
--- What stands where a chain ends.
+-- The value at the end of a chain.
 use Rattle.std.proofs.Common.{◌≡◌, ℕ, ℤ, zero, suc, Bool, true, false, List, [], ◌∷◌, length, slice_get, Option, Some, None, refl, sym, ap, ap₂, ◌∙◌, subst}
 use Rattle.rhai_value.specs.declared.value.access_mode.AccessMode.{AccessMode}
 use Rattle.rhai_value.specs.declared.cells.chain.Site.{Site}
@@ -10,7 +10,7 @@ use Rattle.rhai_value.specs.Walk.{Visit, entered, barred, revisited, is_open, vi
 use Rattle.rhai_value.specs.End.{End, held, stuck, closed, end_at, site_after, end_of, end}
 use Rattle.rhai_value.proofs.Walks.{opens, walk_opens}
 
--- the value v stands in this cell, or is the root t itself
+-- the value v is in this cell, or is the root t itself
 abbrev pub Stands : List Cell → Tree → Site → Tree → Type 0
 Stands s t Here v = t ≡ v
 Stands s t (InCell c) v = at s c ≡ Some v
@@ -42,12 +42,12 @@ stands_in zero s root path (node (holder c) g m) h = at_none s root (node (holde
 stands_in (suc n) s root path (node (holder c) g m) h =
     at_visit s root c (node (holder c) g m) (visit s path c) (walk_in end_of n s (c ∷ path)) (λ x e. stands_in n s root (c ∷ path) x (opens s path c x e).0)
 
--- what is held stands where the end says
+-- the held value is at the site given by the end
 pub stands : (s : List Cell) (t : Tree) (site : Site) (v : Tree) → held site v ≡ end s [] t → Stands s t site v
 unfolding end
 stands s t site v e = subst (StandsIn s t) (sym e) (stands_in (length s) s t [] t refl)
 
--- the end of a chain by its parts
+-- the end of a chain, by its parts
 pub end_opens : (s : List Cell) (path : List ℕ) (t : Tree) → end s path t ≡ end_of path (λ c. visit_map (end s (c ∷ path)) (visit s path c)) t
 unfolding end
 end_opens s path t = walk_opens end_of s path t

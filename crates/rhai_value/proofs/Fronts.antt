@@ -1,4 +1,4 @@
--- Fronts stand as their texts do, where they differ.
+-- Fronts compare as their texts do, if they differ.
 use Rattle.std.proofs.Common.{◌≡◌, ℕ, zero, suc, ◌+◌, ◌*◌, ◌<◌, ◌≤◌, List, [], ◌∷◌, length, get_or, drop, Fits, w8, refl, ap, sym, subst, ◌∙◌, arith, Ordering, Less, Equal, Greater}
 use Rattle.std.specs.Cmp.{ranks, nat_cmp_is}
 use Rattle.std.specs.Cmp.Lexicographic.{slice_cmp, nat_list_cmp_total}
@@ -12,7 +12,7 @@ later : (bs : List ℕ) → Bytes bs → Bytes (drop 1 bs)
 later [] h = h
 later (b ∷ bs) h = λ k. h (suc k)
 
--- the number that n bytes spell after a, with zeros past the end
+-- the number spelled by n bytes after a, padded with zeros
 abbrev spelt : ℕ → ℕ → List ℕ → ℕ
 spelt zero a bs = a
 spelt (suc n) a bs = spelt n (a * 256 + get_or bs 0 0) (drop 1 bs)
@@ -23,7 +23,7 @@ rises (suc n) a b us vs h l =
     let small : get_or us 0 0 < 256 = (h 0).fits in
     rises n (a * 256 + get_or us 0 0) (b * 256 + get_or vs 0 0) (drop 1 us) (drop 1 vs) (later us h) (omega (arith, small, l))
 
--- zeros spell the least
+-- zeros spell the least number
 least : (n a b : ℕ) (bs : List ℕ) → a ≤ b → spelt n a [] ≤ spelt n b bs
 least zero a b bs l = l
 least (suc n) a b bs l = least n (a * 256 + 0) (b * 256 + get_or bs 0 0) (drop 1 bs) (omega (arith, l))
@@ -55,16 +55,16 @@ fronts (a ∷ b ∷ c ∷ d ∷ e ∷ f ∷ []) = omega arith
 fronts (a ∷ b ∷ c ∷ d ∷ e ∷ f ∷ g ∷ []) = omega arith
 fronts (a ∷ b ∷ c ∷ d ∷ e ∷ f ∷ g ∷ h ∷ rest) = omega arith
 
--- a text of a lower front is below
+-- a text with a lesser front is less
 pub front_below : (us vs : List ℕ) → Bytes us → Bytes vs → from_be_bytes w64 us < from_be_bytes w64 vs → slice_cmp nat_cmp us vs ≡ Less
 front_below us vs g h l = below 8 0 us vs g h (omega (arith, l, fronts us, fronts vs))
 
 pub front_above : (us vs : List ℕ) → Bytes us → Bytes vs → from_be_bytes w64 vs < from_be_bytes w64 us → slice_cmp nat_cmp us vs ≡ Greater
 front_above us vs g h l = nat_list_cmp_total.antisymm us vs ∙ ap ordering_reverse (front_below vs us h g l)
 
--- ---- short texts of one front
+-- ---- short texts with the same front
 
--- r is how a and b stand
+-- r is the order of a and b
 abbrev Ranks : Ordering → ℕ → ℕ → Type 0
 Ranks r a b = MatchOrdering r (a < b) (a ≡ b) (b < a)
 
@@ -93,6 +93,6 @@ alike (suc n) a (u ∷ us) (v ∷ vs) p q g h e = by (alike n (a * 256 + u) us v
         let over : v < u = l in
         absurd (omega (arith, e, rises n (a * 256 + v) (a * 256 + u) vs us (λ k. h (suc k)) (omega (arith, over))))
 
--- texts of at most eight bytes and of one front stand as their lengths do
+-- texts of at most eight bytes with the same front compare as their lengths do
 pub short_alike : (us vs : List ℕ) → length us ≤ 8 → length vs ≤ 8 → Bytes us → Bytes vs → from_be_bytes w64 us ≡ from_be_bytes w64 vs → slice_cmp nat_cmp us vs ≡ nat_cmp (length us) (length vs)
 short_alike us vs p q g h e = nat_cmp_is (length us) (length vs) (slice_cmp nat_cmp us vs) (alike 8 0 us vs p q g h (sym (fronts us) ∙ e ∙ fronts vs))

@@ -1,4 +1,4 @@
--- A renaming that grows with the stores.
+-- Renamings that grow with the stores.
 use Rattle.std.proofs.Common.{◌≡◌, ℕ, zero, suc, ◌+◌, ◌<◌, Bool, true, false, nat_eq, ◌||◌, ◌&&◌, List, [], ◌∷◌, ◌++◌, length, slice_get, refl, sym, ap, ap₂, ◌∙◌, arith, ◌⊎◌, inl, inr}
 use Rattle.std.proofs.lemmas.Bool.{or_cases}
 use Rattle.std.proofs.lemmas.Option.{slice_get_within}
@@ -53,7 +53,7 @@ old_new r s z cells c d e f h k = let l = pair_within r s z c d cells h in apart
 new_old : (r : Renaming) (s z : List Cell) → RelatedCells r s z → (c d e f : ℕ) → (length s ≡ c) × (length z ≡ d) → paired r e f ≡ true → nat_eq c e ≡ nat_eq d f
 new_old r s z cells c d e f k h = let l = pair_within r s z e f cells h in apart c e (λ q. omega arith) ∙ sym (apart d f (λ q. omega arith))
 
--- what one more pair joins
+-- the pairs after adding one
 last_cases : (r : Renaming) (n m c d : ℕ) → paired (r ++ one_pair n m) c d ≡ true → (paired r c d ≡ true) ⊎ ((n ≡ c) × (m ≡ d))
 last_cases r n m c d e =
     elim (or_cases (paired r c d) (paired (one_pair n m) c d) (sym (paired_append r (one_pair n m) c d) ∙ e)) [ inl h ↦ inl h | inr h ↦ inr (both n m c d h) ]
@@ -61,7 +61,7 @@ last_cases r n m c d e =
 pub new_last : (r : Renaming) (n m : ℕ) → paired (r ++ one_pair n m) n m ≡ true
 new_last r n m = paired_append r (one_pair n m) n m ∙ or_true (paired r n m) _ (itself n m)
 
--- the pair of two new cells joins a renaming
+-- the pair of two new cells extends a renaming
 pub one_more : (r : Renaming) (s z : List Cell) → IsOneToOne r → RelatedCells r s z → IsOneToOne (r ++ one_pair (length s) (length z))
 one_more r s z one cells c d e f p q =
     elim (last_cases r (length s) (length z) c d p) [
@@ -87,7 +87,7 @@ same_added r s z x y cells h c d p =
           (a, b, ap (slice_get (added s x)) (sym k.0) ∙ get_last s a, ap (slice_get (added z y)) (sym k.1) ∙ get_last z b, (refl, related_more r (one_pair (length s) (length z)) x y h))
     ]
 
--- two stretches of new pairs are one
+-- two ranges of new pairs are one
 pub pairs_join : (a b j k : ℕ) → new_pairs a b (j + k) ≡ new_pairs a b j ++ new_pairs (a + j) (b + j) k
 pairs_join a b zero k =
     let e : 0 + k ≡ k = omega arith in
@@ -100,7 +100,7 @@ pairs_join a b (suc j) k =
     let g : b + suc j ≡ b + 1 + j = omega arith in
     rw (e, f, g) (ap (λ ps. (a, b) ∷ ps) (pairs_join (a + 1) (b + 1) j k))
 
--- what moving related values into cells leaves
+-- the result of sharing related values
 append_none : (r : Renaming) → r ++ [] ≡ r
 append_none [] = refl
 append_none (p ∷ r) = ap (λ q. p ∷ q) (append_none r)

@@ -1,4 +1,4 @@
--- Values whose children are scanned one after another, outside of them.
+-- Values whose children are taken out and scanned one after another.
 use Rattle.std.proofs.Common.{◌≡◌, ℕ, zero, suc, ◌+◌, ◌-◌, ◌<◌, List, [], ◌∷◌, ◌++◌, length, length-set, set, get_or, take, drop, append_assoc, add-one, refl, sym, ap, ap₂, ◌∙◌, arith}
 use Rattle.std.proofs.Math.ListN.{drop_of_length-le}
 use Rattle.std.proofs.Math.Seq.{drop-cons}
@@ -13,7 +13,7 @@ use Rattle.rhai_value.specs.declared.walk.hollow.Hollow.{Hollow}
 use Rattle.rhai_value.proofs.Childrens.{nodes_children}
 use Rattle.rhai_value.proofs.Scans.{behind}
 
--- ---- what stands in a value, as a list
+-- ---- the children of a value, as a list
 
 module _ {S : Type 0} (f : Visiting S) where
   each_listed : (v : S) (ts : Trees) → each_scanned f v ts ≡ ((list_scanned f v (listed ts)).0, trees_of (list_scanned f v (listed ts)).1)
@@ -63,7 +63,7 @@ module _ {S : Type 0} (f : Visiting S) where
       let none : drop n ts ≡ [] = drop_of_length-le ts (omega (arith, end)) in
       ap (λ us. whole_with t (take n ts) (list_scanned f v us)) none ∙ ap (λ us. (v, with_children t us)) (append-nil (take n ts) ∙ take_all n ts (omega (arith, end)))
 
-  -- what came of a child is put back
+  -- the result for a child is put back
   pub put_scanned : (v : S) (h k : Hollow) (x : Tree) → k.children.items ≡ set h.children.items (h.next - 1) x → k.next ≡ h.next → k.shell ≡ h.shell → hollow_scanned f v k ≡ hollow_after f v h x
   put_scanned v h k x items next shell = ap (λ t. scanned_from f v t k.children.items k.next) shell ∙ ap₂ (scanned_from f v h.shell) items next
 
@@ -74,11 +74,11 @@ put_left h k x items next waiting =
 pub put_ready : (h k : Hollow) (x : Tree) → k.children.items ≡ set h.children.items (h.next - 1) x → k.next ≡ h.next → IsWaiting h → IsReady k
 put_ready h k x items next waiting = omega (arith, next, waiting.1, ap length items, length-set h.children.items (h.next - 1) x)
 
--- what is left of a value that is opened
+-- the remaining nodes of an opened value
 pub taken_left : (t : Tree) (ts : List Tree) → ts ≡ children_of t → nodes_trees (trees_of ts) < nodes t
 taken_left t ts is = rw is (nodes_children t)
 
--- what is left where a child is taken
+-- the remaining nodes after taking a child
 pub left_next : (ts : List Tree) (n : ℕ) (u d : Tree) → n < length ts → nodes_trees (trees_of (drop n ts)) ≡ nodes (get_or ts n d) + nodes_trees (trees_of (drop (n + 1) (set ts n u)))
 left_next ts n u d lt =
     ap (λ us. nodes_trees (trees_of us)) (drop-cons ts n d lt ∙ ap (λ k. get_or ts n d ∷ drop k ts) (sym (add-one n))) ∙ ap (λ us. nodes (get_or ts n d) + nodes_trees (trees_of us)) (sym (behind ts n u lt))
@@ -99,13 +99,13 @@ children_kept (node (branch k ts) g m) = ap (λ us. node (branch k us) g m) (tre
 children_kept (node (fields fs) g m) = ap (λ us. node (fields us) g m) (fields_kept fs)
 children_kept (node (holder c) g m) = refl
 
--- ---- the values of a map, exchanged
+-- ---- the values of a map, swapped
 
 pub listed_length : (rs : Rows) → length (listed_fields (fields_of rs)) ≡ length rs
 listed_length [] = refl
 listed_length (r ∷ rs) = ap suc (listed_length rs)
 
--- the last of two exchanges decides
+-- the last of two swaps counts
 pub fields_twice : (fs : Fields) (us ws : List Tree) → length ws ≡ length (listed_fields fs) → with_fields (with_fields fs us) ws ≡ with_fields fs ws
 fields_twice no_fields us ws long = refl
 fields_twice (field_then k t fs) us [] long = cc
@@ -124,7 +124,7 @@ exchange_taken taken [] (field_then k t fs) long = cc
 exchange_taken taken (u ∷ us) (field_then k t fs) long =
     exchange_taken (taken ++ t ∷ []) us fs (omega (arith, long)) ∙ ap (λ ts. (ts, [])) (append_assoc taken (t ∷ []) (listed_fields fs))
 
--- a list whose parts are these
+-- a list with these parts
 pub parts_settled : (ts us : List Tree) (n : ℕ) → take n ts ≡ us → drop n ts ≡ [] → ts ≡ us
 parts_settled [] us zero is none = is
 parts_settled (t ∷ ts) us zero is none = cc

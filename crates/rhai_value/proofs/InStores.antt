@@ -1,4 +1,4 @@
--- Writes to what a value holds in its store.
+-- Writes to held values in a store.
 use Rattle.std.proofs.Common.{◌≡◌, ◌<◌, ℕ, ℤ, Bool, true, false, if◌then◌else◌, option_map, List, [], length, Option, Some, None, IfSome, is_some, cond, slice_get, option_and_then, refl, sym, ap, ◌∙◌}
 use Rattle.rhai_value.specs.declared.value.access_mode.AccessMode.{AccessMode}
 use Rattle.rhai_value.specs.declared.parts.in_store.InStore.{InStore}
@@ -36,7 +36,7 @@ cell_at closed h c w p = cc
 pub cell_written : (h : InStore) (c : ℕ) → Some (InCell c) ≡ site_of (end h.store.now [] h.value.now) → (w : Tree) → record { value = h.value; store = record (h.store) { now = put h.store.now c w } } ≡ written h (λ _. w)
 cell_written h c p w = cell_at (end h.store.now [] h.value.now) h c w p
 
--- what is held, where the place is the value itself, and where it is a cell
+-- the held value, if the site is the value itself, and if it is a cell
 own_value_at : (e : End) (s : List Cell) (t : Tree) → e ≡ end s [] t → Some Here ≡ site_of e → Some t ≡ held_in e
 own_value_at (held Here v) s t e p = ap Some (stands s t Here v e)
 own_value_at (held (InCell c) v) s t e p = cc
@@ -46,7 +46,7 @@ own_value_at closed s t e p = cc
 pub own_value : (s : List Cell) (t : Tree) → Some Here ≡ site_of (end s [] t) → Some t ≡ held_in (end s [] t)
 own_value s t p = own_value_at (end s [] t) s t refl p
 
--- the cell of a place is one of the store's, and is read
+-- the cell of a site is in the store, and can be read
 cell_read_at : (e : End) (s : List Cell) (t : Tree) (c : ℕ) → e ≡ end s [] t → Some (InCell c) ≡ site_of e → (v : Tree) × (at s c ≡ Some v) × (Some v ≡ held_in e)
 cell_read_at (held Here v) s t c e p = cc
 cell_read_at (held (InCell d) v) s t c e p = let same : c ≡ d = cc in (v, ap (at s) same ∙ stands s t (InCell d) v e, refl)
@@ -59,14 +59,14 @@ cell_within s t c p = let r = cell_read_at (end s [] t) s t c refl p in at_withi
 pub cell_value : (s : List Cell) (t : Tree) (c : ℕ) (u : Tree) → Some (InCell c) ≡ site_of (end s [] t) → IfSome (slice_get s c) (λ x. u ≡ x.content) → Some u ≡ held_in (end s [] t)
 cell_value s t c u p e = let r = cell_read_at (end s [] t) s t c refl p in ap Some (content_is s c r.0 u r.1 e) ∙ r.2
 
--- a value that is no holder stands in no cell
+-- a value that isn't a holder is in no cell
 pub unshared_site : (s : List Cell) (t : Tree) (c : ℕ) → cell_of t ≡ None → Some (InCell c) ≡ site_of (end s [] t) → ⊥
 unshared_site s (node (leaf l) g m) c e p = let q : Some (InCell c) ≡ Some Here = p ∙ ap site_of (end_opens s [] (node (leaf l) g m)) in cc
 unshared_site s (node (branch k ts) g m) c e p = let q : Some (InCell c) ≡ Some Here = p ∙ ap site_of (end_opens s [] (node (branch k ts) g m)) in cc
 unshared_site s (node (fields fs) g m) c e p = let q : Some (InCell c) ≡ Some Here = p ∙ ap site_of (end_opens s [] (node (fields fs) g m)) in cc
 unshared_site s (node (holder d) g m) c e p = cc
 
--- nothing changes where the held value is written over itself
+-- writing the held value over itself changes nothing
 kept_at : (e : End) (h : InStore) (v : Tree) → e ≡ end h.store.now [] h.value.now → Some v ≡ held_in e → written_at e h (λ _. v) ≡ h
 kept_at (held Here u) h v is p =
     let same : v ≡ u = cc in
@@ -80,7 +80,7 @@ kept_at closed h v is p = cc
 pub kept_written : (h : InStore) (v : Tree) → Some v ≡ held_in (end h.store.now [] h.value.now) → written h (λ _. v) ≡ h
 kept_written h v p = kept_at (end h.store.now [] h.value.now) h v refl p
 
--- where a part isn't held, a write over it changes nothing
+-- if a part isn't held, writing over it changes nothing
 with_none : {A : Type 0} (part : Tree → Option A) (c : Content) (t : Tree) → part t ≡ None → with_part part c t ≡ t
 with_none part c t none = ap (λ o. cond (is_some o) (with_content c t) t) none
 
@@ -95,14 +95,14 @@ pub unheld : {A : Type 0} (part : Tree → Option A) (c : Content) (s : List Cel
     → (t ≡ value_after (with_part part c) (end s [] t) t) × (s ≡ store_after (with_part part c) (end s [] t) s)
 unheld part c s t none = unheld_at part c s t (end s [] t) refl none
 
--- a value that has a part which no holder has holds it itself
+-- a value with a part that no holder has holds it itself
 own_held : {A : Type 0} (part : Tree → Option A) (s : List Cell) (t : Tree) (a : A) → ((c : ℕ) (g : ℤ) (m : AccessMode) → part (node (holder c) g m) ≡ None) → part t ≡ Some a → held_part part (end s [] t) ≡ Some a
 own_held part s (node (leaf l) g m) a none h = ap (held_part part) (end_opens s [] (node (leaf l) g m)) ∙ h
 own_held part s (node (branch k ts) g m) a none h = ap (held_part part) (end_opens s [] (node (branch k ts) g m)) ∙ h
 own_held part s (node (fields fs) g m) a none h = ap (held_part part) (end_opens s [] (node (fields fs) g m)) ∙ h
 own_held part s (node (holder c) g m) a none h = let e : None ≡ Some a = sym (none c g m) ∙ h in cc
 
--- a holder has no part that is the content of values of one type
+-- a holder has no part that is the content of the values of one type
 pub none_of_holder : {A : Type 0} (content : A → Content) (part : Tree → Option A) (k : TypeId) → is_content_type k ≡ true → ((t : Tree) → option_map content (part t) ≡ typed_content k t)
     → (c : ℕ) (g : ℤ) (m : AccessMode) → part (node (holder c) g m) ≡ None
 none_of_holder {A = A} content part k constructs reads c g m = here (is_type k id.Shared) refl (part (node (holder c) g m)) (reads (node (holder c) g m))
@@ -116,7 +116,7 @@ pub own_part : {A : Type 0} (content : A → Content) (part : Tree → Option A)
     → (s : List Cell) (t : Tree) (a : A) → part t ≡ Some a → held_part part (end s [] t) ≡ Some a
 own_part content part k constructs reads s t a h = own_held part s t a (none_of_holder content part k constructs reads) h
 
--- what is held has what a first content has that is no holder, and nothing where there is no first content
+-- the held value has the part of a first content that isn't a holder, and none if there is no first content
 pub part_first_held : {A : Type 0} (part : Tree → Option A) (s : List Cell) (t w : Tree) → Some w ≡ first s t → None ≡ cell_of w → part w ≡ held_part part (end s [] t)
 part_first_held part s t w is alone = ap (option_and_then part) (held_first s t w is alone)
 
@@ -126,7 +126,7 @@ part_own_held part s t p = ap (option_and_then part) (held_at_first s t p)
 pub part_unheld : {A : Type 0} (part : Tree → Option A) (s : List Cell) (t : Tree) → None ≡ first s t → None ≡ held_part part (end s [] t)
 part_unheld part s t is = ap (option_and_then part) (held_barred s t is)
 
--- what a write over such a part leaves
+-- the state after writing such a part
 put_at_own : {A : Type 0} (part : Tree → Option A) (d : Content) (s : List Cell) (t : Tree) (a : A) → cell_of t ≡ None → part t ≡ Some a
     → (with_content d t ≡ value_after (with_part part d) (end s [] t) t) × (s ≡ store_after (with_part part d) (end s [] t) s)
 put_at_own part d s t a alone h = rw (end_own s [] t alone, h) (refl, refl)
@@ -143,14 +143,14 @@ pub put_own_part : {A : Type 0} (content : A → Content) (part : Tree → Optio
     → (with_content d t ≡ value_after (with_part part d) (end s [] t) t) × (s ≡ store_after (with_part part d) (end s [] t) s)
 put_own_part content part k constructs reads d s t a h = put_own part d s t a (none_of_holder content part k constructs reads) h
 
--- a value with a part that no holder has is no holder
+-- a value with a part that no holder has isn't a holder
 pub part_alone : {A : Type 0} (part : Tree → Option A) (t : Tree) (a : A) → ((c : ℕ) (g : ℤ) (m : AccessMode) → part (node (holder c) g m) ≡ None) → part t ≡ Some a → None ≡ cell_of t
 part_alone part (node (leaf l) g m) a none h = refl
 part_alone part (node (branch k ts) g m) a none h = refl
 part_alone part (node (fields fs) g m) a none h = refl
 part_alone part (node (holder c) g m) a none h = let e : None ≡ Some a = sym (none c g m) ∙ h in cc
 
--- the cell in which a first content stands has it
+-- the cell of a first content contains it
 pub first_in_cell : (s : List Cell) (t u : Tree) (c : ℕ) → Some (InCell c) ≡ first_site s t → IfSome (slice_get s c) (λ x. u ≡ x.content) → (Some u ≡ at s c) × (Some u ≡ first s t)
 first_in_cell s (node (leaf l) g m) u c p e = cc
 first_in_cell s (node (branch k ts) g m) u c p e = cc
@@ -165,7 +165,7 @@ first_in_cell s (node (holder d) g m) u c p e = read (at s d) refl p
         let value : u ≡ v = content_is s c v u found e in
         (ap Some value ∙ sym found, ap Some value ∙ sym is)
 
--- the same of a holder whose cell itself has such a part, and of any first content that has one
+-- the same for a holder whose own cell has such a part, and for any first content with one
 pub put_near_part : {A : Type 0} (content : A → Content) (part : Tree → Option A) (k : TypeId) → is_content_type k ≡ true → ((t : Tree) → option_map content (part t) ≡ typed_content k t)
     → (d : Content) (s : List Cell) (t w : Tree) (c : ℕ) (a : A) → Some (InCell c) ≡ first_site s t → Some w ≡ first s t → part w ≡ Some a
     → (held_part part (end s [] t) ≡ Some a) × (t ≡ value_after (with_part part d) (end s [] t) t) × (put s c (with_content d w) ≡ store_after (with_part part d) (end s [] t) s)

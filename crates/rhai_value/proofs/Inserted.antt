@@ -1,4 +1,4 @@
--- What is found after an insertion.
+-- Look-ups after an insertion.
 use Rattle.std.proofs.Common.{◌≡◌, Bool, true, false, cond, List, [], ◌∷◌, Option, Some, Ordering, Less, Equal, Greater, refl, sym, ap, ◌∙◌}
 use Rattle.std.proofs.lemmas.Cmp.{alike_right}
 use Rattle.std.specs.BTreeMap.{insert_entry, is_at}
@@ -7,7 +7,7 @@ use Rattle.std.specs.Map.{lookup}
 use Rattle.std.specs.Ordering.{is_eq, match_ordering}
 
 module _ {K X : Type 0} {R : K → K → Ordering} (o : IsTotalOrder R) (q k : K) (v : X) where
-  -- a second value at the same key isn't seen, and look-ups at two keys don't touch
+  -- a second value at the same key has no effect, and look-ups at two keys are independent
   twice : (b : Bool) (w : X) (rest : Option X) → cond b (Some v) rest ≡ cond b (Some v) (cond b (Some w) rest)
   twice true w rest = refl
   twice false w rest = refl
@@ -19,7 +19,7 @@ module _ {K X : Type 0} {R : K → K → Ordering} (o : IsTotalOrder R) (q k : K
   apart j Less b w rest p e g = refl
   apart j Greater b w rest p e g = refl
 
-  -- the value at its key, and at each other key what was there
+  -- the value at its key, and the old value at each other key
   pub found_inserted : (es : List (K × X)) → lookup (is_at (R q)) (insert_entry R es k v) ≡ cond (is_eq (R q k)) (Some v) (lookup (is_at (R q)) es)
   found_inserted [] = refl
   found_inserted (e ∷ es) = by (R k e.0) refl (found_inserted es)

@@ -1,4 +1,4 @@
--- The items of arrays and the rows of maps that are held, before and after a write.
+-- The items of held arrays and the rows of held maps, before and after a write.
 use Rattle.std.proofs.Common.{◌≡◌, ℕ, Bool, true, false, cond, List, [], ◌∷◌, Option, Some, None, IsSome, option_map, refl, sym, ap, ◌∙◌, subst}
 use Rattle.std.specs.BTreeMap.{insert_entry, is_at}
 use Rattle.std.specs.List.{All}
@@ -24,7 +24,7 @@ use Rattle.rhai_value.specs.Items.{items_in, items_of, with_items, field_at, map
 use Rattle.rhai_value.proofs.Inserted.{found_inserted}
 use Rattle.rhai_value.proofs.WrittenEnds.{end_written}
 
--- ---- a list of items, and the children that it makes
+-- ---- a list of items, and the children made from it
 
 pub items_back : (xs : List Tree) → items_in (trees_of xs) ≡ xs
 items_back [] = refl
@@ -49,7 +49,7 @@ children (Some ts) xs e = let same : items_in ts ≡ xs = cc in ap Some (sym (tr
 pub items_told : (e : End) (xs : List Tree) → held_part items_of e ≡ Some xs → held_part array_of e ≡ Some (trees_of xs)
 items_told e xs h = children (held_part array_of e) xs (sym (held_items e) ∙ h)
 
--- ---- a content that is written over what is held
+-- ---- a content written over a held value
 
 is_held : {A : Type 0} (part : Tree → Option A) (e : End) (a : A) → held_part part e ≡ Some a → (site : Site) × (v : Tree) × (e ≡ held site v)
 is_held part (held site v) a h = (site, v, refl)
@@ -62,7 +62,7 @@ no_holder (branch k ts) (node d g m) e = refl
 no_holder (fields fs) (node d g m) e = refl
 no_holder (holder c) (node d g m) e = cc
 
--- where something is held, a content that is no holder is held once it was written there
+-- a content that isn't a holder is held after it is written over a held value
 content_written : {A B : Type 0} (part : Tree → Option A) (now : Tree → Option B) (s : List Cell) (t : Tree) (a : A) (c : Content) (b : B)
     → cell_of (made c) ≡ None → ((v : Tree) → now (with_content c v) ≡ Some b) → held_part part (end s [] t) ≡ Some a → held_part now (end_after (with_content c) s t) ≡ Some b
 content_written part now s t a c b none has h =
@@ -88,7 +88,7 @@ alike true b f g = sym (f refl)
 alike false true f g = g refl
 alike false false f g = refl
 
--- texts are equal where their characters are
+-- texts are equal if their characters are
 pub same_chars : (q k : List ℕ) → IsUtf8 q → IsUtf8 k → bytes_eq (chars q) (chars k) ≡ is_eq (bytes_cmp q k)
 same_chars q k u w =
     let spelt = bytes_eq-Decides (chars q) (chars k) in
@@ -109,7 +109,7 @@ held_key k closed rs h = cc
 pub key_found : (e : End) (rs : Rows) (q : List ℕ) → AreTexts rs → IsUtf8 q → held_part map_of e ≡ Some (fields_of rs) → held_part (map_get (chars q)) e ≡ lookup (is_at (bytes_cmp q)) rs
 key_found e rs q texts u h = held_key (chars q) e rs h ∙ found rs q texts u
 
--- ---- a key of a held map that is written
+-- ---- writing a key of a held map
 
 same_key : (k q : List ℕ) → is_eq (bytes_cmp k q) ≡ true → k ≡ q
 same_key k q e = (bytes_eq-Decides k q).0 (sym (is_eq-slice_cmp k q) ∙ e)
@@ -127,12 +127,12 @@ own_key k = is_eq-slice_cmp k k ∙ (bytes_eq-Decides k k).1 refl
 flips : (k q : List ℕ) → is_eq (bytes_cmp k q) ≡ is_eq (bytes_cmp q k)
 flips k q = alike (is_eq (bytes_cmp k q)) (is_eq (bytes_cmp q k)) (λ e. rw (same_key k q e) (own_key q)) (λ e. rw (same_key q k e) (own_key k))
 
--- the test of a key tells one key from the others
+-- the test of a key distinguishes it from the others
 one_key : (k x y : List ℕ) → is_at (bytes_cmp k) x ≡ true → is_at (bytes_cmp k) y ≡ is_eq (bytes_cmp x y)
 one_key k x y e = ap (λ z. is_eq (bytes_cmp z y)) (same_key k x e)
 
 module _ (s : List Cell) (t : Tree) (rs : Rows) (k : List ℕ) (texts : AreTexts rs) (text : IsUtf8 k) (has : held_part map_of (end s [] t) ≡ Some (fields_of rs)) where
-  -- other rows, in which w is found at the key, and at each other key what was there
+  -- other rows, with w at the key, and the old value at each other key
   becomes : (qs : Rows) (w : Option Tree) → AreTexts qs → ((q : List ℕ) → lookup (is_at (bytes_cmp q)) qs ≡ cond (is_eq (bytes_cmp q k)) w (lookup (is_at (bytes_cmp q)) rs))
       → KeyBecomes k w (end s [] t) (end_after (with_rows qs) s t)
   becomes qs w spelt finds =

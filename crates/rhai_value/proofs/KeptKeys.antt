@@ -1,4 +1,4 @@
--- Parts of a map of which the keys stay, and what walks make of the rows of parts.
+-- Parts of a map with unchanged keys, and the results of walks over the rows of parts.
 use Rattle.std.proofs.Common.{◌≡◌, ℕ, List, [], ◌∷◌, ◌++◌, length, map, Option, Some, None, Global, refl, ap, ap₂, sym, subst, ◌∙◌}
 use Rattle.std.proofs.lemmas.List.{length-map, map-append}
 use Rattle.std.proofs.lemmas.List.Elements.{All-nil}
@@ -19,7 +19,7 @@ use Rattle.rhai_value.specs.declared.map.Entry.{Entry}
 use Rattle.rhai_value.specs.declared.map.MapParts.{MapParts}
 use Rattle.rhai_value.proofs.RowWalks.{chunks_scanned, rows_in_views, rows_scanned, scanned_joined}
 
--- ---- where a map has parts, its rows are theirs
+-- ---- if a map has parts, its rows are theirs
 
 pub whole_opened : (m : Option (Box MapParts Global)) (b : Box MapParts Global) (p : MapParts) → Some b ≡ m → p ≡ b.value → IsWholeIn m → (rows_of p ≡ rows_in m) × IsWhole p
 whole_opened m b p some is whole = (rw is (ap rows_in some), rw is (rw (sym some) at whole))
@@ -75,7 +75,7 @@ parts_keys p =
     map-append (λ r. r.0) (rows p.first.items) (joined (map chunk_rows p.rest.items))
     ∙ ap (λ l. keys_of (rows p.first.items) ++ keys_of (joined l)) (views_rows p.rest.items) ∙ ap (λ l. keys_of (rows p.first.items) ++ l) (keys_joined (map chunk_view p.rest.items))
 
--- parts of the same keys and fronts are whole
+-- parts with the same keys and fronts are whole
 pub whole_kept : (p q : MapParts) → IsWhole p → keys_of (rows q.first.items) ≡ keys_of (rows p.first.items) → map chunk_keys (map chunk_view q.rest.items) ≡ map chunk_keys (map chunk_view p.rest.items) → q.len ≡ p.len → IsWhole q
 whole_kept p q whole first rest len =
     let same : keys_of (rows_of q) ≡ keys_of (rows_of p) = parts_keys q ∙ ap₂ (λ ks cs. ks ++ joined (map (λ c. c.1) cs)) first rest ∙ sym (parts_keys p) in
@@ -86,7 +86,7 @@ whole_kept p q whole first rest len =
       counted = len ∙ whole.counted ∙ sym (length-map (rows_of p) (λ r. r.0)) ∙ sym (ap length same) ∙ length-map (rows_of q) (λ r. r.0);
     }
 
--- ---- a scan of parts
+-- ---- scanning parts
 
 keys_scanned : {S : Type 0} (f : Visiting S) (v : S) (rs : Rows) → keys_of (scanned (row_scanned f) v rs).1 ≡ keys_of rs
 keys_scanned f v [] = refl
@@ -110,7 +110,7 @@ module _ {S : Type 0} (f : Visiting S) (v w x : S) (p q : MapParts) (first : (w,
   pub whole_scanned : q.len ≡ p.len → IsWhole p → IsWhole q
   whole_scanned len whole = whole_kept p q whole (ap (λ y. keys_of y.1) first ∙ keys_scanned f v (rows p.first.items)) (ap (λ y. map chunk_keys y.1) rest ∙ chunk_keys_scanned f w (map chunk_view p.rest.items)) len
 
--- ---- paint and copies of parts
+-- ---- painting and copying parts
 
 module _ (f : Row → Row) (kept : (r : Row) → (f r).0 ≡ r.0) where
   abbrev chunk_mapped : ℕ × Rows → ℕ × Rows
@@ -152,7 +152,7 @@ parts_copied p q first rest = parts_mapped (λ r. (r.0, copy r.1)) (λ r. refl) 
 pub whole_copied : (p q : MapParts) → rows q.first.items ≡ copied_rows (rows p.first.items) → map chunk_view q.rest.items ≡ map copied_chunk (map chunk_view p.rest.items) → q.len ≡ p.len → IsWhole p → IsWhole q
 whole_copied p q first rest = whole_mapped (λ r. (r.0, copy r.1)) (λ r. refl) p q first rest
 
--- ---- parts of the same lists
+-- ---- parts with the same lists
 
 pub lists_kept : (p q : MapParts) → q.first.items ≡ p.first.items → map chunk_view q.rest.items ≡ map chunk_view p.rest.items → lists_of q ≡ lists_of p
 lists_kept p q first rest =

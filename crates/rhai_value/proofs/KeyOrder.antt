@@ -1,4 +1,4 @@
--- What a comparison in a sorted list tells of all that stands before, or from there on.
+-- What a comparison in a sorted list says about all items before, or from there on.
 use Rattle.std.proofs.Common.{◌≡◌, ℕ, zero, suc, ◌<◌, List, [], ◌∷◌, length, take, drop, get_or, Ordering, Less, Equal, Greater, refl, ap, ◌∙◌, sym, arith}
 use Rattle.std.specs.Cmp.{IsTotalOrder}
 use Rattle.std.specs.List.{AllByRecursion}
@@ -12,7 +12,7 @@ module _ {K : Type 0} {R : K → K → Ordering} (o : IsTotalOrder R) (k : K) wh
   turned : (x y : K) (r : Ordering) → R x y ≡ r → R y x ≡ ordering_reverse r
   turned x y r is = o.antisymm y x ∙ ap ordering_reverse is
 
-  -- the key stands past what stands before one that it stands past, or that it is
+  -- the key is greater than everything before an item that it is greater than, or equal to
   pub past : (x y : K) → R x y ≡ Less → R k y ≡ Greater → R k x ≡ Greater
   past x y h g = turned x k Less (o.trans x y k h (turned k y Greater g))
 
@@ -25,7 +25,7 @@ module _ {K : Type 0} {R : K → K → Ordering} (o : IsTotalOrder R) (k : K) wh
       at Greater is = let back : R k x ≡ Less = turned x k Greater is in let no : Equal ≡ Less = sym e ∙ o.trans k x y back h in cc
 
 module _ {K X : Type 0} {R : K → K → Ordering} (o : IsTotalOrder R) (k : K) where
-  -- the element at a place among those that stand past x
+  -- the item at an index among those greater than x
   later : (x : K) (es : List (K × X)) (i : ℕ) (d : K × X) → AllByRecursion (λ y. R x y ≡ Less) (keys_of es) → i < length es → R x (get_or es i d).0 ≡ Less
   later x [] i d h lt = absurd (omega arith)
   later x (e ∷ es) zero d h lt = h.0

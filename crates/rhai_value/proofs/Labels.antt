@@ -1,4 +1,4 @@
--- A value's content under another tag and mode.
+-- A value's content with another tag and mode.
 use Rattle.std.proofs.Common.{◌≡◌, ℤ, refl}
 use Rattle.rhai_value.specs.declared.value.access_mode.AccessMode.{AccessMode}
 use Rattle.rhai_value.specs.Tree.{Tree, node, content_of, with_tag, with_mode}

@@ -1,4 +1,4 @@
--- What a value and its store lend, each by itself, as what they are said to lend together.
+-- The separate borrows from a value and its store agree with the borrow from both.
 use Rattle.std.proofs.Common.{◌≡◌, ◌<◌, ℕ, List, length, Option, Some, None, option_map, IfSome, slice_get, option_and_then, refl, sym, ap, ◌∙◌, subst}
 use Rattle.std.specs.Borrow.{MutBor, Fml, follows_if, name_if_some}
 use Rattle.std.specs.Option.{ghost_name_of}
@@ -15,7 +15,7 @@ use Rattle.rhai_value.specs.Lent.{own_lent, far_lent, own_at, own_ref, either_of
 use Rattle.rhai_value.proofs.Stores.{content_is}
 use Rattle.rhai_value.proofs.Walks.{at_within}
 
--- what the value ends as, where y is what it lends itself, and p what is lent at all
+-- the final value, where y is the borrow from it, and p the whole borrow
 abbrev pub OwnSide : MutBor Tree → Option (MutBor Tree) → Fml
 OwnSide v y = follows_if dynamic.the_row dynamic.the_row v.ghost_name (ghost_name_of y) (λ w. w) v.now
 
@@ -36,7 +36,7 @@ own_name (Some w) = refl
 pub own_side : (v : MutBor Tree) (y r p : Option (MutBor Tree)) → y ≡ own_ref v → p ≡ either_of y r → OwnSide v y ≡ OwnLent v v.now p
 own_side v y r p e f = ap (OwnSide v) e ∙ own_at_side v v.now r ∙ ap (λ z. OwnLent v v.now (either_of z r)) (sym e) ∙ ap (OwnLent v v.now) (sym f)
 
--- the same of the store, where r is what it lends from the cell x
+-- the same for the store, where r is the borrow from its cell x
 abbrev pub FarSide : MutBor (List Cell) → Option ℕ → Option (MutBor Tree) → Fml
 FarSide m x r = follows_if store.the_row dynamic.the_row m.ghost_name (ghost_name_of r) (put_in x m.now) m.now
 
@@ -79,7 +79,7 @@ within_first s (node (holder c) g n) = within_at s c (at s c) refl
 pub is_within : (s : List Cell) (t : Tree) (x : Option ℕ) → x ≡ first_cell s t → IfSome x (λ k. k < length s)
 is_within s t x e = subst (λ z. IfSome z (λ k. k < length s)) (sym e) (within_first s t)
 
--- what is lent from an unmarked cell is what is read of it
+-- a borrow from an unmarked cell is of the value read there
 lost_of : (o : Option Cell) (u : Tree) → option_and_then unmarked o ≡ Some u → None ≡ option_map (λ x. x.content) o → ⊥
 lost_of None u e f = cc
 lost_of (Some x) u e f = cc

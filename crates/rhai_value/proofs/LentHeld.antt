@@ -1,4 +1,4 @@
--- What a value and its store lend of what is held, as what they are said to lend together.
+-- The separate borrows of the held value from a value and its store agree with the borrow from both.
 use Rattle.std.proofs.Common.{◌≡◌, ◌<◌, ℕ, ℤ, List, [], ◌∷◌, zero, suc, length, Option, Some, None, option_map, IfSome, refl, sym, ap, ◌∙◌, subst}
 use Rattle.std.specs.Borrow.{MutBor, Fml, follows_if}
 use Rattle.std.specs.Option.{ghost_name_of}

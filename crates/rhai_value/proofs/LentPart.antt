@@ -1,4 +1,4 @@
--- What a value and its store lend of a part of what is held, as what they are said to lend together.
+-- The separate borrows of a held part from a value and its store agree with the borrow from both.
 use Rattle.std.proofs.Common.{◌≡◌, ℕ, ℤ, Bool, true, false, if◌then◌else◌, List, [], ◌∷◌, zero, suc, Option, Some, None, Result, Ok, Err, option_map, option_and_then, is_some, IfOk, IfErr, slice_get, Bor, refl, sym, ap, ◌∙◌}
 use Rattle.std.specs.Borrow.{MutBor, GName, Fml, RattleType, follows_if, name_if_ok}
 use Rattle.std.specs.Option.{ghost_name_of}
@@ -21,7 +21,7 @@ use Rattle.rhai_value.proofs.Ends.{stands}
 use Rattle.rhai_value.proofs.InStores.{none_of_holder, part_alone}
 use Rattle.rhai_value.proofs.LentHeld.{FarEnd, far_end}
 
--- a cell's own content put into it changes nothing
+-- writing a cell's own content to it changes nothing
 own_put : (s : List Cell) (c : ℕ) (v : Tree) → Some v ≡ content_in (Some c) s → put s c v ≡ s
 own_put [] c v e = refl
 own_put (x ∷ s) zero v e = let same : v ≡ x.content = cc in ap (λ t. record { content = t; is_marked = x.is_marked } ∷ s) same
@@ -39,7 +39,7 @@ read_of : (o : Option Cell) (v : Tree) → option_and_then unmarked o ≡ Some v
 read_of None v e = cc
 read_of (Some x) v e = read_mark x.is_marked x.content v e
 
--- what an unmarked cell has
+-- the content of an unmarked cell
 pub read_at : (s : List Cell) (c : ℕ) (v : Tree) → at s c ≡ Some v → content_in (Some c) s ≡ Some v
 read_at s c v e = read_of (slice_get s c) v e
 
@@ -49,7 +49,7 @@ far_content s t (held (InCell c) v) q h = read_at s c v (stands s t (InCell c) v
 far_content s t (stuck v) q h = refl
 far_content s t closed q h = refl
 
--- a value that has a part is held where it stands itself, and is of the part's type
+-- a value with a part is held at its own site, and is of the part's type
 own_place_at : (s : List Cell) (t : Tree) (k : TypeId) → None ≡ cell_of t → k ≡ tree_type t → (Some Here ≡ site_of (end s [] t)) × (k ≡ end_type (end s [] t))
 own_place_at s t k alone same = (ap site_of (end_alone s t alone), same ∙ ap end_type (end_alone s t alone))
 
@@ -66,7 +66,7 @@ own_place {A = A} content part k constructs reads s t has = here (part t) refl h
     here (Some a) e p =
         own_place_at s t k (part_alone part t a (none_of_holder content part k constructs reads) e) (same_type a (is_type k (tree_type t)) refl (sym (ap (option_map content) e) ∙ reads t))
 
--- An edit of what is held, and what is lent of it, which no holder has itself.
+-- An edit of the held value, and the borrow of a part of it, which no holder has itself.
 module _ (T : RattleType) {M : Type 0} (meaning : T.Denot → M) (edit : T.Denot → Tree → Tree) (part : Tree → Option M) (none : (c : ℕ) (g : ℤ) (m : AccessMode) → part (node (holder c) g m) ≡ None) where
   abbrev pub Has : Option (MutBor T.Denot) → Option M
   Has o = option_map (λ r. meaning r.now) o
@@ -75,7 +75,7 @@ module _ (T : RattleType) {M : Type 0} (meaning : T.Denot → M) (edit : T.Denot
   either_none None = refl
   either_none (Some d) = refl
 
-  -- a value that is no holder leaves nothing to its store, and a holder has no part itself
+  -- for a value that isn't a holder there is no borrow from the store, and a holder has no part itself
   no_part : (r : Option (MutBor T.Denot)) → Has r ≡ None → None ≡ r
   no_part None e = refl
   no_part (Some d) e = cc
@@ -86,7 +86,7 @@ module _ (T : RattleType) {M : Type 0} (meaning : T.Denot → M) (edit : T.Denot
   no_own : (c : ℕ) (g : ℤ) (m : AccessMode) (o : Option (MutBor T.Denot)) → Has o ≡ part (node (holder c) g m) → None ≡ o
   no_own c g m o h = no_part o (h ∙ none c g m)
 
-  -- the value, where o is what it lends itself, and n the name of what is lent at all
+  -- the value, where o is the borrow from it, and n the name of the whole borrow
   abbrev pub OwnPart : MutBor Tree → Tree → Option (MutBor T.Denot) → Fml
   OwnPart v t o = follows_if dynamic.the_row T v.ghost_name (ghost_name_of o) (λ w. edit w t) v.now
 
@@ -108,7 +108,7 @@ module _ (T : RattleType) {M : Type 0} (meaning : T.Denot → M) (edit : T.Denot
   own_at v s (node (fields fs) g m) x o r e h f = own_alone v s (node (fields fs) g m) x o r refl e f
   own_at v s (node (holder c) g m) x o r e h f = ap (OwnPart v (node (holder c) g m)) (sym (no_own c g m o h))
 
-  -- the store, where r is what it lends from the cell x
+  -- the store, where r is the borrow from its cell x
   abbrev pub FarPart : MutBor (List Cell) → Option ℕ → Option (MutBor T.Denot) → Fml
   FarPart m x r = follows_if store.the_row T m.ghost_name (ghost_name_of r) (λ w. edit_in x (edit w) m.now) m.now
 
@@ -138,7 +138,7 @@ module _ (T : RattleType) {M : Type 0} (meaning : T.Denot → M) (edit : T.Denot
   far_at m (node (fields fs) g n) x o r e h f = ap (FarPart m x) (sym (no_far m.now (node (fields fs) g n) x r refl e f))
   far_at m (node (holder c) g n) x o r e h f = far_holder m c g n x r e f ∙ ap (λ z. FarHeld m (node (holder c) g n) (ghost_name_of (either_of z r))) (no_own c g n o h)
 
-  -- what is lent is the part that is held
+  -- the borrow is of the held part
   found_alone : (s : List Cell) (t : Tree) (x : Option ℕ) (o r : Option (MutBor T.Denot)) → None ≡ cell_of t → x ≡ held_cell (end s [] t) → Has o ≡ part t → Has r ≡ option_and_then part (content_in x s)
       → Has (either_of o r) ≡ held_part part (end s [] t)
   found_alone s t x o r n e h f = ap Has (sym (either_none o ∙ ap (either_of o) (no_far s t x r n e f))) ∙ h ∙ ap (held_part part) (end_alone s t n)
@@ -152,7 +152,7 @@ module _ (T : RattleType) {M : Type 0} (meaning : T.Denot → M) (edit : T.Denot
       ap (λ z. Has (either_of z r)) (sym (no_own c g n o h)) ∙ f ∙ ap (λ z. option_and_then part (content_in z s)) e
       ∙ ap (option_and_then part) (far_content s (node (holder c) g n) (end s [] (node (holder c) g n)) refl (far_end s c g n))
 
-  -- the same of what is handed out
+  -- the same for the result
   abbrev pub Out : Type 0
   Out = Result (MutBor T.Denot) (Bor (List ℕ))
 

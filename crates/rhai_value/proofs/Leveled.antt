@@ -1,4 +1,4 @@
--- Levels that are opened, and filled.
+-- Frames of a copy that are opened, and filled.
 use Rattle.std.proofs.Common.{◌≡◌, ℕ, Less, List, [], ◌∷◌, ◌++◌, map, refl, ap, sym, subst, ◌∙◌, append_assoc}
 use Rattle.std.proofs.lemmas.Cmp.{nat_list_cmp_total}
 use Rattle.std.specs.List.{AllByRecursion}
@@ -30,7 +30,7 @@ above (r ∷ rs) k t more sorted = (nat_list_cmp_total.antisymm k r.0 ∙ ap ord
     below first [] h = h.0
     below first (r ∷ rs) h = below first rs h.1
 
--- rows by rising keys are inserted at the end
+-- rows with ascending keys are inserted at the end
 rows_turned : (done rs : Rows) → IsStrictlySortedBy bytes_cmp (keys_of (done ++ rs)) → rows_in_turn done rs ≡ done ++ copied_rows rs
 rows_turned done [] sorted = sym (append_nil done)
 rows_turned done (r ∷ rs) sorted =

@@ -1,4 +1,4 @@
--- Lists of rows, one after another, and rows that come in between and go.
+-- Concatenated lists of rows, and rows inserted and removed.
 use Rattle.std.proofs.Common.{◌≡◌, ℕ, zero, suc, ◌<◌, List, [], ◌∷◌, ◌++◌, length, take, drop, get_or, Ordering, Less, refl, ap, sym, ◌∙◌, arith, take-append-drop}
 use Rattle.std.proofs.lemmas.Cmp.{nat_list_cmp_total}
 use Rattle.std.proofs.lemmas.List.{append_assoc}
@@ -12,7 +12,7 @@ use Rattle.rhai_value.specs.Lists.{Row, joined, AreBelow, AreAbove}
 use Rattle.rhai_value.specs.Rows.{Rows, bytes_cmp, AreRising, AreTexts}
 use Rattle.rhai_value.specs.Tree.{Tree}
 
--- what stands before a place of a list of lists, and what stands from there on
+-- the items before a place of a list of lists, and those from it on
 pub joined_at : {A : Type 0} → (ls : List (List A)) (n i : ℕ) → n < length ls → joined ls ≡ (joined (take n ls) ++ take i (get_or ls n [])) ++ (drop i (get_or ls n []) ++ joined (drop (suc n) ls))
 joined_at [] n i lt = absurd (omega arith)
 joined_at (l ∷ ls) zero i lt = ap (λ x. x ++ joined ls) (sym (take-append-drop i l)) ∙ append_assoc (take i l) (drop i l) (joined ls)
@@ -22,7 +22,7 @@ joined_at (l ∷ ls) (suc n) i lt =
     ∙ sym (append_assoc l (joined (take n ls) ++ take i here) (drop i here ++ joined (drop (suc n) ls)))
     ∙ ap (λ x. x ++ (drop i here ++ joined (drop (suc n) ls))) (sym (append_assoc l (joined (take n ls)) (take i here)))
 
--- ---- below and above
+-- ---- less and greater
 
 module _ {K X : Type 0} (R : K → K → Ordering) (k : K) where
   pub below_both : (xs ys : List (K × X)) → AreBelow R k xs → AreBelow R k ys → AreBelow R k (xs ++ ys)
@@ -33,7 +33,7 @@ module _ {K X : Type 0} (R : K → K → Ordering) (k : K) where
   above_both [] ys h g = g
   above_both (e ∷ es) ys h g = (h.0, above_both es ys h.1 g)
 
--- ---- rising keys
+-- ---- ascending keys
 
 abbrev Past : List ℕ → Rows → Type 0
 Past k rs = AllByRecursion (λ y. bytes_cmp k y ≡ Less) (keys_of rs)
@@ -70,7 +70,7 @@ pub texts_taken : (e : Row) (xs ys : Rows) → AreTexts (xs ++ e ∷ ys) → Are
 texts_taken e [] ys h = All-tail IsUtf8 e.0 (keys_of ys) h
 texts_taken e (r ∷ rs) ys h = All-cons IsUtf8 r.0 (keys_of (rs ++ ys)) (All-head IsUtf8 r.0 (keys_of (rs ++ e ∷ ys)) h) (texts_taken e rs ys (All-tail IsUtf8 r.0 (keys_of (rs ++ e ∷ ys)) h))
 
--- a value makes no difference to keys
+-- a value has no effect on keys
 pub keys_valued : (k : List ℕ) (v w : Tree) (xs ys : Rows) → keys_of (xs ++ (k, v) ∷ ys) ≡ keys_of (xs ++ (k, w) ∷ ys)
 keys_valued k v w [] ys = refl
 keys_valued k v w (r ∷ rs) ys = ap (λ l. r.0 ∷ l) (keys_valued k v w rs ys)

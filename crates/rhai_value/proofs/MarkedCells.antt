@@ -18,7 +18,7 @@ use Rattle.rhai_value.proofs.RelatedCells.{get_unchanged, marked_put, marked_add
 pub mark_at : (s : List Cell) (c : ℕ) (x : Cell) (b : Bool) → c < length s → x ≡ get_or s c x → slice_set s c (record { content = x.content; is_marked = b }) ≡ set_mark s c b
 mark_at s c x b = changed_index (λ y. record { content = y.content; is_marked = b }) s c x
 
--- the cell in which the first content stands is one of the store's, and so is that in which the held value stands
+-- the cell of the first content is in the store, and so is that of the held value
 first_within_at : (s : List Cell) (c : ℕ) (o : Option Tree) → at s c ≡ o → IsWithin s (option_map (λ x. InCell c) o)
 first_within_at s c None e = tt
 first_within_at s c (Some t) e = at_within s c t e
@@ -47,19 +47,19 @@ restored : (b : Bool) (t : Tree) → is_some (unmarked (record { content = t; is
 restored true t e = cc
 restored false t e = refl
 
--- a mark that is set on a cell and cleared leaves the store as it was
+-- setting and clearing a mark leaves the store unchanged
 pub cleared : (s : List Cell) (c : ℕ) → is_some (at s c) ≡ true → set_mark (set_mark s c true) c false ≡ s
 cleared [] c e = refl
 cleared (x ∷ s) zero e = ap (λ b. record { content = x.content; is_marked = b } ∷ s) (sym (restored x.is_marked x.content e))
 cleared (x ∷ s) (suc c) e = ap (λ z. x ∷ z) (cleared s c e)
 
--- what is written while a cell is marked is there when the mark is cleared
+-- a write to a marked cell remains when the mark is cleared
 pub written_and_cleared : (s : List Cell) (c : ℕ) (w : Tree) → is_some (at s c) ≡ true → set_mark (put (set_mark s c true) c w) c false ≡ put s c w
 written_and_cleared [] c w e = refl
 written_and_cleared (x ∷ s) zero w e = ap (λ b. record { content = w; is_marked = b } ∷ s) (sym (restored x.is_marked x.content e))
 written_and_cleared (x ∷ s) (suc c) w e = ap (λ z. x ∷ z) (written_and_cleared s c w e)
 
--- a mark that is set or cleared on another cell keeps each mark
+-- setting or clearing the mark of another cell keeps each mark
 pub others_marked : (s : List Cell) (c d : ℕ) (b : Bool) → (d ≡ c → ⊥) → is_marked_at (set_mark s c b) d ≡ is_marked_at s d
 others_marked s c d b h = ap (λ o. option_map_or (λ x. x.is_marked) o false) (get_unchanged _ s c d h)
 
@@ -87,7 +87,7 @@ marked_with_first w s (node (branch k ts) g m) d = refl
 marked_with_first w s (node (fields fs) g m) d = refl
 marked_with_first w s (node (holder c) g m) d = marked_put s c d w
 
--- the cell in which a first content or a held value stands is read
+-- the cell of a first content or a held value can be read
 first_read_at : (s : List Cell) (d c : ℕ) (o : Option Tree) → at s d ≡ o → site_cell (option_map (λ x. InCell d) o) ≡ Some c → is_some (at s c) ≡ true
 first_read_at s d c None e h = cc
 first_read_at s d c (Some v) e h = let same : d ≡ c = cc in ap (λ i. is_some (at s i)) (sym same) ∙ ap is_some e
@@ -117,7 +117,7 @@ first_open s t x e = open_at s (first_cell s t) x e (first_read s t)
 pub held_open : (s : List Cell) (t : Tree) (x : Option ℕ) → x ≡ held_cell (end s [] t) → IsOpen s x
 held_open s t x e = open_at s (held_cell (end s [] t)) x e (held_read s t)
 
--- an unmarked cell is one of the store's
+-- an unmarked cell is in the store
 within_if : (s : List Cell) (c : ℕ) (o : Option Tree) → at s c ≡ o → is_some o ≡ true → c < length s
 within_if s c None e h = cc
 within_if s c (Some t) e h = at_within s c t e

@@ -1,4 +1,4 @@
--- Painted values of a list and of the rows of a map.
+-- Painted values in a list and in the rows of a map.
 use Rattle.std.proofs.Common.{◌≡◌, List, [], ◌∷◌, map, refl, ap}
 use Rattle.std.specs.Str.{chars}
 use Rattle.rhai_value.specs.declared.value.access_mode.AccessMode.{AccessMode}

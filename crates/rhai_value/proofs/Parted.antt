@@ -1,11 +1,11 @@
--- A look-up, an insertion and a removal in a list of which the parts stand below and above the key.
+-- A look-up, an insertion and a removal in a list whose parts are less and greater than the key.
 use Rattle.std.proofs.Common.{◌≡◌, List, [], ◌∷◌, ◌++◌, Some, None, Ordering, Equal, refl, ap, ◌∙◌}
 use Rattle.std.specs.BTreeMap.{insert_entry, is_at}
 use Rattle.std.specs.Map.{lookup, remove_entry, set_value}
 use Rattle.rhai_value.specs.Lists.{AreBelow, AreAbove}
 
 module _ {K X : Type 0} (R : K → K → Ordering) (k : K) where
-  -- ---- what stands below the key isn't seen
+  -- ---- the items less than the key have no effect
 
   pub lookup_right : (xs ys : List (K × X)) → AreBelow R k xs → lookup (is_at (R k)) (xs ++ ys) ≡ lookup (is_at (R k)) ys
   lookup_right [] ys h = refl
@@ -23,7 +23,7 @@ module _ {K X : Type 0} (R : K → K → Ordering) (k : K) where
   set_right [] ys w h = refl
   set_right (e ∷ es) ys w h = rw h.0 (ap (λ l. e ∷ l) (set_right es ys w h.1))
 
-  -- ---- nor what stands above it
+  -- ---- nor have the greater ones
 
   pub lookup_above : (ys : List (K × X)) → AreAbove R k ys → lookup (is_at (R k)) ys ≡ None
   lookup_above [] h = refl
@@ -37,7 +37,7 @@ module _ {K X : Type 0} (R : K → K → Ordering) (k : K) where
   remove_above [] h = refl
   remove_above (e ∷ es) h = rw h.0 (ap (λ l. e ∷ l) (remove_above es h.1))
 
-  -- ---- at a place
+  -- ---- at an index
 
   pub lookup_hit : (xs ys : List (K × X)) (e : K × X) → AreBelow R k xs → R k e.0 ≡ Equal → lookup (is_at (R k)) (xs ++ e ∷ ys) ≡ Some e.1
   lookup_hit xs ys e h is = lookup_right xs (e ∷ ys) h ∙ rw is refl

@@ -1,4 +1,4 @@
--- Cells that open and close.
+-- Opening and closing cells.
 use Rattle.std.proofs.Common.{◌≡◌, ℕ, Bool, true, false, cond, nat_eq, ◌||◌, List, [], ◌∷◌, ◌++◌, reverse, subst, Some, refl, sym, ap, ◌∙◌, arith, eqb-true}
 use Rattle.std.proofs.lemmas.List.{reverse-append}
 use Rattle.std.proofs.lemmas.Bool.Decides.{nat_tests}
@@ -30,7 +30,7 @@ or_off : (a b : Bool) → (a ≡ true → b ≡ false) → cond a false (a || b)
 or_off true b h = sym (h refl)
 or_off false b h = refl
 
--- the cell that was opened last closes
+-- the cell opened last closes
 pub opened-less : (order shorter : List ℕ) (c : ℕ) (cells fewer : BTreeSet ℕ) → IsOpened (reverse order) cells → order ≡ shorter ++ (c ∷ []) → UpdatesBy nat_cmp (nat_cmp c) cells fewer false → IsOpened (reverse shorter) fewer
 opened-less order shorter c cells fewer opened e u =
     let h : IsOpened (c ∷ reverse shorter) cells = subst (λ p. IsOpened p cells) (ap reverse e ∙ reverse-append shorter (c ∷ [])) opened in
@@ -40,14 +40,14 @@ opened-less order shorter c cells fewer opened e u =
       once = h.once.1;
     }
 
--- what opens, where the cell can be read and is open, and where it isn't
+-- the result of opening a cell that can be read, if it is open, and if it isn't
 pub entry-read : (s : List Cell) (path : List ℕ) (t u : Tree) (c : ℕ) (b : Bool) → Some c ≡ cell_of t → Some u ≡ at s c → is_open c path ≡ b → entry s path t ≡ opened (visit_of (Some u) b)
 entry-read s path (node (leaf l) g m) u c b e f h = cc
 entry-read s path (node (branch k ts) g m) u c b e f h = cc
 entry-read s path (node (fields fs) g m) u c b e f h = cc
 entry-read s path (node (holder d) g m) u c b e f h = let same : c ≡ d = cc in rw (← same) (rw (← f, h) refl)
 
--- ---- what is open, by its first cells and those after them
+-- ---- the open cells: the first ones and those after them
 
 or_among : (a b d : Bool) → (a || (b || d)) ≡ ((a || b) || d)
 or_among true b d = refl

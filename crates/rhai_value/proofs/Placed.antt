@@ -1,4 +1,4 @@
--- Work at a place: what is lent out of a cell and put back, and what a way of steps makes of it.
+-- Work at a place: content taken out of a cell and put back, and the effect of steps on it.
 use Rattle.std.proofs.Common.{◌≡◌, ◌<◌, ℕ, ℤ, zero, suc, Bool, true, false, cond, List, [], ◌∷◌, length, Option, Some, None, is_some, option_map, slice_set, slice_index_or, IfSome, Result, Ok, Err, Bor, MutBor, refl, sym, ap, ap₂, ◌∙◌, subst, arith}
 use Rattle.std.specs.BTreeMap.{is_at}
 use Rattle.std.specs.Fn.{Once}
@@ -33,7 +33,7 @@ use Rattle.rhai_value.proofs.MarkedCells.{mark_stands}
 use Rattle.rhai_value.proofs.RelatedCells.{marked_put}
 use Rattle.rhai_value.proofs.Walks.{at_within}
 
--- ---- the cell in which a held value stands
+-- ---- the cell of a held value
 
 far : (s : List Cell) (t : Tree) → is_some (cell_of t) ≡ true → FarEnd (end s [] t)
 far s (node (leaf l) g m) e = cc
@@ -51,7 +51,7 @@ none_held_at closed f h = refl
 pub none_held : (s : List Cell) (t : Tree) → is_some (cell_of t) ≡ true → None ≡ held_cell (end s [] t) → held_in (end s [] t) ≡ None
 none_held s t e h = none_held_at (end s [] t) (far s t e) (sym h)
 
--- what stands in a cell stands there under any mark
+-- a cell's content is the same with any mark
 read_under : (b : Bool) (t v : Tree) → cond b None (Some t) ≡ Some v → t ≡ v
 read_under true t v e = cc
 read_under false t v e = let same : t ≡ v = cc in same
@@ -76,7 +76,7 @@ is_lent s s' t c w h marked f =
     let m : s' ≡ set_mark s c true = marked ∙ ap (λ o. marked_with o s) (sym h) in
     record { stands = lent_at s t c w (end s [] t) refl h (ap (λ z. content_at z c) (sym m) ∙ f); out = ap (λ z. put z c (fresh unit)) m }
 
--- ---- what is put back
+-- ---- putting back
 
 unmarked_under : (b : Bool) (t v : Tree) → cond b None (Some t) ≡ Some v → ◌≡◌ {A = Cell} (record { content = v; is_marked = false }) (record { content = t; is_marked = b })
 unmarked_under true t v e = cc
@@ -90,11 +90,11 @@ restored (x ∷ s) (suc c) v e = ap (λ z. x ∷ z) (restored s c v e)
 pub lent_is_marked : (s : List Cell) (c : ℕ) → c < length s → is_marked_at (lent_out (Some c) s) c ≡ true
 lent_is_marked s c l = marked_put (set_mark s c true) c c (fresh unit) ∙ mark_stands s c true l
 
--- what is put back as it was leaves the store as it was
+-- putting back an unchanged value leaves the store unchanged
 pub put_back_same : (s : List Cell) (c : ℕ) (v : Tree) → at s c ≡ Some v → put_back (Some c) v (lent_out (Some c) s) ≡ s
 put_back_same s c v e = ap (λ b. cond b (set_mark (put (lent_out (Some c) s) c v) c false) (lent_out (Some c) s)) (lent_is_marked s c (at_within s c v e)) ∙ restored s c v e
 
--- ---- ways
+-- ---- steps to a place
 
 module _ {F R : Type 0} (g : Once F (MutBor Tree × (MutBor (List Cell) × Unit {0})) (R × (MutBor Tree × (MutBor (List Cell) × Unit {0})))) (f : F) where
   around_works : (h : Tree → Tree) (p : Way) (y t : Tree) (s : List Cell) (r : Result R PlaceError) (y' : Tree) (s' : List Cell) → h y ≡ t → WorksAlong g f p y s r y' s' → WorksAlong g f (along (around h) p) t s r (h y') s'
@@ -131,7 +131,7 @@ module _ {F R : Type 0} (g : Once F (MutBor Tree × (MutBor (List Cell) × Unit 
       let no : true ≡ false = sym (lent_is_marked s c (at_within s c v there)) ∙ ap (λ z. is_marked_at z c) (sym w.2) ∙ marked in cc
 
   module _ (go : List Cell → Tree → Way) (n : ℕ) (s : List Cell) (t : Tree) where
-    -- work at a content that is lent out of its cell is work at what is held
+    -- work at a content taken out of its cell is work at the held value
     pub held_works : (s₁ s₂ : List Cell) (c : ℕ) (v : Tree) (r : Result R PlaceError) (v' : Tree) (u : List Cell) (b : Bool)
         → IsLent c v s t s₁ → WorksAlong g f (go s₁ v) v s₁ r v' u → b ≡ is_marked_at u c → s₂ ≡ put_back (Some c) v' u
         → WorksAlong g f (way_held go n s t) t s (cond b r (Err (record { step = n; kind = kind.Lost }))) t s₂
@@ -180,7 +180,7 @@ no_array t i e = ap (λ o. indexed i (tree_type t) (option_map items_in o)) e
 pub no_map : (t : Tree) (k : Bor (List ℕ)) → map_of t ≡ None → item_at (Key k) t ≡ Err (OtherType (tree_type t))
 no_map t k e = ap (keyed (chars k.now) (tree_type t)) e
 
--- the fields of a map of which the value of one key is another
+-- the fields of a map in which the value of one key is replaced
 pub field_written : (rs : Rows) (q : List ℕ) (w : Tree) → AreTexts rs → IsUtf8 q → fields_of (set_value (is_at (bytes_cmp q)) rs w) ≡ with_field (chars q) w (fields_of rs)
 field_written [] q w texts u = refl
 field_written (r ∷ rs) q w texts u = rw (same_chars q r.0 u (All-head IsUtf8 r.0 (keys_of rs) texts), sym (field_written rs q w (All-tail IsUtf8 r.0 (keys_of rs) texts) u)) (at (is_eq (bytes_cmp q r.0)))
@@ -195,7 +195,7 @@ item_keyed fs k g m y e = ap keyed_value (sym e)
 pub key_missing : (fs : Fields) (k : Bor (List ℕ)) (g : ℤ) (m : AccessMode) → None ≡ field_at (chars k.now) fs → item_at (Key k) (node (fields fs) g m) ≡ Err NoKey
 key_missing fs k g m e = ap keyed_value (sym e)
 
--- what is written over itself
+-- writing a value over itself
 pub field_same : (k : List ℕ) (fs : Fields) (y : Tree) → field_at k fs ≡ Some y → with_field k y fs ≡ fs
 field_same k no_fields y e = refl
 field_same k (field_then j t fs) y e = under (bytes_eq k j) (field_same k fs y) e
@@ -220,7 +220,7 @@ pub unshared : (o : Option ℕ) (b : Bool) → b ≡ is_some o → b ≡ false �
 unshared None b e f = refl
 unshared (Some c) b e f = cc
 
--- ---- work at what is held
+-- ---- work at the held value
 
 module _ {F R : Type 0} (g : Once F (MutBor Tree × (MutBor (List Cell) × Unit {0})) (R × (MutBor Tree × (MutBor (List Cell) × Unit {0})))) (f : F) (s : List Cell) (t : Tree) where
   pub own_not_barred : cell_of t ≡ None → held_in (end s [] t) ≡ None → ⊥
@@ -240,7 +240,7 @@ module _ {F R : Type 0} (g : Once F (MutBor Tree × (MutBor (List Cell) × Unit 
 pub none_works : (s : List Cell) (t : Tree) (P : Tree → Type 0) → held_in (end s [] t) ≡ None → IfSome (held_in (end s [] t)) P
 none_works s t P h = rw h tt
 
--- ---- what is lent and put back
+-- ---- taking out and putting back
 
 pub mark_off : (b : Bool) (t v : Tree) → cond b None (Some t) ≡ Some v → false ≡ b
 mark_off true t v e = cc

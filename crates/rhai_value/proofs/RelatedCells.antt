@@ -1,4 +1,4 @@
--- Changes that keep values and stores the same up to the numbers of cells.
+-- Changes that preserve the relation of values and stores up to a renaming.
 use Rattle.std.proofs.Common.{◌≡◌, ℕ, zero, suc, Bool, true, List, [], ◌∷◌, length, slice_get, Option, Some, refl, sym, ap, ◌∙◌, eqb-true, eq-eqb, inl, inr}
 use Rattle.std.proofs.lemmas.Bool.{cases_eq}
 use Rattle.std.proofs.lemmas.Option.{none-some, same_Some}
@@ -11,7 +11,7 @@ use Rattle.rhai_value.specs.End.{End, held, stuck, closed, held_part, value_afte
 use Rattle.rhai_value.specs.Relation.{Renaming, paired, Related, Respect, Alike, IsOneToOne, RelatedCell, RelatedCells, RelatedEnds}
 use Rattle.rhai_value.proofs.SameTrees.{same_part, same_type}
 
--- a cell that is changed, and the others
+-- a changed cell, and the others
 pub get_changed : (f : Cell → Cell) (s : List Cell) (c : ℕ) (x : Cell) → slice_get s c ≡ Some x → slice_get (changed_at f s c) c ≡ Some (f x)
 get_changed f [] c x e = absurd (none-some x e)
 get_changed f (y ∷ s) zero x e = ap (λ z. Some (f z)) (same_Some y x e)
@@ -65,11 +65,11 @@ by_ends r P own cell bars loops closed closed h = loops
 by_ends r P own cell bars loops (held p t) (held q u) h = absurd h.0
 by_ends r P own cell bars loops _ _ h = absurd h
 
--- what is told of the same ends, and what becomes of values and stores that are written at them
+-- the properties of related ends, and values and stores after a write at them
 pub same_held_leaf : {A : Type 0} (r : Renaming) (part : Leaf → Option A) (e f : End) → RelatedEnds r e f → held_part (leaf_part part) e ≡ held_part (leaf_part part) f
 same_held_leaf r part = by_ends r (λ e f. held_part (leaf_part part) e ≡ held_part (leaf_part part) f) (same_part r part) (λ c d t u p. same_part r part t u) (λ t u h. refl) refl
 
--- parts that related values have alike are held alike
+-- if parts of related values are alike, so are held parts
 pub same_held_part : {A : Type 0} (r : Renaming) (R : A → A → Type 0) (part : Tree → Option A) → ((t u : Tree) → Related r t u → Alike R (part t) (part u))
     → (e f : End) → RelatedEnds r e f → Alike R (held_part part e) (held_part part f)
 same_held_part r R part same = by_ends r (λ e f. Alike R (held_part part e) (held_part part f)) same (λ c d t u p h. same t u h) (λ t u h. tt) tt
@@ -83,7 +83,7 @@ same_value_after r f g t u k h = by_ends r (λ e o. Related r (value_after f e t
 pub same_store_after : (r : Renaming) (f g : Tree → Tree) (s z : List Cell) → Respect r f g → IsOneToOne r → RelatedCells r s z → (e o : End) → RelatedEnds r e o → RelatedCells r (store_after f e s) (store_after g o z)
 same_store_after r f g s z k one cells = by_ends r (λ e o. RelatedCells r (store_after f e s) (store_after g o z)) (λ t u h. cells) (λ c d t u p h. same_put r s z c d (f t) (g u) one cells p (k t u h)) (λ t u h. cells) cells
 
--- a write where a chain ends makes no cell and sets no mark
+-- a write at the end of a chain makes no cell and sets no mark
 pub length_store_after : (f : Tree → Tree) (e : End) (s : List Cell) → length (store_after f e s) ≡ length s
 length_store_after f (held Here v) s = refl
 length_store_after f (held (InCell c) v) s = length_changed _ s c

@@ -1,4 +1,4 @@
--- Walks over rows, step by step through a list that is changed in place.
+-- Walks over rows, step by step over a list that is changed in place.
 use Rattle.std.proofs.Common.{◌≡◌, ℕ, zero, suc, ◌+◌, ◌<◌, ◌≤◌, List, [], ◌∷◌, ◌++◌, length, map, set, get_or, take, drop, refl, sym, ap, ap₂, ◌∙◌, arith, add-one}
 use Rattle.std.proofs.Math.ListN.{drop_of_length-le}
 use Rattle.std.proofs.lemmas.Grind.{take-set_at}
@@ -22,14 +22,14 @@ scanned_more f first now later (y ∷ ys) us x u done did =
     ap (λ z. (z.0, us ++ z.1 ∷ [])) did ∙ ap (λ z. ((f z.0 x).0, z.1 ++ (f z.0 x).1 ∷ [])) done
     ∙ ap (before (f first y)) (scanned_more f (f first y).0 rest.0 (f rest.0 x).0 ys rest.1 x (f rest.0 x).1 refl refl)
 
--- ---- a place of a list
+-- ---- an index in a list
 
 pub taken_more : {X : Type 0} (xs : List X) (i : ℕ) (x : X) → i < length xs → x ≡ get_or xs i x → take (i + 1) xs ≡ take i xs ++ x ∷ []
 taken_more [] i x lt is = absurd (omega arith)
 taken_more (y ∷ ys) zero x lt is = ap (λ z. z ∷ []) (sym is)
 taken_more (y ∷ ys) (suc i) x lt is = ap (λ k. take k (y ∷ ys)) (add-one (suc i)) ∙ ap (λ l. y ∷ l) (ap (λ k. take k ys) (sym (add-one i)) ∙ taken_more ys i x (omega arith) is)
 
--- a list with item i changed: what comes behind it
+-- a list with item i changed: the items after it
 pub behind : {X : Type 0} (xs : List X) (i : ℕ) (u : X) → i < length xs → drop (i + 1) (set xs i u) ≡ drop (i + 1) xs
 behind [] i u l = absurd (omega arith)
 behind (x ∷ xs) zero u l = refl
@@ -37,7 +37,7 @@ behind (x ∷ xs) (suc i) u l =
     let e : suc i + 1 ≡ suc (i + 1) = omega arith in
     ap (λ k. drop k (x ∷ set xs i u)) e ∙ behind xs i u (omega arith) ∙ ap (λ k. drop k (x ∷ xs)) (sym e)
 
--- lists that are the same from a place on are the same at it, and behind it
+-- lists that are equal from an index on are equal at it, and after it
 pub same_at : {X : Type 0} (xs ys : List X) (i : ℕ) (x : X) → drop i xs ≡ drop i ys → get_or xs i x ≡ get_or ys i x
 same_at xs ys i x same = sym (from xs i x) ∙ ap (λ l. get_or l 0 x) same ∙ from ys i x
   where
@@ -56,7 +56,7 @@ same_behind xs ys i same = from xs i ∙ ap (drop 1) same ∙ sym (from ys i)
     from (y ∷ ys) zero = refl
     from (y ∷ ys) (suc i) = let e : suc i + 1 ≡ suc (i + 1) = omega arith in ap (λ k. drop k (y ∷ ys)) e ∙ from ys i
 
--- A walk through a list that is changed in place has come to a place, where it sees each item by a view.
+-- A walk over a list changed in place has reached an index, and sees each item through a view.
 module _ {S X Y : Type 0} (view : X → Y) (f : S → Y → S × Y) (first now later : S) (xs old : List X) (i : ℕ) (x u : X)
     (on : (now, map view (take i xs)) ≡ scanned f first (map view (take i old))) (rest : drop i xs ≡ drop i old) (lt : i < length xs) (long : length xs ≡ length old) (is : x ≡ get_or xs i x) (did : (later, view u) ≡ f now (view x)) where
   pub walk_item : x ≡ get_or old i x
@@ -75,13 +75,13 @@ settled : {A : Type 0} (xs ys : List A) (n : ℕ) → n ≡ length ys → length
 settled xs ys n e long =
     ap₂ (λ k zs. take k (xs ++ zs)) (e ∙ sym long) (drop_of_length-le ys (omega arith)) ∙ take_at xs [] (length xs) refl
 
--- it has come to the end
+-- it has reached the end
 pub walk_end : {S X Y : Type 0} (view : X → Y) (f : S → Y → S × Y) (first now : S) (xs old : List X) (i n : ℕ) → (now, map view (take i xs)) ≡ scanned f first (map view (take i old)) → length xs ≡ length old → length xs ≤ i → n ≡ length old
     → (now, map view (take n (xs ++ drop (length xs) old))) ≡ scanned f first (map view old)
 walk_end view f first now xs old i n on long le e =
     ap (λ l. (now, map view l)) (settled xs old n e long ∙ sym (take_all i xs le)) ∙ on ∙ ap (λ l. scanned f first (map view l)) (take_all i old (omega (arith, le, long)))
 
--- ---- the same where each item is changed by itself
+-- ---- the same if each item is changed independently
 
 pure_scanned : {Y : Type 0} (g : Y → Y) (ys : List Y) → scanned (λ (v : Unit {0}) y. (v, g y)) tt ys ≡ (tt, map g ys)
 pure_scanned g [] = refl
@@ -106,7 +106,7 @@ more_mapped view seen g done xs i x z on lt is did =
     map-append seen done (z ∷ []) ∙ ap₂ (λ l y. l ++ y ∷ []) on did
     ∙ sym (map-append g (map view (take i xs)) (view x ∷ [])) ∙ ap (map g) (sym (map-append view (take i xs) (x ∷ []))) ∙ ap (λ l. map g (map view l)) (sym (taken_more xs i x lt is))
 
--- ---- what walks make of fields
+-- ---- the results of walks over fields
 
 pub rows_scanned : {S : Type 0} (f : Visiting S) (v : S) (rs : Rows) → fields_scanned f v (fields_of rs) ≡ ((scanned (row_scanned f) v rs).0, fields_of (scanned (row_scanned f) v rs).1)
 rows_scanned f v [] = refl
@@ -119,7 +119,7 @@ scanned_joined f v (x ∷ xs) ys = ap (before (f v x)) (scanned_joined f (f v x)
 abbrev pub rows_in_views : List (ℕ × Rows) → List Rows
 rows_in_views cs = map (λ c. c.1) cs
 
--- chunks in turn are their rows in turn
+-- walking chunks in order is walking their rows in order
 pub chunks_scanned : {S : Type 0} (f : Visiting S) (v : S) (cs : List (ℕ × Rows))
     → scanned (row_scanned f) v (joined (rows_in_views cs)) ≡ ((scanned (chunk_scanned f) v cs).0, joined (rows_in_views (scanned (chunk_scanned f) v cs).1))
 chunks_scanned f v [] = refl
@@ -128,7 +128,7 @@ chunks_scanned f v (c ∷ cs) =
     scanned_joined (row_scanned f) v c.1 (joined (rows_in_views cs))
     ∙ ap (λ y. (y.0, (scanned (row_scanned f) v c.1).1 ++ y.1)) (chunks_scanned f w cs)
 
--- what stands behind a place has no more nodes than all
+-- the items after an index have no more nodes than all
 pub nodes_behind : (es : List Entry) (i : ℕ) → nodes_fields (fields_of (rows (drop i es))) ≤ nodes_fields (fields_of (rows es))
 nodes_behind es zero = omega arith
 nodes_behind [] (suc i) = omega arith

@@ -1,4 +1,4 @@
--- First contents, marks and flat values of related values, and a write that all holders of a cell see.
+-- First contents, marks and flat values of related values, and a write seen through all holders of a cell.
 use Rattle.std.proofs.Common.{◌≡◌, ℕ, zero, suc, Bool, true, false, List, [], ◌∷◌, slice_get, Option, Some, None, is_some, is_none, unwrap_or, ◌||◌, option_and_then, option_map, refl, sym, ap, ap₂, ◌∙◌, length}
 use Rattle.rhai_value.specs.declared.cells.store.Cell.{Cell}
 use Rattle.rhai_value.specs.Tree.{Tree, node, leaf, branch, fields, holder, cell_of, copy}
@@ -17,7 +17,7 @@ use Rattle.rhai_value.proofs.Zips.{by_alike}
 pub same_first : (r : Renaming) (s z : List Cell) → RelatedCells r s z → (t u : Tree) → Related r t u → Alike (Related r) (first s t) (first z u)
 same_first r s z cells = by_trees r (λ t u. Alike (Related r) (first s t) (first z u)) (λ l g m. (refl, refl, refl)) (λ k ts us g m e. ((refl, e), refl, refl)) (λ fs hs g m e. (e, refl, refl)) (λ c d g m p. same_at r s z c d cells p)
 
--- where values are locked, related values are too
+-- of related values, both are locked or neither
 same_none : {A B : Type 0} (R : A → B → Type 0) (o : Option A) (q : Option B) → Alike R o q → is_none o ≡ is_none q
 same_none R = by_alike R (λ o q. is_none o ≡ is_none q) refl (λ a b h. refl)
 
@@ -44,8 +44,9 @@ pub same_flattened : (r : Renaming) (s z : List Cell) (t u : Tree) → IsOneToOn
 same_flattened r s z t u one cells = by_trees r (λ t u. Related r (flattened s t) (flattened z u)) (λ l g m. (refl, refl, refl)) (λ k ts us g m e. ((refl, e), refl, refl)) (λ fs hs g m e. (e, refl, refl))
     (λ c d g m p. same_flattened_holder r (at s c) (at z d) (node (holder c) g m) (node (holder d) g m) (same_at r s z c d cells p) (p, refl, refl) (end s [] (node (holder c) g m)) (end z [] (node (holder d) g m)) (same_end r s z (node (holder c) g m) (node (holder d) g m) one cells (p, refl, refl))) t u
 
--- the source of a holder whose cell has no holder is what the cell has, that of one whose cell opens what stands ahead; there is none
--- of a value that is no holder, and of a holder whose cell doesn't open
+-- the source of a holder whose cell has no holder is the cell's content, that of one whose cell
+-- opens the value at the chain's end; a value that isn't a holder, and a holder whose cell doesn't
+-- open, have none
 pub near_source : (s : List Cell) (t w : Tree) (c : ℕ) → Some (InCell c) ≡ first_site s t → Some w ≡ first s t → None ≡ cell_of w → Some w ≡ flat_source s t
 near_source s (node (leaf l) g m) w c p q alone = cc
 near_source s (node (branch k ts) g m) w c p q alone = cc
@@ -74,7 +75,7 @@ barred_source s (node (branch k ts) g m) q = refl
 barred_source s (node (fields fs) g m) q = refl
 barred_source s (node (holder d) g m) q = rw (sym q) refl
 
--- what is flat is the copy of the source, and of the value itself where it has none
+-- the flat value is the copy of the source, or of the value itself if it has none
 flat_at : (s : List Cell) (t u : Tree) (e : End) → unwrap_or (value_ahead e) t ≡ u → end s [] t ≡ e → flat s t ≡ copy u
 flat_at s t u e h p = ap (λ e. copy (unwrap_or (value_ahead e) t)) p ∙ ap copy h
 
@@ -88,7 +89,7 @@ flat_by_source s (node (holder c) g m) = by_cell (at s c) refl
     by_cell None e = rw e (flat_at s (node (holder c) g m) _ _ refl (sym (end_barred s (node (holder c) g m) (sym e))))
     by_cell (Some x) e = rw e refl
 
--- a value is flattened by the copy of its source, and stays where it has none
+-- a value is flattened to the copy of its source, and unchanged if it has none
 kept_holder : (o : Option Tree) (e : End) (t : Tree) → None ≡ option_and_then (λ x. value_ahead e) o → t ≡ flattened_holder o e t
 kept_holder None e t h = refl
 kept_holder (Some x) (held site v) t h = cc
@@ -117,7 +118,7 @@ written_there : (b : Bool) (t v w : Tree) → unmarked (record { content = t; is
 written_there true t v w e = cc
 written_there false t v w e = refl
 
--- what was put into a cell that is read is read there
+-- a value written to a readable cell is read there
 pub at_put : (s : List Cell) (c : ℕ) (v w : Tree) → at s c ≡ Some v → at (put s c w) c ≡ Some w
 at_put [] c v w e = cc
 at_put (x ∷ s) zero v w e = written_there x.is_marked x.content v w e
@@ -138,7 +139,7 @@ others_stay s (node (branch k ts) g m) w c h = refl
 others_stay s (node (fields fs) g m) w c h = refl
 others_stay s (node (holder d) g m) w c h = get_unchanged _ s d c (λ e. h (ap Some (sym e)))
 
--- what is written over the first contents of related values leaves related values and stores
+-- writes over the first contents of related values leave related values and stores
 pub same_value_with_first : (r : Renaming) (x y : Tree) → Related r x y → (t u : Tree) → Related r t u → Related r (value_with_first x t) (value_with_first y u)
 same_value_with_first r x y h = by_trees r (λ t u. Related r (value_with_first x t) (value_with_first y u)) (λ l g m. h) (λ k ts us g m e. h) (λ fs hs g m e. h) (λ c d g m e. (e, refl, refl))
 

@@ -1,11 +1,11 @@
--- Scans by visitors that take related values to such.
+-- Scans by visitors that map related values to related ones.
 use Rattle.std.proofs.Common.{◌≡◌, ℕ, zero, suc, ◌+◌, refl, sym, ap, ap₂, ◌∙◌, subst}
 use Rattle.rhai_value.specs.Tree.{Tree, Trees, no_trees, tree_then, Fields, no_fields, field_then, nodes, nodes_trees, nodes_fields}
 use Rattle.rhai_value.specs.Relation.{Renaming, Related, AllRelated, RelatedFields}
 use Rattle.rhai_value.specs.Scan.{Visiting, SameVisits, each_scanned, fields_scanned, children_scanned, scan_in, scan}
 use Rattle.rhai_value.proofs.SameTrees.{by_related, by_trees}
 
--- two visitors make related states and values of such
+-- two visitors map related states and values to related ones
 abbrev pub RelatedVisits : {S Z : Type 0} → Renaming → (S → Z → Type 0) → Visiting S → Visiting Z → Type 0
 RelatedVisits {S} {Z} r R f h = (v : S) (w : Z) (t u : Tree) → R v w → Related r t u → R (f v t).0 (h w u).0 × Related r (f v t).1 (h w u).1
 
@@ -52,7 +52,7 @@ module _ {S Z : Type 0} (r : Renaming) (R : S → Z → Type 0) where
       let it = same_scan_in f h same (nodes t) v w t u p e in
       rw (sym (same_nodes r t u e)) it
 
--- the same for one visitor, whose state names no cells
+-- the same for one visitor, whose state has no cell numbers
 pub same_visits : {S : Type 0} (r : Renaming) (f : Visiting S) → SameVisits r f → SameVisits r (scan f)
 same_visits {S} r f same v t u e =
     same_scan r (λ (a : S) (b : S). a ≡ b) f f (λ v w t u p e. let one = same v t u e in (one.0 ∙ ap (λ a. (f a u).0) p, subst (λ a. Related r (f v t).1 (f a u).1) p one.1)) v v t u refl e

@@ -1,4 +1,4 @@
--- Values that are the same up to the numbers of their cells.
+-- Values that are equal up to a renaming of cells.
 use Rattle.std.proofs.Common.{◌≡◌, ℕ, ℤ, Bool, true, false, cond, List, Option, refl, is_some}
 use Rattle.rhai_value.specs.declared.value.access_mode.AccessMode.{AccessMode}
 use Rattle.rhai_value.specs.Tree.{Tree, node, Content, Leaf, leaf, int, branch, fields, holder, Kind, array, function, Trees, no_trees, tree_then, Fields, no_fields, field_then, tag_of, mode_of, cell_of, is_host, with_tag, copy, copy_trees, copy_fields, paint, paint_trees, paint_fields}
@@ -6,8 +6,9 @@ use Rattle.rhai_value.specs.Parts.{leaf_part, leaf_int, array_of, map_of, functi
 use Rattle.rhai_value.specs.Types.{tree_type}
 use Rattle.rhai_value.specs.Relation.{Renaming, paired, Related, RelatedContent, AllRelated, RelatedFields, RelatedFunctions, Alike, Respect}
 
--- What holds of each leaf with itself, of holders of paired cells, of branches of one kind where it holds of their children, and of
--- maps where it holds of their fields, holds of related values.
+-- A relation that holds of each leaf with itself, of holders of paired cells, of branches of one
+-- kind if it holds of their children, and of maps if it holds of their fields, holds of related
+-- values.
 module _ (r : Renaming) (P : Tree → Tree → Type 0) (Q : Trees → Trees → Type 0) (S : Fields → Fields → Type 0)
     (leaves : (l : Leaf) (g : ℤ) (m : AccessMode) → P (node (leaf l) g m) (node (leaf l) g m))
     (branches : (k : Kind) (ts us : Trees) (g : ℤ) (m : AccessMode) → AllRelated r ts us → Q ts us → P (node (branch k ts) g m) (node (branch k us) g m))
@@ -38,7 +39,7 @@ module _ (r : Renaming) (P : Tree → Tree → Type 0) (Q : Trees → Trees → 
     by_fields (field_then k t fs) (field_then j u hs) e = rw (← e.0) (then_field k t u fs hs (by_related t u e.1) (by_fields fs hs e.2))
     by_fields _ _ e = absurd e
 
--- the same where nothing is asked of the children and the fields
+-- the same without conditions on the children and the fields
 pub by_trees : (r : Renaming) (P : Tree → Tree → Type 0) → ((l : Leaf) (g : ℤ) (m : AccessMode) → P (node (leaf l) g m) (node (leaf l) g m))
     → ((k : Kind) (ts us : Trees) (g : ℤ) (m : AccessMode) → AllRelated r ts us → P (node (branch k ts) g m) (node (branch k us) g m))
     → ((fs hs : Fields) (g : ℤ) (m : AccessMode) → RelatedFields r fs hs → P (node (fields fs) g m) (node (fields hs) g m))

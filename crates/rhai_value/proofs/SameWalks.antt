@@ -1,4 +1,4 @@
--- Walks over stores that are the same up to the numbers of their cells.
+-- Walks over stores that are equal up to a renaming of cells.
 use Rattle.std.proofs.Common.{◌≡◌, ℕ, zero, suc, ◌+◌, Bool, true, false, ◌||◌, List, [], ◌∷◌, length, Option, Some, option_and_then, refl, sym, ap, ap₂, ◌∙◌, subst, subst₂, arith}
 use Rattle.std.specs.List.{AllZip}
 use Rattle.rhai_value.specs.declared.cells.store.Cell.{Cell}
@@ -27,7 +27,7 @@ unmarked_alike r true true t u e h = tt
 unmarked_alike r false false t u e h = h
 unmarked_alike r _ _ t u e h = cc
 
--- what is read of paired cells
+-- reading paired cells
 pub same_at : (r : Renaming) (s z : List Cell) (c d : ℕ) → RelatedCells r s z → Paired r c d → Alike (Related r) (at s c) (at z d)
 same_at r s z c d cells p =
     let h = cells c d p in
@@ -56,7 +56,7 @@ map_alike r R f g o q k h = by_visits (Related r) (λ o q. AlikeVisit R (visit_m
 unentered_alike : {A B : Type 0} (r : Renaming) (R : A → B → Type 0) (o q : Visit Tree) → AlikeVisit (Related r) o q → AlikeVisit R (unentered o) (unentered q)
 unentered_alike {A} {B} r R o q h = by_visits (Related r) (λ o q. AlikeVisit R (unentered {A = A} o) (unentered {A = B} q)) (λ a b e. tt) tt tt o q h
 
--- two shapes take related trees, whose holders lead to related values, to related values
+-- two shapes map related trees, whose holders lead to related values, to related values
 abbrev pub Keeps : {A B : Type 0} → Renaming → (List ℕ → (ℕ → Visit A) → Tree → A) → (List ℕ → (ℕ → Visit B) → Tree → B) → (A → B → Type 0) → Type 0
 Keeps {A} {B} r shape form R =
     (path road : List ℕ) (h : ℕ → Visit A) (k : ℕ → Visit B) (t u : Tree) → AllZip (Paired r) path road → ((c d : ℕ) → Paired r c d → AlikeVisit R (h c) (k d)) → Related r t u → R (shape path h t) (form road k u)
@@ -71,7 +71,8 @@ module _ {A B : Type 0} (r : Renaming) (shape : List ℕ → (ℕ → Visit A) �
       (λ x y e. same_walk_in keeps one cells n (c ∷ path) (d ∷ road) x y (p, same) e)
       (visit_of_alike r (at s c) (at z d) _ _ (same_open r c d path road one p same) (same_at r s z c d cells p))) h
 
-  -- A walk takes related values to related ones, in stores of different lengths, from open cells that are paired place by place.
+  -- A walk maps related values to related ones, in stores of different lengths, from open cells
+  -- that are paired item by item.
   pub same_walk_from : Keeps r shape form R → IsOneToOne r → RelatedCells r s z → (path road : List ℕ) → RelatedPaths r path road → (t u : Tree) → Related r t u → R (walk shape s path t) (walk form z road u)
   same_walk_from keeps one cells path road same t u h =
       let e : length s + length z ≡ length z + length s = omega arith in
@@ -91,7 +92,7 @@ end_kept r path road h k t u same to = by_trees r (λ t u. RelatedEnds r (end_of
     (λ l g m. (site_alike r _ _ (zip_get (Paired r) path road 0 same), (refl, refl, refl))) (λ i ts us g m e. (site_alike r _ _ (zip_get (Paired r) path road 0 same), ((refl, e), refl, refl))) (λ fs hs g m e. (site_alike r _ _ (zip_get (Paired r) path road 0 same), (e, refl, refl)))
     (λ c d g m p. end_at_alike r (node (holder c) g m) (node (holder d) g m) (h c) (k d) (p, refl, refl) (to c d p)) t u
 
--- the ends of the chains from related values are the same, whichever paired cells were passed
+-- the ends of the chains from related values are related, whichever paired cells were visited
 pub same_end_from : (r : Renaming) (s z : List Cell) (path road : List ℕ) (t u : Tree) → IsOneToOne r → RelatedCells r s z → RelatedPaths r path road → Related r t u → RelatedEnds r (end s path t) (end z road u)
 unfolding end
 same_end_from r s z path road t u one cells same h = same_walk_from r end_of end_of (RelatedEnds r) s z (end_kept r) one cells path road same t u h

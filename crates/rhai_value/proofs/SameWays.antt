@@ -1,4 +1,4 @@
--- Ways of steps from related values, in related stores.
+-- Steps from related values, in related stores.
 use Rattle.std.proofs.Common.{◌≡◌, ◌+◌, ℕ, zero, suc, ℤ, nat_lt, Bool, true, false, cond, List, [], ◌∷◌, length, slice_index_or, slice_set, Option, Some, None, Result, Ok, Err, Bor, refl, sym, ap, ◌∙◌}
 use Rattle.std.specs.List.{AllZip}
 use Rattle.std.specs.Option.{option_map_or}
@@ -33,7 +33,7 @@ listed r _ _ h = absurd h
 pub chained : (r : Renaming) (xs ys : List Tree) → AllZip (Related r) xs ys → AllRelated r (trees_of xs) (trees_of ys)
 chained r = by_zip (Related r) (λ xs ys. AllRelated r (trees_of xs) (trees_of ys)) tt (λ x y xs ys h z more. (h, more))
 
--- ---- what stands one step down
+-- ---- the value one step down
 
 -- related values, or none for the same reason
 abbrev RelatedItems : Renaming → Result Tree PlaceErrorKind → Result Tree PlaceErrorKind → Type 0
@@ -81,9 +81,9 @@ same_item : (r : Renaming) (p : Step) (t u : Tree) → Related r t u → Related
 same_item r (Index i) = same_index r i
 same_item r (Key k) = same_key r k
 
--- ---- and once it was written
+-- ---- and after a write there
 
--- related values are related once related values were written into them
+-- related values are related after related values are written into them
 abbrev Writes : Renaming → (Tree → Tree → Tree) → Tree → Tree → Type 0
 Writes r f t u = (w x : Tree) → Related r w x → Related r (f t w) (f u x)
 
@@ -122,7 +122,7 @@ same_with_item : (r : Renaming) (p : Step) (t u : Tree) → Related r t u → Wr
 same_with_item r (Index i) = same_with_index r i
 same_with_item r (Key k) = same_with_key r k
 
--- ---- ways
+-- ---- steps to a place
 
 module _ (r : Renaming) (one : IsOneToOne r) where
   same_marked : (s z : List Cell) (c d : ℕ) → RelatedCells r s z → paired r c d ≡ true → is_marked_at s c ≡ is_marked_at z d
@@ -159,7 +159,7 @@ module _ (r : Renaming) (one : IsOneToOne r) where
   same_out_of c d n t u (Err a) (Err b) m h k = k
   same_out_of c d n t u _ _ m h k = absurd k
 
-  -- ways that are related from related values and stores
+  -- steps from related values and stores give related results
   abbrev Keeps : (List Cell → Tree → Way) → Type 0
   Keeps go = (s z : List Cell) (t u : Tree) → RelatedCells r s z → Related r t u → RelatedWays r (go s t) (go z u)
 

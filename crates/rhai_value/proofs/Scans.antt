@@ -1,4 +1,4 @@
--- Scans: their equation, their steps through lists and maps, and scans that are the same up to the numbers of cells.
+-- Scans: their equation, their steps over lists and maps, and scans that are equal up to a renaming of cells.
 use Rattle.std.proofs.Common.{◌≡◌, ℕ, zero, suc, ◌+◌, ◌-◌, ◌≤◌, ◌<◌, List, [], ◌∷◌, ◌++◌, length, set, get_or, take, drop, append_assoc, add-one, refl, sym, ap, ap₂, ◌∙◌, arith}
 use Rattle.std.proofs.Math.ListN.{drop_of_length-le}
 use Rattle.std.proofs.Math.Seq.{drop-cons}
@@ -8,7 +8,7 @@ use Rattle.rhai_value.specs.Rows.{trees_of}
 use Rattle.rhai_value.specs.Tree.{Tree, node, Content, leaf, branch, fields, holder, Trees, no_trees, tree_then, Fields, no_fields, field_then, nodes, nodes_content, nodes_trees, nodes_fields}
 use Rattle.rhai_value.specs.Scan.{Visiting, AddsNoNodes, tree_before, field_before, each_scanned, fields_scanned, content_scanned, children_scanned, scan_in, scan}
 
--- visits that agree on small values agree on what these hold
+-- visits that agree on small values agree on their children
 module _ {S : Type 0} (f h : Visiting S) (n : ℕ) (same : (v : S) (t : Tree) → nodes t ≤ n → f v t ≡ h v t) where
   each_same : (v : S) (ts : Trees) → nodes_trees ts ≤ n → each_scanned f v ts ≡ each_scanned h v ts
   each_same v no_trees few = refl
@@ -32,7 +32,7 @@ module _ {S : Type 0} (f h : Visiting S) (n : ℕ) (same : (v : S) (t : Tree) �
   children_same v (node c g m) few = ap (λ x. (x.0, node x.1 g m)) (content_same v c (omega arith))
 
 module _ {S : Type 0} (f : Visiting S) (adds : AddsNoNodes f) where
-  -- where the bound is enough, one more changes nothing
+  -- if the bound suffices, one more changes nothing
   enough : (n : ℕ) (v : S) (t : Tree) → nodes t ≤ n → scan_in f n v t ≡ scan_in f (suc n) v t
   enough zero v (node c g m) few = absurd (omega arith)
   enough (suc n) v t few = children_same (scan_in f n) (scan_in f (suc n)) n (enough n) (f v t).0 (f v t).1 (omega (arith, adds v t))
@@ -49,13 +49,13 @@ module _ {S : Type 0} (f : Visiting S) (adds : AddsNoNodes f) where
       let e : n - nodes t + nodes t ≡ n = omega arith in
       ap (λ k. scan_in f k v t) (sym e) ∙ sym (enough_by (n - nodes t) v t)
 
-  -- the value is visited, and then the children of what came out: no number of nodes is in it
+  -- the value is visited, and then the children of the result: the number of nodes isn't mentioned
   pub scan_opens : (v : S) (t : Tree) → scan f v t ≡ children_scanned (scan f) (f v t).0 (f v t).1
   unfolding scan
   scan_opens v (node c g m) =
       children_same (scan_in f (nodes_content c)) (scan f) (nodes_content c) (bounded (nodes_content c)) (f v (node c g m)).0 (f v (node c g m)).1 (adds v (node c g m))
 
--- A scan has come through these items: what it makes of the rest goes on to make the whole.
+-- A scan has passed these items: scanning the rest completes the whole.
 pub record OnThroughItems {S : Type 0} (f : Visiting S) (first now : S) (all : Trees) (done : List Tree) (rest : Trees) : Type 0 where
   pub ends : (w : S) (us : List Tree) → (w, trees_of us) ≡ each_scanned f now rest → (w, trees_of (done ++ us)) ≡ each_scanned f first all
 
@@ -63,7 +63,7 @@ settled : {A : Type 0} (xs ys : List A) (n : ℕ) → n ≡ length ys → length
 settled xs ys n e long =
     ap₂ (λ k zs. take k (xs ++ zs)) (e ∙ sym long) (drop_of_length-le ys (omega arith)) ∙ take_at xs [] (length xs) refl
 
--- a list with item i changed: what comes behind it
+-- a list with item i changed: the items after it
 pub behind : (xs : List Tree) (i : ℕ) (u : Tree) → i < length xs → drop (i + 1) (set xs i u) ≡ drop (i + 1) xs
 behind [] i u l = absurd (omega arith)
 behind (x ∷ xs) zero u l = refl
@@ -81,7 +81,7 @@ head_or a [] = a
 head_or a (x ∷ xs) = x
 
 module _ {S : Type 0} (f : Visiting S) (first now later : S) where
-  -- the scan goes on by an item
+  -- the scan advances by an item
   module _ (all : Trees) (xs old : List Tree) (i : ℕ) (x u : Tree) (on : OnThroughItems f first now all (take i xs) (trees_of (drop i old))) (rest : drop i xs ≡ drop i old) (lt : i < length xs) (long : length xs ≡ length old) (is : x ≡ get_or xs i x) (did : (later, u) ≡ f now x) where
     this_first : drop i xs ≡ x ∷ drop (i + 1) xs
     this_first = drop-cons xs i x lt ∙ ap₂ (λ y k. y ∷ drop k xs) (sym is) (sym (add-one i))
@@ -106,7 +106,7 @@ module _ {S : Type 0} (f : Visiting S) (first now later : S) where
           ap (λ ys. (w, trees_of ys)) (ap (λ ys. ys ++ us) (take-set_at xs i (i + 1) u refl lt) ∙ append_assoc (take i xs) (u ∷ []) us) ∙ on.ends w (u ∷ us) q;
     }
 
-  -- the scan has come to the end of the items
+  -- the scan has reached the end of the items
   pub items_end : (all : Trees) (xs old : List Tree) (i n : ℕ) → OnThroughItems f first now all (take i xs) (trees_of (drop i old)) → length xs ≡ length old → length xs ≤ i → n ≡ length old
       → (now, trees_of (take n (xs ++ drop (length xs) old))) ≡ each_scanned f first all
   items_end all xs old i n on long le e =

@@ -1,4 +1,4 @@
--- What a write, an entry that comes and an entry that goes make of the rows around a place.
+-- The effect of a write, an insertion and a removal on the rows around a place.
 use Rattle.std.proofs.Common.{◌≡◌, ℕ, zero, suc, ◌+◌, ◌<◌, ◌≤◌, List, [], ◌∷◌, ◌++◌, length, map, take, drop, set, get_or, None, refl, ap, ap₂, sym, subst, ◌∙◌, arith}
 use Rattle.std.proofs.lemmas.List.{append_assoc, get_or-map, get_or-set_same, get_or_default, length-map, map-set, take-set}
 use Rattle.std.specs.Int.{w64, from_be_bytes}
@@ -19,7 +19,7 @@ use Rattle.rhai_value.proofs.KeptKeys.{rising_in, texts_in}
 use Rattle.rhai_value.proofs.Lists.{keys_valued, rising_taken, texts_put, texts_taken}
 use Rattle.rhai_value.proofs.Seats.{fronted_at, rows_seated, rows_split}
 
--- ---- lists in which one is changed
+-- ---- lists of which one is changed
 
 before_set : {A : Type 0} (ls : List A) (n : ℕ) (l : A) → take n (set ls n l) ≡ take n ls
 before_set ls n l = take-set ls n l
@@ -62,7 +62,7 @@ module _ (p q : MapParts) (s : Seat) (h : IsSeated p s) (r : Row) (is : lists_of
     within = subst (λ n. s.at < n) (sym (ap length list_written ∙ length_set (list_at p s.list) s.at r)) h.within;
   }
 
-  -- the parts stay whole where the key stays
+  -- the parts stay whole if the key is unchanged
   pub written_whole : r.0 ≡ (row_at p s).0 → AreFronted q.rest.items → q.len ≡ p.len → IsWhole p → IsWhole q
   written_whole key fronted len whole =
       let now : rows_of q ≡ rows_before p s ++ r ∷ rows_past p s = rows_seated q s written_seated ∙ ap₂ (λ xs ys. xs ++ row_at q s ∷ ys) written_before written_past ∙ ap (λ x. rows_before p s ++ x ∷ rows_past p s) written_row in
@@ -75,7 +75,7 @@ module _ (p q : MapParts) (s : Seat) (h : IsSeated p s) (r : Row) (is : lists_of
         counted = len ∙ whole.counted ∙ sym (length-map (rows_of p) (λ x. x.0)) ∙ sym (ap length same) ∙ length-map (rows_of q) (λ x. x.0);
       }
 
--- ---- the lists once an entry is changed
+-- ---- the lists after an entry is changed
 
 pub rows_set : (es : List Entry) (i : ℕ) (e : Entry) → rows (set es i e) ≡ set (rows es) i (row_of e)
 rows_set es i e = map-set row_of es i e
@@ -86,11 +86,11 @@ first_set p q l first rest = ap₂ (λ x cs. x ∷ map chunk_rows cs) first rest
 pub chunk_set : (p q : MapParts) (m : ℕ) (c : Chunk) (l : Rows) → q.first.items ≡ p.first.items → q.rest.items ≡ set p.rest.items m c → chunk_rows c ≡ l → lists_of q ≡ set (lists_of p) (suc m) l
 chunk_set p q m c l first rest is = ap₂ (λ es cs. rows es ∷ map chunk_rows cs) first rest ∙ ap (λ ls. rows p.first.items ∷ ls) (map-set chunk_rows p.rest.items m c ∙ ap (set (map chunk_rows p.rest.items) m) is)
 
--- the list of a number is changed
+-- the list of this number is changed
 pub first_edit : (p q : MapParts) (n : ℕ) (f : Rows → Rows) → n ≡ 0 → rows q.first.items ≡ f (rows p.first.items) → q.rest.items ≡ p.rest.items → lists_of q ≡ set (lists_of p) n (f (list_at p n))
 first_edit p q n f h first rest = rw h (first_set p q (f (rows p.first.items)) first rest)
 
--- the entries of the list of a number
+-- the entries of the list of this number
 pub list_first : (p : MapParts) (n : ℕ) → n ≡ 0 → list_at p n ≡ rows p.first.items
 list_first p n h = rw h refl
 
@@ -110,7 +110,7 @@ seated_row p s es is = ap (λ l. get_or l s.at ([], fresh unit)) is ∙ row_entr
 pub read_row : (p : MapParts) (s : Seat) (es : List Entry) (e : Entry) → list_at p s.list ≡ rows es → s.at < length es → e ≡ get_or es s.at e → row_at p s ≡ row_of e
 read_row p s es e here lt is = seated_row p s es here ∙ ap row_of (sym (is ∙ get_or_default es s.at e (record { key = []; value = fresh unit }) lt))
 
--- a value is written into the entries of a list
+-- a value is written to the entries of a list
 pub valued : (p : MapParts) (s : Seat) (es us : List Entry) (v : Tree) → list_at p s.list ≡ rows es → us ≡ set es s.at (record (entry_at es s.at) { value = v }) → rows us ≡ set (list_at p s.list) s.at ((row_at p s).0, v)
 valued p s es us v is now =
     ap rows now ∙ rows_set es s.at (record (entry_at es s.at) { value = v }) ∙ ap₂ (λ l (r : Row). set l s.at (r.0, v)) (sym is) (sym (seated_row p s es is))
@@ -128,7 +128,7 @@ with_chunk p n m i c e w h lt read within is =
     rw h (ap (λ (d : Entry). record p { rest = with_item p.rest m (record c { entries = with_item c.entries i (record d { value = w }) }) }) entry
     ∙ ap (λ (d : Chunk). record p { rest = with_item p.rest m (record d { entries = with_tree d.entries i w }) }) chunk)
 
--- where there is an entry, the parts count one
+-- if there is an entry, the parts count at least one
 pub some_entry : (p : MapParts) (s : Seat) → IsWhole p → IsSeated p s → 1 ≤ p.len
 some_entry p s whole h = omega (arith, whole.counted, ap length (rows_seated p s h), long (rows_before p s) (row_at p s) (rows_past p s))
   where
@@ -151,7 +151,7 @@ fronted_set [] (suc m) c h b = h
 fronted_set (x ∷ xs) zero c h b = (b, h.1)
 fronted_set (x ∷ xs) (suc m) c h b = (h.0, fronted_set xs m c h.1 b)
 
--- parts of the same rows are whole
+-- parts with the same rows are whole
 pub same_whole : (p q : MapParts) → rows_of q ≡ rows_of p → AreFronted q.rest.items → q.len ≡ p.len → IsWhole p → IsWhole q
 same_whole p q same fronted len whole = record {
   rising = subst AreRising (sym same) whole.rising;
@@ -171,7 +171,7 @@ empty_whole p first rest len =
       counted = len ∙ sym (ap length none);
     }
 
--- ---- an entry comes
+-- ---- inserting an entry
 
 module _ (p q : MapParts) (s : Seat) (h : IsOpen p s) (r : Row) (is : lists_of q ≡ set (lists_of p) s.list (insert (list_at p s.list) s.at r)) where
   pub rows_put : rows_of q ≡ rows_before p s ++ r ∷ rows_from p s
@@ -183,7 +183,7 @@ module _ (p q : MapParts) (s : Seat) (h : IsOpen p s) (r : Row) (is : lists_of q
       ∙ ap (λ l. joined (take s.list (lists_of p)) ++ l) (append_assoc up (r ∷ down) later)
       ∙ sym (append_assoc (joined (take s.list (lists_of p))) up (r ∷ (down ++ later)))
 
--- ---- an entry goes
+-- ---- removing an entry
 
 module _ (p q : MapParts) (s : Seat) (h : IsSeated p s) (is : lists_of q ≡ set (lists_of p) s.list (remove (list_at p s.list) s.at)) where
   pub rows_taken : rows_of q ≡ rows_before p s ++ rows_past p s
@@ -204,7 +204,7 @@ map_insert f (y ∷ ys) (suc i) x = ap (λ l. f y ∷ l) (map_insert f ys i x)
 pub rows_insert : (es : List Entry) (i : ℕ) (e : Entry) → rows (insert es i e) ≡ insert (rows es) i (row_of e)
 rows_insert es i e = map_insert row_of es i e
 
--- a chunk comes
+-- inserting a chunk
 pub chunk_inserted : (p q : MapParts) (m : ℕ) (c : Chunk) → q.first.items ≡ p.first.items → q.rest.items ≡ insert p.rest.items m c → lists_of q ≡ insert (lists_of p) (suc m) (chunk_rows c)
 chunk_inserted p q m c first rest = ap₂ (λ es cs. rows es ∷ map chunk_rows cs) first rest ∙ ap (λ ls. rows p.first.items ∷ ls) (map_insert chunk_rows p.rest.items m c)
 
@@ -249,7 +249,7 @@ module _ (p q : MapParts) (s : Seat) (whole : IsWhole p) (fronted : AreFronted q
         counted = omega (arith, len, whole.counted, count, ap length is ∙ length_joined (rows_before p s) (rows_past p s));
       }
 
--- ---- a chunk that became empty goes
+-- ---- removing a chunk that became empty
 
 pub removed_set : {A : Type 0} (cs : List A) (m : ℕ) (c : A) → remove (set cs m c) m ≡ remove cs m
 removed_set [] zero c = refl
@@ -273,12 +273,12 @@ joined_removed (c ∷ cs) zero d h = none c.entries.items h
     none (e ∷ es) h = cc
 joined_removed (c ∷ cs) (suc m) d h = ap (λ l. chunk_rows c ++ l) (joined_removed cs m d h)
 
--- the rows stay
+-- the rows are unchanged
 pub emptied_removed : (p q : MapParts) (m : ℕ) (c : Chunk) → q.first ≡ p.first → q.rest.items ≡ remove p.rest.items m → get_or p.rest.items m c ≡ c → length c.entries.items ≡ 0 → rows_of q ≡ rows_of p
 emptied_removed p q m c first rest is none =
     ap₂ (λ v cs. rows v.items ++ joined (map chunk_rows cs)) first rest ∙ ap (λ l. rows p.first.items ++ l) (joined_removed p.rest.items m c (ap (λ (d : Chunk). length d.entries.items) is ∙ none))
 
--- ---- parts of the same lists have the same places
+-- ---- parts with the same lists have the same places
 
 module _ (p q : MapParts) (s : Seat) (is : lists_of q ≡ lists_of p) where
   pub same_lists_open : IsOpen p s → IsOpen q s

@@ -1,4 +1,4 @@
--- What look-ups, insertions and removals are by a place.
+-- Look-ups, insertions and removals by place.
 use Rattle.std.proofs.Common.{◌≡◌, ℕ, ◌+◌, ◌<◌, List, [], ◌∷◌, ◌++◌, ap, ap₂, sym, subst, ◌∙◌, arith}
 use Rattle.std.specs.BTreeMap.{insert_entry, is_at}
 use Rattle.std.specs.Map.{remove_entry, set_value}
@@ -15,7 +15,7 @@ use Rattle.rhai_value.proofs.Parted.{insert_gap, insert_hit, remove_above, remov
 use Rattle.rhai_value.proofs.SeatEdits.{value_rows}
 use Rattle.rhai_value.proofs.Seats.{rows_seated, rows_split}
 
--- ---- a key that is there
+-- ---- a key that exists
 
 module _ (k : List ℕ) (p q : MapParts) (s : Seat) (h : IsFound k p s) where
   pub found_written : (v : Tree) → rows_before q s ≡ rows_before p s → row_at q s ≡ ((row_at p s).0, v) → rows_past q s ≡ rows_past p s → IsSeated q s → rows_of q ≡ insert_entry bytes_cmp (rows_of p) k v

@@ -1,4 +1,4 @@
--- Where a search through the chunks and through one list has come to.
+-- The state of a search through the chunks and through one list.
 use Rattle.std.proofs.Common.{◌≡◌, ℕ, zero, suc, ◌+◌, ◌<◌, ◌≤◌, List, [], ◌++◌, length, map, take, drop, refl, ap, sym, subst, arith}
 use Rattle.std.proofs.lemmas.List.{length-map}
 use Rattle.rhai_value.specs.Lists.{rows, chunk_rows, joined, lists_of, rows_of, AreAbove, AreBelow, IsGap, IsHit}
@@ -13,7 +13,7 @@ use Rattle.rhai_value.proofs.Lists.{above_both, below_both}
 module _ (k : List ℕ) (p : MapParts) (rising : AreRising (rows_of p)) (cs : List Chunk) (same : cs ≡ p.rest.items) (n : ℕ) (bound : n ≤ length cs)
     (above : AreAbove bytes_cmp k (joined (drop n (map chunk_rows cs))))
     (below : (m : ℕ) → n ≡ m + 1 → (xs : Rows) → AreRising (xs ++ joined (map chunk_rows cs)) → AreBelow bytes_cmp k (xs ++ joined (take m (map chunk_rows cs)))) where
-  -- what stands in the lists before
+  -- the keys in the lists before
   before : (j : ℕ) → n ≡ j → AreBelow bytes_cmp k (joined (take j (lists_of p)))
   before zero is = tt
   before (suc m) is =
@@ -23,7 +23,7 @@ module _ (k : List ℕ) (p : MapParts) (rising : AreRising (rows_of p)) (cs : Li
   pub inside : n < length (lists_of p)
   inside = omega (arith, bound, ap length same, length-map p.rest.items chunk_rows)
 
-  -- in the list of that number
+  -- in the list of this number
   module _ (es : List Entry) (is : rows es ≡ list_at p n) (i : ℕ) where
     pub seat_found : IsHit k (rows es) i → IsFound k p (record { list = n; at = i })
     seat_found here =

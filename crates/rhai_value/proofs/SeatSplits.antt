@@ -1,4 +1,4 @@
--- A list that is cut in two, and places in the two parts.
+-- A list split in two, and places in the two parts.
 use Rattle.std.proofs.Common.{◌≡◌, ℕ, zero, suc, ◌+◌, ◌-◌, ◌<◌, ◌≤◌, List, [], ◌∷◌, ◌++◌, length, map, take, drop, set, get_or, MatchOption, Vec, Option, Some, None, refl, ap, ap₂, sym, subst, ◌∙◌, arith, take-append-drop}
 use Rattle.std.proofs.Math.Seq.{map-set_same}
 use Rattle.std.proofs.lemmas.List.{append_assoc, append-nil, drop-map, length-append, length-drop, length-take-le, take-map}
@@ -13,7 +13,7 @@ use Rattle.rhai_value.specs.declared.map.seat.Seat.{Seat}
 use Rattle.rhai_value.proofs.SeatEdits.{chunk_set, first_edit, list_chunk, list_first, same_whole}
 use Rattle.rhai_value.proofs.Seats.{rows_split}
 
--- two lists that are the same, cut after as many elements
+-- two equal lists, split after the same number of items
 pub same_cut : {A : Type 0} (xs us ys vs : List A) → xs ++ ys ≡ us ++ vs → length xs ≡ length us → (xs ≡ us) × (ys ≡ vs)
 same_cut [] [] ys vs is long = (refl, is)
 same_cut [] (u ∷ us) ys vs is long = cc
@@ -30,18 +30,18 @@ same_cut {A} (x ∷ xs) (u ∷ us) ys vs is long =
     rest_of [] = []
     rest_of (b ∷ bs) = bs
 
--- places of two maps of the same rows, with as many rows before them
+-- places of two maps with the same rows, with the same number of rows before them
 pub same_place : (p q : MapParts) (s t : Seat) → s.list < length (lists_of p) → t.list < length (lists_of q) → rows_of q ≡ rows_of p → length (rows_before q t) ≡ length (rows_before p s) → (rows_before q t ≡ rows_before p s) × (rows_from q t ≡ rows_from p s)
 same_place p q s t lt within same long =
     same_cut (rows_before q t) (rows_before p s) (rows_from q t) (rows_from p s) (sym (rows_split q t within) ∙ same ∙ rows_split p s lt) long
 
--- a list is cut in two
+-- a list is split in two
 pub joined_cut : {A : Type 0} (ls : List (List A)) (n i : ℕ) → n < length ls → joined (insert (set ls n (take i (get_or ls n []))) (suc n) (drop i (get_or ls n []))) ≡ joined ls
 joined_cut [] n i lt = absurd (omega arith)
 joined_cut (l ∷ ls) zero i lt = sym (append_assoc (take i l) (drop i l) (joined ls)) ∙ ap (λ x. x ++ joined ls) (take-append-drop i l)
 joined_cut (l ∷ ls) (suc n) i lt = ap (λ x. l ++ x) (joined_cut ls n i (omega arith))
 
--- how many rows stand before a place, once a list is cut
+-- the number of rows before a place, after a list is split
 pub before_cut : {A : Type 0} (ls : List (List A)) (n : ℕ) (l u : List A) → n < length ls → joined (take n (insert (set ls n l) (suc n) u)) ≡ joined (take n ls)
 before_cut [] n l u lt = absurd (omega arith)
 before_cut (x ∷ xs) zero l u lt = refl
@@ -67,7 +67,7 @@ length_cut [] n l u lt = absurd (omega arith)
 length_cut (x ∷ xs) zero l u lt = refl
 length_cut (x ∷ xs) (suc n) l u lt = ap suc (length_cut xs n l u (omega arith))
 
--- ---- the list of a number is cut, if memory isn't refused
+-- ---- the list of this number is split, unless an allocation fails
 
 rows_take : (i : ℕ) (es : List Entry) → rows (take i es) ≡ take i (rows es)
 rows_take i es = sym (take-map row_of i es)

@@ -50,7 +50,7 @@ list_rising p s lt rising =
     let split = subst AreRising (rows_split p first lt) rising in
     rising_left nat_list_cmp_total (list_at p s.list) (joined (drop (suc s.list) (lists_of p))) (rising_right nat_list_cmp_total (rows_before p first) (rows_from p first) split)
 
--- ---- what is found at a place
+-- ---- the entry found at a place
 
 pub found_value : (k : List ℕ) (p : MapParts) (s : Seat) → IsFound k p s → lookup (is_at (bytes_cmp k)) (rows_of p) ≡ Some (row_at p s).1
 found_value k p s h = ap (lookup (is_at (bytes_cmp k))) (rows_seated p s h.seated) ∙ lookup_hit bytes_cmp k (rows_before p s) (rows_past p s) (row_at p s) h.below h.same
@@ -116,7 +116,7 @@ last_some : (c : Chunk) (cs : List Chunk) → AreFronted (c ∷ cs) → length (
 last_some c [] f h = let some = rows_some c.entries.items (begins_some c.front c.entries.items f.0) in omega (arith, some, h)
 last_some c (d ∷ ds) f h = last_some d ds f.1 h
 
--- where the last list is empty, all are
+-- if the last list is empty, all are
 pub last_empty : (p : MapParts) → AreFronted p.rest.items → length (list_at p (length p.rest.items)) ≡ 0 → rows_of p ≡ []
 last_empty p fronted h = by p.rest.items fronted h
   where

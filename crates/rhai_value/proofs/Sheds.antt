@@ -1,4 +1,4 @@
--- What a value loses where a child is taken out, and what holds of one that has none.
+-- The effect of taking a child out of a value, and properties of a value that has none.
 use Rattle.std.proofs.Common.{refl, ◌≡◌, ◌+◌, ◌≤◌, length, map, List, [], ◌∷◌, ◌++◌, ap, arith}
 use Rattle.rhai_value.specs.Lists.{chunk_rows, joined, rows, rows_of, AreFronted, IsWhole}
 use Rattle.rhai_value.specs.Rows.{Rows, trees_of, fields_of}
@@ -15,7 +15,7 @@ nodes_append (t ∷ ts) us = omega (arith, nodes_append ts us)
 pub some_node : (t : Tree) → 1 ≤ nodes t
 some_node (node c g m) = omega arith
 
--- of what holds no other, nothing is left
+-- a value without children has no remaining nodes
 pub no_nodes : (ts : List Tree) → length ts ≡ 0 → nodes_trees (trees_of ts) ≡ 0
 no_nodes [] h = refl
 no_nodes (t ∷ ts) h = cc

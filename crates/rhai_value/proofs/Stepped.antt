@@ -1,4 +1,4 @@
--- What is written one step down into a value.
+-- Writes one step down into a value.
 use Rattle.std.proofs.Common.{◌≡◌, ◌<◌, ◌-◌, ℕ, suc, ℤ, pos, negsuc, nat_lt, Bool, true, false, cond, List, length, Option, Some, None, slice_set, slice_index_or, Ok, Err, Bor, refl, sym, ap, ◌∙◌, subst, arith}
 use Rattle.std.proofs.lemmas.Bool.{ltb-true}
 use Rattle.std.proofs.lemmas.List.{length-set, set-get_or, get_or-set_same, get_or-set_other}
@@ -30,7 +30,7 @@ pub place_within : (n : ℕ) (i : ℤ) (k : ℕ) → item_place n i ≡ Some k �
 place_within n (pos i) k h = place_ahead (nat_lt i n) n i k refl h
 place_within n (negsuc i) k h = place_behind (nat_lt i n) n i k refl h
 
--- ---- an item of an array that is written
+-- ---- writing an item of an array
 
 abbrev of_items : List Tree → ℤ → AccessMode → Tree
 of_items xs g m = node (branch array (trees_of xs)) g m
@@ -59,7 +59,7 @@ module _ (ts : Trees) (i : ℤ) (g : ℤ) (m : AccessMode) where
   apart_at j k w None is there apart = ap (λ n. Err (NoItem n)) (length-set own k w)
   apart_at j k w (Some l) is there apart = ap Ok (get_or-set_other own k l w (fresh unit) (λ e. apart (ap Some e)))
 
--- ---- a key of a map that is written
+-- ---- writing a key of a map
 
 keyed_told : (o : Option Tree) (y : Tree) → keyed_value o ≡ Ok y → o ≡ Some y
 keyed_told None y e = cc
@@ -86,7 +86,7 @@ field_other k q w (field_then j t fs) apart = under (bytes_eq k j) refl (field_o
     under true at again = let none : bytes_eq q j ≡ false = off (bytes_eq q j) refl at in ap (λ b. cond b (Some w) (field_at q fs)) none ∙ sym (ap (λ b. cond b (Some t) (field_at q fs)) none)
     under false at again = ap (cond (bytes_eq q j) (Some t)) again
 
--- ---- what stands one step down
+-- ---- the value one step down
 
 pub item_written : (p : Step) (t y w : Tree) → item_at p t ≡ Ok y → item_at p (with_item p t w) ≡ Ok w
 item_written (Index i) (node (branch array ts) g m) y w h = written_at ts i g m (item_place (length (items_in ts)) i) y w refl h

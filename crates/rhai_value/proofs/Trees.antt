@@ -1,10 +1,10 @@
--- The one induction over values.
+-- The induction over values.
 use Rattle.std.proofs.Common.{ℕ, ℤ, List}
 use Rattle.rhai_value.specs.declared.value.access_mode.AccessMode.{AccessMode}
 use Rattle.rhai_value.specs.Tree.{Tree, node, Content, Leaf, leaf, Kind, branch, fields, holder, Trees, no_trees, tree_then, Fields, no_fields, field_then}
 
--- What holds of each leaf and each holder, of branches where it holds of their children, and of maps where it holds of their fields,
--- holds of each value.
+-- A property that holds of each leaf and each holder, of branches if it holds of their children,
+-- and of maps if it holds of their fields, holds of each value.
 module _ (P : Tree → Type 0) (Q : Trees → Type 0) (S : Fields → Type 0)
     (leaves : (l : Leaf) (g : ℤ) (m : AccessMode) → P (node (leaf l) g m))
     (branches : (k : Kind) (ts : Trees) (g : ℤ) (m : AccessMode) → Q ts → P (node (branch k ts) g m))

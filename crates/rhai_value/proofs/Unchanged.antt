@@ -1,4 +1,4 @@
--- A part that is written over itself changes nothing.
+-- Writing a part over itself changes nothing.
 use Rattle.std.proofs.Common.{◌≡◌, Bool, true, false, if◌then◌else◌, List, [], Option, Some, None, option_map, refl, sym, ap, ap₂, ◌∙◌}
 use Rattle.rhai_value.specs.declared.cells.chain.Site.TheVariants.{Here, InCell}
 use Rattle.rhai_value.specs.declared.parts.in_store.InStore.{InStore}
@@ -13,7 +13,7 @@ use Rattle.rhai_value.specs.Writes.{written}
 use Rattle.rhai_value.proofs.Ends.{stands}
 use Rattle.rhai_value.proofs.Stores.{put-same}
 
--- the content of a value that is of a type
+-- the content of a value of a type
 typed_over : (k : TypeId) (c : Content) (t : Tree) → typed_content k t ≡ Some c → with_content c t ≡ t
 typed_over k c (node d g m) e = by (is_type k (content_type d)) e
   where

@@ -8,7 +8,7 @@ use Rattle.rhai_value.specs.Tree.{Tree, node, leaf, branch, fields, holder, cell
 use Rattle.rhai_value.specs.Store.{at}
 use Rattle.rhai_value.specs.Walk.{Visit, entered, barred, revisited, is_open, visit, visit_of, visit_map, opened, entry, unentered, walk_in, walk}
 
--- how many of the first n cells aren't open
+-- the number of the first n cells that aren't open
 abbrev pub unopened : List ℕ → ℕ → ℕ
 unopened path zero = 0
 unopened path (suc n) = cond (is_open n path) 0 1 + unopened path n
@@ -45,7 +45,7 @@ unopened_falls path c (suc n) l e =
           omega (arith, unopened_falls path c n less e, fewer_or (nat_eq n c) (is_open n path))
     ]
 
--- a cell that has a value to read is one of the store's
+-- a cell with a readable value is in the store
 pub at_within : (s : List Cell) (c : ℕ) (t : Tree) → at s c ≡ Some t → c < length s
 at_within [] c t e = cc
 at_within (x ∷ s) zero t e = omega arith
@@ -56,7 +56,7 @@ visited None b t e = cc
 visited (Some u) true t e = cc
 visited (Some u) false t e = (cc, refl)
 
--- what opens is a cell that wasn't open
+-- a cell that opens wasn't open
 pub opens : (s : List Cell) (path : List ℕ) (c : ℕ) (t : Tree) → visit s path c ≡ entered t → (at s c ≡ Some t) × (is_open c path ≡ false)
 opens s path c t e = visited (at s c) (is_open c path) t e
 
@@ -70,7 +70,7 @@ none_map (entered x) f h = absurd (h x refl)
 none_map barred f h = refl
 none_map revisited f h = refl
 
--- where the bound is enough, one more changes nothing
+-- if the bound suffices, one more changes nothing
 more_room : {A : Type 0} (shape : List ℕ → (ℕ → Visit A) → Tree → A) (n : ℕ) (s : List Cell) (path : List ℕ) (t : Tree) → unopened path (length s) ≤ n → walk_in shape n s path t ≡ walk_in shape (suc n) s path t
 more_room shape zero s path t h =
     ap (λ f. shape path f t) (fun_ext (λ c. none_map (visit s path c) (walk_in shape zero s (c ∷ path)) (λ x e.
@@ -96,7 +96,7 @@ opened_entered (entered u) t e = ap entered (same_Some u t (sym e))
 opened_entered barred t e = cc
 opened_entered revisited t e = cc
 
--- a cell that opens is one fewer of those that aren't open
+-- opening a cell leaves one fewer that aren't open
 pub unopened-entry : (s : List Cell) (path next : List ℕ) (v t : Tree) → Some t ≡ entry s path v → IfSome (cell_of v) (λ c. next ≡ c ∷ path) → unopened next (length s) < unopened path (length s)
 unopened-entry s path next (node (leaf l) g m) t e is = cc
 unopened-entry s path next (node (branch k ts) g m) t e is = cc

@@ -1,4 +1,4 @@
--- Ways of steps: what they lend of values that are no holders, and which cells they leave alone.
+-- Steps to a place: for values that aren't holders, and the cells that they leave unchanged.
 use Rattle.std.proofs.Common.{◌≡◌, ◌+◌, ℕ, zero, suc, nat_eq, nat_lt, Bool, true, false, cond, List, [], ◌∷◌, length, slice_get, Some, None, Result, Ok, Err, refl, sym, ap, ◌∙◌}
 use Rattle.std.proofs.lemmas.Bool.{eq-eqb, eqb-true}
 use Rattle.rhai_value.specs.declared.cells.chain.Site.TheVariants.{Here, InCell}
@@ -17,7 +17,7 @@ use Rattle.rhai_value.proofs.Placed.{lent_is_marked, mark_off}
 use Rattle.rhai_value.proofs.RelatedCells.{get_unchanged, marked_put}
 use Rattle.rhai_value.proofs.Walks.{at_within}
 
--- ---- values that are no holders
+-- ---- values that aren't holders
 
 pub no_step : (s : List Cell) (t : Tree) → cell_of t ≡ None → way [] s t ≡ Ok (whole_place s t)
 no_step s t e = ap (from_end (way_in [] 0) 0 s t) (end_own s [] t e)
@@ -27,9 +27,10 @@ one_step p s t y e is f =
     ap (from_end (way_in (p ∷ []) 0) 0 s t) (end_own s [] t e) ∙ ap (way_on (way_held (way_in [] 1) 1 s) 0 (with_item p t)) is
     ∙ ap (λ z. along (around (with_item p t)) (from_end (way_in [] 1) 1 s y z)) (end_own s [] y f)
 
--- ---- cells that are left alone
+-- ---- unchanged cells
 
--- Each mark of the store is one of the lent store, and a cell that isn't marked there is left as it is.
+-- Each mark of the store is one of the store passed to the callback, and a cell that isn't marked
+-- there is left unchanged.
 pub record LeavesOthers (s : List Cell) (q : Place) : Type 0 where
   pub marks : (d : ℕ) → is_marked_at s d ≡ true → is_marked_at q.store d ≡ true
   pub others : (w : Tree) (u : List Cell) (d : ℕ) → is_marked_at q.store d ≡ false → slice_get (q.back w u).store d ≡ slice_get u d
@@ -88,9 +89,9 @@ alone_way : (b : Bool) (s : List Cell) (why p : Way) → Alone s why → Alone s
 alone_way true s why p h k = h
 alone_way false s why p h k = k
 
--- ---- marks that come back
+-- ---- restored marks
 
--- Where the store is left as it was lent, no mark is lost, and each cell is marked as before.
+-- If the callback leaves the store unchanged, no mark is lost, and each cell is marked as before.
 record Restores (s : List Cell) (q : Place) : Type 0 where
   pub lost : (w : Tree) → (q.back w q.store).lost ≡ None
   pub marks : (w : Tree) (d : ℕ) → is_marked_at (q.back w q.store).store d ≡ is_marked_at s d
@@ -166,7 +167,7 @@ no_mark_is_lost ps s t q e w =
     let one : Restores s q = rw e at all in
     one.lost w
 
--- ---- cells that are left alone, for a whole way
+-- ---- unchanged cells, for all steps
 
 pub others_stay : (ps : List Step) (s : List Cell) (t : Tree) (q : Place) → way ps s t ≡ Ok q → (w : Tree) (u : List Cell) (d : ℕ) → is_marked_at q.store d ≡ false → slice_get (q.back w u).store d ≡ slice_get u d
 others_stay ps s t q e w u d none =

@@ -1,4 +1,4 @@
--- What was written where a chain ends is held there.
+-- A value written at the end of a chain is held there.
 use Rattle.std.proofs.Common.{◌≡◌, ℕ, ℤ, zero, suc, Bool, true, false, List, [], ◌∷◌, length, slice_get, Option, Some, None, option_and_then, refl, sym, ap, ◌∙◌}
 use Rattle.rhai_value.specs.declared.value.access_mode.AccessMode.{AccessMode}
 use Rattle.rhai_value.specs.declared.cells.chain.Site.{Site}
@@ -13,7 +13,7 @@ use Rattle.rhai_value.proofs.Ends.{end_own, stands}
 use Rattle.rhai_value.proofs.RelatedCells.{get_unchanged, length_changed}
 use Rattle.rhai_value.proofs.SameFlat.{at_put}
 
--- a value that is no holder is held, however many cells may be open
+-- a value that isn't a holder is held, however many cells may be open
 own_in : (n : ℕ) (s : List Cell) (path : List ℕ) (t : Tree) → cell_of t ≡ None → walk_in end_of n s path t ≡ held (site_after (slice_get path 0)) t
 own_in zero s path (node (leaf l) g m) e = refl
 own_in (suc n) s path (node (leaf l) g m) e = refl
@@ -23,20 +23,20 @@ own_in zero s path (node (fields fs) g m) e = refl
 own_in (suc n) s path (node (fields fs) g m) e = refl
 own_in n s path (node (holder c) g m) e = cc
 
--- no content that isn't opened is held
+-- a content that isn't opened isn't held
 never : (t : Tree) (o : Visit Tree) (site : Site) (v : Tree) → end_at t (unentered o) ≡ held site v → ⊥
 never t (entered x) site v e = cc
 never t barred site v e = cc
 never t revisited site v e = cc
 
--- what is held beyond a holder is held beyond what its cell has, which opens
+-- the value held through a holder is the one held through its cell's content, which opens
 went_on : (s : List Cell) (path : List ℕ) (t : Tree) (go : Tree → End) (o : Option Tree) (b : Bool) (site : Site) (v : Tree)
     → end_at t (visit_map go (visit_of o b)) ≡ held site v → (u : Tree) × (o ≡ Some u) × (b ≡ false) × (go u ≡ held site v)
 went_on s path t go None b site v e = cc
 went_on s path t go (Some u) true site v e = cc
 went_on s path t go (Some u) false site v e = (u, refl, refl, e)
 
--- what is held is no holder
+-- a held value isn't a holder
 held_alone_in : (n : ℕ) (s : List Cell) (path : List ℕ) (t : Tree) (site : Site) (v : Tree) → walk_in end_of n s path t ≡ held site v → cell_of v ≡ None
 held_alone_in n s path (node (leaf l) g m) site v e = let is : held (site_after (slice_get path 0)) (node (leaf l) g m) ≡ held site v = sym (own_in n s path (node (leaf l) g m) refl) ∙ e in let same : node (leaf l) g m ≡ v = cc in ap cell_of (sym same)
 held_alone_in n s path (node (branch k ts) g m) site v e = let is : held (site_after (slice_get path 0)) (node (branch k ts) g m) ≡ held site v = sym (own_in n s path (node (branch k ts) g m) refl) ∙ e in let same : node (branch k ts) g m ≡ v = cc in ap cell_of (sym same)
@@ -50,9 +50,9 @@ held_alone : (s : List Cell) (t : Tree) (site : Site) (v : Tree) → end s [] t 
 unfolding end
 held_alone s t site v e = held_alone_in (length s) s [] t site v e
 
--- a value v that is no holder is held in the cell c, and one that is no holder is put there
+-- a value v that isn't a holder is held in the cell c, and another one that isn't a holder is written there
 module _ (s : List Cell) (c : ℕ) (v w : Tree) (there : at s c ≡ Some v) (alone : cell_of v ≡ None) (new : cell_of w ≡ None) where
-  -- the cell of a holder on the way isn't the one that is written
+  -- the cell of a holder on the way isn't the written one
   stays : (d : ℕ) (u : Tree) (b : ℕ) → at s d ≡ Some u → cell_of u ≡ Some b → at (put s c w) d ≡ Some u
   stays d u b is e =
       ap (option_and_then unmarked) (get_unchanged _ s c d (λ same.
@@ -61,7 +61,7 @@ module _ (s : List Cell) (c : ℕ) (v w : Tree) (there : at s c ≡ Some v) (alo
       let none : Some b ≡ None = sym e ∙ ap cell_of value ∙ alone in
       cc)) ∙ is
 
-  -- what the cell of a holder has that leads there
+  -- the content of the cell of a holder that leads there
   abbrev Leads : ℕ → List ℕ → ℕ → Type 0
   Leads n path d = (x : Tree) × (at (put s c w) d ≡ Some x) × (walk_in end_of n (put s c w) (d ∷ path) x ≡ held (InCell c) w)
 
@@ -99,7 +99,7 @@ module _ (s : List Cell) (c : ℕ) (v w : Tree) (there : at s c ≡ Some v) (alo
   ends (node (branch k ts) g m) e = absurd (ends_own (node (branch k ts) g m) refl e)
   ends (node (fields fs) g m) e = absurd (ends_own (node (fields fs) g m) refl e)
 
--- what was written over a held value, and is no holder, is held in its place
+-- a value written over a held one, which isn't a holder, is held at its site
 pub end_written : (s : List Cell) (t v : Tree) (f : Tree → Tree) (site : Site) → end s [] t ≡ held site v → cell_of (f v) ≡ None → end_after f s t ≡ held site (f v)
 end_written s t v f Here e none = rw e (end_own s [] (f v) none)
 end_written s t v f (InCell c) e none = rw e (ends s c v (f v) (stands s t (InCell c) v (sym e)) (held_alone s t (InCell c) v e) none t e)

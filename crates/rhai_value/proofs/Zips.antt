@@ -1,17 +1,17 @@
--- Two options that are alike, two lists that are related place by place, and a list at its places.
+-- Two options that are alike, two lists that are related item by item, and the items of a list by index.
 use Rattle.std.proofs.Common.{◌≡◌, ℕ, zero, suc, List, [], ◌∷◌, ◌++◌, length, slice_get, slice_set, take, drop, Option, Some, None, refl, ap}
 use Rattle.std.proofs.lemmas.Option.{none-some}
 use Rattle.std.specs.List.{AllZip}
 use Rattle.rhai_value.specs.Relation.{Alike}
 
--- What holds of no value with none, and of each two values that are related, holds of options that are alike.
+-- A relation that holds of None with None, and of each two related values, holds of options that are alike.
 pub by_alike : {A B : Type 0} (R : A → B → Type 0) (P : Option A → Option B → Type 0) → P None None → ((a : A) (b : B) → R a b → P (Some a) (Some b)) → (o : Option A) (q : Option B) → Alike R o q → P o q
 by_alike R P none some None None h = none
 by_alike R P none some (Some a) (Some b) h = some a b h
 by_alike R P none some _ _ h = absurd h
 
--- What holds of two empty lists, and of two longer ones where it holds of what is behind their first items, holds of lists that are
--- related place by place.
+-- A relation that holds of two empty lists, and of two longer ones if it holds of the rests after
+-- their first items, holds of lists that are related item by item.
 pub by_zip : {A B : Type 0} (R : A → B → Type 0) (P : List A → List B → Type 0) → P [] []
     → ((x : A) (y : B) (xs : List A) (ys : List B) → R x y → AllZip R xs ys → P xs ys → P (x ∷ xs) (y ∷ ys)) → (xs : List A) (ys : List B) → AllZip R xs ys → P xs ys
 by_zip R P none more [] [] h = none

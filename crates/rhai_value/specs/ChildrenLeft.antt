@@ -1,4 +1,4 @@
--- What is left of the values that stand in a value.
+-- The remaining children of a value.
 use Rattle.std.specs.Prelude.{List, []}
 use Rattle.rhai_value.specs.Tree.{Tree}
 use Rattle.rhai_value.specs.declared.walk.children.ChildrenLeft.{ChildrenLeft}

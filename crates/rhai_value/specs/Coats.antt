@@ -1,4 +1,4 @@
--- Values that are being painted.
+-- Frames of a painting.
 use Rattle.std.specs.Prelude.{◌≡◌, ℕ, ◌-◌, ◌<◌, ◌≤◌, List, [], ◌∷◌, ◌++◌, length, map, take, drop, slice_set}
 use Rattle.rhai_value.specs.declared.value.access_mode.AccessMode.{AccessMode}
 use Rattle.rhai_value.specs.declared.walk.coat.Coat.{Coat}
@@ -11,19 +11,19 @@ use Rattle.rhai_value.specs.RowWalks.{painted_rows}
 use Rattle.rhai_value.specs.Seats.{row_at, rows_before, rows_from, IsOpen, IsSeated}
 use Rattle.rhai_value.specs.Tree.{Tree, node, branch, fields, array, paint, nodes_trees, nodes_fields}
 
--- these, of which the first n are painted, once the others are
+-- these, with the first n already painted, after the others are painted
 abbrev pub painted_from : AccessMode → ℕ → List Tree → List Tree
 painted_from m n ts = take n ts ++ map (paint m) (drop n ts)
 
--- the rows of a map, of which those before a place are painted, once the others are
+-- the rows of a map, with those before a place already painted, after the others are painted
 abbrev pub painted_past : AccessMode → MapParts → Seat → Rows
 painted_past m p s = rows_before p s ++ painted_rows m (rows_from p s)
 
--- the place of the entry that was taken last
+-- the place of the last entry taken
 abbrev pub taken_seat : Seat → Seat
 taken_seat s = record { list = s.list; at = s.at - 1 }
 
--- the same where its value becomes x
+-- the same with x as its value
 abbrev pub painted_with : AccessMode → MapParts → Seat → Tree → Rows
 painted_with m p s x = rows_before p (taken_seat s) ++ ((row_at p (taken_seat s)).0, x) ∷ painted_rows m (rows_from p s)
 
@@ -31,12 +31,12 @@ painted_with m p s x = rows_before p (taken_seat s) ++ ((row_at p (taken_seat s)
 abbrev pub IsTaken : MapParts → Seat → Type 0
 IsTaken p s = (0 < s.at) × IsSeated p (taken_seat s)
 
--- the value once it is painted
+-- the value after painting
 abbrev pub coat_whole : AccessMode → Coat → Tree
 coat_whole m (Array g c) = node (branch array (trees_of (painted_from m c.next c.items.items))) g m
 coat_whole m (Fields g c) = node (fields (fields_of (painted_past m c.parts.value c.next))) g m
 
--- the same where the last of those that were taken becomes x
+-- the same with x in place of the last child taken
 abbrev pub coat_after : AccessMode → Coat → Tree → Tree
 coat_after m (Array g c) x = node (branch array (trees_of (painted_from m c.next (slice_set c.items.items (c.next - 1) x)))) g m
 coat_after m (Fields g c) x = node (fields (fields_of (painted_with m c.parts.value c.next x))) g m

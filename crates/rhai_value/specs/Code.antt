@@ -5,8 +5,8 @@ use Rattle.std.proofs.Common.{ap, ◌∙◌}
 use Rattle.rhai_value.specs.declared.value.access_mode.AccessMode.{AccessMode}
 use Rattle.rhai_value.specs.Tree.{Tree, node, Content, Leaf, leaf, branch, fields, holder, Kind, Trees, no_trees, tree_then, Fields, no_fields, field_then, fresh, unit}
 
--- A leaf or a holder is made of nothing, a branch of the children that were listed last, a map of the fields that were listed last.
--- A list begins empty, and takes the tree that was made last.
+-- A leaf or a holder needs nothing; a branch needs the children listed last, a map the fields
+-- listed last. A list begins empty, and takes the last tree built.
 pub data Step : Type 0 where
   a_leaf : Leaf → ℤ → AccessMode → Step
   a_branch : Kind → ℤ → AccessMode → Step
@@ -35,7 +35,7 @@ abbrev mutual
   fields_steps no_fields rest = fields_begin ∷ rest
   fields_steps (field_then k t fs) rest = fields_steps fs (steps t (fields_take k ∷ rest))
 
--- what was made and not used yet
+-- what was built and not used yet
 pub record Built : Type 0 where
   pub trees : List Tree
   pub lists : List Trees

@@ -1,4 +1,4 @@
--- Two values that differ in modes alone.
+-- Values that differ only in modes.
 use Rattle.std.specs.Prelude.{◌≡◌}
 use Rattle.rhai_value.specs.declared.value.access_mode.AccessMode.TheVariants.{ReadWrite}
 use Rattle.rhai_value.specs.Tree.{Tree, node, Content, leaf, branch, fields, holder, Trees, no_trees, tree_then, Fields, no_fields, field_then}

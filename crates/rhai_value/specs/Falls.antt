@@ -1,4 +1,5 @@
--- What stands in a value is smaller than the value: no entry of a map has more nodes than all its rows, no child more than all children.
+-- Children are smaller than their value: no entry of a map has more nodes than all its rows, no
+-- child more than all children.
 use Rattle.std.specs.Prelude.{◌≡◌, ◌+◌, ◌*◌, ◌≤◌, List, [], ◌∷◌, ◌++◌, map, Option, Some, None}
 use Rattle.std.proofs.Common.{arith}
 use Rattle.std.specs.declared.alloc.Global.{Global}
@@ -16,12 +17,12 @@ use Rattle.rhai_value.specs.declared.value.union.Union.TheVariants as union
 use Rattle.rhai_value.specs.declared.map.Map.TheDeep.{deep-Chunk, deep-Entry, deep-MapParts, deep-Union}
 use Rattle.rhai_value.specs.declared.map.Map.TheShapes.{weighed-Map-parts}
 
--- no child has more nodes than all children have
+-- no child has more nodes than all children together
 pub most_trees : (ts : List Tree) → most (λ t. 2 * nodes t + 1) ts ≤ 2 * nodes_trees (trees_of ts) + 1
 most_trees [] = omega arith
 most_trees (t ∷ ts) = omega (arith, most_trees ts)
 
--- the nodes of rows one after another
+-- the nodes of two lists of rows add up
 pub nodes_joined : (rs qs : Rows) → nodes_fields (fields_of (rs ++ qs)) ≡ nodes_fields (fields_of rs) + nodes_fields (fields_of qs)
 nodes_joined [] qs = omega arith
 nodes_joined (r ∷ rs) qs = omega (arith, nodes_joined rs qs)
@@ -34,7 +35,7 @@ most_chunks : (cs : List Chunk) → most deep-Chunk cs ≤ map_size (joined (map
 most_chunks [] = omega arith
 most_chunks (c ∷ cs) = omega (arith, most_entries c.entries.items, most_chunks cs, nodes_joined (chunk_rows c) (joined (map chunk_rows cs)))
 
--- no value of a map has more nodes than all rows have
+-- no value of a map has more nodes than all its rows
 pub most_parts : (p : Option (Box MapParts Global)) → IsWholeIn p → (weighed-Map-parts).weight MapParts deep-MapParts p ≤ map_size (rows_in p)
 most_parts None h = omega arith
 most_parts (Some p) h = omega (arith, most_entries p.value.first.items, most_chunks p.value.rest.items, nodes_joined (rows p.value.first.items) (joined (map chunk_rows p.value.rest.items)))

@@ -1,8 +1,8 @@
--- Frames that wait, one for the next.
+-- A work list of frames, each waiting for the next.
 use Rattle.std.specs.Prelude.{◌≡◌, ℕ, ◌+◌, ◌*◌, List, [], ◌∷◌, ◌++◌}
 use Rattle.std.proofs.Common.{refl, ap, arith}
 
--- what comes of the outermost frame, where this comes of the child for which the innermost waits
+-- the result of the outermost frame, given the result of the child for which the innermost waits
 abbrev pub unwound : {S F D : Type 0} → (S → F → D → S × D) → List F → S × D → S × D
 unwound after [] r = r
 unwound after (f ∷ fs) r = after (unwound after fs r).0 f (unwound after fs r).1
@@ -11,7 +11,7 @@ pub unwound_last : {S F D : Type 0} (after : S → F → D → S × D) (fs : Lis
 unwound_last after [] f r = refl
 unwound_last after (g ∷ fs) f r = ap (λ x. after x.0 g x.1) (unwound_last after fs f r)
 
--- a bound on what is left of all frames
+-- a bound on the remaining parts of all frames
 abbrev pub sizes : {F : Type 0} → (F → ℕ) → List F → ℕ
 sizes size [] = 0
 sizes size (f ∷ fs) = 2 * size f + 1 + sizes size fs
@@ -20,7 +20,7 @@ pub sizes_last : {F : Type 0} (size : F → ℕ) (fs : List F) (f : F) → sizes
 sizes_last size [] f = omega arith
 sizes_last size (g ∷ fs) f = omega (arith, sizes_last size fs f)
 
--- what holds of each frame
+-- each frame satisfies P
 abbrev pub AreAll : {F : Type 0} → (F → Type 0) → List F → Type 0
 AreAll P [] = Unit {0}
 AreAll P (f ∷ fs) = P f × AreAll P fs

@@ -1,4 +1,4 @@
--- Values of which the children were taken out, to be scanned one after another.
+-- Values whose children are taken out and scanned one after another.
 use Rattle.std.specs.Prelude.{◌≡◌, ℕ, ◌-◌, ◌<◌, ◌≤◌, List, [], ◌∷◌, ◌++◌, length, take, drop, slice_set}
 use Rattle.rhai_value.specs.Children.{children_of}
 use Rattle.rhai_value.specs.Rows.{trees_of}
@@ -6,7 +6,7 @@ use Rattle.rhai_value.specs.Scan.{Visiting}
 use Rattle.rhai_value.specs.Tree.{Tree, node, Content, leaf, branch, fields, holder, Fields, no_fields, field_then, nodes_trees}
 use Rattle.rhai_value.specs.declared.walk.hollow.Hollow.{Hollow}
 
--- the values of a map, in the order of the keys, give way to these, as far as they go
+-- the values of a map replaced by these, in the order of the keys, as far as they go
 abbrev pub with_fields : Fields → List Tree → Fields
 with_fields no_fields us = no_fields
 with_fields (field_then k t fs) [] = field_then k t (with_fields fs [])
@@ -18,40 +18,40 @@ with_children_in (branch k ts) us = branch k (trees_of us)
 with_children_in (fields fs) us = fields (with_fields fs us)
 with_children_in (holder c) us = holder c
 
--- a value with these in the place of what stands in it
+-- a value with its children replaced by these
 abbrev pub with_children : Tree → List Tree → Tree
 with_children (node c g m) us = node (with_children_in c us) g m
 
--- these are what stood in a value t, of which the shell is left: whatever takes their place there would do the same in the value itself
+-- these are the children of t, of which the shell is left: replacing them there is replacing them in t
 abbrev pub AreTakenOut : Tree → Tree → List Tree → Type 0
 AreTakenOut t shell ts = (ts ≡ children_of t) × ((us : List Tree) → length us ≡ length (children_of t) → with_children shell us ≡ with_children t us)
 
--- one more value in front of what comes of the others
+-- a result with one more value in front
 abbrev pub item_before : {S : Type 0} → S × Tree → S × List Tree → S × List Tree
 item_before x y = (y.0, x.1 ∷ y.1)
 
--- each of these in turn, the visitor handed on
+-- the scans of these in turn, with the visitor passed along
 abbrev pub list_scanned : {S : Type 0} → Visiting S → S → List Tree → S × List Tree
 list_scanned f v [] = (v, [])
 list_scanned f v (t ∷ ts) = item_before (f v t) (list_scanned f (f v t).0 ts)
 
--- a value, with these in it behind others
+-- a value, with these appended to other children
 abbrev pub whole_with : {S : Type 0} → Tree → List Tree → S × List Tree → S × Tree
 whole_with t done x = (x.0, with_children t (done ++ x.1))
 
--- a value with these in it, of which all but the first n are yet to be scanned
+-- a value with these children, of which all but the first n are yet to be scanned
 abbrev pub scanned_from : {S : Type 0} → Visiting S → S → Tree → List Tree → ℕ → S × Tree
 scanned_from f v t ts n = whole_with t (take n ts) (list_scanned f v (drop n ts))
 
--- what comes of the visitor and of a value that is under way
+-- the result for the visitor and a value in progress
 abbrev pub hollow_scanned : {S : Type 0} → Visiting S → S → Hollow → S × Tree
 hollow_scanned f v h = scanned_from f v h.shell h.children.items h.next
 
--- the same where the last of those that were taken becomes x
+-- the same with x in place of the last child taken
 abbrev pub hollow_after : {S : Type 0} → Visiting S → S → Hollow → Tree → S × Tree
 hollow_after f v h x = scanned_from f v h.shell (slice_set h.children.items (h.next - 1) x) h.next
 
--- how many nodes are yet to be scanned
+-- the number of nodes yet to be scanned
 abbrev pub hollow_left : Hollow → ℕ
 hollow_left h = nodes_trees (trees_of (drop h.next h.children.items))
 
@@ -59,11 +59,11 @@ hollow_left h = nodes_trees (trees_of (drop h.next h.children.items))
 abbrev pub IsReady : Hollow → Type 0
 IsReady h = h.next ≤ length h.children.items
 
--- a child was taken, and comes back
+-- a child was taken, and will be put back
 abbrev pub IsWaiting : Hollow → Type 0
 IsWaiting h = (0 < h.next) × (h.next ≤ length h.children.items)
 
--- an exchange of the values of a map for these: those that were taken, and those that are left to be given
+-- swapping the values of a map with these: those taken, and those left to be inserted
 abbrev pub exchanged : Visiting (List Tree × List Tree)
 exchanged (taken, []) t = ((taken, []), t)
 exchanged (taken, u ∷ us) t = ((taken ++ t ∷ [], us), u)

@@ -1,4 +1,5 @@
--- What an array has and what a map has: a list of items, and a value at each key. So what one call leaves is what the next one finds.
+-- The contents of an array and of a map: a list of items, and a value at each key. So what one call
+-- writes is what the next one reads.
 use Rattle.std.specs.Prelude.{◌≡◌, ℕ, List, [], ◌∷◌, Option, Some, None, option_map, option_and_then, if◌then◌else◌}
 use Rattle.std.specs.Str.{bytes_eq, chars, IsUtf8}
 use Rattle.rhai_value.specs.declared.cells.store.Cell.{Cell}
@@ -16,7 +17,7 @@ items_in (tree_then t ts) = t ∷ items_in ts
 abbrev pub items_of : Tree → Option (List Tree)
 items_of t = option_map items_in (array_of t)
 
--- an array of these items in the place of a value, tag and mode staying
+-- a value with its content replaced by an array of these items; tag and mode are kept
 abbrev pub with_items : List Tree → Tree → Tree
 with_items ts t = with_content (branch array (trees_of ts)) t
 
@@ -25,19 +26,19 @@ abbrev pub field_at : List ℕ → Fields → Option Tree
 field_at k no_fields = None
 field_at k (field_then j t fs) = if bytes_eq k j then Some t else field_at k fs
 
--- the value that a map has at a key, which is characters
+-- the value of a map at a key, given as characters
 abbrev pub map_get : List ℕ → Tree → Option Tree
 map_get k t = option_and_then (field_at k) (map_of t)
 
--- a map of these rows in the place of a value, tag and mode staying
+-- a value with its content replaced by a map of these rows; tag and mode are kept
 abbrev pub with_rows : Rows → Tree → Tree
 with_rows rs t = with_content (fields (fields_of rs)) t
 
--- where the chain from a value ends once f was applied to what is held there
+-- the end of a value's chain after f was applied to the held value
 abbrev pub end_after : (Tree → Tree) → List Cell → Tree → End
 end_after f s t = end (store_after f (end s [] t) s) [] (value_after f (end s [] t) t)
 
--- Of two ends, the second has w at the key k, whose bytes these are, and at each other key what the first has.
+-- The second end has w at the key k, whose bytes these are, and at each other key what the first has.
 abbrev pub KeyBecomes : List ℕ → Option Tree → End → End → Type 0
 KeyBecomes k w e f =
     (held_part (map_get (chars k)) f ≡ w) × ((q : List ℕ) → IsUtf8 q → (q ≡ k → ⊥) → held_part (map_get (chars q)) f ≡ held_part (map_get (chars q)) e)

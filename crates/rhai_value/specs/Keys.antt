@@ -1,4 +1,4 @@
--- How a key holds its bytes.
+-- The storage of a key's bytes.
 use Rattle.std.specs.Prelude.{◌≡◌, ℕ, ◌≤◌, List, take, length, slice_index_or, string_bytes, ⊤}
 use Rattle.std.specs.Str.{IsUtf8}
 use Rattle.rhai_value.specs.declared.map.key.KeyForm.{KeyForm}
@@ -8,7 +8,7 @@ abbrev pub key_bytes : KeyForm → List ℕ
 key_bytes (Short n bs) = take n bs
 key_bytes (Long s) = string_bytes s
 
--- n bytes that are a text, and zeros past them
+-- n bytes of a text, padded with zeros
 pub record IsShort (n : ℕ) (bs : List ℕ) : Type 0 where
   pub within : n ≤ 30
   pub long : length bs ≡ 30

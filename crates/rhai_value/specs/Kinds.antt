@@ -1,4 +1,4 @@
--- How parts read values: each has the content of the values that are of its type.
+-- Parts and types: each part is the content of the values of its type.
 use Rattle.std.specs.Prelude.{◌≡◌, Bool, true, false, Some, None, option_map, refl, if◌then◌else◌}
 use Rattle.std.proofs.Common.{ap, sym, ◌∙◌}
 use denote.Enum.Bare.{same_true}
@@ -24,7 +24,7 @@ host_constructs _ e = refl
 pub host_made : (k : TypeId) (h : Host) → is_type k (host_type h) ≡ true → typed_host_of k (fresh (host h)) ≡ Some h
 host_made k h e = ap (λ b. if b then Some h else None) e
 
--- a type of the host's isn't a type that isn't
+-- a host type differs from every other type
 apart : (k o : TypeId) → is_host_type k ≡ true → is_host_type o ≡ false → false ≡ is_type k o
 apart k o e f = decided (is_type k o) (λ same. sym e ∙ ap is_host_type (one_type k o same) ∙ f)
   where
@@ -32,7 +32,7 @@ apart k o e f = decided (is_type k o) (λ same. sym e ∙ ap is_host_type (one_t
     decided true h = sym (h refl)
     decided false h = refl
 
--- what isn't of the host's types has none of them
+-- a value of another type has no part of a host type
 none_at : (k o : TypeId) (c : Content) → is_host_type k ≡ true → is_host_type o ≡ false → None ≡ (if is_type k o then Some c else None)
 none_at k o c e f = ap (λ (b : Bool). if b then Some c else None) (apart k o e f)
 

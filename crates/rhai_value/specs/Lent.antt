@@ -1,4 +1,4 @@
--- What is left of a value and its store, where a reference for writing may have been lent from the one or from the other.
+-- The state of a value and its store after a mutable borrow from one or the other.
 use Rattle.std.specs.Prelude.{◌≡◌, ℕ, List, [], Option, Some, None, slice_get, option_map, option_and_then, is_some, true, IfSome}
 use Rattle.std.specs.Borrow.{MutBor, GName, Fml, RattleType, fsep, follows_if}
 use mathlib.Core.Option as maybe
@@ -9,7 +9,7 @@ use Rattle.rhai_value.specs.Tree.{Tree, cell_of}
 use Rattle.rhai_value.specs.Store.{at, put}
 use Rattle.rhai_value.specs.End.{end, value_after, store_after, value_with_first, store_with_first}
 
--- The name of what is lent, where the value itself lends it, which is no holder; and where its store lends it.
+-- The name of the borrow, if the value itself, which isn't a holder, is its source; and if the store is.
 abbrev pub own_lent : Option ℕ → maybe.Option GName → maybe.Option GName
 own_lent None n = n
 own_lent (Some c) n = maybe.none
@@ -18,19 +18,20 @@ abbrev pub far_lent : Option ℕ → maybe.Option GName → maybe.Option GName
 far_lent None n = maybe.none
 far_lent (Some c) n = n
 
--- What lends the reference under the name n ends as F, or G, of the last value behind it, and the other as it was; where there is no name both end as they were.
+-- The source of the borrow named n ends as F, or G, of the last value behind the reference, and the
+-- other is unchanged; without a name both are unchanged.
 abbrev pub LendsFrom : (T : RattleType) → MutBor Tree → MutBor (List Cell) → maybe.Option GName → (T.Denot → Tree) → (T.Denot → List Cell) → Fml
 LendsFrom T v s n F G = fsep (follows_if dynamic.the_row T v.ghost_name (own_lent (cell_of v.now) n) F v.now) (follows_if store.the_row T s.ghost_name (far_lent (cell_of v.now) n) G s.now)
 
--- What is held, or a part of it, is lent: value and store end as after f w was applied to what is held.
+-- The held value, or a part of it, is borrowed: value and store end as after f w was applied to the held value.
 abbrev pub LendsHeld : (T : RattleType) → MutBor Tree → MutBor (List Cell) → maybe.Option GName → (T.Denot → Tree → Tree) → Fml
 LendsHeld T v s n f = LendsFrom T v s n (λ w. value_after (f w) (end s.now [] v.now) v.now) (λ w. store_after (f w) (end s.now [] v.now) s.now)
 
--- The first content is lent.
+-- The first content is borrowed.
 abbrev pub LendsFirst : MutBor Tree → MutBor (List Cell) → maybe.Option GName → Fml
 LendsFirst v s n = LendsFrom dynamic.the_row v s n (λ w. value_with_first w v.now) (λ w. store_with_first w s.now v.now)
 
--- the reference to a value that is no holder
+-- the reference to a value that isn't a holder
 abbrev pub own_at : Option ℕ → MutBor Tree → Option (MutBor Tree)
 own_at None v = Some v
 own_at (Some c) v = None
@@ -42,11 +43,11 @@ abbrev pub either_of : {A : Type 0} → Option A → Option A → Option A
 either_of (Some x) o = Some x
 either_of None o = o
 
--- where something stands in a cell, that is a cell of the store and isn't marked
+-- a cell given by a site is in the store and not marked
 abbrev pub IsOpen : List Cell → Option ℕ → Type 0
 IsOpen s o = IfSome o (λ c. is_some (at s c) ≡ true)
 
--- what a cell has, and a store once w was written there
+-- the content of a cell, and a store after w was written there
 abbrev pub content_in : Option ℕ → List Cell → Option Tree
 content_in o s = option_and_then (λ c. option_map (λ x. x.content) (slice_get s c)) o
 
@@ -54,7 +55,7 @@ abbrev pub put_in : Option ℕ → List Cell → Tree → List Cell
 put_in None s w = s
 put_in (Some c) s w = put s c w
 
--- a store once f was applied to what a cell has
+-- a store after f was applied to the content of a cell
 abbrev pub edited : ℕ → (Tree → Tree) → Option Tree → List Cell → List Cell
 edited c f None s = s
 edited c f (Some t) s = put s c (f t)

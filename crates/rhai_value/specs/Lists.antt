@@ -1,4 +1,4 @@
--- How a map holds its rows: in lists of entries, one after another.
+-- The storage of a map's rows: lists of entries, one after another.
 use Rattle.std.specs.Prelude.{◌≡◌, ℕ, ◌+◌, ◌*◌, ◌<◌, ◌≤◌, List, [], ◌∷◌, ◌++◌, map, length, take, drop, slice_index_or, Option, Some, None, ⊤}
 use Rattle.std.specs.Int.{w64, from_be_bytes}
 use Rattle.std.specs.declared.alloc.Global.{Global}
@@ -39,7 +39,7 @@ abbrev pub rows_in : Option (Box MapParts Global) → Rows
 rows_in None = []
 rows_in (Some p) = rows_of p.value
 
--- a list begins with the key of this front
+-- a list begins with a key that has this front
 abbrev pub Begins : ℕ → List Entry → Type 0
 Begins f [] = ⊥
 Begins f (e ∷ es) = f ≡ from_be_bytes w64 e.key
@@ -49,7 +49,7 @@ abbrev pub AreFronted : List Chunk → Type 0
 AreFronted [] = ⊤
 AreFronted (c ∷ cs) = Begins c.front c.entries.items × AreFronted cs
 
--- the keys rise and are texts, and there are as many as is said
+-- the keys are ascending and are texts, and their number is the stored one
 pub record IsWhole (p : MapParts) : Type 0 where
   pub rising : AreRising (rows_of p)
   pub texts : AreTexts (rows_of p)
@@ -60,7 +60,7 @@ abbrev pub IsWholeIn : Option (Box MapParts Global) → Type 0
 IsWholeIn None = ⊤
 IsWholeIn (Some p) = IsWhole p.value
 
--- the rows that are left of a walk: those of a list, and of the chunks past it
+-- the remaining rows of an iteration: those of a list, and of the chunks after it
 abbrev pub rows_left : List Entry → List Chunk → Rows
 rows_left es cs = rows es ++ joined (map chunk_rows cs)
 
@@ -71,23 +71,23 @@ AreLeft es cs n = AreFronted cs × (n ≡ length (rows_left es cs))
 abbrev pub map_size : Rows → ℕ
 map_size rs = 2 * nodes_fields (fields_of rs) + 1
 
--- ---- where a key stands
+-- ---- where a key is
 
 module _ {K X : Type 0} (R : K → K → Ordering) (k : K) where
-  -- k stands past each of these keys
+  -- k is greater than each of these keys
   abbrev pub AreBelow : List (K × X) → Type 0
   AreBelow [] = ⊤
   AreBelow (e ∷ es) = (R k e.0 ≡ Greater) × AreBelow es
 
-  -- k stands before each of these keys
+  -- k is less than each of these keys
   abbrev pub AreAbove : List (K × X) → Type 0
   AreAbove [] = ⊤
   AreAbove (e ∷ es) = (R k e.0 ≡ Less) × AreAbove es
 
--- k is the key at a place of a list
+-- k is the key at an index of a list
 abbrev pub IsHit : List ℕ → Rows → ℕ → Type 0
 IsHit k rs i = (i < length rs) × AreBelow bytes_cmp k (take i rs) × ((d : Row) → bytes_cmp k (slice_index_or rs i d).0 ≡ Equal)
 
--- it would stand there
+-- k would be inserted there
 abbrev pub IsGap : List ℕ → Rows → ℕ → Type 0
 IsGap k rs i = (i ≤ length rs) × AreBelow bytes_cmp k (take i rs) × AreAbove bytes_cmp k (drop i rs)

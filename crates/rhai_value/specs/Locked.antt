@@ -1,11 +1,11 @@
--- Values that hold a locked cell.
+-- Values that contain a locked cell.
 use Rattle.std.specs.Prelude.{Bool, false, ◌||◌, List, [], ◌∷◌, is_none}
 use Rattle.rhai_value.specs.declared.cells.store.Cell.{Cell}
 use Rattle.rhai_value.specs.Tree.{Tree, node, Content, leaf, branch, fields, holder, Trees, no_trees, tree_then, Fields, no_fields, field_then}
 use Rattle.rhai_value.specs.Store.{at}
 
--- Whether a holder of a cell that is marked, or no cell of the store, is the value or stands inside it, at any depth; cells
--- aren't entered.
+-- Whether the value is, or contains at any depth, a holder of a cell that is marked or not in the
+-- store; cells aren't entered.
 abbrev mutual
   pub is_locked : List Cell → Tree → Bool
   is_locked s (node c g m) = is_locked_content s c
@@ -24,7 +24,7 @@ abbrev mutual
   is_field_locked s no_fields = false
   is_field_locked s (field_then k t fs) = is_locked s t || is_field_locked s fs
 
--- whether one of a list is locked
+-- whether a value in a list is locked
 abbrev pub any_locked : List Cell → List Tree → Bool
 any_locked s [] = false
 any_locked s (t ∷ ts) = is_locked s t || any_locked s ts

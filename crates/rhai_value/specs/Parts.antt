@@ -1,11 +1,11 @@
--- What a value has: the content of its kind.
+-- Parts of values: contents by type.
 use Rattle.std.specs.Prelude.{ℕ, ℤ, Bool, Option, Some, None, List, is_some, option_and_then, if◌then◌else◌}
 use Rattle.rhai_value.specs.declared.value.host.Host.{Host}
 use Rattle.rhai_value.specs.declared.value.type_id.TypeId.{TypeId}
 use Rattle.rhai_value.specs.Types.{host_at}
 use Rattle.rhai_value.specs.Tree.{Tree, node, Content, Leaf, leaf, branch, unit, bool, int, char, text, blob, host, array, fields, function, Trees, Fields}
 
--- what a leaf has: its unit, its boolean, its int, its character, its text, its bytes, its value of the host's
+-- the part of a leaf: its unit, boolean, int, character, text, bytes or host value
 abbrev pub leaf_unit : Leaf → Option (Unit {0})
 leaf_unit unit = Some tt
 leaf_unit _ = None
@@ -34,7 +34,7 @@ abbrev pub leaf_host : Leaf → Option Host
 leaf_host (host h) = Some h
 leaf_host _ = None
 
--- the same of a value that is a leaf
+-- the same for a value that is a leaf
 abbrev pub leaf_part : {A : Type 0} → (Leaf → Option A) → Tree → Option A
 leaf_part part (node (leaf l) g m) = part l
 leaf_part part _ = None
@@ -60,7 +60,7 @@ blob_of t = leaf_part leaf_blob t
 abbrev pub host_of : Tree → Option Host
 host_of t = leaf_part leaf_host t
 
--- the same of one of the host's types
+-- the same for one of the host's types
 abbrev pub typed_host_of : TypeId → Tree → Option Host
 typed_host_of k t = option_and_then (host_at k) (host_of t)
 
@@ -79,11 +79,11 @@ abbrev pub function_of : Tree → Option (List ℕ × Trees)
 function_of (node (branch (function f) ts) g m) = Some (f, ts)
 function_of _ = None
 
--- the value with another content, tag and mode staying
+-- the value with another content; tag and mode are kept
 abbrev pub with_content : Content → Tree → Tree
 with_content c (node d g m) = node c g m
 
--- the same of a value that has such a part; any other value stays
+-- the same for a value with such a part; any other value is unchanged
 abbrev pub with_part : {A : Type 0} → (Tree → Option A) → Content → Tree → Tree
 with_part part c t = if is_some (part t) then with_content c t else t
 

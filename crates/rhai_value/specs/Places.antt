@@ -1,4 +1,5 @@
--- Work at a held value, and at a place inside it, with the store at hand: what is lent meanwhile, and what is put back.
+-- Work at a held value, and at a place inside it, with access to the store: the arguments of the
+-- callback, and the state afterwards.
 use Rattle.std.specs.Prelude.{◌≡◌, ℕ, ◌+◌, nat_lt, Bool, true, false, List, [], ◌∷◌, length, Option, Some, None, Result, Ok, Err, if◌then◌else◌}
 use Rattle.std.specs.Fn.{Once}
 use denote.Ref.{MutBor}
@@ -16,7 +17,7 @@ use Rattle.rhai_value.specs.Store.{put, is_marked_at, set_mark}
 use Rattle.rhai_value.specs.Relation.{Renaming, Related, RelatedCells}
 use Rattle.rhai_value.specs.End.{End, end, held, stuck, closed, held_cell, value_after}
 
--- a call of f at `&mut`s to a value and to a store may give r, and leave the second two there
+-- a call of f on `&mut` references to a value and to a store may return r, and leave the second two there
 pub record Leaves {F A S R : Type 0} (g : Once F (MutBor A × (MutBor S × Unit {0})) (R × (MutBor A × (MutBor S × Unit {0})))) (f : F) (v : A) (s : S) (r : R) (w : A) (t : S) : Type 0 where
   pub value : MutBor A
   pub store : MutBor S
@@ -25,32 +26,33 @@ pub record Leaves {F A S R : Type 0} (g : Once F (MutBor A × (MutBor S × Unit 
   pub met : g.post f (value, (store, tt)) (r, left)
   pub leaves : (left.0.now ≡ w) × (left.1.0.now ≡ t)
 
--- the store while the content of the cell is lent, if it is one: the cell is marked, and has unit
+-- the store while the content of the cell, if there is one, is taken out: the cell is marked, and contains unit
 abbrev pub lent_out : Option ℕ → List Cell → List Cell
 lent_out None s = s
 lent_out (Some c) s = put (set_mark s c true) c (fresh unit)
 
--- the value v that t holds stands in the cell c, and is lent out of it
+-- the value v, which t holds, is in the cell c, and is taken out of it
 pub record IsLent (c : ℕ) (v : Tree) (s : List Cell) (t : Tree) (s' : List Cell) : Type 0 where
   pub stands : end s [] t ≡ held (InCell c) v
   pub out : s' ≡ lent_out (Some c) s
 
--- whether the cell is marked still
+-- whether the cell is still marked
 abbrev pub is_kept : Option ℕ → List Cell → Bool
 is_kept None s = true
 is_kept (Some c) s = is_marked_at s c
 
--- the store once w is put into the cell and its mark is cleared; as it is where it has no such mark any more
+-- the store after w is put into the cell and its mark is cleared; unchanged if the cell is no longer marked
 abbrev pub put_back : Option ℕ → Tree → List Cell → List Cell
 put_back None w s = s
 put_back (Some c) w s = if is_marked_at s c then set_mark (put s c w) c false else s
 
--- the answer, where the mark was kept
+-- the result, if the mark was kept
 abbrev pub held_answer : {R : Type 0} → Bool → R → Result R HeldError
 held_answer true r = Ok r
 held_answer false r = Err Lost
 
--- Work of f at what is held at the end e: nothing where there is none; else f is shown this and the store, and what it makes of the two is put back.
+-- Work of f at the held value of the end e: nothing if there is none; otherwise f gets it and the
+-- store, and the changed values are put back.
 pub record WorksAt {F R : Type 0} (g : Once F (MutBor Tree × (MutBor (List Cell) × Unit {0})) (R × (MutBor Tree × (MutBor (List Cell) × Unit {0})))) (f : F) (e : End) (v : Tree) (s : List Cell) (t : Tree) (result : Result R HeldError) (t' : Tree) (s' : List Cell) : Type 0 where
   pub answer : R
   pub made : Tree
@@ -60,25 +62,26 @@ pub record WorksAt {F R : Type 0} (g : Once F (MutBor Tree × (MutBor (List Cell
   pub value : t' ≡ value_after (λ _. made) e t
   pub store : s' ≡ put_back (held_cell e) made beside
 
--- ---- places down a way of steps
+-- ---- places given by steps
 
--- What is left of a value and its store, and the step at which a cell had lost its mark, if one had.
+-- The final state of a value and its store, and the step at which a cell had lost its mark, if any.
 pub record Left : Type 0 where
   pub value : Tree
   pub store : List Cell
   pub lost : Option ℕ
 
--- A place inside a value: what stands there, the store that is lent with it, and what is left of value and store once these two are others.
+-- A place inside a value: the value there, the store passed with it, and the final state as a
+-- function of the changed two.
 pub record Place : Type 0 where
   pub value : Tree
   pub store : List Cell
   pub back : Tree → List Cell → Left
 
--- a place, or the step at which there is none, and why
+-- a place, or the step that failed, and why
 abbrev pub Way : Type 0
 Way = Result Place PlaceError
 
--- the same way, with f of the place
+-- the same result, with f applied to the place
 abbrev pub along : (Place → Place) → Way → Way
 along f (Ok q) = Ok (f q)
 along f (Err why) = Err why
@@ -90,7 +93,7 @@ no_place n why = Err (record { step = n; kind = why })
 abbrev pub whole_place : List Cell → Tree → Place
 whole_place s t = record { value = t; store = s; back = λ w u. record { value = w; store = u; lost = None } }
 
--- the place inside the value of another one, which is f of it
+-- the place inside the value of another one, with f rebuilding the outer value
 abbrev pub around : (Tree → Tree) → Place → Place
 around f q = record { value = q.value; store = q.store; back = λ w u. record { value = f (q.back w u).value; store = (q.back w u).store; lost = (q.back w u).lost } }
 
@@ -98,59 +101,60 @@ abbrev pub lost_at : ℕ → Bool → Option ℕ → Option ℕ
 lost_at n true o = o
 lost_at n false o = Some n
 
--- the place inside the content of a cell, at the step n, of which t is led to
+-- the place inside the content of a cell, at the step n, reached from t
 abbrev pub out_of : ℕ → ℕ → Tree → Place → Place
 out_of c n t q = record { value = q.value; store = q.store; back = λ w u. record { value = t; store = put_back (Some c) (q.back w u).value (q.back w u).store; lost = lost_at n (is_marked_at (q.back w u).store c) (q.back w u).lost } }
 
--- the way on from where a chain of holders ends, which starts at t
+-- the place reached from the end of a chain of holders that starts at t
 abbrev pub from_end : (List Cell → Tree → Way) → ℕ → List Cell → Tree → End → Way
 from_end go n s t (held Here v) = go s t
 from_end go n s t (held (InCell c) v) = along (out_of c n t) (go (lent_out (Some c) s) v)
 from_end go n s t (stuck v) = no_place n kind.Barred
 from_end go n s t closed = no_place n kind.Barred
 
--- the way on from what a value holds
+-- the place reached from the held value
 abbrev pub way_held : (List Cell → Tree → Way) → ℕ → List Cell → Tree → Way
 way_held go n s t = from_end go n s t (end s [] t)
 
--- the way on from an item, if there is one
+-- the place reached from an item, if there is one
 abbrev pub way_on : (Tree → Way) → ℕ → (Tree → Tree) → Result Tree PlaceErrorKind → Way
 way_on go n f (Ok y) = along (around f) (go y)
 way_on go n f (Err why) = no_place n why
 
--- the place to which steps lead from a value that holds itself, the first of them being the step n
+-- the place that steps lead to from a value that isn't a holder, beginning with step n
 abbrev pub way_in : List Step → ℕ → List Cell → Tree → Way
 way_in [] n s t = Ok (whole_place s t)
 way_in (p ∷ ps) n s t = way_on (way_held (way_in ps (n + 1)) (n + 1) s) n (with_item p t) (item_at p t)
 
--- the place to which steps lead from any value; there are at most 64
+-- the place that steps lead to from any value; there are at most 64
 abbrev pub way : List Step → List Cell → Tree → Way
 way ps s t = if nat_lt 64 (length ps) then no_place 0 kind.TooFar else way_held (way_in ps 0) 0 s t
 
--- related values and stores are left, with a mark lost at the same step or at none
+-- the final values and stores are related, with a mark lost at the same step or at none
 pub record RelatedLeft (r : Renaming) (a b : Left) : Type 0 where
   pub value : Related r a.value b.value
   pub store : RelatedCells r a.store b.store
   pub lost : a.lost ≡ b.lost
 
--- related values stand at two places, with related stores; and where related values and stores are put back there, related ones are left
+-- the values at two places are related, and so are the stores; and putting back related values and
+-- stores gives related results
 pub record RelatedPlaces (r : Renaming) (p q : Place) : Type 0 where
   pub value : Related r p.value q.value
   pub store : RelatedCells r p.store q.store
   pub back : (w x : Tree) (u v : List Cell) → Related r w x → RelatedCells r u v → RelatedLeft r (p.back w u) (q.back x v)
 
--- two ways lead to such places, or nowhere at the same step for the same reason
+-- two step lists lead to such places, or fail at the same step for the same reason
 abbrev pub RelatedWays : Renaming → Way → Way → Type 0
 RelatedWays r (Ok p) (Ok q) = RelatedPlaces r p q
 RelatedWays r (Err a) (Err b) = a ≡ b
 RelatedWays r _ _ = ⊥
 
--- the answer, unless a mark was lost
+-- the result, unless a mark was lost
 abbrev pub place_answer : {R : Type 0} → Option ℕ → R → Result R PlaceError
 place_answer None r = Ok r
 place_answer (Some n) r = Err (record { step = n; kind = kind.Lost })
 
--- What a write of v at a place answers, and what is left of the value t and the store s: where a way leads nowhere, they stay.
+-- The result of writing v at a place, and the final value t and store s: unchanged if the steps fail.
 abbrev pub put_answer : Way → Result (Unit {0}) PlaceError
 put_answer (Ok q) = Ok tt
 put_answer (Err why) = Err why
@@ -163,7 +167,7 @@ abbrev pub put_store : Tree → Way → List Cell → List Cell
 put_store v (Ok q) s = (q.back v q.store).store
 put_store v (Err why) s = s
 
--- f is shown what stands at a place with the store, and what it makes of the two is put back
+-- f gets the value at a place and the store, and the changed values are put back
 pub record WorksIn {F R : Type 0} (g : Once F (MutBor Tree × (MutBor (List Cell) × Unit {0})) (R × (MutBor Tree × (MutBor (List Cell) × Unit {0})))) (f : F) (q : Place) (result : Result R PlaceError) (t' : Tree) (s' : List Cell) : Type 0 where
   pub answer : R
   pub made : Tree
@@ -173,7 +177,7 @@ pub record WorksIn {F R : Type 0} (g : Once F (MutBor Tree × (MutBor (List Cell
   pub value : t' ≡ (q.back made beside).value
   pub store : s' ≡ (q.back made beside).store
 
--- the same where a way leads, and nothing else changes where it leads nowhere
+-- the same where steps lead; if they fail, nothing changes
 abbrev pub WorksAlong : {F R : Type 0} → Once F (MutBor Tree × (MutBor (List Cell) × Unit {0})) (R × (MutBor Tree × (MutBor (List Cell) × Unit {0}))) → F → Way → Tree → List Cell → Result R PlaceError → Tree → List Cell → Type 0
 WorksAlong g f (Ok q) t s result t' s' = WorksIn g f q result t' s'
 WorksAlong g f (Err why) t s result t' s' = (result ≡ Err why) × (t' ≡ t) × (s' ≡ s)

@@ -1,4 +1,4 @@
--- Values and stores that are equal up to the numbers of their cells.
+-- Values and stores that are equal up to a renaming of cells.
 use Rattle.std.specs.Prelude.{◌≡◌, ℕ, zero, suc, ◌+◌, Bool, true, false, nat_eq, ◌||◌, ◌&&◌, List, [], ◌∷◌, length, slice_get, Option, Some, None}
 use Rattle.std.specs.List.{AllZip}
 use Rattle.rhai_value.specs.declared.cells.chain.Site.{Site}
@@ -42,11 +42,11 @@ abbrev mutual
 abbrev pub RelatedFunctions : {A : Type 0} → Renaming → A × Trees → A × Trees → Type 0
 RelatedFunctions r x y = (x.0 ≡ y.0) × AllRelated r x.1 y.1
 
--- what f makes of a value and g of a related one is related
+-- f and g map related values to related values
 abbrev pub Respect : Renaming → (Tree → Tree) → (Tree → Tree) → Type 0
 Respect r f g = (x y : Tree) → Related r x y → Related r (f x) (g y)
 
--- both are none, or both are there and related
+-- both are absent, or both exist and are related
 abbrev pub Alike : {A B : Type 0} → (A → B → Type 0) → Option A → Option B → Type 0
 Alike R None None = Unit {0}
 Alike R (Some a) (Some b) = R a b
@@ -64,7 +64,7 @@ RelatedCell r x y = (x.is_marked ≡ y.is_marked) × Related r x.content y.conte
 abbrev pub RelatedCells : Renaming → List Cell → List Cell → Type 0
 RelatedCells r s z = (c d : ℕ) → paired r c d ≡ true → (x : Cell) × (y : Cell) × (slice_get s c ≡ Some x) × (slice_get z d ≡ Some y) × RelatedCell r x y
 
--- Two lists of cells, as those that are open on two walks, are paired place by place.
+-- Two lists of cells, such as the open ones of two walks, are paired item by item.
 abbrev pub RelatedPaths : Renaming → List ℕ → List ℕ → Type 0
 RelatedPaths r path road = AllZip (λ c d. paired r c d ≡ true) path road
 
@@ -73,7 +73,7 @@ abbrev pub new_pairs : ℕ → ℕ → ℕ → Renaming
 new_pairs a b zero = []
 new_pairs a b (suc k) = (a, b) ∷ new_pairs (a + 1) (b + 1) k
 
--- the pair of the cells that are made where values are moved into cells of their own; a holder stays as it is
+-- the pair of the cells made by sharing values; none for holders
 abbrev pub shared_pairs : List Cell → List Cell → Tree → Renaming
 shared_pairs s z (node (holder c) g m) = []
 shared_pairs s z t = new_pairs (length s) (length z) 1

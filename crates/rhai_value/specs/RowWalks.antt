@@ -1,4 +1,4 @@
--- What a walk makes of rows, and of the chunks of them.
+-- The results of walks over rows, and over chunks of them.
 use Rattle.std.specs.Prelude.{ℕ, List, [], ◌∷◌, map}
 use Rattle.rhai_value.specs.Lists.{Row, chunk_rows}
 use Rattle.rhai_value.specs.Rows.{Rows, copied_rows}
@@ -11,16 +11,16 @@ use Rattle.rhai_value.specs.declared.map.Chunk.{Chunk}
 abbrev pub chunk_view : Chunk → ℕ × Rows
 chunk_view c = (c.front, chunk_rows c)
 
--- one more in front of what comes of the others
+-- a result with one more item in front
 abbrev pub before : {S X : Type 0} → S × X → S × List X → S × List X
 before x y = (y.0, x.1 ∷ y.1)
 
--- each of these in turn, the visitor handed on
+-- each of these in turn, with the visitor passed along
 abbrev pub scanned : {S X : Type 0} → (S → X → S × X) → S → List X → S × List X
 scanned f v [] = (v, [])
 scanned f v (x ∷ xs) = before (f v x) (scanned f (f v x).0 xs)
 
--- a row of which the value is visited, and a chunk of them
+-- a row whose value is visited, and a chunk of them
 abbrev pub row_scanned : {S : Type 0} → Visiting S → S → Row → S × Row
 row_scanned f v r = ((f v r.1).0, (r.0, (f v r.1).1))
 

@@ -1,4 +1,4 @@
--- A map as a list of rows: each key, as its bytes, with its value, by rising keys.
+-- A map as a list of rows: each key, as its bytes, with its value, by ascending keys.
 use Rattle.std.specs.Prelude.{ℕ, List, [], ◌∷◌, map}
 use Rattle.std.specs.Cmp.Lexicographic.{slice_cmp}
 use Rattle.std.specs.List.{All}
@@ -16,7 +16,7 @@ Rows = List (List ℕ × Tree)
 abbrev pub bytes_cmp : List ℕ → List ℕ → Ordering
 bytes_cmp = slice_cmp nat_cmp
 
--- each key is above the one before it
+-- each key is greater than the one before it
 abbrev pub AreRising : Rows → Type 0
 AreRising rs = IsStrictlySortedBy bytes_cmp (keys_of rs)
 

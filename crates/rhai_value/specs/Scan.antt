@@ -1,26 +1,26 @@
--- A visitor's way through a value: it visits the value, and then the children of what came out.
+-- The scan of a value: it visits the value, and then the children of the result.
 use Rattle.std.specs.Prelude.{◌≡◌, ℕ, zero, suc, ◌≤◌, Bool, true, false, if◌then◌else◌, List}
 use Rattle.std.proofs.Common.{arith}
 use Rattle.rhai_value.specs.Tree.{Tree, node, Content, leaf, branch, fields, holder, Trees, no_trees, tree_then, Fields, no_fields, field_then, nodes, nodes_content, fresh, unit}
 use Rattle.rhai_value.specs.Parts.{with_content}
 use Rattle.rhai_value.specs.Relation.{Renaming, Related}
 
--- what a visit makes of the visitor and of a value
+-- the visitor and the value after a visit
 abbrev pub Visiting : Type 0 → Type 0
 Visiting S = S → Tree → S × Tree
 
--- a visited value has no more nodes after than before
+-- a visited value has no more nodes than before
 abbrev pub AddsNoNodes : {S : Type 0} → Visiting S → Type 0
 AddsNoNodes {S} f = (v : S) (t : Tree) → nodes (f v t).1 ≤ nodes t
 
--- one more value in front of what comes of the others
+-- a result with one more value in front
 abbrev pub tree_before : {S : Type 0} → S × Tree → S × Trees → S × Trees
 tree_before x y = (y.0, tree_then x.1 y.1)
 
 abbrev pub field_before : {S : Type 0} → List ℕ → S × Tree → S × Fields → S × Fields
 field_before k x y = (y.0, field_then k x.1 y.1)
 
--- each of these in turn, the visitor handed on
+-- each of these in turn, with the visitor passed along
 abbrev pub each_scanned : {S : Type 0} → Visiting S → S → Trees → S × Trees
 each_scanned f v no_trees = (v, no_trees)
 each_scanned f v (tree_then t ts) = tree_before (f v t) (each_scanned f (f v t).0 ts)
@@ -40,25 +40,25 @@ content_scanned f v (holder c) = (v, holder c)
 abbrev pub children_scanned : {S : Type 0} → Visiting S → S → Tree → S × Tree
 children_scanned f v (node c g m) = ((content_scanned f v c).0, node (content_scanned f v c).1 g m)
 
--- The value is visited, and then the children of what came out. The number bounds how deep values may stand.
+-- The value is visited, and then the children of the result. The number bounds the depth.
 abbrev pub scan_in : {S : Type 0} → Visiting S → ℕ → Visiting S
 scan_in f zero v t = (v, t)
 scan_in f (suc n) v t = children_scanned (scan_in f n) (f v t).0 (f v t).1
 
--- Where visits add no nodes, no value stands deeper than there are nodes.
+-- If visits add no nodes, the depth is at most the number of nodes.
 unfoldable pub scan : {S : Type 0} → Visiting S → Visiting S
 scan f v t = scan_in f (nodes t) v t
 
--- a visit makes the same of a visitor, and related values, of related values
+-- visits of related values give the same visitor, and related values
 abbrev pub SameVisits : {S : Type 0} → Renaming → Visiting S → Type 0
 SameVisits {S} r f = (v : S) (t u : Tree) → Related r t u → ((f v t).0 ≡ (f v u).0) × Related r (f v t).1 (f v u).1
 
--- a content without children in the place of another adds no nodes
+-- replacing a content by one without children adds no nodes
 pub nodes_kept : (b : Bool) (c : Content) (t : Tree) → nodes_content c ≡ 0 → nodes (if b then with_content c t else t) ≤ nodes t
 nodes_kept true c (node d g m) none = omega (arith, none)
 nodes_kept false c t none = omega arith
 
--- nor does unit in the place of a value
+-- nor does replacing a value by unit
 pub nodes_unit : (b : Bool) (t : Tree) → nodes (if b then fresh unit else t) ≤ nodes t
 nodes_unit true (node d g m) = omega arith
 nodes_unit false t = omega arith

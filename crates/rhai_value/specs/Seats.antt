@@ -1,4 +1,4 @@
--- Places in the lists of a map, and what stands before and after them.
+-- Places in the lists of a map, and the rows before and after them.
 use Rattle.std.specs.Prelude.{◌≡◌, ℕ, zero, suc, ◌<◌, ◌≤◌, List, [], ◌++◌, length, take, drop, slice_index_or, vec_len, vec_capacity, Vec}
 use Rattle.std.specs.Vec.{with_item}
 use Rattle.std.specs.declared.alloc.Global.{Global}
@@ -14,7 +14,7 @@ use Rattle.rhai_value.specs.declared.map.seat.Seat.{Seat}
 abbrev pub list_at : MapParts → ℕ → Rows
 list_at p n = slice_index_or (lists_of p) n []
 
--- the rows before a place, those from there on, and those past it
+-- the rows before a place, those from it on, and those after it
 abbrev pub rows_before : MapParts → Seat → Rows
 rows_before p s = joined (take s.list (lists_of p)) ++ take s.at (list_at p s.list)
 
@@ -38,12 +38,12 @@ pub record IsFound (k : List ℕ) (p : MapParts) (s : Seat) : Type 0 where
   pub below : AreBelow bytes_cmp k (rows_before p s)
   pub same : bytes_cmp k (row_at p s).0 ≡ Equal
 
--- a row may be put at a place of a list
+-- a row may be inserted at a place of a list
 pub record IsOpen (p : MapParts) (s : Seat) : Type 0 where
   pub list : s.list < length (lists_of p)
   pub within : s.at ≤ length (list_at p s.list)
 
--- k would stand at a place
+-- k would be at a place
 pub record IsMissing (k : List ℕ) (p : MapParts) (s : Seat) : Type 0 where
   pub seat : IsOpen p s
   pub below : AreBelow bytes_cmp k (rows_before p s)

@@ -1,4 +1,4 @@
--- What the private functions answer.
+-- The results of private functions.
 use Rattle.std.specs.Prelude.{List, [], Option, Some, None, option_and_then}
 use Rattle.rhai_value.specs.declared.cells.store.Cell.{Cell}
 use Rattle.rhai_value.specs.End.{End, held, stuck, closed, end, value_ahead}
@@ -16,7 +16,7 @@ end_seen (Held site d) = held site d.now
 end_seen (Stuck d) = stuck d.now
 end_seen Closed = closed
 
--- where the first content of a value stands, and which it is
+-- the site of a value's first content, and the content
 abbrev pub near_site : Near → Option Site
 near_site near.Here = Some site.Here
 near_site (near.InCell c d) = Some (site.InCell c)
@@ -27,6 +27,6 @@ near_content t near.Here = Some t
 near_content t (near.InCell c d) = Some d.now
 near_content t near.Barred = None
 
--- what is copied where a value is flattened, if anything is: what stands at the end of a holder whose own cell opens
+-- what flattening copies, if anything: the value at the end of the chain of a holder whose own cell can be read
 abbrev pub flat_source : List Cell → Tree → Option Tree
 flat_source s t = option_and_then (λ x. value_ahead (end s [] t)) (option_and_then (at s) (cell_of t))

@@ -1,10 +1,10 @@
--- What a value is: a tree, in which the number of a cell stands for what is shared.
+-- Values as trees, in which shared parts are given by cell numbers.
 use Rattle.std.specs.Prelude.{ℕ, ℤ, pos, suc, ◌+◌, Bool, true, false, Option, Some, None, List}
 use Rattle.rhai_value.specs.declared.value.access_mode.AccessMode.{AccessMode}
 use Rattle.rhai_value.specs.declared.value.access_mode.AccessMode.TheVariants.{ReadWrite, ReadOnly}
 use Rattle.rhai_value.specs.declared.value.host.Host.{Host}
 
--- a content that holds no other value
+-- a content without children
 pub data Leaf : Type 0 where
   unit : Leaf
   bool : Bool → Leaf
@@ -14,7 +14,7 @@ pub data Leaf : Type 0 where
   blob : List ℕ → Leaf
   host : Host → Leaf
 
--- what a content with children is: an array of these items, or a function of this name with these curried values
+-- kinds of contents with children: an array of these items, or a function of this name with these curried values
 pub data Kind : Type 0 where
   array : Kind
   function : List ℕ → Kind
@@ -24,7 +24,7 @@ mutual
   pub data Tree : Type 0 where
     node : Content → ℤ → AccessMode → Tree
 
-  -- a leaf, children, the fields of a map, or a holder of the cell of a number
+  -- a leaf, children, the fields of a map, or a holder of the cell with a number
   pub data Content : Type 0 where
     leaf : Leaf → Content
     branch : Kind → Trees → Content
@@ -40,11 +40,11 @@ mutual
     no_fields : Fields
     field_then : List ℕ → Tree → Fields → Fields
 
--- a value that is made anew: tag 0, ReadWrite
+-- a new value: tag 0, ReadWrite
 abbrev pub made : Content → Tree
 made c = node c (pos 0) ReadWrite
 
--- the same of a leaf
+-- the same for a leaf
 abbrev pub fresh : Leaf → Tree
 fresh l = made (leaf l)
 
@@ -57,12 +57,12 @@ tag_of (node c g m) = g
 abbrev pub mode_of : Tree → AccessMode
 mode_of (node c g m) = m
 
--- the cell that a value names, if it is a holder
+-- the cell that a value refers to, if it is a holder
 abbrev pub cell_of : Tree → Option ℕ
 cell_of (node (holder c) g m) = Some c
 cell_of _ = None
 
--- the same content and tags, every mode ReadWrite; a holder names the same cell
+-- the same content and tags, every mode ReadWrite; a holder refers to the same cell
 abbrev mutual
   pub copy : Tree → Tree
   copy (node c g m) = node (copy_content c) g ReadWrite
@@ -81,7 +81,7 @@ abbrev mutual
   copy_fields no_fields = no_fields
   copy_fields (field_then k t fs) = field_then k (copy t) (copy_fields fs)
 
--- the same with the mode m, through arrays and maps; not in curried values
+-- painted with the mode m, through arrays and maps; not in curried values
 abbrev mutual
   pub paint : AccessMode → Tree → Tree
   paint m (node c g n) = node (paint_content m c) g m
@@ -101,7 +101,7 @@ abbrev mutual
   paint_fields m no_fields = no_fields
   paint_fields m (field_then k t fs) = field_then k (paint m t) (paint_fields m fs)
 
--- how many constructors a value has; a holder is one
+-- the number of constructors in a value; a holder is one
 abbrev mutual
   pub nodes : Tree → ℕ
   nodes (node c g m) = suc (nodes_content c)
@@ -120,11 +120,11 @@ abbrev mutual
   nodes_fields no_fields = 0
   nodes_fields (field_then k t fs) = nodes t + nodes_fields fs
 
--- the same with the tag h
+-- with the tag h
 abbrev pub with_tag : ℤ → Tree → Tree
 with_tag h (node c g m) = node c h m
 
--- the same with the mode m, its content staying
+-- with the mode m; the content is unchanged
 abbrev pub with_mode : AccessMode → Tree → Tree
 with_mode m (node c g n) = node c g m
 
@@ -138,7 +138,7 @@ abbrev pub is_host : Tree → Bool
 is_host (node (leaf (host h)) g m) = true
 is_host _ = false
 
--- the values whose copies take no memory
+-- the values whose copies need no allocation
 abbrev pub TakesNoMemory : Tree → Type 0
 TakesNoMemory (node (leaf (text s)) g m) = ⊥
 TakesNoMemory (node (leaf (blob bs)) g m) = ⊥

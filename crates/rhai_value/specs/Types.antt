@@ -72,7 +72,7 @@ type_name id.Shared = codes "<shared>"
 abbrev pub is_type : TypeId → TypeId → Bool
 is_type a b = sameb type_id.the_type a b
 
--- whether a type is that of a constructor: not that of a `String`, of any value, or of a holder
+-- whether a type has a constructor: not `String`, `Dynamic` or `Shared`
 abbrev pub is_content_type : TypeId → Bool
 is_content_type id.String = false
 is_content_type id.Dynamic = false
@@ -94,10 +94,10 @@ is_host_type id.ExclusiveRange = true
 is_host_type id.InclusiveRange = true
 is_host_type _ = false
 
--- the content of a value that is of this type
+-- the content of a value, if it is of this type
 abbrev pub typed_content : TypeId → Tree → Option Content
 typed_content k t = if is_type k (tree_type t) then Some (content_of t) else None
 
--- what is of this type of the host's
+-- the host value, if it is of this type
 abbrev pub host_at : TypeId → Host → Option Host
 host_at k h = if is_type k (host_type h) then Some h else None

@@ -1,4 +1,4 @@
--- The tree that a `Dynamic` stands for.
+-- The tree of a `Dynamic`.
 use Rattle.rhai_value.specs.Tree.{Tree, node, leaf, branch, fields, holder, unit, bool, int, char, text, blob, host, array, function}
 use Rattle.rhai_value.specs.Rows.{trees_of, fields_of}
 use Rattle.rhai_value.specs.declared.value.union.Union.{Union}

@@ -1,10 +1,10 @@
--- Walks over cells that may form loops: a cell that is open on the path isn't opened again.
+-- Walks over cells that may form cycles: a cell that is open on the path isn't opened again.
 use Rattle.std.specs.Prelude.{ℕ, zero, suc, Bool, true, false, nat_eq, ◌||◌, List, [], ◌∷◌, length, Option, Some, None, option_and_then}
 use Rattle.rhai_value.specs.declared.cells.store.Cell.{Cell}
 use Rattle.rhai_value.specs.Tree.{Tree, cell_of}
 use Rattle.rhai_value.specs.Store.{at}
 
--- what becomes of a holder on a walk: its cell opens, is marked or no cell of the store, or is open already
+-- the result of a walk at a holder: its cell opens, is marked or not in the store, or is already open
 pub data Visit (A : Type 0) : Type 0 where
   entered : A → Visit A
   barred : Visit A
@@ -19,7 +19,7 @@ visit_of None b = barred
 visit_of (Some t) true = revisited
 visit_of (Some t) false = entered t
 
--- what a holder of the cell c opens, where these cells are open
+-- the content that a holder of the cell c opens, with these cells open
 abbrev pub visit : List Cell → List ℕ → ℕ → Visit Tree
 visit s path c = visit_of (at s c) (is_open c path)
 
@@ -44,12 +44,12 @@ unentered (entered t) = revisited
 unentered barred = barred
 unentered revisited = revisited
 
--- What `shape` makes of a tree, being told the open cells and, for each holder, what its cell's content makes or why it didn't open.
--- The number bounds how many cells may be open at once.
+-- The result of `shape` on a tree, given the open cells and, for each holder, the result for its
+-- cell's content or why it didn't open. The number bounds how many cells may be open at once.
 abbrev pub walk_in : {A : Type 0} → (List ℕ → (ℕ → Visit A) → Tree → A) → ℕ → List Cell → List ℕ → Tree → A
 walk_in shape zero s path t = shape path (λ c. unentered (visit s path c)) t
 walk_in shape (suc n) s path t = shape path (λ c. visit_map (walk_in shape n s (c ∷ path)) (visit s path c)) t
 
--- No more cells can be open than there are.
+-- No more cells can be open than exist.
 abbrev pub walk : {A : Type 0} → (List ℕ → (ℕ → Visit A) → Tree → A) → List Cell → List ℕ → Tree → A
 walk shape s path t = walk_in shape (length s) s path t

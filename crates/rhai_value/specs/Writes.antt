@@ -1,4 +1,4 @@
--- What is left behind when a part of a value was written through a reference.
+-- The state after a part of a value was written through a reference.
 use Rattle.std.specs.Prelude.{[]}
 use mir.Syntax.{named}
 use denote.RattleType.{RattleType}
@@ -12,18 +12,18 @@ use Rattle.std.specs.contracts.vec.Vec as vec
 use Rattle.std.specs.contracts.impls.GlobalAllocator.TheImpl.{ghosts}
 use Rattle.rhai_value.specs.declared.parts.in_store.InStore.{InStore}
 
--- a value in its store, f being applied to what is held
+-- a value in its store, after f is applied to the held value
 abbrev pub written_at : End → InStore → (Tree → Tree) → InStore
 written_at e h f = record { value = record (h.value) { now = value_after f e h.value.now }; store = record (h.store) { now = store_after f e h.store.now } }
 
 abbrev pub written : InStore → (Tree → Tree) → InStore
 written h f = written_at (end h.store.now [] h.value.now) h f
 
--- w being written over the first content
+-- the same after w is written over the first content
 abbrev pub first_written : InStore → Tree → InStore
 first_written h w = record { value = record (h.value) { now = value_with_first w h.value.now }; store = record (h.store) { now = store_with_first w h.store.now h.value.now } }
 
--- the type, at the lifetime that stands second in a method's signature
+-- the type, at the second lifetime of a method's signature
 abbrev pub in_store_row : RattleType
 in_store_row = in_store.the_row (record { mir = named 1; lft = [] })
 

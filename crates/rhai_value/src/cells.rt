@@ -1,4 +1,4 @@
-//! Cells: the store, holders and what they lead to.
+//! Cells: the store, holders, and the values they lead to.
 
 pub(crate) mod cell_ref;
 pub(crate) mod chain;

@@ -1,4 +1,4 @@
-//! Laws of the definitions: each is the contract of a function that does nothing.
+//! Laws of the definitions: each is the contract of a function with an empty body.
 ghost use Rattle.std.specs.Prelude.{◌≡◌, ◌↔◌, ◌∷◌, [], ◌++◌, ℕ, ℤ, Bool, true, false, List, length, Some, None, is_some, slice_get};
 ghost use Rattle.rhai_value.specs.declared.value.access_mode.AccessMode.{AccessMode};
 ghost use Rattle.rhai_value.specs.declared.cells.store.Cell.{Cell};
@@ -17,16 +17,17 @@ pub mod parts;
 pub mod places;
 pub mod scans;
 
-/// Where a chain ends, by its parts: a value that is no holder is held, a holder is stuck, closes, or leads on to its cell's content.
-/// No length of the store is in it.
+/// The end of a chain, by cases: a value that isn't a holder is held; a holder is stuck, closes the
+/// chain, or leads on to its cell's content. The store's length isn't mentioned.
 #[tactic(auto, using(crate::proofs::Ends::end_opens))]
 pub fn end_opens()
     ensures { (s : List Cell) (path : List ℕ) (t : Tree)
         → end s path t ≡ end_of path (λ c. visit_map (end s (c ∷ path)) (visit s path c)) t }
 {}
 
-/// Where a chain ends, case by case: a value that is no holder is held; a holder of a marked or foreign cell is stuck; the chain
-/// closes at a cell that was passed, and else goes on with what its cell has.
+/// The end of a chain, case by case: a value that isn't a holder is held; a holder of a marked or
+/// foreign cell is stuck; the chain closes at a visited cell, and otherwise goes on with the cell's
+/// content.
 #[tactic(auto, using(crate::proofs::Ends::end_own, crate::proofs::Ends::end_stuck, crate::proofs::Ends::end_closes, crate::proofs::Ends::end_goes_on))]
 pub fn end_by_cases()
     ensures unshared { (s : List Cell) (path : List ℕ) (t : Tree) → cell_of t ≡ None → end s path t ≡ held (site_after (slice_get path 0)) t }
@@ -35,8 +36,8 @@ pub fn end_by_cases()
     ensures goes_on { (s : List Cell) (path : List ℕ) (t u : Tree) (c : ℕ) → cell_of t ≡ Some c → at s c ≡ Some u → is_open c path ≡ false → end s path t ≡ end s (c ∷ path) u }
 {}
 
-/// Chains from related values, in stores that are the same up to the numbers of their cells, end alike: where no cell was passed,
-/// and where those that were passed are paired.
+/// Chains from related values, in stores equal up to a renaming, end alike: with no visited cells,
+/// and with visited cells that are paired.
 #[tactic(auto, using(crate::proofs::SameWalks::same_end, crate::proofs::SameWalks::same_end_from))]
 pub fn end_is_renamed()
     ensures whole { (r : Renaming) (s z : List Cell) (t u : Tree)
@@ -45,7 +46,8 @@ pub fn end_is_renamed()
         → IsOneToOne r → RelatedCells r s z → RelatedPaths r path road → Related r t u → RelatedEnds r (end s path t) (end z road u) }
 {}
 
-/// A copy has the contents and the tags of the value, and its holders name the same cells; every mode is ReadWrite.
+/// A copy has the contents and tags of the value, and its holders refer to the same cells; every
+/// mode is ReadWrite.
 #[tactic(auto, using(crate::proofs::Copied::same_but_modes, crate::proofs::Copied::all_writable))]
 pub fn copies_keep_all_but_modes()
     ensures kept { (t : Tree) → SameButModes (copy t) t }
@@ -58,13 +60,13 @@ pub fn copy_is_renamed()
     ensures { (r : Renaming) (t u : Tree) → Related r t u → Related r (copy t) (copy u) }
 {}
 
-/// Related values that are painted with one mode are related.
+/// Related values painted with one mode are related.
 #[tactic(auto, using(crate::proofs::SameTrees::same_paint))]
 pub fn paint_is_renamed()
     ensures { (r : Renaming) (m : AccessMode) (t u : Tree) → Related r t u → Related r (paint m t) (paint m u) }
 {}
 
-/// Stores stay the same where related values are put into paired cells.
+/// Stores stay related if related values are put into paired cells.
 #[tactic(auto, using(crate::proofs::RelatedCells::same_put))]
 pub fn put_is_renamed()
     ensures { (r : Renaming) (s z : List Cell) (a b : ℕ) (t u : Tree)
@@ -72,7 +74,8 @@ pub fn put_is_renamed()
         → RelatedCells r (put s a t) (put z b u) }
 {}
 
-/// Stores with one more cell each, of related contents, are the same up to the renaming with the pair of the two.
+/// Stores with one more cell each, of related contents, are related by the renaming extended with
+/// the pair of new cells.
 #[tactic(auto, using(crate::proofs::Grow::one_more, crate::proofs::Grow::same_added))]
 pub fn added_is_renamed()
     ensures one { (r : Renaming) (s z : List Cell)
@@ -81,14 +84,14 @@ pub fn added_is_renamed()
         → RelatedCells (r ++ (length s, length z) ∷ []) (added s t) (added z u) }
 {}
 
-/// Related values stay related where more pairs join the renaming.
+/// Related values stay related if the renaming is extended.
 #[tactic(auto, using(crate::proofs::Grow::related_more))]
 pub fn more_pairs_relate()
     ensures { (r q : Renaming) (t u : Tree) → Related r t u → Related (r ++ q) t u }
 {}
 
-/// What moves related values into cells leaves related values and the same stores, up to the renaming with the pair of the new
-/// cells, if there are any.
+/// Sharing related values gives related values and related stores, by the renaming extended with
+/// the pair of new cells, if there are any.
 #[tactic(auto, using(crate::proofs::Grow::one_more_shared, crate::proofs::Grow::same_shared_value, crate::proofs::Grow::same_shared_store))]
 pub fn sharing_is_renamed()
     ensures one { (r : Renaming) (s z : List Cell) (t : Tree) → IsOneToOne r → RelatedCells r s z → IsOneToOne (r ++ shared_pairs s z t) }
@@ -98,7 +101,8 @@ pub fn sharing_is_renamed()
         → RelatedCells (r ++ shared_pairs s z t) (shared_store s t) (shared_store z u) }
 {}
 
-/// Related values have the same tag and mode, and stay related with another tag, and with related contents.
+/// Related values have the same tag and mode, and stay related with another tag and with related
+/// contents.
 #[tactic(auto, using(crate::proofs::SameTrees::same_tag, crate::proofs::SameTrees::same_mode, crate::proofs::SameTrees::same_with_tag, crate::proofs::SameTrees::same_with_content, crate::proofs::SameTrees::same_with_int))]
 pub fn parts_are_renamed()
     ensures tag { (r : Renaming) (t u : Tree) → Related r t u → tag_of t ≡ tag_of u }
@@ -108,8 +112,8 @@ pub fn parts_are_renamed()
     ensures with_int { (r : Renaming) (n : ℤ) → Respect r (with_int n) (with_int n) }
 {}
 
-/// Ends that are alike have the same type, the same unit, boolean, int, character, text, bytes and value of the host's, and related
-/// items, fields and curried values.
+/// Ends that are alike have the same type, the same unit, boolean, int, character, text, bytes and
+/// host value, and related items, fields and curried values.
 #[tactic(auto, using(crate::proofs::RelatedCells::same_end_type, crate::proofs::RelatedCells::same_held_leaf, crate::proofs::RelatedCells::same_held_part))]
 pub fn held_parts_are_renamed()
     ensures held_type { (r : Renaming) (e f : End) → RelatedEnds r e f → end_type e ≡ end_type f }
@@ -125,8 +129,8 @@ pub fn held_parts_are_renamed()
     ensures function { (r : Renaming) (e f : End) → RelatedEnds r e f → Alike (RelatedFunctions r) (held_part function_of e) (held_part function_of f) }
 {}
 
-/// What writes where chains end alike leave stays the same up to the renaming, the values and the stores, whatever takes related
-/// values to related ones.
+/// A write at ends that are alike leaves values and stores related, if it maps related values to
+/// related ones.
 #[tactic(auto, using(crate::proofs::RelatedCells::same_value_after, crate::proofs::RelatedCells::same_store_after))]
 pub fn writes_are_renamed()
     ensures value { (r : Renaming) (f g : Tree → Tree) (t u : Tree) (e o : End) → Respect r f g → Related r t u → RelatedEnds r e o
@@ -135,8 +139,8 @@ pub fn writes_are_renamed()
         → RelatedCells r (store_after f e s) (store_after g o z) }
 {}
 
-/// What writes over first contents that are alike leave stays the same up to the renaming, the values and the stores,
-/// whatever takes related values to related ones.
+/// A write over first contents that are alike leaves values and stores related, if it maps related
+/// values to related ones.
 #[tactic(auto, using(crate::proofs::SameFlat::same_value_with_first, crate::proofs::SameFlat::same_store_with_first))]
 pub fn first_writes_are_renamed()
     ensures value { (r : Renaming) (v w t u : Tree) → Related r v w → Related r t u → Related r (value_with_first v t) (value_with_first w u) }
@@ -144,7 +148,8 @@ pub fn first_writes_are_renamed()
         → RelatedCells r (store_with_first v s t) (store_with_first w z u) }
 {}
 
-/// The cells in which first contents and held values of related values stand are paired, or there are none.
+/// The cells of the first contents, and of the held values, of related values are paired, or
+/// neither exists.
 #[tactic(auto, using(crate::proofs::SameFlat::same_first_cell, crate::proofs::SameFlat::same_held_cell))]
 pub fn sites_are_renamed()
     ensures first { (r : Renaming) (s z : List Cell) (t u : Tree) → RelatedCells r s z → Related r t u
@@ -152,27 +157,27 @@ pub fn sites_are_renamed()
     ensures held { (r : Renaming) (e f : End) → RelatedEnds r e f → Alike (λ c d. paired r c d ≡ true) (held_cell e) (held_cell f) }
 {}
 
-/// First contents of related values are related, or neither has one.
+/// The first contents of related values are related, or neither exists.
 #[tactic(auto, using(crate::proofs::SameFlat::same_first))]
 pub fn first_is_renamed()
     ensures { (r : Renaming) (s z : List Cell) (t u : Tree)
         → RelatedCells r s z → Related r t u → Alike (Related r) (first s t) (first z u) }
 {}
 
-/// Related values are locked alike.
+/// Of two related values, both are locked or neither.
 #[tactic(auto, using(crate::proofs::SameFlat::same_locked))]
 pub fn is_locked_is_renamed()
     ensures { (r : Renaming) (s z : List Cell) (t u : Tree) → RelatedCells r s z → Related r t u → is_locked s t ≡ is_locked z u }
 {}
 
-/// Stores stay the same where the marks of paired cells are set, and where they are cleared.
+/// Stores stay related if the marks of paired cells are set, and if they are cleared.
 #[tactic(auto, using(crate::proofs::RelatedCells::same_set_mark))]
 pub fn set_mark_is_renamed()
     ensures { (r : Renaming) (s z : List Cell) (a b : ℕ) (m : Bool)
         → IsOneToOne r → RelatedCells r s z → paired r a b ≡ true → RelatedCells r (set_mark s a m) (set_mark z b m) }
 {}
 
-/// What related values are without their holders is related.
+/// Related values are related once flattened.
 #[tactic(auto, using(crate::proofs::SameFlat::same_flat, crate::proofs::SameFlat::same_flattened))]
 pub fn flat_is_renamed()
     ensures flat { (r : Renaming) (s z : List Cell) (t u : Tree)
@@ -181,7 +186,8 @@ pub fn flat_is_renamed()
         → IsOneToOne r → RelatedCells r s z → Related r t u → Related r (flattened s t) (flattened z u) }
 {}
 
-/// What is written over the first content of a holder is the first content of every holder of that cell, and no other cell changes.
+/// A write over the first content of a holder is seen through every holder of that cell, and no
+/// other cell changes.
 #[tactic(auto, using(crate::proofs::SameFlat::seen_by_all, crate::proofs::SameFlat::others_stay))]
 pub fn write_is_seen_by_all_holders()
     ensures seen { (s : List Cell) (t u v w : Tree) → first s t ≡ Some v → is_some (cell_of t) ≡ true → cell_of u ≡ cell_of t
@@ -190,14 +196,15 @@ pub fn write_is_seen_by_all_holders()
         → slice_get (store_with_first w s t) c ≡ slice_get s c }
 {}
 
-/// A mark that is set on a cell and cleared leaves the store as it was, or with what was written while it was marked.
+/// Setting and clearing a cell's mark leaves the store as it was, but for what was written in
+/// between.
 #[tactic(auto, using(crate::proofs::MarkedCells::cleared, crate::proofs::MarkedCells::written_and_cleared))]
 pub fn mark_is_cleared()
     ensures alone { (s : List Cell) (c : ℕ) → is_some (at s c) ≡ true → set_mark (set_mark s c true) c false ≡ s }
     ensures written { (s : List Cell) (c : ℕ) (w : Tree) → is_some (at s c) ≡ true → set_mark (put (set_mark s c true) c w) c false ≡ put s c w }
 {}
 
-/// The cell in which a first content or a held value stands can be read.
+/// The cell of a first content or a held value can be read.
 #[tactic(auto, using(crate::proofs::MarkedCells::first_read, crate::proofs::MarkedCells::held_read))]
 pub fn sites_are_read()
     ensures first { (s : List Cell) (t : Tree) (c : ℕ) → first_cell s t ≡ Some c → is_some (at s c) ≡ true }
@@ -210,7 +217,8 @@ pub fn mark_closes_the_cell()
     ensures { (s : List Cell) (t : Tree) (c : ℕ) → cell_of t ≡ Some c → first (set_mark s c true) t ≡ None }
 {}
 
-/// Marks stay where a value is written or moved into a cell, and where the mark of another cell is set or cleared.
+/// A mark is unaffected by writing a value, by sharing one, and by marking or unmarking another
+/// cell.
 #[tactic(auto, using(crate::proofs::RelatedCells::marked_put, crate::proofs::RelatedCells::marked_store_after, crate::proofs::MarkedCells::marked_with_first, crate::proofs::MarkedCells::marked_shared, crate::proofs::MarkedCells::others_marked))]
 pub fn marks_stay()
     ensures written { (s : List Cell) (c d : ℕ) (t : Tree) → is_marked_at (put s c t) d ≡ is_marked_at s d }

@@ -1,4 +1,4 @@
-//! The values of a script: trees that may hold shared cells, and the store of these cells.
+//! The values of a script: trees that may have shared cells, and the store of these cells.
 #![tactic(auto)]
 
 mod cells;

@@ -1,4 +1,4 @@
-//! Maps from texts to values, in the order of the keys.
+//! Maps from texts to values, ordered by key.
 
 pub(crate) mod edit;
 pub(crate) mod entries;
@@ -19,8 +19,8 @@ use crate::value::dynamic::Dynamic;
 use std::alloc::Global;
 use std::marker::Model;
 
-/// A map from texts to values. Contracts see its rows: each key, as its bytes, with its value, by rising keys.
-/// A map of no entries takes no memory before its first entry.
+/// A map from texts to values. Contracts see its rows: each key, as its bytes, with its value, by
+/// ascending keys. An empty map allocates nothing until its first entry.
 /// rhai: `Map`, which is a `BTreeMap<Identifier, Dynamic>`.
 #[cycle(dynamic)]
 #[derive(Drop)]
@@ -29,7 +29,8 @@ pub struct Map {
     pub(crate) alloc: Global,
 }
 
-/// The first entries, chunks of those that follow, and how many entries there are. Where there are chunks, the first list may be empty.
+/// The first entries, chunks of those that follow, and the number of entries. If there are chunks,
+/// the first list may be empty.
 #[cycle(dynamic)]
 #[derive(Drop)]
 pub(crate) struct MapParts {
@@ -38,7 +39,7 @@ pub(crate) struct MapParts {
     pub(crate) len: usize,
 }
 
-/// Entries, at least one, and the front of the first key.
+/// A chunk: at least one entry, and the front of the first key.
 #[cycle(dynamic)]
 #[derive(Drop)]
 pub(crate) struct Chunk {
@@ -92,7 +93,7 @@ impl Map {
     ghost use Rattle.rhai_value.specs.contracts.value.dynamic.Dynamic as dynamic_type;
     ghost use Rattle.rhai_value.specs.contracts.map.Map as map_type;
 
-    /// Makes a map of no entries; its first entry takes memory from `alloc`.
+    /// Makes an empty map; its first entry allocates from `alloc`.
     /// Cost: constant; no memory.
     pub fn new(alloc: Global) -> Map
         ensures { result ≡ [] }
@@ -100,7 +101,7 @@ impl Map {
         Map { parts: None, alloc }
     }
 
-    /// Counts the entries.
+    /// Returns the number of entries.
     /// Cost: constant.
     pub fn len(&self) -> usize
         ensures len { result ≡ length self.now }
@@ -113,14 +114,14 @@ impl Map {
         }
     }
 
-    /// Tells whether there is no entry.
+    /// Returns whether the map is empty.
     pub fn is_empty(&self) -> bool
         ensures { IsTrue result ↔ (self.now ≡ []) }
     {
         self.len() == 0
     }
 
-    /// Tells whether there is an entry of this key.
+    /// Returns whether the map has this key.
     /// Cost: the logarithm of the number of entries.
     pub fn contains_key(&self, key: &str) -> bool
         ensures { result ≡ is_some (lookup (is_at (bytes_cmp key.now)) self.now) }
@@ -128,7 +129,7 @@ impl Map {
         self.get(key).is_some()
     }
 
-    /// Lends the value of a key, if it has one.
+    /// Borrows the value of a key, if the map has it.
     /// Cost: the logarithm of the number of entries.
     pub fn get(&self, key: &str) -> Option<&Dynamic>
         ensures value { option_copied result ≡ lookup (is_at (bytes_cmp key.now)) self.now }
@@ -141,7 +142,7 @@ impl Map {
         }
     }
 
-    /// Lends the value of a key, to write to.
+    /// Borrows the value of a key mutably, if the map has it.
     /// Cost: the logarithm of the number of entries.
     pub fn get_mut(&mut self, key: &str) -> Option<&mut Dynamic>
         ensures* writes_back { sem 𝓛 (LendsIf map_type.the_row dynamic_type.the_row self.entry result (λ w. set_value (is_at (bytes_cmp key.now)) self.old w) self.old) }
@@ -156,11 +157,11 @@ impl Map {
         }
     }
 
-    /// Puts a value at a key, and answers the value that was there. A key that is there keeps its own text, and is never
-    /// refused.
-    /// Errors: key and value come back where the key is new and the memory for its entry is refused.
-    /// Cost: the logarithm of the number of entries, and the moves of up to 31 entries; now and then a list is split, which
-    /// takes time in the number of lists.
+    /// Inserts a value at a key, and returns the old value. A key that exists keeps its own text,
+    /// and that insertion never fails.
+    /// Errors: key and value, if the key is new and the allocation of its entry fails.
+    /// Cost: the logarithm of the number of entries, and moves of up to 31 entries; occasionally a
+    /// list is split, in time of the number of lists.
     /// rhai: `BTreeMap::insert`, which drops the key.
     pub fn insert(
         &mut self,
@@ -183,8 +184,8 @@ impl Map {
         }
     }
 
-    /// Puts a value at a key that was made before: `insert` of a key.
-    /// Errors: key and value come back where the key is new and the memory for its entry is refused.
+    /// Inserts a value at a ready-made `Key`, as `insert` does.
+    /// Errors: key and value, if the key is new and the allocation of its entry fails.
     /// Cost: that of `insert`.
     /// rhai: `BTreeMap::insert`.
     pub fn insert_key(
@@ -206,7 +207,7 @@ impl Map {
         }
     }
 
-    /// Takes memory for the parts of a map that has none, if it isn't refused.
+    /// Allocates the parts of a map that has none; this may fail.
     #[cold]
     #[inline(never)]
     pub(crate) fn prepare(&mut self)
@@ -219,7 +220,7 @@ impl Map {
         }
     }
 
-    /// Takes a key out, and answers its value.
+    /// Removes a key, and returns its value.
     /// Cost: the logarithm of the number of entries; no memory.
     pub fn remove(&mut self, key: &str) -> Option<Dynamic>
         ensures value { result ≡ lookup (is_at (bytes_cmp key.now)) self.old }
@@ -231,7 +232,7 @@ impl Map {
         }
     }
 
-    /// Takes all entries out, and gives their memory back.
+    /// Removes all entries, and frees their memory.
     /// Cost: their drop.
     pub fn clear(&mut self)
         ensures { self.new ≡ [] }
@@ -239,8 +240,8 @@ impl Map {
         self.parts = None;
     }
 
-    /// Lends the entries one by one, by rising keys.
-    /// Cost: no memory; the whole walk takes time in the number of entries.
+    /// Iterates over the entries by ascending keys.
+    /// Cost: no memory; the whole iteration takes time in the number of entries.
     pub fn iter(&self) -> Entries<'_>
         ensures entries { result ≡ self.now }
         ensures ordered { AreRising self.now }
@@ -252,7 +253,7 @@ impl Map {
         }
     }
 
-    /// Lends the keys one by one, in rising order.
+    /// Iterates over the keys in ascending order.
     /// Cost: that of `iter`.
     pub fn keys(&self) -> Keys<'_>
         ensures keys { result ≡ keys_of self.now }
@@ -262,7 +263,7 @@ impl Map {
         Keys { entries }
     }
 
-    /// Lends the values one by one, by rising keys.
+    /// Iterates over the values by ascending keys.
     /// Cost: that of `iter`.
     pub fn values(&self) -> Values<'_>
         ensures { result ≡ values_of self.now }

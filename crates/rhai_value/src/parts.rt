@@ -1,4 +1,4 @@
-//! Parts of a value that is held: questions, references and writes of one kind.
+//! Parts of held values: type tests, borrows and writes by type.
 
 pub(crate) mod host;
 pub(crate) mod in_store;

@@ -1,4 +1,4 @@
-//! Steps into a value, and work on what stands where they lead.
+//! Steps into a value, and work at their target.
 
 pub(crate) mod place;
 pub(crate) mod step;

@@ -1,4 +1,4 @@
-//! Values: their kinds, what makes them and what they become.
+//! Values: their types, constructors and conversions.
 
 pub(crate) mod access_mode;
 pub(crate) mod constants;

@@ -1,4 +1,4 @@
-//! Walks over a value and all that it holds.
+//! Walks over a value and all values inside it.
 
 pub(crate) mod children;
 pub(crate) mod coat;

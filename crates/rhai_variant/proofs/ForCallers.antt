@@ -1,5 +1,5 @@
--- What the proofs of crates above may cite, besides the laws: everything else in this folder is private.
--- what is read of a value, by its type
+-- Lemmas for the proofs of crates above, besides the laws; everything else in this folder is private.
+-- reading a value, by its type
 pub use Rattle.rhai_variant.proofs.Readings.{held_unshared, read_by_type}
--- the same of related values
+-- the same for related values
 pub use Rattle.rhai_variant.proofs.SameReadings.{same_read, same_viewed, same_written_as}

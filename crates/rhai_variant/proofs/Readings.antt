@@ -1,4 +1,4 @@
--- What is read of a value, by its type.
+-- Reading a value, by its type.
 use Rattle.std.proofs.Common.{◌≡◌, Bool, true, false, Option, Some, None, option_map, is_some, cond, refl, ◌∙◌}
 use Rattle.rhai_value.specs.declared.value.type_id.TypeId.{TypeId}
 use Rattle.rhai_value.specs.declared.value.type_id.TypeId.TheVariants as id
@@ -10,7 +10,7 @@ some_if : (b : Bool) (c : Content) → is_some (option_map made (cond b (Some c)
 some_if true c = refl
 some_if false c = refl
 
--- something is read exactly of the values of the type
+-- a read succeeds exactly on the values of the type
 pub read_by_type : (k : TypeId) (t : Tree) → is_type k id.Dynamic ≡ false → is_some (read k t) ≡ is_type (held_type k) (tree_type t)
 read_by_type id.Dynamic t p = absurd (cc)
 read_by_type id.String t p = some_if (is_type id.ImmutableString (tree_type t)) (content_of t)
@@ -20,7 +20,7 @@ pub viewed_is_read : (k : TypeId) (t : Tree) → is_type k id.String ≡ false �
 viewed_is_read id.String t p = absurd (cc)
 viewed_is_read k t p = refl
 
--- a type that isn't that of what can't be looked into is read of no holder
+-- no type but `Shared` is read from a holder
 pub held_unshared : (k : TypeId) → is_type k id.Shared ≡ false → is_type (held_type k) id.Shared ≡ false
 held_unshared id.String p = refl
 held_unshared k p = p

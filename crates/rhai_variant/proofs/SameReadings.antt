@@ -1,4 +1,4 @@
--- What is read and written as a type doesn't depend on the numbers of cells.
+-- Reads and writes as a type don't depend on cell numbers.
 use Rattle.std.proofs.Common.{Bool, true, false, Some, None, option_map, cond, refl, subst}
 use Rattle.rhai_value.specs.declared.cells.chain.Site.TheVariants.{Here}
 use Rattle.rhai_value.specs.declared.value.type_id.TypeId.{TypeId}

@@ -1,12 +1,12 @@
-//! Why a value isn't read as a type.
+//! Why a value can't be read as a type.
 
 use rhai_value::Dynamic;
 
-/// Why a value isn't read as a type. Each has a value that comes back to the caller.
+/// Why a value can't be read as a type. Each variant returns a value to the caller.
 #[derive(Drop)]
 pub enum CastError {
-    /// It is of another type. From a cast that takes holders off, the value without them.
+    /// It is of another type; after a cast that flattens, this is the flat value.
     Mismatch(Dynamic),
-    /// Memory was refused; the value as it was.
+    /// An allocation failed; the value is unchanged.
     Memory(Dynamic),
 }

@@ -3,7 +3,8 @@
 use rhai_text::ImmutableString;
 use rhai_value::{Array, Blob, ExclusiveRange, FnPtr, INT, InclusiveRange, Map, Part};
 
-/// A type whose values are the content of one constructor: each `Variant` but `String` and `Dynamic`.
+/// A type whose values are the content of one constructor: each `Variant` except `String` and
+/// `Dynamic`.
 pub trait Content: Part {}
 
 impl Content for () {}

@@ -1,4 +1,4 @@
-//! The Rust types that script values are made of and read as.
+//! The Rust types to and from which script values convert.
 #![tactic(auto)]
 
 mod cast_error;

@@ -1,4 +1,4 @@
-//! The types that script values are made of and read as.
+//! The types to and from which script values convert.
 ghost use Rattle.std.specs.Prelude.{◌≡◌, refl, true, false, Some, None, option_map, IfOk, IfErr, IsOk, string_bytes};
 ghost use Rattle.std.specs.Str.{chars};
 ghost use Rattle.std.specs.Borrow.{sem, LendsIf};
@@ -16,71 +16,73 @@ use rhai_text::ImmutableString;
 use rhai_value::{Dynamic, Part, TypeId};
 use std::alloc::{AllocError, Global};
 
-/// A type that script values are made of and read as: the 22 types of this crate.
+/// A type to and from which script values convert: the 22 types of this crate.
 ///
-/// `KIND` says all that is read of a value and written to one: the content of the values of that type for most, a text for
-/// `String`, and any value at all for `Dynamic`. An implementation whose calls read or make another constructor than `KIND`
-/// names is refused.
-/// rhai: `Variant`, which any type is.
+/// `KIND` determines everything that is read from a value and written to one: the content of the
+/// values of that type for most types, a text for `String`, and any value for `Dynamic`. An
+/// implementation that reads or makes another constructor than `KIND` names is rejected.
+/// rhai: `Variant`, which any type implements.
 pub trait Variant: Sized + Drop {
     /// The type itself.
     const KIND: TypeId;
 
     ghost KIND: { TypeId };
 
-    // The value that is made of one.
+    // The value made from one.
     ghost tree: { Self → Tree };
 
-    /// Makes a value of this one, with tag 0 and mode ReadWrite; a `Dynamic` is itself.
-    /// Errors: a `String` comes back where memory is refused.
-    /// Cost: constant; of a `String` the length of its text, which is copied.
+    /// Makes a value from this one, with tag 0 and mode ReadWrite; a `Dynamic` is returned as it
+    /// is.
+    /// Errors: a `String` is returned if an allocation fails.
+    /// Cost: constant; for a `String` the length of its text, which is copied.
     /// rhai: `Dynamic::from`.
     fn into_dynamic(self, alloc: Global) -> Result<Dynamic, Self>
         ensures ok { IfOk result (λ value. value ≡ tree self) }
         ensures err { IfErr result (λ back. (back ≡ self) × (is_type KIND type_id.String ≡ true)) };
 
-    /// Moves what is read of the value itself out of it.
-    /// Errors: `Mismatch` exactly where nothing is read, as of any holder for all types but `Dynamic`; `Memory` where a
-    /// text isn't copied to a `String`.
+    /// Moves the content read as this type out of the value itself.
+    /// Errors: `Mismatch` exactly if the value can't be read as this type, as a holder for all
+    /// types but `Dynamic`; `Memory` if copying a text to a `String` fails.
     /// Cost: constant; to a `String` the length of the text, which is copied.
     fn from_dynamic(alloc: Global, value: Dynamic) -> Result<Self, CastError>
         ensures ok { IfOk result (λ x. read KIND value ≡ Some (tree x)) }
         ensures err { IfErr result (λ e. IsRefused KIND e value) };
 
-    /// Lends what the value itself has. No value has a `String`; a `Dynamic` is the value.
+    /// Borrows the value's own content. No value has a `String`; for `Dynamic`, borrows the value
+    /// itself.
     /// Cost: constant; no memory.
     /// rhai: `Variant::as_any`.
     fn view(value: &Dynamic) -> Option<&Self>
         ensures { option_map (λ x. tree x.now) result ≡ viewed KIND value.now };
 
-    /// Lends what the value itself has, to write: what is written is then the content of the value, tag and mode staying;
-    /// of a `Dynamic` it is the whole value.
+    /// Borrows the value's own content mutably. A write replaces the content of the value, and
+    /// keeps tag and mode; for `Dynamic` it replaces the whole value.
     /// Cost: constant; no memory.
     /// rhai: `Variant::as_any_mut`.
     fn view_mut(value: &mut Dynamic) -> Option<&mut Self>
         ensures* writes_back { sem 𝓛 (LendsIf dynamic_type.the_row Self.row value.entry result (λ w. written_as KIND (tree w) value.old) value.old) }
         ensures value { option_map (λ x. tree x.now) result ≡ viewed KIND value.old };
 
-    /// Makes one more, of which the copy of the value is made.
-    /// Errors: memory is refused.
-    /// Cost: that of `Dynamic::copy`; of a `String` the length of its text.
+    /// Makes a duplicate, from which the copy of the value is made.
+    /// Errors: an allocation fails.
+    /// Cost: that of `Dynamic::copy`; for a `String` the length of its text.
     /// rhai: `Variant::clone_object`.
     fn duplicate(&self, alloc: Global) -> Result<Self, AllocError>
         ensures copied { IfOk result (λ x. tree x ≡ copy (tree self.now)) }
         ensures free { TakesNoMemory (tree self.now) → IsOk result };
 
-    /// Tells the name of the type, as scripts see it.
-    /// rhai: `Variant::type_name`, which is the path of the type in Rust.
+    /// Returns the name of the type, as scripts see it.
+    /// rhai: `Variant::type_name`, which returns the path of the Rust type.
     final fn type_name() -> &'static str
         ensures { result.now ≡ type_name KIND }
     {
         Self::KIND.name()
     }
 
-    // No type stands for values that can't be looked into.
+    // No type is that of stuck or closed chains.
     ghost looks_into: { is_type KIND type_id.Shared ≡ false };
 
-    // Of a value that is made of one, this one is read.
+    // A value made from `x` is read as `x`.
     ghost made_is_read: { (x : Self) → read KIND (tree x) ≡ Some (tree x) };
 }
 

@@ -1,4 +1,5 @@
-//! Runs commands over one world of script values: reads a command a line from standard input, and prints an answer to each.
+//! Runs commands over one world of script values: reads a command per line from standard input, and
+//! prints an answer to each.
 #![tactic(auto)]
 
 ghost use Rattle.std.specs.Prelude.{◌≡◌, OnOk, OnErr};
@@ -8,7 +9,7 @@ use std::io;
 use std::io::BufWriter;
 use std::process::ExitCode;
 
-/// Answers standard input on standard output, by way of a buffer.
+/// Answers standard input on standard output, through a buffer.
 fn answer_standard_input(rt: &(impl Input + Print + AllocGlobal)) -> Result<(), LinesFault> {
     match BufWriter::new(rt.alloc(), io::writer(rt)) {
         Ok(mut writer) => run_lines(rt.alloc(), &mut rt.reader(), &mut writer),
@@ -30,7 +31,7 @@ fn status(outcome: &Result<(), LinesFault>) -> u8
 fn main(rt: HostRuntime) -> ExitCode {
     let outcome = answer_standard_input(&rt);
     if let Err(fault) = &outcome {
-        // where standard error fails too, the exit status is all that is left to say
+        // if standard error fails too, only the exit status remains to report it
         let _ = eprintln!(rt; "{fault}");
     }
     ExitCode::from(status(&outcome))

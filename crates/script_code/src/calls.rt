@@ -20,7 +20,7 @@ fn only_variable(arguments: &[Expr]) -> Option<script_tree::Slot> {
 }
 
 impl<'p> Compiler<'p> {
-    /// Calls a function, whose value comes to a slot.
+    /// Calls a function, with the result in a slot.
     #[cycle(compile)]
     pub(crate) fn call(
         &mut self,
@@ -40,7 +40,7 @@ impl<'p> Compiler<'p> {
         self.call_outside(callee, arguments, position, to, levels)
     }
 
-    /// Calls a function that isn't the script's.
+    /// Calls a function that isn't in the script.
     #[cycle(compile)]
     pub(crate) fn call_outside(
         &mut self,
@@ -104,7 +104,7 @@ impl<'p> Compiler<'p> {
         self.moved(to, first)
     }
 
-    /// Calls the function pointer that is the first argument with the others.
+    /// Calls the function pointer in the first argument with the others.
     #[cycle(compile)]
     fn call_function(
         &mut self,
@@ -130,7 +130,7 @@ impl<'p> Compiler<'p> {
         self.moved(to, first)
     }
 
-    /// Whether a variable is shared; a value that is none isn't.
+    /// Tests whether a variable is shared; a value outside a variable isn't.
     #[cycle(compile)]
     fn ask_shared(
         &mut self,
@@ -170,7 +170,7 @@ impl<'p> Compiler<'p> {
         Ok(())
     }
 
-    /// Calls a function of the packages: a variable that it is given first is left where it is.
+    /// Calls a function of the packages; a variable as the first argument is used in place.
     #[cycle(compile)]
     fn call_native(
         &mut self,
@@ -223,7 +223,8 @@ impl<'p> Compiler<'p> {
         self.moved(to, base)
     }
 
-    /// Calls what isn't the script's with so many values, those from a slot on, where its answer comes.
+    /// Calls something outside the script with this many values, which begin at the slot of the
+    /// result.
     pub(crate) fn call_values(
         &mut self,
         meaning: Meaning,

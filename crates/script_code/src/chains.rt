@@ -9,32 +9,33 @@ use crate::quiet::known_variable;
 use rhai_text::Position;
 use script_tree::{Expr, Step, Variable};
 
-/// A method of a chain whose operands are there, with the steps before it.
+/// A method of a chain whose operands are evaluated, with the steps before it.
 #[derive(Drop)]
 pub(crate) struct Called {
     pub(crate) callee: usize,
     pub(crate) position: Position,
     /// The steps from the method before.
     pub(crate) path: Vec<PathStep>,
-    /// How many of them lead to each place that may be `()`, where the chain ends then.
+    /// How many of them lead to each value at which the chain ends if it is `()`.
     pub(crate) tests: Vec<usize>,
-    /// Where the receiver is put; the arguments follow.
+    /// The slot of the receiver; the arguments follow.
     pub(crate) receiver: Slot,
     pub(crate) arguments: usize,
-    /// Whether it calls the variable itself that is the root: the receiver's slot then has the first argument.
+    /// Whether it calls the variable itself that is the root: the receiver's slot then has the
+    /// first argument.
     pub(crate) is_direct: bool,
 }
 
-/// Where a chain stands.
+/// Where a chain begins.
 #[derive(Clone, Copy)]
 pub(crate) enum Root {
-    /// At a variable, which stays where it is.
+    /// At a variable, which is used in place.
     Variable(Slot, Position),
-    /// At a value that was made.
+    /// At a value in a slot of its own.
     Made(Slot),
 }
 
-/// The number of the first method, or of the end.
+/// Returns the number of the first method, or of the end.
 fn method_from(steps: &[Step], first: usize) -> usize {
     for (number, step) in steps.iter().enumerate() {
         if number >= first && matches!(step, Step::Method { .. }) {
@@ -78,7 +79,7 @@ impl<'p> Compiler<'p> {
         self.end_chain(to, ends.as_slice())
     }
 
-    /// Has the chain end where one of the places is `()` to which so many steps lead.
+    /// Ends the chain if one of the values at these numbers of steps is `()`.
     fn end_early(
         &mut self,
         at: Root,
@@ -102,7 +103,7 @@ impl<'p> Compiler<'p> {
         Ok(())
     }
 
-    /// Puts `()` where the value of a chain is wanted that ended early.
+    /// Stores `()` as the value of a chain that ended early.
     fn end_chain(&mut self, to: Slot, ends: &[usize]) -> Result<(), CodeError> {
         if ends.is_empty() {
             return Ok(());
@@ -113,7 +114,8 @@ impl<'p> Compiler<'p> {
         self.land(&[done])
     }
 
-    /// Evaluates the indices and arguments of all steps: adds the methods, and gives the steps behind the last.
+    /// Evaluates the indices and arguments of all steps: adds the methods, and returns the steps
+    /// after the last.
     #[cycle(compile)]
     fn operands(
         &mut self,
@@ -174,7 +176,7 @@ impl<'p> Compiler<'p> {
         known_variable(root).is_some() && matches!(self.meaning(callee), Meaning::Call)
     }
 
-    /// The root of a chain; `None` where it is a name that means nothing.
+    /// Compiles the root of a chain; `None` if it is an unknown name.
     #[cycle(compile)]
     fn root(
         &mut self,
@@ -203,7 +205,7 @@ impl<'p> Compiler<'p> {
         Ok(Some(Root::Made(slot)))
     }
 
-    /// Reads what steps lead to.
+    /// Reads the value at steps.
     pub(crate) fn read(
         &mut self,
         at: Root,
@@ -244,7 +246,7 @@ impl<'p> Compiler<'p> {
         Ok(())
     }
 
-    /// A copy of the steps to a method.
+    /// Copies the steps to a method.
     pub(crate) fn copied_path(&self, method: &Called) -> Result<Vec<PathStep>, CodeError> {
         let mut path = Vec::new(self.alloc);
         for step in method.path.iter() {
@@ -253,7 +255,7 @@ impl<'p> Compiler<'p> {
         Ok(path)
     }
 
-    /// Moves a value that isn't there already.
+    /// Moves a value, unless it is there already.
     pub(crate) fn moved(&mut self, to: Slot, from: Slot) -> Result<(), CodeError> {
         if to != from {
             self.emit(Op::Move(to, from))?;
@@ -261,7 +263,8 @@ impl<'p> Compiler<'p> {
         Ok(())
     }
 
-    /// Has so many values behind a slot and the one in it stand where nothing is used behind them; gives the slot of the first.
+    /// Moves a slot and this many values after it to the top, where no used slot follows; returns
+    /// the slot of the first.
     pub(crate) fn at_top(&mut self, first: Slot, count: usize) -> Result<Slot, CodeError> {
         let end = usize::from(first).saturating_add(count).saturating_add(1);
         if end == usize::from(self.top) {

@@ -1,4 +1,5 @@
-//! Functions of arrays and maps that may change them by a function of the script, and searches, which may take one.
+//! Functions of arrays and maps that may change them with a callback, and searches, which may have
+//! one.
 
 use crate::callbacks::COUNTED;
 use crate::chains::{Called, Root};
@@ -12,11 +13,11 @@ use crate::tables::to_number;
 use rhai_text::Position;
 use script_tree::Expr;
 
-/// So far behind an array stands what comes out.
+/// The distance from an array's slot to that of the result.
 const MADE: Slot = 2;
 
 impl<'p> Compiler<'p> {
-    /// Takes items out of what steps lead to from a variable, and puts there what is left.
+    /// Removes items from the value at steps from a variable, and writes back what is left.
     pub(crate) fn sift_at(
         &mut self,
         root: Slot,
@@ -34,7 +35,8 @@ impl<'p> Compiler<'p> {
         Ok(first)
     }
 
-    /// Puts what a slot holds where the steps of a method lead to from a variable, which the function left alone.
+    /// Writes the value of a slot to the place at a method's steps from a variable, which the
+    /// function didn't change itself.
     pub(crate) fn put_back(
         &mut self,
         root: Slot,
@@ -56,7 +58,7 @@ impl<'p> Compiler<'p> {
         Ok(())
     }
 
-    /// Calls one of these functions by its name, with arguments from a slot on.
+    /// Calls one of these functions by its name, with arguments that begin at a slot.
     pub(crate) fn sift_or_search(
         &mut self,
         meaning: Meaning,
@@ -74,7 +76,8 @@ impl<'p> Compiler<'p> {
         self.moved(to, first)
     }
 
-    /// Takes items out by a function that is called by its name: a variable that is given first has the array then.
+    /// Removes items with a callback, in a call by name: if the first argument is a variable, the
+    /// array is written to it.
     fn sift_first(
         &mut self,
         arguments: &Vec<Expr>,
@@ -95,7 +98,7 @@ impl<'p> Compiler<'p> {
         self.moved(to, first.saturating_add(MADE))
     }
 
-    /// Searches what steps lead to from a variable: by a function where it is given one.
+    /// Searches the value at steps from a variable, with a callback if there is one.
     pub(crate) fn search_at(
         &mut self,
         root: Slot,
@@ -115,7 +118,7 @@ impl<'p> Compiler<'p> {
         Ok(receiver)
     }
 
-    /// Searches the value in a slot, where its answer comes.
+    /// Searches the value in a slot, which also receives the result.
     pub(crate) fn search_made(
         &mut self,
         callee: usize,
@@ -132,7 +135,7 @@ impl<'p> Compiler<'p> {
         self.land(&[end])
     }
 
-    /// Searches the array in a slot by the function in the next.
+    /// Searches the array in a slot with the callback in the next.
     fn search_by(
         &mut self,
         first: Slot,

@@ -1,4 +1,4 @@
-//! Conditions: jumps where an expression is true, or where it is false.
+//! Conditions: jumps if an expression is true, or if it is false.
 
 use crate::compiler::Compiler;
 use crate::error::CodeError;
@@ -9,7 +9,7 @@ use crate::program::Place;
 use rhai_text::{Position, Token};
 use script_tree::{Expr, Operator, Term, UnaryOperator};
 
-/// The jump where a comparison of two slots holds.
+/// Makes the jump for a comparison of two slots.
 fn comparing(comparison: Comparison, x: Slot, y: Slot) -> Op {
     match comparison {
         Comparison::Less => Op::JumpLess(x, y, 0),
@@ -21,7 +21,7 @@ fn comparing(comparison: Comparison, x: Slot, y: Slot) -> Op {
     }
 }
 
-/// The same with a small int on the right.
+/// As `comparing`, with a small int on the right.
 fn comparing_int(comparison: Comparison, x: Slot, y: i32) -> Op {
     match comparison {
         Comparison::Less => Op::JumpLessInt(x, y, 0),
@@ -44,7 +44,8 @@ fn are_all(terms: &[Term], operator: Operator) -> bool {
 }
 
 impl<'p> Compiler<'p> {
-    /// Adds jumps that are gone where an expression comes to this. What is no boolean is refused at a place.
+    /// Adds jumps that are taken if an expression has this value. At a place, anything but a
+    /// boolean is a fault.
     #[cycle(compile)]
     pub(crate) fn condition(
         &mut self,
@@ -80,7 +81,7 @@ impl<'p> Compiler<'p> {
         self.plain_condition(expr, wanted, position, jumps, levels)
     }
 
-    /// Jumps by the value of an expression.
+    /// Jumps on the value of an expression.
     #[cycle(compile)]
     fn plain_condition(
         &mut self,
@@ -102,7 +103,7 @@ impl<'p> Compiler<'p> {
         Ok(())
     }
 
-    /// Jumps by a comparison or by lazy operators of one kind; answers whether the terms are such.
+    /// Jumps on a comparison, or on lazy operators of one kind; returns whether the terms are such.
     #[cycle(compile)]
     fn run_condition(
         &mut self,
@@ -129,7 +130,7 @@ impl<'p> Compiler<'p> {
         }
     }
 
-    /// Lazy operators, all of which are settled where an operand comes to this.
+    /// Compiles lazy operators that are decided as soon as an operand has this value.
     #[cycle(compile)]
     fn lazy_condition(
         &mut self,
@@ -163,7 +164,7 @@ impl<'p> Compiler<'p> {
         self.land(settles.as_slice())
     }
 
-    /// Jumps by one operator, if it compares.
+    /// Jumps on one operator, if it compares.
     #[cycle(compile)]
     fn comparison(
         &mut self,

@@ -9,7 +9,7 @@ use script_tree::{Arm, Block, Expr};
 
 /// Blocks.
 impl<'p> Compiler<'p> {
-    /// Evaluates the statements of a block, and puts the value of the last where it is wanted.
+    /// Compiles the statements of a block; the value of the last goes to a slot if it is used.
     #[cycle(compile)]
     pub(crate) fn statements(
         &mut self,
@@ -34,7 +34,7 @@ impl<'p> Compiler<'p> {
         self.hide_variables(outer)
     }
 
-    /// Evaluates a block whose variables end with it.
+    /// Compiles a block, whose variables end with it.
     #[cycle(compile)]
     pub(crate) fn block(
         &mut self,
@@ -46,7 +46,7 @@ impl<'p> Compiler<'p> {
         self.clear_variables(block.first_slot, block.end_slot, to)
     }
 
-    /// Evaluates an expression, and puts its value where it is wanted.
+    /// Compiles an expression; its value goes to a slot if it is used.
     #[cycle(compile)]
     pub(crate) fn evaluate(
         &mut self,
@@ -60,7 +60,7 @@ impl<'p> Compiler<'p> {
         }
     }
 
-    /// Evaluates the statements of a function, and gives the value of the last to the caller.
+    /// Compiles the statements of a function, and returns the value of the last to the caller.
     #[cycle(tail)]
     pub(crate) fn tail_block(&mut self, block: &Block, levels: u32) -> Result<(), CodeError> {
         let outer = self.in_sight.len();
@@ -80,7 +80,7 @@ impl<'p> Compiler<'p> {
         self.hide_variables(outer)
     }
 
-    /// Evaluates an expression, and gives its value to the caller.
+    /// Compiles an expression, and returns its value to the caller.
     #[cycle(tail)]
     pub(crate) fn tail(&mut self, expr: &Expr, levels: u32) -> Result<(), CodeError> {
         if levels == 0 {
@@ -149,7 +149,7 @@ impl<'p> Compiler<'p> {
 
 /// Statements.
 impl<'p> Compiler<'p> {
-    /// Evaluates an expression whose value isn't wanted.
+    /// Compiles an expression whose value isn't used.
     #[cycle(compile)]
     pub(crate) fn effect(&mut self, expr: &Expr, levels: u32) -> Result<(), CodeError> {
         if levels == 0 {
@@ -218,7 +218,7 @@ impl<'p> Compiler<'p> {
         Ok(())
     }
 
-    /// What consists of blocks.
+    /// Compiles a construct that consists of blocks.
     #[cycle(compile)]
     pub(crate) fn construct(
         &mut self,
@@ -339,7 +339,7 @@ impl<'p> Compiler<'p> {
     }
 }
 
-/// Ways out.
+/// Jumps out of constructs.
 impl<'p> Compiler<'p> {
     #[cycle(compile)]
     fn throw(
@@ -354,7 +354,7 @@ impl<'p> Compiler<'p> {
         Ok(())
     }
 
-    /// Ends the `try` of the function that were begun behind so many.
+    /// Ends the function's `try` blocks inside this many outer ones.
     pub(crate) fn end_tries(&mut self, outer: usize) -> Result<(), CodeError> {
         for _ in outer..self.tries {
             self.emit(Op::TryEnd)?;

@@ -1,4 +1,4 @@
-//! How functions end, and the statements outside of them.
+//! How functions and the statements outside them end.
 
 use crate::compiler::{Compiler, to_slot};
 use crate::error::CodeError;
@@ -8,7 +8,7 @@ use script_tree::{Block, Expr};
 
 /// Ends.
 impl<'p> Compiler<'p> {
-    /// Evaluates the statements outside of functions. The variables that they declare stay.
+    /// Compiles the statements outside functions. The variables that they declare outlive them.
     pub(crate) fn body(&mut self, block: &Block, levels: u32) -> Result<(), CodeError> {
         self.is_body = true;
         let last = block.statements.len().saturating_sub(1);
@@ -25,7 +25,7 @@ impl<'p> Compiler<'p> {
         self.give_unit()
     }
 
-    /// Notes that a variable that a statement declares is there from here on.
+    /// Records that the variable a statement declares exists from here on.
     fn keep(&mut self, statement: &Expr) -> Result<(), CodeError> {
         if let Expr::Let { slot, .. } = statement {
             let script = self.script;
@@ -38,7 +38,7 @@ impl<'p> Compiler<'p> {
         Ok(())
     }
 
-    /// Has the variables that are there before the statements be in sight, and stay.
+    /// Brings the variables from before the statements into scope, and keeps them.
     pub(crate) fn show_outer(&mut self) -> Result<(), CodeError> {
         let script = self.script;
         for (number, name) in script.variables.iter().take(script.outer).enumerate() {
@@ -49,7 +49,7 @@ impl<'p> Compiler<'p> {
         Ok(())
     }
 
-    /// Gives unit to the caller.
+    /// Returns unit to the caller.
     pub(crate) fn give_unit(&mut self) -> Result<(), CodeError> {
         if !self.is_body {
             if let Some(this) = self.this {
@@ -66,7 +66,7 @@ impl<'p> Compiler<'p> {
         Ok(())
     }
 
-    /// Gives the value of a slot to the caller.
+    /// Returns the value of a slot to the caller.
     pub(crate) fn give(&mut self, slot: Slot) -> Result<(), CodeError> {
         let top = self.top;
         if !self.is_body {

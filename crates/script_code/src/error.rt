@@ -7,14 +7,16 @@ use std::fmt;
 /// Why a script isn't compiled.
 #[derive(Clone, Copy, Debug, PartialEq, Eq)]
 pub enum CodeError {
-    /// A function wants more slots, or the script more of something else, than operations can name, and where.
+    /// The script is larger than operations can address: a function needs more slots, or a table
+    /// more entries. With the position.
     TooLarge(Position),
-    /// Memory was refused.
+    /// An allocation failed.
     OutOfMemory,
 }
 
 impl CodeError {
-    /// The error at the place that it has, or else where the script was last seen, which may be its beginning.
+    /// Returns the error with its own position, or else with the last position in the script, which
+    /// may be its beginning.
     pub(crate) fn seen_at(self, seen: Position) -> CodeError {
         match self {
             CodeError::TooLarge(place) if place != Position::NONE => CodeError::TooLarge(place),

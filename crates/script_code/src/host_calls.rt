@@ -1,4 +1,5 @@
-//! Calls of functions of the host that change their first argument: it comes back behind the arguments, and is put where it stood.
+//! Calls of host functions that change their first argument: the changed value returns after the
+//! arguments, and is written to the argument's place.
 
 use crate::chains::{Called, Root};
 use crate::compiler::{Compiler, to_slot};
@@ -10,7 +11,7 @@ use crate::quiet::known_variable;
 use rhai_text::Position;
 use script_tree::Expr;
 
-/// Whether a function of the host changes its first argument.
+/// Whether a host function changes its first argument.
 pub(crate) fn host_changes(host: &[HostName], number: u32) -> bool {
     match host.get(number as usize) {
         Some(known) => known.changes,
@@ -19,7 +20,7 @@ pub(crate) fn host_changes(host: &[HostName], number: u32) -> bool {
 }
 
 impl<'p> Compiler<'p> {
-    /// Whether it means a function of the host that changes its first argument.
+    /// Returns the host function that it means, if that changes its first argument.
     pub(crate) fn changes_first(&self, meaning: Meaning) -> Option<u32> {
         match meaning {
             Meaning::Host(number) if host_changes(self.host, number) => Some(number),
@@ -39,8 +40,8 @@ impl<'p> Compiler<'p> {
         }
     }
 
-    /// Calls such a function by name with the values from a slot on, where its answer comes. A variable that it is given first is written,
-    /// where that is neither shared nor constant.
+    /// Calls such a function by name, with values that begin at the slot of the result. A variable
+    /// as the first argument is written, if it is neither shared nor constant.
     pub(crate) fn call_changing(
         &mut self,
         number: u32,
@@ -68,7 +69,8 @@ impl<'p> Compiler<'p> {
         self.put_changed(variable, changed, Vec::new(self.alloc), position)
     }
 
-    /// Calls such a function on what steps lead to from a variable, and puts there what it made of that.
+    /// Calls such a function on the value at steps from a variable, and writes the changed value
+    /// there.
     pub(crate) fn host_at(
         &mut self,
         number: u32,
@@ -92,7 +94,7 @@ impl<'p> Compiler<'p> {
         Ok(first)
     }
 
-    /// The slot behind so many values, which nothing else uses.
+    /// Returns the slot after this many values, which nothing else uses.
     fn slot_behind(&mut self, first: Slot, count: usize) -> Result<Slot, CodeError> {
         let slot = to_slot(usize::from(first).saturating_add(count))?;
         if self.top <= slot {
@@ -101,7 +103,7 @@ impl<'p> Compiler<'p> {
         Ok(slot)
     }
 
-    /// Puts a value where steps lead to from a variable.
+    /// Writes a value to the place at steps from a variable.
     fn put_changed(
         &mut self,
         root: Slot,

@@ -1,4 +1,5 @@
-//! Compiles a script of a small language to flat code: operations on slots, as plain data that many runs may share.
+//! Compiles a script of a small language to flat code: operations on slots, as plain data that many
+//! runs can share.
 #![tactic(auto)]
 
 mod callbacks;

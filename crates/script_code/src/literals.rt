@@ -7,7 +7,7 @@ use crate::tables::number_in;
 use rhai_value::INT;
 use script_tree::{Expr, Field};
 
-/// So many items of a literal are evaluated before they are put together.
+/// How many items of a literal are evaluated before they are moved into it.
 const ITEMS_AT_ONCE: usize = 32;
 
 impl<'p> Compiler<'p> {
@@ -48,7 +48,7 @@ impl<'p> Compiler<'p> {
         Ok(())
     }
 
-    /// The number of a list of keys.
+    /// Returns the number of a list of keys.
     pub(crate) fn keys(&mut self, fields: &[Field]) -> Result<u32, CodeError> {
         let mut keys = Vec::new(self.alloc);
         for field in fields {
@@ -92,7 +92,7 @@ impl<'p> Compiler<'p> {
         Ok(())
     }
 
-    /// Puts the fields from one to before another into a map, whose values stand from a slot on.
+    /// Moves a range of fields, whose values begin at a slot, into a map.
     fn some_fields(
         &mut self,
         fields: &Vec<Field>,

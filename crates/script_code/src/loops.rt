@@ -1,4 +1,4 @@
-//! Loops. Their conditions stand at their ends.
+//! Loops. Their conditions are at their ends.
 
 use crate::compiler::{Compiler, Round};
 use crate::error::CodeError;
@@ -21,7 +21,7 @@ impl<'p> Compiler<'p> {
         Ok(())
     }
 
-    /// Has the jumps to the next round of the innermost loop go to a place.
+    /// Sets the target of the jumps to the next iteration of the innermost loop.
     fn land_continues(&mut self, target: Target) {
         let jumps = match self.rounds.last_mut() {
             Some(round) => mem::replace(&mut round.continues, Vec::new(self.alloc)),
@@ -30,7 +30,7 @@ impl<'p> Compiler<'p> {
         self.set_targets(jumps.as_slice(), target);
     }
 
-    /// Ends a loop, whose value is unit where it wasn't left by `break`.
+    /// Ends a loop, whose value is unit unless `break` left it.
     fn end_round(&mut self, first_slot: usize) -> Result<(), CodeError> {
         let Some(round) = self.rounds.pop() else {
             return Ok(());
@@ -42,7 +42,7 @@ impl<'p> Compiler<'p> {
         self.land_breaks(breaks, first_slot, to)
     }
 
-    /// Has the jumps out of a loop go behind it, where its variables from a number on end.
+    /// Sets the jumps out of a loop to its end, where its variables from a number on end.
     fn land_breaks(
         &mut self,
         breaks: Vec<usize>,
@@ -72,7 +72,8 @@ impl<'p> Compiler<'p> {
         self.end_round(arm.body.first_slot)
     }
 
-    /// Goes back to the body where a condition comes to this. A condition is no part of the loop for what leaves one.
+    /// Jumps back to the body if a condition has this value. A `break` or `continue` in the
+    /// condition doesn't belong to the loop.
     #[cycle(compile)]
     fn test(
         &mut self,
@@ -165,7 +166,7 @@ impl<'p> Compiler<'p> {
         Ok(())
     }
 
-    /// Evaluates what a `for` goes through: of a range that stands there the ends.
+    /// Compiles the value that a `for` iterates over; for a literal range, its two ends.
     #[cycle(compile)]
     fn source(
         &mut self,
@@ -207,7 +208,7 @@ impl<'p> Compiler<'p> {
         Ok(())
     }
 
-    /// Gives the variables of a `for` slots of their own, which no earlier function shares.
+    /// Resets the variables of a `for`, so that earlier closures no longer share them.
     fn fresh_variables(&mut self, item: usize, index: Option<usize>) -> Result<(), CodeError> {
         let item = self.own(item)?;
         self.emit(Op::Unit(item))?;
@@ -218,7 +219,7 @@ impl<'p> Compiler<'p> {
         Ok(())
     }
 
-    /// Begins a round: gives the variables what they are in it. The item comes to the slot that is answered.
+    /// Begins an iteration: sets its variables. The item goes to the returned slot.
     fn give_round(
         &mut self,
         item: usize,

@@ -1,11 +1,11 @@
-//! What names mean that are no functions of the script.
+//! What names mean that are not functions of the script.
 ghost use Rattle.std.specs.Prelude.{◌≡◌, ◌<◌, length, IfSome, string_bytes};
 ghost use Rattle.std.specs.List.{HoldsAt};
 ghost use Rattle.script_code.specs.Meaning.{host_number};
 
 use script_values::{Native, native_of};
 
-/// A function that the host answers, by its name and number of arguments.
+/// A function that the host implements, by its name and number of arguments.
 #[derive(Drop)]
 pub struct HostName {
     /// The name.
@@ -16,71 +16,74 @@ pub struct HostName {
     pub changes: bool,
 }
 
-/// What is made of the items of an array by a function; `Filter`, `Drain` and `Retain` of the entries of a map, too.
+/// What a callback over the items of an array computes; `Filter`, `Drain` and `Retain` also work on
+/// the entries of a map.
 #[derive(Clone, Copy, Debug, PartialEq, Eq)]
 pub enum EachKind {
-    /// The array of what it answers.
+    /// The array of its results.
     Map,
-    /// The array of those for which it answers true.
+    /// The array of the items for which it returns true.
     Filter,
-    /// What it answers last, of what it answered before and an item.
+    /// Its last result; it is called with its previous result and an item.
     Reduce,
-    /// Whether it answers true for all.
+    /// Whether it returns true for all items.
     All,
-    /// Whether it answers true for one.
+    /// Whether it returns true for one item.
     Some,
-    /// Nothing; it is called on each, and may change it.
+    /// Nothing; it is called on each item, and may change it.
     ForEach,
     /// As `Reduce`, from the last item on.
     ReduceBack,
-    /// The first for which it answers true.
+    /// The first item for which it returns true.
     Find,
-    /// The first answer that isn't unit.
+    /// Its first result that isn't unit.
     FindMap,
-    /// The place of the first for which it answers true.
+    /// The index of the first item for which it returns true.
     IndexOf,
-    /// The array of what it answers for the items of two arrays.
+    /// The array of its results for the items of two arrays.
     Zip,
-    /// What is left where each goes for which, with the one before, it answers true.
+    /// The items without those for which, with the one before, it returns true.
     Dedup,
-    /// The array of those for which it answers true, which are taken out.
+    /// The array of the items for which it returns true; they are removed.
     Drain,
-    /// The array of the others, which are taken out.
+    /// The array of the other items; they are removed.
     Retain,
 }
 
-/// What a name with a number of arguments means, beside functions of the script. The receiver of a method is an argument.
+/// What a name with a number of arguments means, apart from functions of the script. The receiver
+/// of a method is an argument.
 #[derive(Clone, Copy)]
 pub enum Meaning {
-    /// A function of the host, by its number.
+    /// A host function, by its number.
     Host(u32),
     /// Writes a line.
     Print,
     /// Writes a line in the form of `debug`.
     Debug,
-    /// Tells whether a variable is shared.
+    /// Returns whether a variable is shared.
     IsShared,
-    /// Tells whether a variable of a name is in sight.
+    /// Returns whether a variable with a name is in scope.
     IsVariable,
-    /// Tells whether the script has a function of a name for so many arguments.
+    /// Returns whether the script has a function with a name and this many arguments.
     IsFunction,
     /// Calls a function pointer.
     Call,
-    /// Gives a function pointer values ahead.
+    /// Curries values in a function pointer.
     Curry,
     /// Calls a function pointer for each item.
     Each(EachKind),
     /// Sorts by a function pointer.
     Sort,
-    /// Takes items out by a function pointer, or by a range.
+    /// Removes items by a function pointer, or by a range.
     Sift(EachKind),
-    /// Finds the place of an item, or of that for which a function pointer answers true; in texts that of a part.
+    /// Finds the index of an item, or of the first one for which a function pointer returns true;
+    /// in texts that of a part.
     Search,
-    /// Functions of the packages, of which there may be none.
+    /// Functions of the packages; there may be none.
     Native(Native),
 }
 
-/// Finds what a name means with so many arguments.
+/// Finds what a name means with this many arguments.
 /// Cost: the number of the host's names; no memory.
 pub fn meaning_of(name: &str, arguments: usize, host: &[HostName]) -> Meaning
     ensures is_there { IfSome (host_number result) (λ number. number < length host.now) }

@@ -1,4 +1,4 @@
-//! Calls of methods: those of the packages, and those of the script, which have what they are called on as `this`.
+//! Calls of methods: those of the packages, and those of the script, which receive `this`.
 
 use crate::chains::{Called, Root};
 use crate::compiler::{Compiler, to_slot};
@@ -9,7 +9,7 @@ use crate::program::{Method, PathStep, Place};
 use crate::tables::{number_in, to_number};
 use rhai_text::Position;
 
-/// Whether a function may change items where they stand, as `this`.
+/// Whether a function may change items in place, as `this`.
 fn changes_items(kind: EachKind) -> bool {
     match kind {
         EachKind::Reduce
@@ -30,7 +30,7 @@ fn changes_items(kind: EachKind) -> bool {
 }
 
 impl<'p> Compiler<'p> {
-    /// Calls a method, and gives the slot to which its answer comes.
+    /// Calls a method, and returns the slot of its result.
     pub(crate) fn method(&mut self, at: Root, method: &Called) -> Result<Slot, CodeError> {
         let meaning = self.meaning(method.callee);
         match (at, meaning) {
@@ -71,7 +71,7 @@ impl<'p> Compiler<'p> {
         Ok(method.receiver)
     }
 
-    /// A method of the table, as it is called on what a path leads to.
+    /// Returns the table entry of a method that is called at a path.
     fn entry(
         &mut self,
         method: &Called,
@@ -93,8 +93,8 @@ impl<'p> Compiler<'p> {
         Ok(number)
     }
 
-    /// The place of what a method is called on, for one of the script's: a value that was made is put before its arguments, and is called
-    /// on where it stands.
+    /// Returns the place of the receiver for a method of the script: a value in no variable is
+    /// moved before its arguments, and used there.
     fn receiver(
         &mut self,
         at: Root,
@@ -112,7 +112,7 @@ impl<'p> Compiler<'p> {
         }
     }
 
-    /// Calls a function of the packages, or one of the script's.
+    /// Calls a function of the packages, or one of the script.
     fn call_native_at(&mut self, at: Root, method: &Called) -> Result<Slot, CodeError> {
         let first = self.arguments_at_top(method.receiver, method.arguments)?;
         let (root, number) = self.receiver(at, method, first)?;
@@ -122,7 +122,8 @@ impl<'p> Compiler<'p> {
         Ok(first)
     }
 
-    /// Calls a function of the packages on what steps lead to from a variable, where the script has no method of the name.
+    /// Calls a function of the packages on the value at steps from a variable, if the script has no
+    /// method with the name.
     pub(crate) fn native_on_place(
         &mut self,
         root: Slot,
@@ -137,7 +138,7 @@ impl<'p> Compiler<'p> {
         self.end_call(number)
     }
 
-    /// Calls what has operations of its own, unless the script has a method of the name.
+    /// Calls a function with operations of its own, unless the script has a method with the name.
     fn call_or_invoke(
         &mut self,
         at: Root,
@@ -165,7 +166,8 @@ impl<'p> Compiler<'p> {
         Ok(first)
     }
 
-    /// The call of what has operations of its own on what steps lead to from a variable; gives the slot of its answer.
+    /// Compiles the call of a function with operations of its own on the value at steps from a
+    /// variable; returns the slot of its result.
     fn call_on_place(
         &mut self,
         root: Slot,
@@ -207,7 +209,8 @@ impl<'p> Compiler<'p> {
         }
     }
 
-    /// Calls the variable that is the root, which stays where it is; or else, on it, the function that is the first argument.
+    /// Calls the variable that is the root in place; if it isn't a function, calls the function in
+    /// the first argument on it.
     fn call_direct(&mut self, root: Slot, method: &Called) -> Result<Slot, CodeError> {
         let count = to_slot(method.arguments)?;
         let last = method.arguments.saturating_sub(1);
@@ -231,7 +234,7 @@ impl<'p> Compiler<'p> {
         Ok(first)
     }
 
-    /// Calls a method of a value that was made and stands in a slot, with the arguments behind it.
+    /// Calls a method on a value in a slot, with the arguments after it.
     fn call_made(
         &mut self,
         meaning: Meaning,
@@ -276,7 +279,7 @@ impl<'p> Compiler<'p> {
         }
     }
 
-    /// Sorts what steps lead to from a variable, and puts it there.
+    /// Sorts the value at steps from a variable, and writes it back.
     fn sort_at(
         &mut self,
         root: Slot,

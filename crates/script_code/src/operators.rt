@@ -1,4 +1,4 @@
-//! Operators, as operations tell them apart.
+//! Operators, as operations distinguish them.
 
 use rhai_text::Token;
 
@@ -24,7 +24,7 @@ pub(crate) enum Comparison {
 }
 
 impl Comparison {
-    /// The comparison that holds of two ints where this one doesn't.
+    /// Returns the comparison that holds for two ints exactly if this one doesn't.
     pub(crate) fn opposite(self) -> Comparison {
         match self {
             Comparison::Less => Comparison::AtLeast,
@@ -37,7 +37,7 @@ impl Comparison {
     }
 }
 
-/// What operations know of an operator.
+/// How operations treat an operator.
 #[derive(Clone, Copy)]
 pub(crate) enum Kind {
     /// It has operations.
@@ -48,7 +48,7 @@ pub(crate) enum Kind {
     Other,
 }
 
-/// What operations know of an operator.
+/// How operations treat an operator.
 pub(crate) fn kind_of(op: Token) -> Kind {
     match op {
         Token::Plus => Kind::Counts(Arithmetic::Add),

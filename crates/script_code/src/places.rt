@@ -8,9 +8,10 @@ use crate::quiet::{is_variable, known_variable};
 use script_tree::{Expr, Step};
 
 impl<'p> Compiler<'p> {
-    /// Evaluates the indices of steps, and gives the steps with the slots of these. A variable that is an index is copied where it may
-    /// be shared, is the root itself, or where another index or what is evaluated behind may change it. Adds how many steps lead to each place
-    /// that may be `()`.
+    /// Compiles the indices of steps, and returns the steps with the slots of these. An index that
+    /// is a variable is copied if it may be shared, is the root itself, or may be changed by
+    /// another index or by what is evaluated later. Adds how many steps lead to each value that may
+    /// be `()`.
     #[cycle(compile)]
     pub(crate) fn steps(
         &mut self,
@@ -41,7 +42,7 @@ impl<'p> Compiler<'p> {
         Ok(path)
     }
 
-    /// Whether an index that is a variable may be read where it stands, behind other steps and the root.
+    /// Whether an index that is a variable may be read in place, after other steps and the root.
     fn index_stays(&self, index: &Expr, rest: &[Step], root: &Expr) -> bool {
         let Some(slot) = known_variable(index) else {
             return true;
@@ -53,7 +54,7 @@ impl<'p> Compiler<'p> {
             && watched.stays_in_steps(rest, false)
     }
 
-    /// The slots of the two indices that are all of a path, if they are.
+    /// Returns the slots of the indices, if a path is exactly two indices.
     pub(crate) fn two_indices(&self, path: &[PathStep]) -> Option<(Slot, Slot)> {
         if let [PathStep::Index(first, _), PathStep::Index(second, _)] = path {
             Some((*first, *second))

@@ -1,4 +1,5 @@
-//! Whether the evaluation of an expression leaves a variable as it is, so that it may be read after it in place of before.
+//! Whether the evaluation of an expression leaves a variable unchanged, so that the variable may be
+//! read after it instead of before.
 
 use crate::host_calls::host_changes;
 use crate::meaning::{HostName, Meaning, meaning_of};
@@ -7,7 +8,7 @@ use script_values::{
     ArrayFunction, BlobFunction, CharFunction, IntFunction, MapFunction, Native, TextFunction,
 };
 
-/// A variable, as it is asked about.
+/// A variable, in the form that these tests use.
 #[derive(Clone, Copy)]
 pub(crate) struct Watched<'p> {
     pub(crate) program: &'p Program,
@@ -17,7 +18,7 @@ pub(crate) struct Watched<'p> {
     pub(crate) is_plain: bool,
 }
 
-/// The variable that an expression is.
+/// Returns the variable that an expression is.
 pub(crate) fn known_variable(expr: &Expr) -> Option<Slot> {
     if let Expr::Variable {
         variable: Variable::Known(slot),
@@ -38,7 +39,7 @@ pub(crate) fn is_variable(expr: &Expr, slot: Slot) -> bool {
     }
 }
 
-/// Whether functions of the packages may change what they are called on.
+/// Whether functions of the packages may change their receiver.
 fn may_change(native: Native) -> bool {
     matches!(native.array, Some(ArrayFunction::Change(_)))
         || matches!(native.map, Some(MapFunction::Change(_)))
@@ -49,7 +50,7 @@ fn may_change(native: Native) -> bool {
 }
 
 impl<'p> Watched<'p> {
-    /// Whether each of the expressions leaves it as it is.
+    /// Whether each of the expressions leaves it unchanged.
     #[cycle(quiet)]
     pub(crate) fn stays_in_all(&self, parts: &[Expr]) -> bool {
         for part in parts {
@@ -70,7 +71,7 @@ impl<'p> Watched<'p> {
         true
     }
 
-    /// Whether the operands of terms leave it as it is.
+    /// Whether the operands of terms leave it unchanged.
     #[cycle(quiet)]
     pub(crate) fn stays_in_terms(&self, terms: &[Term]) -> bool {
         for term in terms {
@@ -81,7 +82,7 @@ impl<'p> Watched<'p> {
         true
     }
 
-    /// Whether steps leave it as it is, which lead from it where this says so.
+    /// Whether steps leave it unchanged; the flag says whether it is their root.
     #[cycle(quiet)]
     pub(crate) fn stays_in_steps(&self, steps: &[Step], is_root: bool) -> bool {
         for step in steps {
@@ -101,12 +102,13 @@ impl<'p> Watched<'p> {
         true
     }
 
-    /// Whether a method leaves it as it is, which is called on it where this says so: each may be one of the script's.
+    /// Whether a method leaves it unchanged; the flag says whether it is the receiver. Any method
+    /// may be one of the script's.
     fn stays_in_method(&self, is_first: bool) -> bool {
         self.is_plain && !is_first
     }
 
-    /// Whether a callee leaves it as it is, which is given it first where this says so.
+    /// Whether a callee leaves it unchanged; the flag says whether it is the first argument.
     fn stays_in_call(&self, callee: usize, is_first: bool) -> bool {
         let Some(callee) = self.program.callees.get(callee) else {
             return false;
@@ -144,7 +146,7 @@ impl<'p> Watched<'p> {
         }
     }
 
-    /// Whether the evaluation of an expression leaves it as it is, as far as that is seen.
+    /// Whether the evaluation of an expression certainly leaves it unchanged.
     #[cycle(quiet)]
     pub(crate) fn stays(&self, expr: &Expr) -> bool {
         match expr {

@@ -1,4 +1,4 @@
-//! `switch`: the tests of all cases first, then what is done in each.
+//! `switch`: the tests of all cases first, then the code of each case.
 
 use crate::compiler::Compiler;
 use crate::error::CodeError;
@@ -10,19 +10,20 @@ use rhai_text::{Position, Token};
 use rhai_value::INT;
 use script_tree::{Case, Expr, Pattern, Switch};
 
-/// What the tests of a `switch` look at.
+/// The operands of a `switch`'s tests.
 #[derive(Clone, Copy)]
 struct Tested {
     /// The slot of the value.
     value: Slot,
-    /// The slot of the name of its type, where a test asks for it.
+    /// The slot of the name of its type, if a test needs it.
     kind: Slot,
-    /// The slot that says whether a literal was the value, where ranges are tested afterwards.
+    /// The slot that says whether a literal was equal to the value, if ranges are tested
+    /// afterwards.
     is_met: Option<Slot>,
     position: Position,
 }
 
-/// The name of the type of a literal that a value of another type may be equal to.
+/// Returns the type name for a literal that can be equal to a value of another type.
 fn asked_type(literal: &Expr) -> Option<&'static str> {
     if let Expr::Char(_) = literal {
         return Some("char");
@@ -35,7 +36,7 @@ fn asked_type(literal: &Expr) -> Option<&'static str> {
     None
 }
 
-/// Whether a pattern asks for the type of the value.
+/// Whether a pattern needs the type of the value.
 fn asks_type(pattern: &Pattern) -> bool {
     match pattern {
         Pattern::Literal(literal) => asked_type(literal).is_some(),
@@ -43,7 +44,7 @@ fn asks_type(pattern: &Pattern) -> bool {
     }
 }
 
-/// Whether a pattern of the cases asks for the type of the value.
+/// Whether a pattern of the cases needs the type of the value.
 fn ask_type(cases: &[Case]) -> bool {
     for case in cases {
         if case.patterns.iter().any(asks_type) {
@@ -76,7 +77,7 @@ fn have_guard(cases: &[Case]) -> bool {
 }
 
 impl<'p> Compiler<'p> {
-    /// Does the case of a value that is meant, if one is.
+    /// Compiles a `switch`: runs the selected case, if there is one.
     #[cycle(compile)]
     pub(crate) fn switch(
         &mut self,
@@ -106,7 +107,8 @@ impl<'p> Compiler<'p> {
         self.do_cases(switch, bodies, to, levels)
     }
 
-    /// Does what is meant, behind the tests: nothing is jumped to where no case is.
+    /// Compiles the code of the cases, after the tests: if no case matches, execution falls through
+    /// to the default.
     #[cycle(compile)]
     fn do_cases(
         &mut self,
@@ -132,7 +134,7 @@ impl<'p> Compiler<'p> {
         self.land(ends.as_slice())
     }
 
-    /// Evaluates the value, and what else the tests look at.
+    /// Compiles the value, and the other operands of the tests.
     #[cycle(compile)]
     fn tested(&mut self, switch: &Switch, levels: u32) -> Result<Tested, CodeError> {
         let cases = switch.cases.as_slice();
@@ -157,7 +159,7 @@ impl<'p> Compiler<'p> {
         })
     }
 
-    /// Tests the literals of a case, and gives the jumps to what is done in it.
+    /// Compiles the tests of a case's literals, and returns the jumps to its code.
     #[cycle(compile)]
     fn test_literals(
         &mut self,
@@ -174,7 +176,7 @@ impl<'p> Compiler<'p> {
         self.guarded(case, hits, tested.is_met, levels)
     }
 
-    /// Tests the ranges of a case, and gives the jumps to what is done in it.
+    /// Compiles the tests of a case's ranges, and returns the jumps to its code.
     #[cycle(compile)]
     fn test_ranges(
         &mut self,
@@ -196,7 +198,7 @@ impl<'p> Compiler<'p> {
         self.guarded(case, hits, None, levels)
     }
 
-    /// Tests the guard of a case that is hit, and gives the jumps to what is done in it.
+    /// Compiles the guard of a matching case, and returns the jumps to its code.
     #[cycle(compile)]
     fn guarded(
         &mut self,
@@ -222,7 +224,7 @@ impl<'p> Compiler<'p> {
         Ok(jumps)
     }
 
-    /// Jumps where the value is a literal.
+    /// Jumps if the value equals a literal.
     #[cycle(compile)]
     fn test_literal(
         &mut self,
@@ -248,7 +250,7 @@ impl<'p> Compiler<'p> {
         self.land(misses.as_slice())
     }
 
-    /// Jumps where the value, an int, is in a range.
+    /// Jumps if the value, an int, is in a range.
     fn test_range(
         &mut self,
         first: INT,
@@ -275,7 +277,7 @@ impl<'p> Compiler<'p> {
         self.land(&[miss])
     }
 
-    /// Jumps where the value has another type than the one of this name.
+    /// Jumps if the value has another type than the one with this name.
     fn unless_type(&mut self, name: &str, tested: Tested) -> Result<usize, CodeError> {
         let top = self.top;
         let slot = self.take_slot()?;
@@ -287,7 +289,7 @@ impl<'p> Compiler<'p> {
         Ok(jump)
     }
 
-    /// The place of a jump where a comparison holds.
+    /// Makes the place of a jump that is taken if a comparison holds.
     fn compared(&self, token: Token, tested: Tested) -> Place {
         Place {
             position: tested.position,

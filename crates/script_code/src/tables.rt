@@ -12,7 +12,7 @@ use script_values::{Native, native_of};
 use std::alloc::Global;
 use std::collections::BTreeMap;
 
-/// A program of nothing.
+/// Makes an empty program.
 pub(crate) fn empty_program(alloc: Global) -> Program {
     Program {
         functions: Vec::new(alloc),
@@ -30,12 +30,12 @@ pub(crate) fn empty_program(alloc: Global) -> Program {
     }
 }
 
-/// The number that the next part of a table gets.
+/// Returns the number of the next entry of a table.
 pub(crate) fn number_in<T>(table: &Vec<T>) -> Result<u32, CodeError> {
     to_number(table.len())
 }
 
-/// A number as one of a table.
+/// Converts a number to a table number.
 pub(crate) fn to_number(number: usize) -> Result<u32, CodeError> {
     match u32::try_from(number) {
         Ok(number) => Ok(number),
@@ -44,7 +44,7 @@ pub(crate) fn to_number(number: usize) -> Result<u32, CodeError> {
 }
 
 impl<'p> Compiler<'p> {
-    /// The number of a text.
+    /// Returns the number of a text.
     pub(crate) fn text(&mut self, text: &str) -> Result<u32, CodeError> {
         if let Some(number) = self.text_numbers.get(text) {
             return Ok(*number);
@@ -59,14 +59,14 @@ impl<'p> Compiler<'p> {
         Ok(number)
     }
 
-    /// The number of a large int.
+    /// Returns the number of a large int.
     pub(crate) fn number(&mut self, value: INT) -> Result<u32, CodeError> {
         let number = number_in(&self.program.numbers)?;
         self.program.numbers.push(value)?;
         Ok(number)
     }
 
-    /// The number of a path.
+    /// Returns the number of a path.
     pub(crate) fn path(&mut self, steps: Vec<PathStep>) -> Result<u32, CodeError> {
         if self.program.paths.is_empty() {
             self.program.paths.push(Path {
@@ -81,7 +81,7 @@ impl<'p> Compiler<'p> {
         Ok(number)
     }
 
-    /// The number of an anonymous function that shares these variables.
+    /// Returns the number of an anonymous function that shares these variables.
     pub(crate) fn shape(&mut self, function: usize, captured: Vec<Slot>) -> Result<u32, CodeError> {
         let script = self.script;
         let name = match script.functions.get(function) {
@@ -93,7 +93,7 @@ impl<'p> Compiler<'p> {
         Ok(number)
     }
 
-    /// What a callee means, beside functions of the script.
+    /// Returns what a callee means, apart from functions of the script.
     pub(crate) fn meaning(&self, callee: usize) -> Meaning {
         match self.script.callees.get(callee) {
             Some(callee) => meaning_of(callee.name.as_str(), callee.arguments, self.host),
@@ -102,7 +102,7 @@ impl<'p> Compiler<'p> {
     }
 }
 
-/// The functions of the script by their names.
+/// Collects the functions of the script by their names.
 pub(crate) fn names_of(
     alloc: Global,
     script: &script_tree::Program,
@@ -119,7 +119,7 @@ pub(crate) fn names_of(
     Ok(names)
 }
 
-/// Says that a function has a name.
+/// Adds a function under a name.
 fn add_name(
     alloc: Global,
     names: &mut BTreeMap<String, Vec<u32>>,
@@ -136,7 +136,7 @@ fn add_name(
     Ok(())
 }
 
-/// What the script calls by name, by the parser's numbers.
+/// Lists what the script calls by name, by the parser's numbers.
 pub(crate) fn callees_of(
     alloc: Global,
     script: &script_tree::Program,
@@ -155,7 +155,7 @@ pub(crate) fn callees_of(
     Ok(callees)
 }
 
-/// How many arguments each function of the host takes.
+/// Lists how many arguments each host function takes.
 pub(crate) fn arguments_of(alloc: Global, host: &[HostName]) -> Result<Vec<usize>, CodeError>
     ensures { IfOk result
         (λ arguments. arguments.items ≡ map (λ known. known.arguments) host.now) }
@@ -163,7 +163,7 @@ pub(crate) fn arguments_of(alloc: Global, host: &[HostName]) -> Result<Vec<usize
     Ok(host.iter().map(|known| known.arguments).collect(alloc)?)
 }
 
-/// The functions of the packages of a name for so many arguments, of which the receiver is one.
+/// Finds the functions of the packages with a name and this many arguments, including the receiver.
 fn native_for(name: &str, arguments: usize) -> Native {
     native_of(name, arguments.wrapping_sub(1))
 }

@@ -1,4 +1,4 @@
-//! `this`: what a function is called on.
+//! `this`: the receiver of a function.
 
 use crate::compiler::{Compiler, to_slot};
 use crate::error::CodeError;
@@ -6,7 +6,7 @@ use crate::operations::{Op, Slot};
 use rhai_text::Position;
 use script_tree::{Expr, Variable};
 
-/// Where a variable stands in the script that an expression is.
+/// Returns the position of the variable that an expression is.
 pub(crate) fn position_of(expr: &Expr, otherwise: Position) -> Position {
     if let Expr::Variable { position, .. } = expr {
         *position
@@ -16,7 +16,8 @@ pub(crate) fn position_of(expr: &Expr, otherwise: Position) -> Position {
 }
 
 impl<'p> Compiler<'p> {
-    /// Begins a function in which `this` stands: it is called on nothing, unless it is begun behind this operation.
+    /// Begins a function that uses `this`: it has no receiver if execution begins at this
+    /// operation, and one if it begins after it.
     pub(crate) fn begin_this(&mut self) -> Result<(), CodeError> {
         let this = self.take_slot()?;
         let is_bound = self.take_slot()?;
@@ -26,7 +27,7 @@ impl<'p> Compiler<'p> {
         Ok(())
     }
 
-    /// Refuses a variable that is `this` where the function was called on nothing.
+    /// Fails if a variable is `this` and the function was called without a receiver.
     pub(crate) fn check_this(
         &mut self,
         slot: script_tree::Slot,
@@ -42,7 +43,7 @@ impl<'p> Compiler<'p> {
         }
     }
 
-    /// The same of an expression that is a variable.
+    /// As `check_this`, for an expression that is a variable.
     pub(crate) fn check_expr(&mut self, expr: &Expr) -> Result<(), CodeError> {
         if let Expr::Variable {
             variable: Variable::Known(slot),
@@ -54,7 +55,8 @@ impl<'p> Compiler<'p> {
         Ok(())
     }
 
-    /// Hands `this` to the caller before the value of a slot is given to it; tells where that value stands then.
+    /// Returns `this` to the caller before the value of a slot is returned; returns the slot of
+    /// that value.
     pub(crate) fn leave_this(&mut self, slot: Slot) -> Result<Slot, CodeError> {
         let Some(this) = self.this else {
             return Ok(slot);
@@ -68,7 +70,8 @@ impl<'p> Compiler<'p> {
         Ok(given)
     }
 
-    /// Whether the script has functions of a name that are called on something with so many arguments.
+    /// Whether the script has functions with a name that are called on a receiver with this many
+    /// arguments.
     pub(crate) fn has_method(&self, callee: usize) -> bool {
         let script = self.script;
         let Some(callee) = script.callees.get(callee) else {
@@ -87,7 +90,7 @@ impl<'p> Compiler<'p> {
         false
     }
 
-    /// Sets what is done behind calls of a method of the table.
+    /// Sets the operation after the calls of a method of the table.
     pub(crate) fn end_call(&mut self, number: u32) -> Result<(), CodeError> {
         let here = self.here()?;
         if let Some(method) = self.program.methods.get_mut(number as usize) {
@@ -96,7 +99,8 @@ impl<'p> Compiler<'p> {
         Ok(())
     }
 
-    /// Has the arguments behind a slot stand where nothing is used behind them, and a slot be behind it; gives the slot before them.
+    /// Moves the arguments after a slot to the top, where no used slot follows, with one more slot
+    /// after them; returns the slot before them.
     pub(crate) fn arguments_at_top(
         &mut self,
         receiver: Slot,

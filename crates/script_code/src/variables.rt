@@ -1,4 +1,4 @@
-//! Which variables are in sight at which operations, and where statements begin.
+//! Which variables are in scope at which operations, and where statements begin.
 
 use crate::compiler::{Compiler, to_slot};
 use crate::error::CodeError;
@@ -16,7 +16,7 @@ pub(crate) struct LoopNames<'p> {
 
 /// Variables.
 impl<'p> Compiler<'p> {
-    /// Has a variable be in sight from the next operation on.
+    /// Brings a variable into scope from the next operation on.
     pub(crate) fn show(&mut self, name: &str, slot: Slot) -> Result<(), CodeError> {
         let first = self.here()?;
         let number = self.variables.len();
@@ -30,13 +30,13 @@ impl<'p> Compiler<'p> {
         Ok(())
     }
 
-    /// The same of an own variable of this number.
+    /// As `show`, for an own variable of this number.
     pub(crate) fn show_own(&mut self, name: &str, number: usize) -> Result<(), CodeError> {
         let slot = self.own(number)?;
         self.show(name, slot)
     }
 
-    /// Has the parameters be in sight, and the captured variables, which have the next slots.
+    /// Brings the parameters into scope, and the captured variables, which have the next slots.
     pub(crate) fn show_given(&mut self, names: &[ImmutableString]) -> Result<(), CodeError> {
         for (number, name) in names.iter().enumerate() {
             self.show(name.as_str(), to_slot(number)?)?;
@@ -44,7 +44,7 @@ impl<'p> Compiler<'p> {
         Ok(())
     }
 
-    /// Has the variables of a `for` be in sight.
+    /// Brings the variables of a `for` into scope.
     pub(crate) fn show_round(
         &mut self,
         names: LoopNames<'_>,
@@ -58,7 +58,7 @@ impl<'p> Compiler<'p> {
         }
     }
 
-    /// Ends the variables that came in sight since so many were.
+    /// Ends the variables that came into scope after this many.
     pub(crate) fn hide_variables(&mut self, outer: usize) -> Result<(), CodeError> {
         let end = self.here()?;
         for _ in outer..self.in_sight.len() {
@@ -74,7 +74,7 @@ impl<'p> Compiler<'p> {
 
 /// Statements.
 impl<'p> Compiler<'p> {
-    /// Begins with the statement of a number.
+    /// Begins the statement of a number.
     pub(crate) fn begin_statement(&mut self, block: &Block, number: usize) {
         if let Some(position) = block.positions.get(number) {
             self.statement = *position;
@@ -82,7 +82,7 @@ impl<'p> Compiler<'p> {
         }
     }
 
-    /// Ends a statement: one that took no operation begins nowhere.
+    /// Ends a statement: one without operations begins nowhere.
     pub(crate) fn end_statement(&mut self) {
         self.statement = Position::NONE;
     }

@@ -1,6 +1,8 @@
-//! Runs a script from standard input: writes what it prints, and the error by which it ended, if it did, on standard error. With the argument
-//! `many` it runs the scripts between lines of `----`, and writes a line for each that says how it ended. `--operations N` says how many
-//! operations a script may take. The exit status is 0; 1 where the script failed; 2 where it can't be read, or the arguments are others.
+//! Runs a script from standard input: writes what it prints, and on standard error the error that
+//! ended it, if one did. With the argument `many` it runs the scripts between lines of `----`, and
+//! writes a line for each that says how it ended. `--operations N` limits the operations of a
+//! script. The exit status is 0; 1 if the script failed; 2 if it can't be read, or the arguments
+//! are invalid.
 #![tactic(auto)]
 
 mod many;
@@ -16,10 +18,10 @@ use std::{env, io};
 /// The script failed.
 const FAILED: u8 = 1;
 
-/// The script can't be read, or the arguments are others.
+/// The script can't be read, or the arguments are invalid.
 const UNREAD: u8 = 2;
 
-/// What a script may use here, if no argument says how many operations.
+/// What a script may use here, unless an argument sets the number of operations.
 const LIMITS: ScriptLimits = ScriptLimits {
     sizes: Limits {
         text: 1_000_000,
@@ -31,15 +33,15 @@ const LIMITS: ScriptLimits = ScriptLimits {
     calls: 500,
 };
 
-/// What the arguments ask for.
+/// What the arguments request.
 #[derive(Clone, Copy)]
 struct Task {
     is_many: bool,
-    /// How many operations a script may take, if that is said.
+    /// How many operations a script may take, if an argument says so.
     operations: Option<u64>,
 }
 
-/// What the arguments ask for, if they can be read.
+/// Reads what the arguments request, if they are valid.
 fn task_of(rt: &(impl Env + AllocGlobal)) -> io::Result<Option<Task>> {
     let mut is_many = false;
     let mut operations = None;
@@ -68,7 +70,7 @@ fn task_of(rt: &(impl Env + AllocGlobal)) -> io::Result<Option<Task>> {
     }))
 }
 
-/// The exit status behind an error.
+/// The exit status for an error.
 fn status_of(error: &ScriptError) -> u8 {
     match error {
         ScriptError::Syntax(_) | ScriptError::TooLarge(_) => UNREAD,
@@ -76,7 +78,7 @@ fn status_of(error: &ScriptError) -> u8 {
     }
 }
 
-/// Runs a script, and gives the exit status.
+/// Runs a script, and returns the exit status.
 fn run_one(
     rt: &(impl Print + Eprint + AllocGlobal),
     text: &str,
@@ -139,7 +141,7 @@ fn main(rt: HostRuntime) -> ExitCode {
     match run(&rt) {
         Ok(status) => ExitCode::from(status),
         Err(error) => {
-            // where standard error fails too, the exit status is all that is left to say
+            // if standard error fails too, only the exit status is left to report it
             let _ = eprintln!(rt; "error: {error}");
             ExitCode::from(FAILED)
         }

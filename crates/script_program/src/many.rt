@@ -4,10 +4,10 @@ use rhai_text::Limits;
 use script_run::{ScriptError, ScriptLimits, run_script};
 use std::io;
 
-/// What stands on a line between two scripts.
+/// The line between two scripts.
 const BETWEEN: &str = "\n----\n";
 
-/// What each script may use, if no argument says how many operations.
+/// What each script may use, unless an argument sets the number of operations.
 const LIMITS: ScriptLimits = ScriptLimits {
     sizes: Limits {
         text: 10_000,
@@ -19,7 +19,7 @@ const LIMITS: ScriptLimits = ScriptLimits {
     calls: 200,
 };
 
-/// How a script ends, in a word.
+/// How a script ends, as one word.
 fn outcome(rt: &impl AllocGlobal, text: &str, limits: &ScriptLimits) -> &'static str {
     let mut out = String::new(rt.alloc());
     let mut operations = 0;

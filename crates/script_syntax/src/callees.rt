@@ -1,4 +1,4 @@
-// What calls name, and the functions that have the names.
+// The names in calls, and the functions with these names.
 
 use rhai_text::ImmutableString;
 use script_tree::Callee;
@@ -13,17 +13,17 @@ struct Signature {
     arguments: usize,
 }
 
-/// What the calls of a script name, each name and number of arguments once.
+/// The names in a script's calls, each name with its number of arguments once.
 #[derive(Drop)]
 pub struct Callees {
     callees: Vec<Callee>,
     numbers: BTreeMap<Signature, usize>,
-    /// The methods of one type, by their types, names and numbers of parameters.
+    /// The methods of one type, by types, names and numbers of parameters.
     methods: BTreeSet<String>,
 }
 
 impl Callees {
-    /// Makes a table of no callees.
+    /// Makes an empty table.
     pub fn new(alloc: Global) -> Callees {
         Callees {
             callees: Vec::new(alloc),
@@ -32,8 +32,9 @@ impl Callees {
         }
     }
 
-    /// Numbers what has this name and number of arguments, as it was numbered before if it was.
-    /// Errors: memory is refused.
+    /// Returns the index of this name and number of arguments; assigns the next index if they have
+    /// none.
+    /// Errors: an allocation fails.
     /// Cost: the logarithm of the number of names.
     pub fn number(&mut self, name: &str, arguments: usize) -> Result<usize, AllocError> {
         let alloc = *self.callees.allocator();
@@ -57,8 +58,9 @@ impl Callees {
         }
     }
 
-    /// Names the function that has this name and number of arguments; `false` where one has them already.
-    /// Errors: memory is refused.
+    /// Records the function with this name and number of arguments; returns `false` if one has them
+    /// already.
+    /// Errors: an allocation fails.
     /// Cost: that of `number`.
     pub fn define(
         &mut self,
@@ -73,8 +75,9 @@ impl Callees {
         }
     }
 
-    /// Notes that there is a method of one type; `false` where it has one of this name and number of parameters already.
-    /// Errors: memory is refused.
+    /// Records a method of one type; returns `false` if that type has one with this name and number
+    /// of parameters already.
+    /// Errors: an allocation fails.
     /// Cost: the logarithm of the number of methods.
     pub fn define_method(
         &mut self,
@@ -87,7 +90,7 @@ impl Callees {
         Ok(self.methods.insert(key)?)
     }
 
-    /// Moves out what is called, by its numbers.
+    /// Moves out the callees, by their numbers.
     pub fn into_vec(self) -> Vec<Callee> {
         let Callees {
             callees,

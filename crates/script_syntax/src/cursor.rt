@@ -1,9 +1,9 @@
-// A place in a text, which goes on a character at a time.
+// A position in a text, which moves on a character at a time.
 ghost use Rattle.std.specs.Prelude.{◌≡◌, ◌≤◌, length};
 
 use rhai_text::Position;
 
-/// The characters of a text, and which of them comes next.
+/// The characters of a text, and the index of the next one.
 #[derive(Drop)]
 pub struct Cursor {
     chars: Vec<char>,
@@ -23,27 +23,27 @@ impl Cursor {
         }
     }
 
-    /// Answers the character that comes next.
+    /// Returns the next character.
     pub fn peek(&self) -> Option<char> {
         self.chars.get(self.at).copied()
     }
 
-    /// Answers the character behind the next one.
+    /// Returns the character after the next one.
     pub fn peek_second(&self) -> Option<char> {
         self.peek_behind(1)
     }
 
-    /// Answers the character that comes so many behind the next one.
+    /// Returns the character at this distance after the next one.
     pub fn peek_behind(&self, count: usize) -> Option<char> {
         self.chars.get(self.at.saturating_add(count)).copied()
     }
 
-    /// Counts the characters that are left.
+    /// Returns how many characters are left.
     pub fn left(&self) -> usize {
         self.chars.len().saturating_sub(self.at)
     }
 
-    /// Tells whether these characters come behind the next one.
+    /// Returns whether these characters follow the next one.
     pub fn comes_behind(&self, rest: &str) -> bool {
         let mut at = self.at;
         for wanted in rest.chars() {
@@ -55,7 +55,7 @@ impl Cursor {
         true
     }
 
-    /// Tells the line and column of the character that comes next.
+    /// Returns the line and column of the next character.
     pub fn position(&self) -> Position {
         Position {
             line: self.line,
@@ -63,12 +63,12 @@ impl Cursor {
         }
     }
 
-    /// Tells the column of the character that comes next.
+    /// Returns the column of the next character.
     pub fn column(&self) -> u32 {
         self.column
     }
 
-    /// Goes on behind the next character.
+    /// Moves past the next character.
     pub fn advance(&mut self) {
         match self.peek() {
             Some('\n') => {
@@ -81,7 +81,7 @@ impl Cursor {
         self.at = self.at.saturating_add(1);
     }
 
-    /// Goes on behind these many characters.
+    /// Moves past this many characters.
     pub fn advance_by(&mut self, count: usize) {
         for _ in 0..count {
             self.advance();

@@ -6,49 +6,49 @@ use std::alloc::{AllocError, AllocFailed};
 use std::fmt;
 use thiserror::Error;
 
-/// Why a text is no script, and where.
+/// Why a text is not a valid script, and where.
 #[derive(Debug, Drop)]
 pub enum SyntaxError {
-    /// What is wrong, and at which line and column.
+    /// What is wrong, and its line and column.
     Fault(SyntaxFault, Position),
-    /// Memory was refused.
+    /// An allocation failed.
     OutOfMemory,
 }
 
-/// What is wrong at a place of a text.
+/// What is wrong at a position of a text.
 #[derive(Clone, Copy, Debug, PartialEq, Eq, Error)]
 pub enum SyntaxFault {
-    /// Something else is wanted here.
+    /// This symbol is expected here.
     #[error("expected {0}")]
     Expected(Symbol),
     /// No expression begins here.
     #[error("expected an expression")]
     ExpectedExpression,
-    /// A name is wanted here.
+    /// A name is expected here.
     #[error("expected a name")]
     ExpectedName,
-    /// A key of an object map is wanted here.
+    /// A key of an object map is expected here.
     #[error("expected a name or a text as the key")]
     ExpectedKey,
-    /// The word is kept for what the language has, or for what rhai has beside it.
+    /// The word is reserved: the language uses it, or rhai does.
     #[error("`{0}` is a reserved word, and no name")]
     ReservedWord(&'static str),
-    /// The word begins what rhai has and this language doesn't.
+    /// The word begins something that rhai has and this language doesn't.
     #[error("`{0}` is not part of this language")]
     NotRead(&'static str),
-    /// The sign means nothing here, though it does in rhai.
+    /// The sign has no meaning here, but has one in rhai.
     #[error("`{0}{1}` is not part of this language")]
     ReservedSign(char, &'static str),
     /// No sign begins with this character.
     #[error("this character begins nothing")]
     StrangeCharacter,
-    /// A name has a letter.
+    /// A name needs a letter.
     #[error("a name has a letter behind its underscores")]
     NoLetter,
-    /// The number is past the bounds of ints.
+    /// The number is out of the range of ints.
     #[error("the number is too large")]
     NumberTooLarge,
-    /// The digits are followed by what is no int.
+    /// The digits are followed by something that doesn't belong to an int.
     #[error("this is no int")]
     BadNumber,
     /// The text or character has no end, or none on its line.
@@ -57,43 +57,43 @@ pub enum SyntaxFault {
     /// The comment has no end.
     #[error("the comment is not closed")]
     OpenComment,
-    /// The escape is unknown, or names no character.
+    /// The escape is unknown, or denotes no character.
     #[error("the escape names no character")]
     BadEscape,
-    /// Between single quotation marks stands one character.
+    /// Single quotation marks enclose exactly one character.
     #[error("expected one character between the quotation marks")]
     BadCharacter,
     /// The text nests deeper than a tree may.
     #[error("the script nests too deep")]
     TooDeep,
-    /// Only variables, their items and their properties are assigned to.
+    /// Only variables, their items and their properties can be assigned to.
     #[error("this cannot be assigned to")]
     NoPlace,
-    /// Behind `?.` and `?[` nothing is assigned to.
+    /// Nothing after `?.` or `?[` can be assigned to.
     #[error("behind `?.` and `?[` nothing is assigned to")]
     OptionalPlace,
-    /// `this` stands in functions.
+    /// `this` is only allowed in functions.
     #[error("`this` stands in functions alone")]
     ThisOutside,
-    /// Functions stand outside of all else.
+    /// Functions are only allowed at the top level.
     #[error("a function stands at the top of a script alone")]
     FunctionInside,
-    /// A function of the name and number of parameters is there.
+    /// There already is a function with this name and number of parameters.
     #[error("a function has this name and number of parameters already")]
     FunctionTwice,
-    /// A name stands twice among the parameters, or before `in`.
+    /// A name occurs twice among the parameters, or before `in`.
     #[error("the name stands here twice")]
     NameTwice,
-    /// A key stands twice in an object map.
+    /// A key occurs twice in an object map.
     #[error("the key stands in the map twice")]
     KeyTwice,
     /// The cases of `switch` are literals and ranges of ints.
     #[error("expected a literal or a range of ints")]
     ExpectedCase,
-    /// The case `_` is the last.
+    /// The case `_` has to be the last.
     #[error("no case stands behind `_`")]
     CaseBehindDefault,
-    /// `break` and `continue` stand inside of loops.
+    /// `break` and `continue` are only allowed in loops.
     #[error("no loop is around this")]
     OutsideLoop,
 }

@@ -19,13 +19,13 @@ pub enum Lexeme {
     Text(String),
     /// The part of a text in back-ticks before a `${`.
     TextBefore(String),
-    /// A word that is no keyword.
+    /// A word that isn't a keyword.
     Name(String),
     /// A keyword, a sign, or the end.
     Symbol(Symbol),
 }
 
-/// Goes on behind blanks and comments.
+/// Skips blanks and comments.
 fn skip_blanks(cursor: &mut Cursor) -> Result<(), SyntaxError> {
     for _ in 0..cursor.left() {
         match (cursor.peek(), cursor.peek_second()) {
@@ -38,7 +38,7 @@ fn skip_blanks(cursor: &mut Cursor) -> Result<(), SyntaxError> {
     Ok(())
 }
 
-/// Goes on to the end of the line.
+/// Skips the rest of the line.
 fn skip_line(cursor: &mut Cursor) {
     for _ in 0..cursor.left() {
         if cursor.peek() == Some('\n') {
@@ -48,7 +48,7 @@ fn skip_line(cursor: &mut Cursor) {
     }
 }
 
-/// Goes on behind a comment, with those inside of it.
+/// Skips a comment, with those nested in it.
 fn skip_comment(cursor: &mut Cursor) -> Result<(), SyntaxError> {
     let start = cursor.position();
     let mut open = 0usize;
@@ -91,12 +91,12 @@ fn read_word(alloc: Global, cursor: &mut Cursor) -> Result<Lexeme, SyntaxError> 
     }
 }
 
-/// Whether a character may stand in a word.
+/// Whether a character may be part of a word.
 fn is_of_word(c: char) -> bool {
     c.is_ascii_alphanumeric() || c == '_'
 }
 
-/// Whether the operator `!in` comes next, and no word that begins so.
+/// Whether the operator `!in` comes next, and not a word that begins with it.
 fn is_not_in(cursor: &Cursor) -> bool {
     let ends = match cursor.peek_behind(3) {
         Some(c) => !is_of_word(c),
@@ -105,7 +105,7 @@ fn is_not_in(cursor: &Cursor) -> bool {
     cursor.comes_behind("in") && ends
 }
 
-/// Whether a raw text comes next: numbers of `#` before a quotation mark.
+/// Whether a raw text comes next: a number of `#` before a quotation mark.
 fn is_raw_text(cursor: &Cursor) -> bool {
     for count in 1..cursor.left() {
         match cursor.peek_behind(count) {
@@ -117,7 +117,7 @@ fn is_raw_text(cursor: &Cursor) -> bool {
     false
 }
 
-/// Reads a sign that begins with this character, the longest that comes.
+/// Reads the longest sign that begins with this character.
 fn read_sign(cursor: &mut Cursor, next: char) -> Result<Lexeme, SyntaxError> {
     if next == '!' && is_not_in(cursor) {
         cursor.advance_by(3);
@@ -137,7 +137,7 @@ fn read_sign(cursor: &mut Cursor, next: char) -> Result<Lexeme, SyntaxError> {
     Err(SyntaxError::Fault(SyntaxFault::StrangeCharacter, cursor.position()))
 }
 
-/// Reads the next lexeme, and tells where it begins.
+/// Reads the next lexeme, and returns its position.
 /// Errors: what is wrong with the lexeme, and where; `OutOfMemory`.
 /// Cost: its length, with the blanks and comments before it.
 pub fn read_lexeme(alloc: Global, cursor: &mut Cursor) -> Result<(Lexeme, Position), SyntaxError> {

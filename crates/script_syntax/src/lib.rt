@@ -1,4 +1,5 @@
-//! The syntax of a small script language, a subset of rhai's: texts to trees, in which names are resolved.
+//! The syntax of a small script language, a subset of rhai: parses texts to trees with resolved
+//! names.
 #![tactic(auto)]
 
 mod callees;

@@ -1,4 +1,4 @@
-// Ints, characters and texts as they are written.
+// Literals of ints, characters and texts.
 ghost use Rattle.std.specs.Prelude.{◌≤◌};
 
 use crate::cursor::Cursor;
@@ -8,8 +8,8 @@ use rhai_text::Position;
 use rhai_value::INT;
 use std::alloc::Global;
 
-/// Reads an int, in digits of ten, or behind `0x`, `0o` and `0b` the bits of one.
-/// Errors: `NumberTooLarge` and `BadNumber`, at its begin.
+/// Reads an int in decimal digits, or its bits after `0x`, `0o` or `0b`.
+/// Errors: `NumberTooLarge` and `BadNumber`, at its beginning.
 /// Cost: its length.
 pub fn read_int(cursor: &mut Cursor) -> Result<INT, SyntaxError> {
     let start = cursor.position();
@@ -33,7 +33,7 @@ pub fn read_int(cursor: &mut Cursor) -> Result<INT, SyntaxError> {
     }
 }
 
-/// Reads the digits of a number, with `_` between them; no letter follows them, and no fraction.
+/// Reads the digits of a number, with `_` between them; fails if a letter or a fraction follows.
 fn read_digits(cursor: &mut Cursor, start: Position, radix: u32) -> Result<u64, SyntaxError>
     requires least { 2 ≤ radix }
     requires most { radix ≤ 16 }
@@ -63,14 +63,14 @@ fn read_digits(cursor: &mut Cursor, start: Position, radix: u32) -> Result<u64, 
     Ok(number)
 }
 
-/// The number with one more digit, if it fits.
+/// Appends a digit to the number, if the result fits.
 fn with_digit(number: u64, radix: u32, digit: u32) -> Option<u64> {
     number
         .checked_mul(u64::from(radix))?
         .checked_add(u64::from(digit))
 }
 
-/// Whether digits go on with a letter, another digit or a fraction.
+/// Whether the digits are followed by a letter, another digit or a fraction.
 fn goes_on(cursor: &Cursor) -> bool {
     match (cursor.peek(), cursor.peek_second()) {
         (Some('.'), Some(c)) => c.is_ascii_digit(),
@@ -92,8 +92,9 @@ pub fn read_char(alloc: Global, cursor: &mut Cursor) -> Result<char, SyntaxError
     }
 }
 
-/// Reads a text between these quotation marks; two of them in a row are one that is meant. Where a line ends behind a backslash, the text goes
-/// on in the next one, without the blanks up to the column of the mark.
+/// Reads a text between these quotation marks; two of them in a row stand for one. After a
+/// backslash at the end of a line the text continues on the next line, without the blanks up to the
+/// column of the mark.
 /// Errors: what is wrong with it, and where; `OutOfMemory`.
 /// Cost: its length.
 pub fn quoted(alloc: Global, cursor: &mut Cursor, mark: char) -> Result<String, SyntaxError> {
@@ -120,7 +121,7 @@ pub fn quoted(alloc: Global, cursor: &mut Cursor, mark: char) -> Result<String, 
     Err(SyntaxError::Fault(SyntaxFault::OpenText, start))
 }
 
-/// Goes on behind the end of a line, and behind the blanks of the next one up to this column.
+/// Skips the end of a line, and the blanks of the next one up to this column.
 fn continue_line(cursor: &mut Cursor, start: Position) {
     cursor.advance_by(2);
     for _ in 0..cursor.left() {
@@ -131,8 +132,8 @@ fn continue_line(cursor: &mut Cursor, start: Position) {
     }
 }
 
-/// Reads a raw text: between as many `#` on both sides, all is meant as it stands.
-/// Errors: `OpenText`, at its begin; `OutOfMemory`.
+/// Reads a raw text: everything between equal numbers of `#` is taken literally.
+/// Errors: `OpenText`, at its beginning; `OutOfMemory`.
 /// Cost: its length.
 pub fn raw_text(alloc: Global, cursor: &mut Cursor) -> Result<String, SyntaxError> {
     let start = cursor.position();
@@ -160,7 +161,7 @@ pub fn raw_text(alloc: Global, cursor: &mut Cursor) -> Result<String, SyntaxErro
     Err(SyntaxError::Fault(SyntaxFault::OpenText, start))
 }
 
-/// Whether so many `#` stand behind the quotation mark that comes next.
+/// Whether this many `#` follow the quotation mark that comes next.
 fn ends_raw(cursor: &Cursor, signs: usize) -> bool {
     for count in 0..signs {
         if cursor.peek_behind(count.saturating_add(1)) != Some('#') {
@@ -170,8 +171,9 @@ fn ends_raw(cursor: &Cursor, signs: usize) -> bool {
     true
 }
 
-/// Reads a text in back-ticks, from its begin up to its end or to a `${`. The end of the line right behind the back-tick is none of it.
-/// Errors: `OpenText`, at its begin; `OutOfMemory`.
+/// Reads a text in back-ticks, from its beginning to its end or to a `${`. A line end directly
+/// after the back-tick isn't part of it.
+/// Errors: `OpenText`, at its beginning; `OutOfMemory`.
 /// Cost: its length.
 pub fn template(alloc: Global, cursor: &mut Cursor) -> Result<Lexeme, SyntaxError> {
     let start = cursor.position();
@@ -185,8 +187,9 @@ pub fn template(alloc: Global, cursor: &mut Cursor) -> Result<Lexeme, SyntaxErro
     template_part(alloc, cursor, start)
 }
 
-/// Reads on in a text in back-ticks that began here, up to its end or to a `${`. Two back-ticks in a row are one that is meant.
-/// Errors: `OpenText`, at its begin; `OutOfMemory`.
+/// Continues a text in back-ticks that began at this position, up to its end or to a `${`. Two
+/// back-ticks in a row stand for one.
+/// Errors: `OpenText`, at its beginning; `OutOfMemory`.
 /// Cost: its length.
 pub fn template_part(
     alloc: Global,
@@ -243,7 +246,7 @@ fn read_escape(cursor: &mut Cursor) -> Result<char, SyntaxError> {
     }
 }
 
-/// The character whose code these many hexadecimal digits say.
+/// Reads the character whose code is written in this many hexadecimal digits.
 fn read_code(cursor: &mut Cursor, digits: u32) -> Option<char> {
     let mut code = 0u32;
     for _ in 0..digits {

@@ -1,4 +1,4 @@
-// The names of variables, and where the frames of functions have them.
+// The names of variables, and their slots in the frames of functions.
 ghost use Rattle.std.specs.Prelude.{◌≡◌, ◌≤◌, IfOk, vec_len};
 
 use rhai_text::{ImmutableString, Position};
@@ -7,32 +7,32 @@ use std::alloc::{AllocError, Global};
 use std::collections::BTreeMap;
 use std::mem;
 
-/// A variable that is declared, and the earlier one of its name, which it hides.
+/// A declared variable, and the earlier one with the same name, which it hides.
 #[derive(Drop)]
 struct Declared {
     name: String,
     hidden: Option<usize>,
 }
 
-/// The variables of one function, while it is read.
+/// The variables of one function, while it is being parsed.
 #[derive(Drop)]
 pub struct FunctionNames {
-    /// The variables that live, by their slots.
+    /// The live variables, by slot.
     declared: Vec<Declared>,
     /// The newest variable of each name.
     newest: BTreeMap<String, usize>,
-    /// Where the function outside has the captured variables, by their numbers.
+    /// The captured variables' slots in the enclosing function, by their numbers.
     captured: Vec<Slot>,
     captured_numbers: BTreeMap<String, usize>,
     /// Their names, by their numbers.
     captured_names: Vec<ImmutableString>,
-    /// How many variables lived at once at most.
+    /// The most variables that were live at the same time.
     slots: usize,
-    /// How many loops are around what is read.
+    /// How many loops enclose the current position.
     loops: usize,
-    /// The first name in an anonymous function that nothing has, and where it stands.
+    /// The first unknown name in an anonymous function, and its position.
     missing: Option<Missing>,
-    /// Whether `this` stands in it.
+    /// Whether it uses `this`.
     uses_this: bool,
     ghost room: { vec_len declared ≤ slots },
 }
@@ -91,7 +91,8 @@ impl FunctionNames {
         }
     }
 
-    /// The slot of a name, which is captured from this slot of outside where the function lacks it.
+    /// Returns the slot of a name; if the function lacks it, captures it from this slot of the
+    /// enclosing function.
     fn slot_or_captured(
         &mut self,
         name: &str,
@@ -116,8 +117,8 @@ impl FunctionNames {
         Ok(Slot::Captured(number))
     }
 
-    /// The names of so many parameters, and behind them those of the captured variables.
-    /// Errors: memory is refused.
+    /// Copies the names of this many parameters, then those of the captured variables.
+    /// Errors: an allocation fails.
     /// Cost: their number.
     pub fn given(&self, parameters: usize) -> Result<Vec<ImmutableString>, AllocError> {
         let alloc = *self.declared.allocator();
@@ -131,24 +132,25 @@ impl FunctionNames {
         Ok(given)
     }
 
-    /// Moves out the first name that nothing has, if the anonymous function has one.
+    /// Moves out the first unknown name, if the anonymous function has one.
     pub fn take_missing(&mut self) -> Option<Missing> {
         self.missing.take()
     }
 
-    /// Tells whether `this` stands in the function.
+    /// Returns whether the function uses `this`.
     pub fn uses_this(&self) -> bool {
         self.uses_this
     }
 
-    /// Notes a name that nothing has, unless one is noted.
+    /// Records an unknown name, unless one is recorded already.
     fn note_missing(&mut self, missing: Missing) {
         if self.missing.is_none() {
             self.missing = Some(missing);
         }
     }
 
-    /// Moves out how many variables lived at once at most, and where the function outside has the captured ones.
+    /// Moves out how many variables were live at the same time at most, and the captured variables'
+    /// slots in the enclosing function.
     pub fn into_parts(self) -> (usize, Vec<Slot>)
         ensures { vec_len self.declared ≤ result.0 }
     {
@@ -166,8 +168,9 @@ impl FunctionNames {
         (slots, captured)
     }
 
-    /// Moves out the names of the variables that live, by their slots, and how many lived at once at most.
-    /// Errors: memory is refused.
+    /// Moves out the names of the live variables, by slot, and how many were live at the same time
+    /// at most.
+    /// Errors: an allocation fails.
     pub fn into_names(self) -> Result<(Vec<String>, usize), AllocError>
         ensures { IfOk result (λ r. vec_len self.declared ≤ r.1) }
     {
@@ -191,7 +194,7 @@ impl FunctionNames {
     }
 }
 
-/// The variables of the function that is read, and of those around it.
+/// The variables of the function being parsed, and of those around it.
 #[derive(Drop)]
 pub struct Names {
     function: FunctionNames,
@@ -199,7 +202,7 @@ pub struct Names {
 }
 
 impl Names {
-    /// Begins with one function that has no variable.
+    /// Begins with one function without variables.
     pub fn new(alloc: Global) -> Names {
         Names {
             function: FunctionNames::new(alloc),
@@ -207,15 +210,16 @@ impl Names {
         }
     }
 
-    /// Begins an anonymous function inside of the one that is read.
-    /// Errors: memory is refused.
+    /// Begins an anonymous function inside the current one.
+    /// Errors: an allocation fails.
     pub fn enter(&mut self) -> Result<(), AllocError> {
         let inner = FunctionNames::new(*self.outer.allocator());
         self.outer.push(mem::replace(&mut self.function, inner))?;
         Ok(())
     }
 
-    /// Ends the function that is read, and goes on with the one around it, or with a new one where there is none.
+    /// Ends the current function, and returns to the enclosing one, or to a new one if there is
+    /// none.
     pub fn leave(&mut self) -> FunctionNames
         ensures { result ≡ self.old.function }
     {
@@ -228,21 +232,21 @@ impl Names {
         }
     }
 
-    /// Declares a variable, which hides those of its name, and tells its slot.
-    /// Errors: memory is refused.
+    /// Declares a variable, which hides those of the same name, and returns its slot.
+    /// Errors: an allocation fails.
     /// Cost: the logarithm of the number of names.
     pub fn declare(&mut self, name: &str) -> Result<usize, AllocError> {
         self.function.declare(name)
     }
 
-    /// Counts the variables of the function that live: the slot that the next one gets.
+    /// Returns how many variables of the function are live: the slot of the next one.
     pub fn count(&self) -> usize
         ensures { result ≡ vec_len self.now.function.declared }
     {
         self.function.declared.len()
     }
 
-    /// Tells whether one of the variables from this slot on has the name.
+    /// Returns whether one of the variables from this slot on has the name.
     /// Cost: the number of these variables.
     pub fn has_since(&self, first: usize, name: &str) -> bool {
         match self.function.newest.get(name) {
@@ -252,14 +256,15 @@ impl Names {
     }
 
     /// Ends the variables from this slot on.
-    /// Errors: memory is refused.
+    /// Errors: an allocation fails.
     /// Cost: their number, times the logarithm of the number of names.
     pub fn close(&mut self, first: usize) -> Result<(), AllocError> {
         self.function.close(first)
     }
 
-    /// Finds where the function has the variable of a name, if there is one; one of outside is captured.
-    /// Errors: memory is refused.
+    /// Finds the slot of the variable with a name, if there is one; a variable of an enclosing
+    /// function is captured.
+    /// Errors: an allocation fails.
     /// Cost: the logarithm of the number of names, for each function around the name.
     pub fn resolve(&mut self, name: &str) -> Result<Option<Slot>, AllocError> {
         let mut slot = self.function.slot(name);
@@ -279,12 +284,12 @@ impl Names {
         self.function.slot_or_captured(name, slot)
     }
 
-    /// Tells whether an anonymous function is read, which sees the variables around it.
+    /// Returns whether an anonymous function is being parsed, which sees the variables around it.
     pub fn is_inside(&self) -> bool {
         !self.outer.is_empty()
     }
 
-    /// Notes that nothing has this name, which stands in anonymous functions: the outermost of them can't be made.
+    /// Records an unknown name in anonymous functions: making the outermost of them is a fault.
     pub fn note_missing(&mut self, missing: Missing) {
         match self.outer.get_mut(1) {
             Some(outermost) => outermost.note_missing(missing),
@@ -292,7 +297,7 @@ impl Names {
         }
     }
 
-    /// Notes that `this` stands in the function that is read.
+    /// Records that the current function uses `this`.
     pub fn note_this(&mut self) {
         self.function.uses_this = true;
     }
@@ -307,7 +312,7 @@ impl Names {
         self.function.loops = self.function.loops.saturating_sub(1);
     }
 
-    /// Tells whether a loop of the function is around what is read.
+    /// Returns whether a loop of the function encloses the current position.
     pub fn is_in_loop(&self) -> bool {
         self.function.loops > 0
     }

@@ -1,22 +1,22 @@
-// The operators between operands, from loose to tight, and those that assign.
+// Binary operators, by increasing precedence, and those that assign.
 
 use crate::symbol::Symbol;
 use rhai_text::Token;
 use script_tree::{Assignment, Operator};
 
-/// The loosest level of operators.
+/// The lowest precedence.
 pub const LOOSEST: u8 = 1;
 
-/// The tightest level of operators.
+/// The highest precedence.
 pub const TIGHTEST: u8 = 11;
 
-/// The level of `in` and `!in`.
+/// The precedence of `in` and `!in`.
 pub const MEMBERSHIP: u8 = 4;
 
-/// The level of `**`, whose operators go to the right.
+/// The precedence of `**`, which is right-associative.
 pub const POWER: u8 = 10;
 
-/// Finds the operator between two operands that a symbol is, with its level: higher ones are tighter.
+/// Finds the binary operator of a symbol, with its precedence.
 pub fn operator_of(symbol: Symbol) -> Option<(u8, Operator)> {
     match symbol {
         Symbol::And => Some((2, Operator::And)),
@@ -59,7 +59,7 @@ fn level_of(token: Token) -> Option<u8> {
     }
 }
 
-/// The operator that stands in an operator that assigns; `=` has none.
+/// Returns the operator inside an assigning one; `=` has none.
 fn plain_of(whole: Token) -> Option<Token> {
     match whole {
         Token::PlusAssign => Some(Token::Plus),
@@ -107,7 +107,7 @@ pub enum Assigning {
     By(Assignment),
 }
 
-/// Tells how a symbol assigns.
+/// Returns how a symbol assigns.
 pub fn assigning_of(symbol: Symbol) -> Assigning {
     match symbol {
         Symbol::Operator(Token::Equals) => Assigning::Plainly,

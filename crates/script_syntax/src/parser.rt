@@ -1,4 +1,5 @@
-// Lexemes to trees. Each function that reads a part of a tree is told how many levels of it are left.
+// Parses lexemes to trees. Each function that parses a part of a tree gets the number of levels
+// that are left for it.
 ghost use Rattle.std.specs.Prelude.{◌≡◌, ◌+◌, ◌≤◌, length, IfOk};
 
 use crate::callees::Callees;
@@ -24,29 +25,29 @@ mod statements;
 mod switches;
 mod templates;
 
-/// Reads a script, a lexeme after the other.
+/// Parses a script, lexeme by lexeme.
 #[derive(Drop)]
 struct Parser {
     alloc: Global,
     cursor: Cursor,
-    /// The lexeme that comes next, and its place.
+    /// The next lexeme, and its position.
     lexeme: Lexeme,
     position: Position,
     names: Names,
     callees: Callees,
     functions: Vec<Function>,
-    /// Whether a function of the script is read.
+    /// Whether a function of the script is being parsed.
     is_function: bool,
-    /// Tells the script from others, in the names of its anonymous functions.
+    /// Identifies the script, in the names of its anonymous functions.
     stamp: u64,
-    /// The lowest level that the expression that is read has come to.
+    /// The lowest level that the current expression has reached.
     lowest: usize,
 }
 
-/// Reads a script.
-/// Errors: what is wrong, at its line and column; `OutOfMemory`.
-/// Cost: the length of the text times the logarithm of the number of names; memory for its characters and for the trees; a
-/// stack for `MOST_LEVELS` levels.
+/// Parses a script.
+/// Errors: what is wrong, with its line and column; `OutOfMemory`.
+/// Cost: the length of the text times the logarithm of the number of names; memory for its
+/// characters and for the trees; stack for `MOST_LEVELS` levels.
 /// rhai: `Engine::compile`.
 pub fn parse(alloc: Global, text: &str) -> Result<Program, SyntaxError>
     ensures first { IfOk result (λ program. program.body.first_slot ≡ 0) }
@@ -55,8 +56,8 @@ pub fn parse(alloc: Global, text: &str) -> Result<Program, SyntaxError>
     parse_with(alloc, text, &[])
 }
 
-/// Reads a script whose statements outside of functions see variables of these names, in slots from 0 on; a later one hides an
-/// earlier one of its name.
+/// Parses a script whose statements outside functions see variables with these names, in slots from
+/// 0 on; a later one hides an earlier one of the same name.
 /// Errors: as `parse`.
 /// Cost: as `parse`, and the number of the variables times its logarithm.
 /// rhai: `Engine::compile_with_scope`.
@@ -85,7 +86,7 @@ pub fn parse_with(alloc: Global, text: &str, outer: &[String]) -> Result<Program
     parser.into_program(statements, positions, outer.len())
 }
 
-/// A number that hardly any other text has.
+/// Returns a number that hardly any other text has.
 fn stamp_of(text: &str) -> u64 {
     let mut hasher = FoldHasher::default();
     text.hash(&mut hasher);
@@ -149,17 +150,17 @@ impl Parser {
         })
     }
 
-    /// What is wrong at the next lexeme.
+    /// Makes the error for the next lexeme.
     fn fault(&self, fault: SyntaxFault) -> SyntaxError {
         SyntaxError::Fault(fault, self.position)
     }
 
-    /// How many lexemes are left at most, with the end.
+    /// Returns an upper bound on the lexemes left, including the end.
     fn lexemes_left(&self) -> usize {
         self.cursor.left().saturating_add(2)
     }
 
-    /// The symbol that comes next, if one does.
+    /// Returns the next symbol, if a symbol comes next.
     fn symbol(&self) -> Option<Symbol> {
         match &self.lexeme {
             Lexeme::Symbol(symbol) => Some(*symbol),
@@ -176,7 +177,7 @@ impl Parser {
         self.symbol() == Some(symbol)
     }
 
-    /// Goes on behind the next lexeme.
+    /// Moves past the next lexeme.
     fn advance(&mut self) -> Result<(), SyntaxError> {
         let (lexeme, position) = read_lexeme(self.alloc, &mut self.cursor)?;
         self.lexeme = lexeme;
@@ -189,7 +190,7 @@ impl Parser {
         mem::replace(&mut self.lexeme, Lexeme::Symbol(Symbol::End))
     }
 
-    /// Goes on behind this symbol, if it comes next.
+    /// Moves past this symbol, if it comes next.
     fn takes(&mut self, symbol: Symbol) -> Result<bool, SyntaxError> {
         let is_next = self.is_next(symbol);
         if is_next {
@@ -198,7 +199,7 @@ impl Parser {
         Ok(is_next)
     }
 
-    /// Goes on behind this symbol, which comes next.
+    /// Moves past this symbol; fails if it doesn't come next.
     fn expect(&mut self, symbol: Symbol) -> Result<(), SyntaxError> {
         if self.is_next(symbol) {
             self.advance()
@@ -207,7 +208,7 @@ impl Parser {
         }
     }
 
-    /// Goes on behind a word that is no keyword.
+    /// Reads a word that isn't a keyword.
     fn word(&mut self) -> Result<String, SyntaxError> {
         match self.take_lexeme() {
             Lexeme::Name(word) => {
@@ -222,7 +223,7 @@ impl Parser {
         }
     }
 
-    /// Goes on behind the name of something, which is no reserved word.
+    /// Reads a name, which is not a reserved word.
     fn name(&mut self) -> Result<String, SyntaxError> {
         let position = self.position;
         let word = self.word()?;
@@ -232,12 +233,12 @@ impl Parser {
         Ok(word)
     }
 
-    /// A name as a tree keeps it.
+    /// Copies a name for a tree.
     fn kept(&self, name: &str) -> Result<ImmutableString, SyntaxError> {
         Ok(ImmutableString::from_str(self.alloc, name)?)
     }
 
-    /// The levels that are left below one.
+    /// Returns the levels that are left below one.
     fn below(&self, levels: usize) -> Result<usize, SyntaxError>
         ensures { IfOk result (λ below. below + 1 ≡ levels) }
     {
@@ -247,12 +248,12 @@ impl Parser {
         }
     }
 
-    /// Says that the expression that is read has a part at this level.
+    /// Records that the current expression has a part at this level.
     fn reach(&mut self, levels: usize) {
         self.lowest = self.lowest.min(levels);
     }
 
-    /// Moves what was read of the expression one level down, since it is part of a larger one.
+    /// Moves the expression parsed so far one level down, since it is part of a larger one.
     fn lower(&mut self) -> Result<(), SyntaxError> {
         self.lowest = self.below(self.lowest)?;
         Ok(())

@@ -86,13 +86,13 @@ pub enum Symbol {
     Coalesce,
     /// `!in`
     NotIn,
-    /// An operator of values.
+    /// An operator on values.
     Operator(Token),
     /// The end of the text.
     End,
 }
 
-/// The words that the language has. Other words are names, or are reserved.
+/// The keywords of the language. Other words are names, or are reserved.
 static KEYWORDS: [(&str, Symbol); 21] = [
     ("break", Symbol::Break),
     ("catch", Symbol::Catch),
@@ -117,7 +117,8 @@ static KEYWORDS: [(&str, Symbol); 21] = [
     ("_", Symbol::Underscore),
 ];
 
-/// The signs of rhai by their first character and the others, longer ones first; those that this language lacks have no symbol.
+/// The signs of rhai by their first character and the rest, longer ones first; signs that this
+/// language lacks have no symbol.
 pub static SIGNS: [(char, &str, Option<Symbol>); 73] = [
     ('.', ".=", Some(Symbol::Operator(Token::InclusiveRange))),
     ('*', "*=", Some(Symbol::Operator(Token::PowerOfAssign))),
@@ -205,7 +206,8 @@ pub fn keyword(word: &str) -> Option<Symbol> {
 }
 
 impl Symbol {
-    /// Tells whether a statement that begins so ends by itself, without a semicolon.
+    /// Returns whether a statement that begins with this symbol ends by itself, without a
+    /// semicolon.
     pub fn begins_block(self) -> bool {
         matches!(
             self,
@@ -220,7 +222,7 @@ impl Symbol {
     }
 }
 
-/// A symbol is printed as it is written, in back-ticks.
+/// Formats a symbol as it is written, in back-ticks.
 impl fmt::Display for Symbol {
     fn fmt<W: fmt::Write>(&self, f: &mut fmt::Formatter<W>) -> fmt::Result {
         for (spelling, symbol) in KEYWORDS.iter() {

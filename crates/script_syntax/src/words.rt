@@ -1,11 +1,11 @@
-// The words that rhai keeps for itself.
+// The words that rhai reserves.
 
 use crate::error::SyntaxFault;
 
 /// What rhai has and this language doesn't.
 static NOT_READ: [&str; 6] = ["as", "eval", "exit", "export", "import", "private"];
 
-/// The other words that are no names, beside the keywords.
+/// The reserved words other than keywords.
 static RESERVED: [&str; 36] = [
     "async",
     "await",
@@ -45,7 +45,7 @@ static RESERVED: [&str; 36] = [
     "Fn",
 ];
 
-/// The reserved words that are called as functions.
+/// The reserved words that can be called as functions.
 static FUNCTIONS: [&str; 9] = [
     "Fn",
     "call",
@@ -58,10 +58,11 @@ static FUNCTIONS: [&str; 9] = [
     "type_of",
 ];
 
-/// The reserved words that are called as methods.
+/// The reserved words that can be called as methods.
 static METHODS: [&str; 4] = ["call", "curry", "is_shared", "type_of"];
 
-/// What is wrong with a word as the name of a variable, a function, a parameter or a property.
+/// Returns what is wrong with a word as the name of a variable, a function, a parameter or a
+/// property.
 pub fn no_name(word: &str) -> Option<SyntaxFault> {
     if let Some(known) = NOT_READ.iter().find(|known| **known == word) {
         return Some(SyntaxFault::NotRead(*known));
@@ -72,7 +73,7 @@ pub fn no_name(word: &str) -> Option<SyntaxFault> {
     }
 }
 
-/// What is wrong with a word that is called as a function.
+/// Returns what is wrong with a word that is called as a function.
 pub fn no_function(word: &str) -> Option<SyntaxFault> {
     if FUNCTIONS.iter().any(|name| *name == word) {
         None
@@ -81,7 +82,7 @@ pub fn no_function(word: &str) -> Option<SyntaxFault> {
     }
 }
 
-/// What is wrong with a word that is called as a method.
+/// Returns what is wrong with a word that is called as a method.
 pub fn no_method(word: &str) -> Option<SyntaxFault> {
     if METHODS.iter().any(|name| *name == word) {
         None

@@ -1,4 +1,4 @@
-//! The trees of a small script language, in which names are resolved.
+//! The syntax trees of a small script language, with resolved names.
 #![tactic(auto)]
 
 mod tree;
@@ -8,5 +8,5 @@ pub use tree::{
     Program, Slot, Step, Switch, Term, UnaryOperator, Variable,
 };
 
-/// How many levels a tree has at most, from a body down to a leaf.
+/// The most levels of a tree, from a body down to a leaf.
 pub const MOST_LEVELS: usize = 64;

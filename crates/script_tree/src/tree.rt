@@ -10,79 +10,82 @@ use rhai_value::INT;
 pub struct Program {
     /// The functions of the script, in their order, and the bodies of its anonymous functions.
     pub functions: Vec<Function>,
-    /// What the calls and methods of the script name, each name with its number of arguments once.
+    /// The names that the script calls as functions or methods, each name with its number of
+    /// arguments once.
     pub callees: Vec<Callee>,
-    /// How many own variables of the body live at once at most.
+    /// The most own variables of the body that live at the same time.
     pub slots: usize,
-    /// The statements outside of functions.
+    /// The statements outside functions.
     pub body: Block,
-    /// The variables that live at the end of the body, by their slots: those that were there before it, and then its own.
+    /// The variables that live at the end of the body, by their slots: first those from before it,
+    /// then its own.
     pub variables: Vec<String>,
-    /// How many of them were there before it.
+    /// How many of them are from before it.
     pub outer: usize,
 }
 
 /// A function of the script, or an anonymous one.
 ///
-/// Its frame begins with the values that it captured, then come its parameters, then its variables. The variables of a
-/// block that has ended give their slots to later ones.
+/// Its frame begins with the captured values, then come its parameters, then its variables. When a
+/// block ends, later variables reuse the slots of its variables.
 #[derive(Drop)]
 pub struct Function {
-    /// The name. That of an anonymous function is `anon$`, sixteen digits that tell its script from others, `$` and its number: no script can
-    /// spell it.
+    /// The name. That of an anonymous function is `anon$`, sixteen digits that identify its script,
+    /// `$` and its number: no script can spell it.
     pub name: ImmutableString,
-    /// How many values of outside an anonymous function is given before its arguments.
+    /// How many captured values an anonymous function gets before its arguments.
     pub captured: usize,
-    /// How many parameters the function has; these are its own variables from slot 0 on.
+    /// How many parameters the function has; these are its first own variables, from slot 0 on.
     pub parameters: usize,
-    /// How many own variables live at once at most, with the parameters.
+    /// The most own variables that live at the same time, parameters included.
     pub slots: usize,
     pub body: Block,
-    /// Whether `this` stands in it.
+    /// Whether it uses `this`.
     pub uses_this: bool,
-    /// The type of what it is called on, if it is a method of one type.
+    /// The type of its receiver, if it is a method of one type.
     pub this_type: Option<ImmutableString>,
-    /// The names of the parameters, and behind them those of the captured variables.
+    /// The names of the parameters, then those of the captured variables.
     pub names: Vec<ImmutableString>,
 }
 
-/// What is called by a name and a number of arguments; the receiver of a method counts as one.
+/// A name and a number of arguments in calls; the receiver of a method counts as one.
 #[derive(Drop)]
 pub struct Callee {
     pub name: ImmutableString,
     pub arguments: usize,
-    /// The function of the script that has the name and that many parameters, and is no method of one type.
+    /// The function of the script with the name and number of parameters that isn't a method of one
+    /// type.
     pub function: Option<usize>,
 }
 
-/// Where the frame of a function has a variable.
+/// The place of a variable in a function's frame.
 #[derive(Clone, Copy, Debug, PartialEq, Eq)]
 pub enum Slot {
     /// A parameter or a variable of the function itself, by its number.
     Own(usize),
-    /// A variable of outside, by its number among the captured ones of the anonymous function.
+    /// A captured variable, by its number among those of the anonymous function.
     Captured(usize),
-    /// `this`: what the function is called on.
+    /// `this`: the receiver of the function.
     This,
 }
 
-/// Which variable a name means, at the place where it stands.
+/// Which variable a name means where it is used.
 #[derive(Drop)]
 pub enum Variable {
     /// A variable of the frame.
     Known(Slot),
-    /// Nothing has the name.
+    /// No variable has the name.
     Unknown(ImmutableString),
 }
 
-/// A name in an anonymous function that nothing has, and where it stands.
+/// An unknown name in an anonymous function, and its position.
 #[derive(Drop)]
 pub struct Missing {
     pub name: ImmutableString,
     pub position: Position,
 }
 
-/// Statements in braces, or those of the whole script. The value is that of the last.
+/// Statements in braces, or those of the whole script. The value is that of the last one.
 #[cycle(tree)]
 #[derive(Drop)]
 pub struct Block {
@@ -111,7 +114,7 @@ pub enum Expr {
     Text(ImmutableString),
     /// `[a, b]`
     Array(Vec<Expr>),
-    /// `#{a: b}`; no key stands twice.
+    /// `#{a: b}`; no key occurs twice.
     Object(Vec<Field>),
     /// `x`
     Variable {
@@ -124,30 +127,32 @@ pub enum Expr {
         operand: Box<Expr>,
         position: Position,
     },
-    /// `a + b - c`: operators of one level, which go from left to right.
+    /// `a + b - c`: operators of one precedence, from left to right.
     Run {
         first: Box<Expr>,
         rest: Vec<Term>,
     },
-    /// `a in b`: the operands are `b` and `a`, which are evaluated in this order; `callee` is `contains`, and no function of the script.
+    /// `a in b`: the operands are `b` and `a`, evaluated in this order; `callee` is `contains`, and
+    /// not a function of the script.
     Contains {
         callee: usize,
         operands: Vec<Expr>,
         position: Position,
     },
-    /// `a[i].k.f(x)`: the indices and arguments are evaluated from left to right, and the root after them.
+    /// `a[i].k.f(x)`: the indices and arguments are evaluated from left to right, and then the
+    /// root.
     Chain {
         root: Box<Expr>,
         steps: Vec<Step>,
     },
-    /// `f(x)`: `callee` numbers one of the program's.
+    /// `f(x)`: `callee` is an index into the program's callees.
     Call {
         callee: usize,
         arguments: Vec<Expr>,
         position: Position,
     },
-    /// `|x| a`: makes a function value of one of the program's functions, and shares these variables with it. Where it names one that
-    /// isn't there, it isn't made.
+    /// `|x| a`: makes a function value of one of the program's functions, and shares these
+    /// variables with it. If it uses an unknown name, that is a fault and it isn't made.
     Closure {
         function: usize,
         captured: Vec<Slot>,
@@ -156,7 +161,7 @@ pub enum Expr {
     },
     /// `{ a; b }`
     Block(Block),
-    /// `if a { } else if b { } else { }`: the arms in their order.
+    /// `if a { } else if b { } else { }`: the arms in order.
     If {
         arms: Vec<Arm>,
         otherwise: Option<Block>,
@@ -165,11 +170,12 @@ pub enum Expr {
     Switch(Box<Switch>),
     /// `while a { }`
     While(Box<Arm>),
-    /// `do { } while a`, or `do { } until a`: the body runs first, and again as long as the condition is this.
+    /// `do { } while a`, or `do { } until a`: the body runs first, and again as long as the
+    /// condition has this value.
     Do(Box<Arm>, bool),
     /// `loop { }`
     Loop(Block),
-    /// `for x in a { }`, or `for (x, i) in a { }`. The position is that of what is gone through.
+    /// `for x in a { }`, or `for (x, i) in a { }`. The position is that of `a`.
     For {
         item: usize,
         index: Option<usize>,
@@ -188,7 +194,8 @@ pub enum Expr {
         value: Option<Box<Expr>>,
         name: ImmutableString,
     },
-    /// `a[i].k = b`, or `a[i].k += b`: each step is an index or a property, and none optional. The position is that of the operator.
+    /// `a[i].k = b`, or `a[i].k += b`: each step is an index or a property, and none is optional.
+    /// The position is that of the operator.
     Assign {
         variable: Variable,
         variable_position: Position,
@@ -203,14 +210,15 @@ pub enum Expr {
     Continue,
     /// `return`, or `return a`
     Return(Option<Box<Expr>>),
-    /// `throw a`: the position is that of the word.
+    /// `throw a`: the position is that of the keyword.
     Throw(Option<Box<Expr>>, Position),
-    /// `try { } catch (e) { }`: what was caught is the variable of the slot while the handler runs.
+    /// `try { } catch (e) { }`: the variable of the slot has what was caught while the handler
+    /// runs.
     Try {
         body: Block,
         error: Option<usize>,
         handler: Block,
-        /// The name of what was caught.
+        /// The name for what was caught.
         error_name: Option<ImmutableString>,
     },
 }
@@ -220,7 +228,7 @@ pub enum Expr {
 #[derive(Drop)]
 pub struct Term {
     pub operator: Operator,
-    /// The place of the operator.
+    /// The position of the operator.
     pub position: Position,
     pub operand: Expr,
 }
@@ -239,11 +247,12 @@ pub enum Step {
         key: ImmutableString,
         position: Position,
     },
-    /// `?` before one of these: where what was come to is `()`, the chain ends with it.
+    /// `?` before one of these: if the value so far is `()`, the chain ends with it.
     Optional {
         position: Position,
     },
-    /// `.f(x)`: `callee` numbers one of the program's, which counts the receiver as its first argument.
+    /// `.f(x)`: `callee` is an index into the program's callees; its number of arguments includes
+    /// the receiver.
     Method {
         callee: usize,
         arguments: Vec<Expr>,
@@ -259,28 +268,29 @@ pub struct Field {
     pub value: Expr,
 }
 
-/// A condition and what is run where it holds.
+/// A condition and what runs if it holds.
 #[cycle(tree)]
 #[derive(Drop)]
 pub struct Arm {
     pub condition: Expr,
-    /// The place of the condition.
+    /// The position of the condition.
     pub position: Position,
     pub body: Block,
 }
 
-/// A value and the cases of which one is done: the first with a literal that is the value; where no case has such a literal, the first with
-/// a range that holds it; and whose guard is true.
+/// A value and the cases of which one runs: the first with a literal equal to the value; if no case
+/// has such a literal, the first with a range that contains it; in both, only cases whose guard is
+/// true.
 #[cycle(tree)]
 #[derive(Drop)]
 pub struct Switch {
     pub value: Expr,
-    /// The place of the value.
+    /// The position of the value.
     pub position: Position,
     pub cases: Vec<Case>,
-    /// What is done in no case.
+    /// What runs if no case does.
     pub otherwise: Option<Block>,
-    /// The callee `type_of`.
+    /// The index of the callee `type_of`.
     pub type_of: usize,
 }
 
@@ -290,18 +300,18 @@ pub struct Switch {
 pub struct Case {
     pub patterns: Vec<Pattern>,
     pub guard: Option<Expr>,
-    /// The place of the guard.
+    /// The position of the guard.
     pub guard_position: Position,
     pub body: Block,
 }
 
-/// What a case is for.
+/// What a case matches.
 #[cycle(tree)]
 #[derive(Drop)]
 pub enum Pattern {
     /// This value, of this type.
     Literal(Expr),
-    /// The ints from the first on, to before the last, or with it.
+    /// The ints from the first up to the last, which is excluded or included.
     Range {
         first: INT,
         last: INT,
@@ -309,20 +319,20 @@ pub enum Pattern {
     },
 }
 
-/// An operator between two operands.
+/// A binary operator.
 #[derive(Clone, Copy, Debug, PartialEq, Eq)]
 pub enum Operator {
-    /// `&&`: the right operand is evaluated only where the left one is true.
+    /// `&&`: the right operand is evaluated only if the left one is true.
     And,
-    /// `||`: the right operand is evaluated only where the left one is false.
+    /// `||`: the right operand is evaluated only if the left one is false.
     Or,
-    /// `??`: the right operand is evaluated only where the left one is `()`.
+    /// `??`: the right operand is evaluated only if the left one is `()`.
     Coalesce,
-    /// One of values.
+    /// An operator on values.
     Plain(Token),
 }
 
-/// An operator before its operand.
+/// A unary operator.
 #[derive(Clone, Copy, Debug, PartialEq, Eq)]
 pub enum UnaryOperator {
     /// `!`
@@ -333,7 +343,7 @@ pub enum UnaryOperator {
     Plus,
 }
 
-/// An operator that assigns, as `+=`, and the one that it stands for, as `+`.
+/// An assigning operator, such as `+=`, and the operator that it applies, such as `+`.
 #[derive(Clone, Copy, Debug, PartialEq, Eq)]
 pub struct Assignment {
     pub whole: Token,

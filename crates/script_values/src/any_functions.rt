@@ -18,7 +18,7 @@ pub enum AnyFunction {
     ToDebug,
 }
 
-/// The function of this name for so many arguments behind the value.
+/// Finds the function with this name and number of arguments after the value.
 pub(crate) fn any_function(name: &str, count: usize) -> Option<AnyFunction> {
     match (count, name) {
         (0, "type_of") => Some(AnyFunction::TypeOf),
@@ -28,7 +28,7 @@ pub(crate) fn any_function(name: &str, count: usize) -> Option<AnyFunction> {
     }
 }
 
-/// Answers a question about a value.
+/// Calls a function that reads a value of any type.
 pub(crate) fn ask_any(
     function: AnyFunction,
     means: &Means,
@@ -54,7 +54,7 @@ pub(crate) fn ask_any(
     }
 }
 
-/// Names the type that is held, as scripts see it: those of ranges are short.
+/// Returns the name of the held type, as scripts see it: those of ranges are short.
 /// Cost: that of `Dynamic::held`; no memory.
 /// rhai: `type_of`.
 pub fn type_name_of(value: &Dynamic, store: &Store) -> &'static str {

@@ -1,9 +1,9 @@
-//! The arguments of a function behind its receiver.
+//! The arguments of a function, after its receiver.
 
 use crate::faults::{FaultKind, mismatch};
 use rhai_value::{Array, Blob, Dynamic, INT, Map, Part, Store};
 
-/// Up to three arguments; those that aren't there are unit.
+/// Up to three arguments; missing ones are unit.
 #[derive(Drop)]
 pub struct Arguments {
     /// The first one.
@@ -15,7 +15,7 @@ pub struct Arguments {
 }
 
 impl Arguments {
-    /// Answers no arguments.
+    /// Makes an empty argument list.
     pub fn none() -> Arguments {
         Arguments {
             first: Dynamic::UNIT,
@@ -25,7 +25,7 @@ impl Arguments {
     }
 }
 
-/// The int that an argument is.
+/// Returns the int of an argument.
 pub(crate) fn int(argument: &Dynamic, store: &Store) -> Result<INT, FaultKind> {
     match argument.as_int(store) {
         Ok(number) => Ok(number),
@@ -33,7 +33,7 @@ pub(crate) fn int(argument: &Dynamic, store: &Store) -> Result<INT, FaultKind> {
     }
 }
 
-/// The text that an argument is.
+/// Returns the text of an argument.
 pub(crate) fn text<'s>(argument: &'s Dynamic, store: &'s Store) -> Result<&'s str, FaultKind> {
     match argument.as_immutable_string_ref(store) {
         Ok(text) => Ok(text.as_str()),
@@ -41,7 +41,7 @@ pub(crate) fn text<'s>(argument: &'s Dynamic, store: &'s Store) -> Result<&'s st
     }
 }
 
-/// The text that an argument is, or that of a character, which is written into a buffer.
+/// Returns the text of an argument, or that of a character, which is written into a buffer.
 pub(crate) fn text_or_character<'s>(
     argument: &'s Dynamic,
     store: &'s Store,
@@ -53,7 +53,7 @@ pub(crate) fn text_or_character<'s>(
     }
 }
 
-/// The boolean that an argument is.
+/// Returns the boolean of an argument.
 pub(crate) fn boolean(argument: &Dynamic, store: &Store) -> Result<bool, FaultKind> {
     match argument.as_bool(store) {
         Ok(answer) => Ok(answer),
@@ -61,7 +61,7 @@ pub(crate) fn boolean(argument: &Dynamic, store: &Store) -> Result<bool, FaultKi
     }
 }
 
-/// The items of an argument, which is spent.
+/// Takes the array out of an argument.
 pub(crate) fn array(argument: &mut Dynamic, store: &Store) -> Result<Array, FaultKind> {
     match Array::take_out(argument.take()) {
         Ok(items) => Ok(items),
@@ -69,7 +69,7 @@ pub(crate) fn array(argument: &mut Dynamic, store: &Store) -> Result<Array, Faul
     }
 }
 
-/// The map that an argument is, which is spent.
+/// Takes the map out of an argument.
 pub(crate) fn map(argument: &mut Dynamic, store: &Store) -> Result<Map, FaultKind> {
     match Map::take_out(argument.take()) {
         Ok(map) => Ok(map),
@@ -77,7 +77,7 @@ pub(crate) fn map(argument: &mut Dynamic, store: &Store) -> Result<Map, FaultKin
     }
 }
 
-/// The bytes of an argument.
+/// Returns the bytes of an argument.
 pub(crate) fn blob<'a>(argument: &'a Dynamic, store: &Store) -> Result<&'a [u8], FaultKind> {
     match Blob::own(argument) {
         Some(bytes) => Ok(bytes.as_slice()),
@@ -85,12 +85,12 @@ pub(crate) fn blob<'a>(argument: &'a Dynamic, store: &Store) -> Result<&'a [u8],
     }
 }
 
-/// A number of parts as a value.
+/// Makes a value of a number of parts.
 pub(crate) fn count(number: usize) -> Dynamic {
     Dynamic::from_int(INT::try_from(number).unwrap_or(INT::MAX))
 }
 
-/// The place of a part as a value; -1 where there is none.
+/// Makes a value of an index; -1 if there is none.
 pub(crate) fn place_or_none(place: Option<usize>) -> Dynamic {
     match place {
         Some(place) => count(place),
@@ -98,12 +98,12 @@ pub(crate) fn place_or_none(place: Option<usize>) -> Dynamic {
     }
 }
 
-/// A value, or unit where there is none.
+/// Returns a value, or unit if there is none.
 pub(crate) fn or_unit(value: Option<Dynamic>) -> Dynamic {
     value.unwrap_or(Dynamic::UNIT)
 }
 
-/// The fault of an argument that is no range.
+/// Makes the fault for an argument that isn't a range.
 pub(crate) fn mismatched_range(argument: &Dynamic, store: &Store) -> FaultKind {
     mismatch("range", argument.type_name(store))
 }

@@ -15,13 +15,13 @@ use rhai_value::{Array, Dynamic, INT, Store};
 /// A function on an array.
 #[derive(Clone, Copy)]
 pub enum ArrayFunction {
-    /// It leaves the array as it is.
+    /// It doesn't change the array.
     Ask(ArrayQuestion),
     /// It may change the array.
     Change(ArrayChange),
 }
 
-/// A function that leaves an array as it is.
+/// A function that doesn't change an array.
 #[derive(Clone, Copy)]
 pub enum ArrayQuestion {
     /// `len()`
@@ -89,7 +89,7 @@ pub enum ArrayChange {
     RetainSome,
 }
 
-/// The function of this name for so many arguments behind the array.
+/// Finds the function with this name and number of arguments after the array.
 pub(crate) fn array_function(name: &str, count: usize) -> Option<ArrayFunction> {
     if let Some(question) = question_of(name, count) {
         return Some(ArrayFunction::Ask(question));
@@ -138,7 +138,7 @@ fn change_of(name: &str, count: usize) -> Option<ArrayChange> {
     }
 }
 
-/// Calls a function on an array that leaves it as it is, if it is one.
+/// Calls a function that doesn't change an array, if it is one.
 pub(crate) fn ask_array(
     function: Option<ArrayFunction>,
     means: &Means,
@@ -186,7 +186,7 @@ fn array_answer(
     }
 }
 
-/// Where the first item stands that is the same as a value.
+/// Returns the index of the first item that is equal to a value.
 fn place_of(
     means: &Means,
     store: &Store,
@@ -198,7 +198,7 @@ fn place_of(
     Ok(arrays::index_of(means.alloc, items, store, wanted)?)
 }
 
-/// Where the first item stands from an index on that is the same as a value.
+/// Returns the index of the first item, from an index on, that is equal to a value.
 fn place_from(
     means: &Means,
     store: &Store,
@@ -221,7 +221,7 @@ fn item_at(means: &Means, store: &Store, items: &Array, index: INT) -> Result<Dy
     }
 }
 
-/// The items from an index on, or those of a range.
+/// Copies the items from an index on, or those of a range.
 fn extract_from(
     means: &Means,
     store: &Store,
@@ -242,7 +242,7 @@ fn extracted(means: &Means, items: &Array, start: INT, length: INT) -> Result<Dy
     Ok(Dynamic::from_array(part))
 }
 
-/// Changes an array, and answers what the change gives. Where memory is refused, the arguments stay.
+/// Changes an array, and returns the result. If an allocation fails, the arguments are unchanged.
 pub(crate) fn change_array(
     change: ArrayChange,
     means: &Means,
@@ -291,7 +291,7 @@ pub(crate) fn change_array(
     Ok(Dynamic::UNIT)
 }
 
-/// Puts the items of an argument behind the others.
+/// Appends the items of an argument.
 fn append(
     means: &Means,
     store: &Store,
@@ -308,7 +308,7 @@ fn append(
     }
 }
 
-/// Puts the items of the last argument in the place of those from an index on, or of those of a range.
+/// Replaces the items from an index on, or those of a range, by the items of the last argument.
 fn splice(
     means: &Means,
     store: &Store,
@@ -335,7 +335,7 @@ fn pad(means: &Means, items: &mut Array, count: INT, item: &Dynamic) -> Result<(
     Ok(arrays::pad(means.alloc, items, &means.limits, count, item)?)
 }
 
-/// Whether so many copies of a value behind others are let through: what stands in them counts, too.
+/// Whether appending this many copies of a value is allowed: the values inside it count, too.
 fn may_repeat(means: &Means, length: usize, count: INT, item: &Dynamic) -> Result<(), FaultKind> {
     let more = u64::try_from(count)
         .unwrap_or(0)

@@ -1,4 +1,4 @@
-//! Parts that are taken out of arrays.
+//! Parts that are removed from arrays.
 
 use crate::argument_values::{Arguments, int, mismatched_range};
 use crate::array_functions::ArrayChange;
@@ -9,7 +9,7 @@ use crate::walks::{Span, span_at};
 use rhai_packs::arrays;
 use rhai_value::{Array, Dynamic, INT, Store};
 
-/// The items that a range means, or so many from an index on.
+/// Returns the items of a range, or a number of them from an index on.
 fn part_of(
     change: ArrayChange,
     count: usize,
@@ -30,7 +30,7 @@ fn part_of(
     }
 }
 
-/// Takes the items of a part out of an array, or all others, and gives them.
+/// Removes the items of a part from an array, or all others, and returns them.
 pub(crate) fn part_out(
     change: ArrayChange,
     means: &Means,

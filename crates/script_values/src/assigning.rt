@@ -1,4 +1,4 @@
-//! Assignments by an operator.
+//! Assigning operators.
 ghost use Rattle.std.specs.Prelude.{◌≡◌, OnOk, IfSome};
 ghost use Rattle.rhai_ops.specs.AssignTable.{assign_row};
 ghost use Rattle.rhai_ops.specs.Effects.{first_left, effect};
@@ -14,18 +14,19 @@ use rhai_packs::maps;
 use rhai_text::Token;
 use rhai_value::{Dynamic, Map, Part, Store};
 
-/// An operator that assigns, and the one that it stands for: `+=` and `+`.
+/// An assigning operator, and the operator that it applies: `+=` and `+`.
 #[derive(Clone, Copy)]
 pub struct Assignment {
-    /// The operator that assigns.
+    /// The assigning operator.
     pub whole: Token,
-    /// The operator whose answer it assigns.
+    /// The operator whose result it assigns.
     pub plain: Token,
 }
 
-/// Assigns what an operator makes of what is held at a place and a value. The built-in assignments come first; where they
-/// have no row, the place gets what the operator answers.
-/// Errors: those of the operator; place and store are then as they were, where the place is no holder.
+/// Assigns the result of an operator, for the value held at a place and another value, to that
+/// place. The built-in assignments come first; if they have no row, the place gets the operator's
+/// result.
+/// Errors: those of the operator; place and store are then unchanged, if the place is no holder.
 /// Cost: that of the row, or of `binary`.
 /// rhai: an assignment by an operator.
 #[inline(always)]
@@ -48,7 +49,7 @@ pub fn assign(
     }
 }
 
-/// The same where the built-in assignments have no row for the place itself.
+/// As `assign`, if the built-in assignments have no row for the place itself.
 #[inline(never)]
 fn assign_answer(
     op: Assignment,
@@ -67,7 +68,7 @@ fn assign_answer(
     }
 }
 
-/// The same at a value that is no holder.
+/// As `assign`, for a value that is no holder.
 fn assign_held(
     op: Assignment,
     means: &Means,
@@ -91,7 +92,7 @@ fn assign_held(
     Ok(())
 }
 
-/// Sets the entries of a map in the one that is held, and answers whether both are maps.
+/// Copies the entries of a map into the held one, and returns whether both are maps.
 fn mixed_in(
     means: &Means,
     store: &Store,

@@ -1,4 +1,4 @@
-//! Operators between two values.
+//! Binary operators.
 ghost use Rattle.std.specs.Prelude.{◌≡◌, IfOk, IfSome};
 ghost use Rattle.rhai_ops.specs.Outcome.{answers};
 ghost use Rattle.rhai_ops.specs.Results.{outcome};
@@ -15,11 +15,12 @@ use rhai_show::{display_text, same_value};
 use rhai_text::{ImmutableString, SizeKind, Token};
 use rhai_value::{Array, Dynamic, Map, Store};
 
-/// Answers what an operator makes of two values, which are only read. The built-in operators come first. Where they have no
-/// row, a text takes the printed form of any value behind or before it, arrays and maps are joined, and values are compared
-/// without tags, modes and holders.
-/// Errors: those of the built-in operators, `NoOperator` where nothing is meant, and a size past its limit.
-/// Cost: that of the row; of the others the length of both operands, with all that they hold.
+/// Applies an operator to two values, which are only read. The built-in operators come first. If
+/// they have no row, `+` appends to a text the printed form of any value, or prepends it; arrays
+/// and maps are joined; and values are compared without tags, modes and holders.
+/// Errors: those of the built-in operators, `NoOperator` if the operator has no meaning here, and a
+/// size past its limit.
+/// Cost: that of the row; of the others the length of both operands, with everything in them.
 /// rhai: a binary operator, built in or of the packages.
 #[inline(always)]
 pub fn binary(
@@ -44,7 +45,8 @@ pub fn binary(
     }
 }
 
-/// The same of what two values hold, where the built-in operators have no row for the values themselves.
+/// As `binary`, for the held values, if the built-in operators have no row for the values
+/// themselves.
 #[inline(never)]
 fn held_binary(
     op: Token,
@@ -75,14 +77,15 @@ fn held_binary(
     Err(FaultKind::NoOperator(op, x.type_name(store), y.type_name(store)))
 }
 
-/// Whether two values are equal without tags, modes and holders; what isn't anything without them equals nothing.
+/// Whether two values are equal without tags, modes and holders; a value that has no such form
+/// equals nothing.
 fn is_same(means: &Means, store: &Store, x: &Dynamic, y: &Dynamic) -> Result<bool, FaultKind> {
     check_ways(means, store, x)?;
     check_ways(means, store, y)?;
     Ok(same_value(means.alloc, x, y, store)?.unwrap_or(false))
 }
 
-/// A value behind another, where one of them is a text or both are arrays or both are maps.
+/// Joins two values, if one of them is a text or both are arrays or both are maps.
 fn joined(
     means: &Means,
     store: &Store,

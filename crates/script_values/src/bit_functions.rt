@@ -1,4 +1,4 @@
-//! The bits of ints, of which there are 64. A bit below 0 counts from the end.
+//! The 64 bits of ints. A negative bit number counts from the end.
 
 use crate::argument_values::mismatched_range;
 use crate::bounds::{bounds_of, field_of};
@@ -9,16 +9,16 @@ use std::alloc::{AllocError, Global};
 /// How many bits an int has.
 const INT_BITS: u32 = 64;
 
-/// Some bits of an int.
+/// Consecutive bits of an int.
 #[derive(Clone, Copy)]
 struct Field {
     /// The number of the lowest one.
     bit: u32,
-    /// A one for each, from the lowest bit of all on.
+    /// A one for each of them, shifted to bit 0.
     mask: u64,
 }
 
-/// The number of a bit.
+/// Returns the number of a bit.
 /// Errors: there is no such bit.
 fn place_of(bit: INT) -> Result<u32, FaultKind> {
     let distance = u32::try_from(bit.unsigned_abs()).unwrap_or(u32::MAX);
@@ -33,7 +33,7 @@ fn place_of(bit: INT) -> Result<u32, FaultKind> {
     }
 }
 
-/// So many bits from one on, as many as there are; none where none are wanted.
+/// Returns at most this many bits from one on, as far as there are any; none if none are requested.
 fn field_at(bit: INT, count: INT) -> Result<Option<Field>, FaultKind> {
     if count < 1 {
         return Ok(None);
@@ -47,13 +47,13 @@ fn field_at(bit: INT, count: INT) -> Result<Option<Field>, FaultKind> {
     }))
 }
 
-/// Tells whether a bit is set.
+/// Returns whether a bit is set.
 pub(crate) fn is_bit_set(number: INT, bit: INT) -> Result<bool, FaultKind> {
     let place = place_of(bit)?;
     Ok(number.cast_unsigned().wrapping_shr(place) & 1 == 1)
 }
 
-/// All bits as booleans, the lowest first.
+/// Returns all bits as booleans, the lowest first.
 pub(crate) fn bits_of_all(alloc: Global, number: INT) -> Result<Array, AllocError> {
     let mut bits = Vec::new(alloc);
     for bit in 0..INT_BITS {
@@ -63,7 +63,7 @@ pub(crate) fn bits_of_all(alloc: Global, number: INT) -> Result<Array, AllocErro
     Ok(bits)
 }
 
-/// The int of so many bits from one on.
+/// Returns the int of this many bits from one on.
 pub(crate) fn bits_in(number: INT, bit: INT, count: INT) -> Result<INT, FaultKind> {
     match field_at(bit, count)? {
         Some(field) => {
@@ -74,7 +74,7 @@ pub(crate) fn bits_in(number: INT, bit: INT, count: INT) -> Result<INT, FaultKin
     }
 }
 
-/// The first bit of a range, and how many bits it takes.
+/// Returns the first bit of a range, and how many bits it has.
 fn span_of(range: &Dynamic, store: &Store) -> Result<(INT, INT), FaultKind> {
     match bounds_of(range, store) {
         Some(bounds) => Ok(field_of(bounds)),
@@ -82,13 +82,13 @@ fn span_of(range: &Dynamic, store: &Store) -> Result<(INT, INT), FaultKind> {
     }
 }
 
-/// The int of the bits of a range.
+/// Returns the int of the bits of a range.
 pub(crate) fn bits_from(number: INT, range: &Dynamic, store: &Store) -> Result<INT, FaultKind> {
     let (bit, count) = span_of(range, store)?;
     bits_in(number, bit, count)
 }
 
-/// The int with a bit set, or not.
+/// Sets a bit of an int to this value.
 pub(crate) fn with_bit(number: INT, bit: INT, is_set: bool) -> Result<INT, FaultKind> {
     let mask = 1u64.wrapping_shl(place_of(bit)?);
     let bits = if is_set {
@@ -99,7 +99,7 @@ pub(crate) fn with_bit(number: INT, bit: INT, is_set: bool) -> Result<INT, Fault
     Ok(bits.cast_signed())
 }
 
-/// The int with the low bits of another in the place of so many from one on.
+/// Replaces this many bits, from one on, by the low bits of another int.
 pub(crate) fn bits_replaced(
     number: INT,
     bit: INT,
@@ -114,7 +114,7 @@ pub(crate) fn bits_replaced(
     Ok((kept | put).cast_signed())
 }
 
-/// The int with the low bits of another in the place of those of a range.
+/// Replaces the bits of a range by the low bits of another int.
 pub(crate) fn with_bits(
     number: INT,
     range: &Dynamic,

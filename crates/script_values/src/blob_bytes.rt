@@ -1,4 +1,4 @@
-//! Ints and texts in the bytes of blobs. Nothing is done where no byte is meant.
+//! Ints and texts in the bytes of blobs. If the part is empty, nothing is done.
 
 use crate::argument_values::{Arguments, int, text};
 use crate::bounds::{bounds_of, piece_of};
@@ -18,14 +18,14 @@ pub enum ByteOrder {
     Big,
 }
 
-/// The bytes that arguments mean, and the argument behind them.
+/// The bytes that the arguments select, and the argument after them.
 #[derive(Drop)]
 struct Part<'a> {
     span: Span,
     rest: &'a Dynamic,
 }
 
-/// The bytes of a range, or so many from an index on.
+/// Returns the bytes of a range, or a number of them from an index on.
 fn part_of<'a>(
     count: usize,
     arguments: &'a Arguments,
@@ -50,7 +50,7 @@ fn part_of<'a>(
     }
 }
 
-/// How far the byte of an int of this number is shifted.
+/// Returns the shift of the byte with this number in an int.
 fn shift_of(number: usize, order: ByteOrder) -> u32 {
     let number = u32::try_from(number).unwrap_or(0).min(7);
     match order {
@@ -59,7 +59,7 @@ fn shift_of(number: usize, order: ByteOrder) -> u32 {
     }
 }
 
-/// Reads an int from the bytes that the arguments mean: of fewer than eight the others are 0.
+/// Reads an int from the bytes that the arguments select: of fewer than eight the others are 0.
 pub(crate) fn int_in(
     bytes: &Blob,
     arguments: &Arguments,
@@ -92,7 +92,8 @@ pub(crate) fn put_int_in(
     Ok(())
 }
 
-/// Writes the bytes of a text where the arguments say: as many as there is room for, and of the ASCII characters alone, where this says so.
+/// Writes the bytes of a text where the arguments say: as many as there is room for, and, with the
+/// flag, only ASCII characters.
 pub(crate) fn put_text_in(
     bytes: &mut Blob,
     arguments: &Arguments,
@@ -116,14 +117,14 @@ pub(crate) fn put_text_in(
     Ok(())
 }
 
-/// Writes a byte, if there is one at this place.
+/// Writes a byte, if the index is in range.
 fn put_byte(bytes: &mut Blob, place: usize, byte: u64) {
     if let Some(there) = bytes.get_mut(place) {
         *there = u8::try_from(byte).unwrap_or(0);
     }
 }
 
-/// How many bytes a call of these functions goes through.
+/// Returns how many bytes a call of these functions visits.
 pub(crate) fn bytes_meant(count: usize, arguments: &Arguments, store: &Store) -> usize {
     match part_of(count, arguments, store) {
         Ok(part) => part.span.length,

@@ -12,13 +12,13 @@ use rhai_value::{Blob, Dynamic, INT, Store};
 /// A function on a blob.
 #[derive(Clone, Copy)]
 pub enum BlobFunction {
-    /// It leaves the blob as it is.
+    /// It doesn't change the blob.
     Ask(BlobQuestion),
     /// It may change the blob.
     Change(BlobChange),
 }
 
-/// A function that leaves a blob as it is.
+/// A function that doesn't change a blob.
 #[derive(Clone, Copy)]
 pub enum BlobQuestion {
     /// `len()`
@@ -37,7 +37,7 @@ pub enum BlobQuestion {
     ToArray,
     /// `as_string()`
     AsString,
-    /// `parse_le_int(range)`, `parse_le_int(index, count)`, and by `be` the same
+    /// `parse_le_int(range)`, `parse_le_int(index, count)`, and the same with `be`
     ParseInt(ByteOrder),
 }
 
@@ -58,7 +58,7 @@ pub enum BlobChange {
     Reverse,
     /// `clear()`
     Clear,
-    /// `write_le(range, int)`, `write_le(index, count, int)`, and by `be` the same
+    /// `write_le(range, int)`, `write_le(index, count, int)`, and the same with `be`
     WriteInt(ByteOrder),
     /// `write_utf8(range, text)`, `write_utf8(index, count, text)`
     WriteText,
@@ -66,7 +66,7 @@ pub enum BlobChange {
     WriteAscii,
 }
 
-/// The function of this name for so many arguments behind the blob.
+/// Finds the function with this name and number of arguments after the blob.
 pub(crate) fn blob_function(name: &str, count: usize) -> Option<BlobFunction> {
     if let Some(question) = question_of(name, count) {
         return Some(BlobFunction::Ask(question));
@@ -109,7 +109,7 @@ fn change_of(name: &str, count: usize) -> Option<BlobChange> {
     }
 }
 
-/// Calls a function on a blob that leaves it as it is, if it is one.
+/// Calls a function that doesn't change a blob, if it is one.
 pub(crate) fn ask_blob(
     function: Option<BlobFunction>,
     means: &Means,
@@ -167,7 +167,7 @@ fn blob_answer(
     }
 }
 
-/// Whether a byte stands in a blob.
+/// Whether a blob contains a byte.
 fn has_byte(bytes: &Blob, wanted: INT) -> bool {
     for byte in bytes.iter() {
         if INT::from(*byte) == wanted {
@@ -177,7 +177,7 @@ fn has_byte(bytes: &Blob, wanted: INT) -> bool {
     false
 }
 
-/// The text of a blob, in which the sign for unknown characters stands for bytes that are no UTF-8.
+/// Returns the text of a blob, with the replacement character for bytes that are not UTF-8.
 fn as_string(means: &Means, bytes: &Blob) -> Result<Dynamic, FaultKind> {
     let text = String::from_utf8_lossy(means.alloc, bytes.as_slice())?;
     check_size(means.limits.text, text.len(), SizeKind::Text)?;
@@ -189,7 +189,7 @@ fn extracted(means: &Means, bytes: &Blob, start: INT, length: INT) -> Result<Dyn
     Ok(Dynamic::from_blob(part))
 }
 
-/// A byte as a value, or unit where there is none.
+/// Returns a byte as a value, or unit if there is none.
 fn byte_or_unit(byte: Option<INT>) -> Dynamic {
     match byte {
         Some(byte) => Dynamic::from_int(byte),
@@ -197,7 +197,7 @@ fn byte_or_unit(byte: Option<INT>) -> Dynamic {
     }
 }
 
-/// Changes a blob, and answers what the change gives.
+/// Changes a blob, and returns the result.
 pub(crate) fn change_blob(
     change: BlobChange,
     means: &Means,

@@ -14,7 +14,7 @@ pub(crate) struct Bounds {
 }
 
 impl Bounds {
-    /// Whether the range goes as far as a number, which isn't below its start.
+    /// Whether the range goes as far as a number that isn't below its start.
     pub(crate) fn reaches(&self, number: INT) -> bool {
         if self.is_inclusive {
             number <= self.end
@@ -24,7 +24,7 @@ impl Bounds {
     }
 }
 
-/// The ends of a range, if the value is one.
+/// Returns the ends of a range, if the value is one.
 pub(crate) fn bounds_of(value: &Dynamic, store: &Store) -> Option<Bounds> {
     if let Ok(range) = value.as_part::<ExclusiveRange>(store) {
         return Some(Bounds {
@@ -43,8 +43,9 @@ pub(crate) fn bounds_of(value: &Dynamic, store: &Store) -> Option<Bounds> {
     None
 }
 
-/// The place of a range in a list of so many items. Negative ends count from the end of the list; the end is cut to the list.
-/// Errors: a start before the front or past the end.
+/// Returns the part of a list that a range selects, for a list with this many items. Negative ends
+/// count from the end of the list; the end is cut to the list.
+/// Errors: a start before the beginning or past the end.
 pub(crate) fn slice_of(bounds: Bounds, count: usize) -> Result<Slice, FaultKind> {
     let distance = bounds.start.unsigned_abs() as usize;
     if distance > count {
@@ -62,7 +63,7 @@ pub(crate) fn slice_of(bounds: Bounds, count: usize) -> Result<Slice, FaultKind>
     })
 }
 
-/// The place behind the last item of a range.
+/// Returns the index after the last item of a range.
 fn end_of(bounds: Bounds, count: usize) -> usize {
     let distance = bounds.end.unsigned_abs() as usize;
     let more = if bounds.is_inclusive { 1 } else { 0 };
@@ -74,8 +75,9 @@ fn end_of(bounds: Bounds, count: usize) -> usize {
     end.min(count)
 }
 
-/// Where the part of a text, a blob or an int begins that a range means, and how much it takes: an end below 0 means the front, and a
-/// range that goes back takes nothing; where its end is part of it, one.
+/// Returns where the part of a text, a blob or an int begins that a range selects, and its length:
+/// negative ends count as 0; a range with its end below its start has length 0, or 1 if the end is
+/// included.
 /// rhai: the ranges of `sub_string`, `crop`, `write_le` and their like.
 pub(crate) fn piece_of(bounds: Bounds) -> (INT, INT) {
     let start = bounds.start.max(0);
@@ -88,7 +90,8 @@ pub(crate) fn piece_of(bounds: Bounds) -> (INT, INT) {
     }
 }
 
-/// The bits that a range means, as `piece_of` says it; a range that goes back takes none.
+/// Returns the bits that a range selects, as by `piece_of`; a range with its end below its start
+/// selects none.
 /// rhai: the ranges of `get_bits` and `set_bits`.
 pub(crate) fn field_of(bounds: Bounds) -> (INT, INT) {
     let start = bounds.start.max(0);
@@ -100,7 +103,8 @@ pub(crate) fn field_of(bounds: Bounds) -> (INT, INT) {
     (start, end.max(start).saturating_sub(start))
 }
 
-/// How many items a range has from its start on, and where it starts, in a list of so many.
+/// Returns how many items a range has from its start on, and where it starts, in a list of this
+/// length.
 pub(crate) fn span_of(bounds: Bounds, count: usize) -> Result<(INT, INT), FaultKind> {
     let slice = slice_of(bounds, count)?;
     let length = slice.end.saturating_sub(slice.start);
@@ -110,15 +114,15 @@ pub(crate) fn span_of(bounds: Bounds, count: usize) -> Result<(INT, INT), FaultK
     ))
 }
 
-/// The bits of an int: a mask, and the number of its lowest bit.
+/// Bits of an int: a mask, and the number of the lowest bit.
 #[derive(Clone, Copy)]
 pub(crate) struct Bits {
     pub(crate) mask: INT,
     pub(crate) shift: u8,
 }
 
-/// The bits of a range.
-/// Errors: an end that is no bit of 0 to 63; the end that is left out may be 64.
+/// Returns the bits of a range.
+/// Errors: an end outside of 0 to 63; an excluded end may be 64.
 pub(crate) fn bits_of(bounds: Bounds) -> Result<Bits, FaultKind> {
     let most = if bounds.is_inclusive { 63 } else { 64 };
     if bounds.start < 0 || bounds.start > 63 {
@@ -136,7 +140,7 @@ pub(crate) fn bits_of(bounds: Bounds) -> Result<Bits, FaultKind> {
     Ok(mask_of(shift, end))
 }
 
-/// The bits from one to before another.
+/// Makes a mask of the bits from one up to another, which is excluded.
 fn mask_of(start: u64, end: u64) -> Bits
     requires start { start < 64 }
     requires end { end ≤ 64 }

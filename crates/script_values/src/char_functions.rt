@@ -8,13 +8,13 @@ use std::alloc::{AllocError, Global};
 /// A function on a character.
 #[derive(Clone, Copy)]
 pub enum CharFunction {
-    /// It leaves the character as it is.
+    /// It doesn't change the character.
     Ask(CharQuestion),
-    /// It may put another character in its place.
+    /// It may replace the character by another.
     Change(CharChange),
 }
 
-/// A function that leaves a character as it is.
+/// A function that doesn't change a character.
 #[derive(Clone, Copy)]
 pub enum CharQuestion {
     /// `to_upper()`
@@ -25,7 +25,7 @@ pub enum CharQuestion {
     ToInt,
 }
 
-/// A function that may put another character in the place of one.
+/// A function that may replace a character by another.
 #[derive(Clone, Copy)]
 pub enum CharChange {
     /// `make_upper()`
@@ -34,7 +34,7 @@ pub enum CharChange {
     MakeLower,
 }
 
-/// The function of this name for so many arguments behind the character.
+/// Finds the function with this name and number of arguments after the character.
 pub(crate) fn char_function(name: &str, count: usize) -> Option<CharFunction> {
     match (count, name) {
         (0, "to_upper") => Some(CharFunction::Ask(CharQuestion::ToUpper)),
@@ -46,7 +46,7 @@ pub(crate) fn char_function(name: &str, count: usize) -> Option<CharFunction> {
     }
 }
 
-/// Calls a function on a character that leaves it as it is, if it is one.
+/// Calls a function that doesn't change a character, if it is one.
 pub(crate) fn ask_char(
     function: Option<CharFunction>,
     means: &Means,
@@ -79,7 +79,7 @@ pub(crate) fn change_char(
     Ok(Dynamic::UNIT)
 }
 
-/// The character in upper case, or itself where that is more than one.
+/// Returns the character in upper case, or the character itself if that is more than one.
 fn upper(alloc: Global, character: char) -> Result<char, AllocError> {
     let mut buffer = [0; 4];
     let text: &str = character.encode_utf8(&mut buffer);
@@ -87,7 +87,7 @@ fn upper(alloc: Global, character: char) -> Result<char, AllocError> {
     Ok(only_one(made.as_str(), character))
 }
 
-/// The character in lower case, or itself where that is more than one.
+/// Returns the character in lower case, or the character itself if that is more than one.
 fn lower(alloc: Global, character: char) -> Result<char, AllocError> {
     let mut buffer = [0; 4];
     let text: &str = character.encode_utf8(&mut buffer);
@@ -95,7 +95,7 @@ fn lower(alloc: Global, character: char) -> Result<char, AllocError> {
     Ok(only_one(made.as_str(), character))
 }
 
-/// The only character of a text, or another one where it has more.
+/// Returns the only character of a text, or another one if it has more.
 fn only_one(made: &str, other: char) -> char {
     let mut characters = made.chars();
     let first = characters.next();

@@ -1,26 +1,27 @@
-//! How much room a value takes, and how many operations it counts to go through it. An operation stands for four values, or for 64 bytes.
+//! The size of a value, and how many operations a walk over it counts. An operation pays for four
+//! values, or for 64 bytes.
 
 use rhai_text::ImmutableString;
 use rhai_value::{Dynamic, Union};
 use std::alloc::{AllocError, Global};
 
-/// So many values are gone through in an operation.
+/// How many values one operation pays for.
 const VALUES: u64 = 4;
 
-/// So many bytes are gone through in an operation.
+/// How many bytes one operation pays for.
 const BYTES: u64 = 64;
 
-/// Counts the operations that it takes to go through so many values.
+/// Returns how many operations a walk over this many values counts.
 pub fn values_cost(count: usize) -> u64 {
     operations_of(count as u64)
 }
 
-/// Counts the operations that it takes to go through so many bytes.
+/// Returns how many operations a walk over this many bytes counts.
 pub fn bytes_cost(count: usize) -> u64 {
     operations_of_bytes(count as u64)
 }
 
-/// The operations of a walk through the characters of a text: where each is a byte they are found at once.
+/// Returns the operations of a walk over the characters of a text: a text of ASCII needs no walk.
 pub(crate) fn characters_cost(text: &ImmutableString) -> u64 {
     let own = bytes_cost(text.len());
     if text.char_count() == text.len() {
@@ -29,28 +30,30 @@ pub(crate) fn characters_cost(text: &ImmutableString) -> u64 {
     own.saturating_add(values_cost(text.len()))
 }
 
-/// The operations of so many values.
+/// Returns the operations for this many values.
 pub(crate) fn operations_of(values: u64) -> u64 {
     values / VALUES
 }
 
-/// The operations of so many bytes.
+/// Returns the operations for this many bytes.
 pub(crate) fn operations_of_bytes(bytes: u64) -> u64 {
     bytes / BYTES
 }
 
-/// The operations of so many entries that are put into maps, of which each is sought and made.
+/// Returns the operations for adding this many entries to maps, each with a search and an
+/// insertion.
 pub(crate) fn entries_cost(count: usize) -> u64 {
     (count as u64).saturating_mul(3)
 }
 
-/// So many values are no more than so many operations.
+/// Returns a bound on the number of values that cost at most this many operations.
 pub(crate) fn values_within(operations: u64) -> u64 {
     operations.saturating_add(1).saturating_mul(VALUES)
 }
 
-/// Counts the values that stand in one, at any depth; a text and a blob count one for each 64 bytes. Cells aren't entered.
-/// Errors: memory for the list of those under way is refused.
+/// Counts the values in a value, at any depth; a text and a blob count one for each 64 bytes. Cells
+/// aren't entered.
+/// Errors: the allocation of the work list fails.
 /// Cost: the number of values.
 pub fn cost_of(alloc: Global, value: &Dynamic) -> Result<u64, AllocError> {
     if !has_parts(value) {
@@ -69,10 +72,11 @@ pub fn cost_of(alloc: Global, value: &Dynamic) -> Result<u64, AllocError> {
     Ok(cost)
 }
 
-/// Counts the operations of a copy of a value, with all that it holds outside of cells. A text counts its bytes: a change of the copy or of
-/// the text itself copies them. Where it is more than `most`, no more is counted than shows that.
-/// Errors: memory for the list of those under way is refused.
-/// Cost: the number of values, as far as they are counted.
+/// Counts the operations of a copy of a value, with everything in it outside cells. A text counts
+/// its bytes, since a change of the copy or of the text itself copies them. Stops counting once the
+/// result is more than `most`.
+/// Errors: the allocation of the work list fails.
+/// Cost: the number of values that are counted.
 pub fn copy_cost(alloc: Global, value: &Dynamic, most: u64) -> Result<u64, AllocError> {
     let own = own_weight(value);
     if !has_parts(value) || operations_of(own) > most {
@@ -83,9 +87,9 @@ pub fn copy_cost(alloc: Global, value: &Dynamic, most: u64) -> Result<u64, Alloc
     Ok(operations_of(weight_of(left, own, most)?))
 }
 
-/// Counts the operations of copies of values, as `copy_cost` does of one.
-/// Errors: memory for the list of those under way is refused.
-/// Cost: the number of values, as far as they are counted.
+/// Counts the operations of copies of values, as `copy_cost` does for one.
+/// Errors: the allocation of the work list fails.
+/// Cost: the number of values that are counted.
 pub(crate) fn copies_cost(alloc: Global, values: &[Dynamic], most: u64) -> Result<u64, AllocError> {
     let own = values.len() as u64;
     if operations_of(own) > most {
@@ -98,7 +102,7 @@ pub(crate) fn copies_cost(alloc: Global, values: &[Dynamic], most: u64) -> Resul
     Ok(operations_of(weight_of(left, own, most)?))
 }
 
-/// What values weigh beside so much, with all that stands in them.
+/// Returns the weight of values with everything in them, plus this weight.
 fn weight_of(values: Vec<&Dynamic>, own: u64, most: u64) -> Result<u64, AllocError> {
     let mut left = values;
     let mut weight = own;
@@ -116,7 +120,7 @@ fn weight_of(values: Vec<&Dynamic>, own: u64, most: u64) -> Result<u64, AllocErr
     Ok(weight)
 }
 
-/// Whether other values stand in a value.
+/// Whether a value contains other values.
 pub(crate) fn has_parts(value: &Dynamic) -> bool {
     matches!(
         value.parts(),
@@ -124,7 +128,7 @@ pub(crate) fn has_parts(value: &Dynamic) -> bool {
     )
 }
 
-/// How many values stand right in a value, or how many times 64 bytes.
+/// Returns how many values are directly in a value, or how many times 64 bytes.
 pub(crate) fn own_cost(value: &Dynamic) -> u64 {
     let count = match value.parts() {
         Union::Array(_, _, items) => items.len(),
@@ -142,7 +146,8 @@ pub(crate) fn own_cost(value: &Dynamic) -> u64 {
     count as u64
 }
 
-/// As how many values it counts to go through what stands right in a value: its parts, and its bytes.
+/// Returns the weight of a walk over what is directly in a value, its parts and its bytes, as a
+/// number of values.
 pub(crate) fn own_weight(value: &Dynamic) -> u64 {
     match value.parts() {
         Union::Array(_, _, items) => items.len() as u64,
@@ -165,7 +170,8 @@ pub(crate) fn own_weight(value: &Dynamic) -> u64 {
     }
 }
 
-/// The same where a value is printed or compared: a blob's bytes are then more than those of a text.
+/// As `own_weight`, if a value is printed or compared: a blob's bytes then weigh more than those of
+/// a text.
 pub(crate) fn walk_weight(value: &Dynamic) -> u64 {
     match value.parts() {
         Union::Blob(_, _, bytes) => bytes.len() as u64,
@@ -182,12 +188,12 @@ pub(crate) fn walk_weight(value: &Dynamic) -> u64 {
     }
 }
 
-/// As how many values so many bytes count.
+/// Returns the weight of this many bytes, as a number of values.
 fn weight_of_bytes(count: usize) -> u64 {
     bytes_cost(count).saturating_mul(VALUES)
 }
 
-/// Adds those of the values in a value that take room of their own, and those that are shared.
+/// Adds the values in a value that have a size of their own, and those that are shared.
 pub(crate) fn push_parts<'v>(
     value: &'v Dynamic,
     left: &mut Vec<&'v Dynamic>,

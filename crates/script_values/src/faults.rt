@@ -1,4 +1,4 @@
-//! What goes wrong while a script runs.
+//! Faults: what goes wrong while a script runs.
 ghost use Rattle.std.specs.Prelude.{◌≡◌};
 
 use rhai_show::display_text;
@@ -6,7 +6,7 @@ use rhai_text::{ArithmeticFault, EvalAltResult, ImmutableString, Position, SizeK
 use rhai_value::{Dynamic, INT, Store, TypeId};
 use std::alloc::{AllocError, AllocFailed, Global};
 
-/// What went wrong, and at which place of the script.
+/// What went wrong, and at which position of the script.
 #[derive(Drop)]
 pub struct Fault {
     /// What went wrong.
@@ -18,44 +18,44 @@ pub struct Fault {
 /// What went wrong.
 #[derive(Drop)]
 pub enum FaultKind {
-    /// An operation on values answered this.
+    /// An operation on values returned this error.
     Layer(EvalAltResult),
-    /// There is no variable of this name.
+    /// There is no variable with this name.
     UnknownName(ImmutableString),
-    /// `this` stands in a function that was called on nothing.
+    /// `this` is used in a function that was called without a receiver.
     UnboundThis,
-    /// There is no function of this name for so many arguments.
+    /// There is no function with this name and number of arguments.
     UnknownFunction(ImmutableString, usize),
-    /// The operator isn't there for values of these types.
+    /// The operator isn't defined for values of these types.
     NoOperator(Token, &'static str, &'static str),
     /// A value of this type has no such parts.
     NoParts(&'static str),
-    /// There is no part at this number, of so many.
+    /// There is no part at this index; the second number is the length.
     OutOfRange(INT, usize),
-    /// There is no such key on the way to a place.
+    /// A key on the way to a place doesn't exist.
     NoKey,
-    /// The way to a place has too many steps.
+    /// The path to a place has too many steps.
     TooFar,
-    /// A constant would be changed.
+    /// It would change a constant.
     Constant,
-    /// A text is no number.
+    /// A text isn't a number.
     NoNumber,
     /// The radix is below 2 or above 36.
     NoRadix,
     /// The script threw this value.
     Thrown(Dynamic),
-    /// The script took more operations than it may.
+    /// The script took more operations than its limit.
     TooManyOperations,
-    /// A map would have more entries than it may.
+    /// A map would have more entries than its limit.
     TooManyEntries,
-    /// The script printed more than it may.
+    /// The script printed more than its limit.
     TooMuchOutput,
-    /// More calls stand within each other than may.
+    /// Calls are nested deeper than their limit.
     TooManyCalls,
 }
 
 impl FaultKind {
-    /// Makes the fault of this kind at a place.
+    /// Makes the fault of this kind at a position.
     pub fn at(self, position: Position) -> Fault
         ensures kind { result.kind ≡ self }
         ensures position { result.position ≡ position }
@@ -66,12 +66,12 @@ impl FaultKind {
         }
     }
 
-    /// Tells whether memory was refused.
+    /// Returns whether an allocation failed.
     pub fn is_want_of_memory(&self) -> bool {
         matches!(self, FaultKind::Layer(EvalAltResult::ErrorMemory(_)))
     }
 
-    /// Tells whether a script may catch it. Limits and want of memory stop the script.
+    /// Returns whether a script may catch it. Limits and failed allocations stop the script.
     pub fn is_catchable(&self) -> bool {
         match self {
             FaultKind::Layer(error) => is_error_catchable(error),
@@ -94,8 +94,8 @@ impl FaultKind {
         }
     }
 
-    /// Tells what went wrong, without the place.
-    /// Errors: memory for the text is refused.
+    /// Returns what went wrong, without the position.
+    /// Errors: the allocation of the text fails.
     /// Cost: the length of the text.
     pub fn message(&self, alloc: Global, store: &Store) -> Result<String, AllocError> {
         match self {
@@ -147,7 +147,7 @@ fn is_error_catchable(error: &EvalAltResult) -> bool {
     }
 }
 
-/// How an operator is written.
+/// Returns how an operator is written.
 fn symbol_of(op: Token) -> &'static str {
     match op {
         Token::Plus => "+",
@@ -184,13 +184,13 @@ fn symbol_of(op: Token) -> &'static str {
     }
 }
 
-/// Makes the fault of a value whose type isn't the wanted one.
+/// Makes the fault for a value of an unexpected type.
 pub fn mismatch(wanted: &'static str, found: &'static str) -> FaultKind {
     let found = short_name(found);
     FaultKind::Layer(EvalAltResult::mismatch(wanted, found, Position::NONE))
 }
 
-/// How scripts see the name of a type: those of ranges are short.
+/// Returns the name of a type as scripts see it: those of ranges are short.
 fn short_name(name: &'static str) -> &'static str {
     if name == TypeId::ExclusiveRange.name() {
         "range"
@@ -201,7 +201,7 @@ fn short_name(name: &'static str) -> &'static str {
     }
 }
 
-/// Why an arithmetic operation has no answer.
+/// Returns why an arithmetic operation has no result.
 fn arithmetic_message(fault: ArithmeticFault) -> &'static str {
     match fault {
         ArithmeticFault::Overflow => "integer overflow",
@@ -211,7 +211,7 @@ fn arithmetic_message(fault: ArithmeticFault) -> &'static str {
     }
 }
 
-/// Refuses a size past a limit, of which 0 is none.
+/// Fails if a size exceeds a limit, of which 0 is none.
 pub(crate) fn check_size(limit: usize, count: usize, size: SizeKind) -> Result<(), FaultKind> {
     if limit != 0 && count > limit {
         return Err(FaultKind::Layer(EvalAltResult::ErrorDataTooLarge(size, Position::NONE)));
@@ -219,7 +219,7 @@ pub(crate) fn check_size(limit: usize, count: usize, size: SizeKind) -> Result<(
     Ok(())
 }
 
-/// The fault of a value that is in use.
+/// Makes the fault for a value that is in use.
 pub(crate) fn in_use() -> FaultKind {
     FaultKind::Layer(EvalAltResult::ErrorDataRace(Position::NONE))
 }

@@ -1,4 +1,4 @@
-//! The part of a value to which a key leads.
+//! The part of a value at a key.
 ghost use Rattle.std.specs.Prelude.{IfOk};
 ghost use Rattle.rhai_target.specs.Part.{HasPlace};
 
@@ -11,16 +11,16 @@ use rhai_packs::arrays;
 use rhai_target::{NoPart, ReadPart};
 use rhai_value::{Array, Dynamic, INT, Map, Store, Union};
 
-/// What a key leads to.
+/// The result of a look-up by a key.
 #[derive(Drop)]
 pub enum Found<'s> {
-    /// A value that stands in another.
+    /// A value inside another.
     Item(&'s Dynamic),
-    /// A value that is made: a part of a text, a blob or an int, or unit for a key that isn't there.
+    /// A new value: a part of a text, a blob or an int, or unit for a missing key.
     Made(Dynamic),
 }
 
-/// Finds what a key leads to.
+/// Finds the value at a key.
 pub(crate) fn find<'s>(
     means: &Means,
     store: &'s Store,
@@ -71,7 +71,7 @@ fn find_value<'s>(map: &'s Map, store: &Store, key: &Key<'_>) -> Result<Found<'s
 }
 
 /// Reads a part of a text, a blob or an int.
-/// Errors: another type, and a place that isn't there.
+/// Errors: another type, and an index out of range.
 pub(crate) fn part_at(
     means: &Means,
     store: &Store,
@@ -102,7 +102,7 @@ fn int_of(index: &Dynamic, store: &Store) -> Result<INT, FaultKind> {
     }
 }
 
-/// How many characters the held text has.
+/// Returns how many characters the held text has.
 fn characters_in(source: &Dynamic, store: &Store) -> usize {
     match source.as_immutable_string_ref(store) {
         Ok(text) => text.char_count(),
@@ -159,7 +159,7 @@ fn blob_part(store: &Store, source: &Dynamic, index: &Dynamic) -> Result<ReadPar
     }
 }
 
-/// How many bytes the held blob has.
+/// Returns how many bytes the held blob has.
 fn bytes_in(source: &Dynamic, store: &Store) -> usize {
     match source.as_blob_ref(store) {
         Ok(bytes) => bytes.len(),
@@ -167,7 +167,7 @@ fn bytes_in(source: &Dynamic, store: &Store) -> usize {
     }
 }
 
-/// The fault of a part that isn't read, of so many.
+/// Makes the fault for a part that can't be read, with this length.
 fn fault_of(missing: NoPart, index: INT, count: usize) -> FaultKind {
     match missing {
         NoPart::Mismatch(found) => FaultKind::NoParts(found),

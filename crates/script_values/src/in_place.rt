@@ -8,8 +8,9 @@ use rhai_ops::int_answer;
 use rhai_text::Token;
 use rhai_value::{AccessMode, Dynamic, INT, Union};
 
-/// Writes an int over a value that is neither a holder nor a constant, and answers whether it did. An int is written in place.
-/// Cost: constant, and the drop of what was there; no memory.
+/// Overwrites a value that is neither a holder nor constant with an int, and returns whether it
+/// did. An int is written in place.
+/// Cost: constant, and the drop of the previous value; no memory.
 #[inline(always)]
 pub fn put_int(place: &mut Dynamic, number: INT) -> bool
     ensures done { result ≡ not (is_some (cell_of place.old)) && not (is_constant (mode_of place.old)) }
@@ -27,8 +28,8 @@ pub fn put_int(place: &mut Dynamic, number: INT) -> bool
     true
 }
 
-/// Writes what an operator makes of an int that is no constant and another one over the first, and answers whether it did: it does
-/// where there is an answer.
+/// Overwrites an int that isn't constant with an operator's result for it and another int, and
+/// returns whether it did: it does if there is a result.
 /// Cost: constant; no memory.
 #[inline(always)]
 pub fn change_int(op: Token, place: &mut Dynamic, number: INT) -> bool

@@ -13,13 +13,13 @@ use rhai_value::{Dynamic, ExclusiveRange, INT, Store};
 /// A function on an int.
 #[derive(Clone, Copy)]
 pub enum IntFunction {
-    /// It leaves the int as it is.
+    /// It doesn't change the int.
     Ask(IntQuestion),
-    /// It may put another int in its place.
+    /// It may replace the int by another.
     Change(IntChange),
 }
 
-/// A function that leaves an int as it is.
+/// A function that doesn't change an int.
 #[derive(Clone, Copy)]
 pub enum IntQuestion {
     /// `abs()`
@@ -56,7 +56,7 @@ pub enum IntQuestion {
     GetBitsSome,
 }
 
-/// A function that may put another int in the place of one.
+/// A function that may replace an int by another.
 #[derive(Clone, Copy)]
 pub enum IntChange {
     /// `set_bit(bit, boolean)`
@@ -67,7 +67,7 @@ pub enum IntChange {
     SetBitsSome,
 }
 
-/// The function of this name for so many arguments behind the int.
+/// Finds the function with this name and number of arguments after the int.
 pub(crate) fn int_function(name: &str, count: usize) -> Option<IntFunction> {
     if let Some(question) = question_of(name, count) {
         return Some(IntFunction::Ask(question));
@@ -102,7 +102,7 @@ fn question_of(name: &str, count: usize) -> Option<IntQuestion> {
     }
 }
 
-/// Calls a function on an int that leaves it as it is, if it is one.
+/// Calls a function that doesn't change an int, if it is one.
 pub(crate) fn ask_int(
     function: Option<IntFunction>,
     means: &Means,
@@ -161,7 +161,7 @@ fn int_answer(
     }
 }
 
-/// A text as a value.
+/// Makes a value of a text.
 fn from_string(means: &Means, text: String) -> Result<Dynamic, FaultKind> {
     check_size(means.limits.text, text.len(), SizeKind::Text)?;
     Ok(Dynamic::from_text(means.alloc, text.as_str())?)

@@ -8,7 +8,7 @@ use rhai_text::SizeKind;
 use rhai_value::{Dynamic, Map, Store, Union};
 use std::alloc::{AllocError, Global};
 
-/// What is yet to be written.
+/// A piece that is not yet written.
 #[derive(Clone, Copy)]
 enum Piece<'v> {
     Value(&'v Dynamic),
@@ -16,9 +16,11 @@ enum Piece<'v> {
     Mark(&'static str),
 }
 
-/// Makes the text of a map as JSON: texts in quotes, unit as `null`, maps at any depth; all else as `debug` prints it.
-/// Errors: the text would be too long; the value is reached too often; memory is refused.
-/// Cost: the length of the text, and memory for a list of what is left.
+/// Writes a map as JSON: texts in quotes, unit as `null`, maps at any depth; everything else as
+/// `debug` prints it.
+/// Errors: the text would be too long; the parts of the value are visited too often; an allocation
+/// fails.
+/// Cost: the length of the text, and memory for a work list.
 pub(crate) fn to_json(means: &Means, store: &Store, value: &Dynamic) -> Result<Dynamic, FaultKind> {
     let alloc = means.alloc;
     check_ways(means, store, value)?;
@@ -43,7 +45,7 @@ pub(crate) fn to_json(means: &Means, store: &Store, value: &Dynamic) -> Result<D
     Ok(Dynamic::from_text(alloc, out.as_str())?)
 }
 
-/// Writes a value, or puts what a map has onto the list.
+/// Writes a value, or pushes the entries of a map onto the work list.
 fn add_value<'v>(
     alloc: Global,
     store: &'v Store,
@@ -72,7 +74,7 @@ fn add_value<'v>(
     }
 }
 
-/// Puts the entries of a map onto the list, the last one first, as the list is taken from its end.
+/// Pushes the entries of a map onto the work list, the last one first, since the list is a stack.
 fn add_entries<'v>(
     alloc: Global,
     map: &'v Map,

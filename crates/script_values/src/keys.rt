@@ -1,19 +1,20 @@
-//! What leads from a value to a part of it.
+//! Keys: what leads from a value to a part of it.
 
 use crate::any_functions::type_name_of;
 use crate::faults::{FaultKind, mismatch};
 use rhai_value::{Dynamic, INT, Store};
 
-/// What leads from a value to a part of it.
+/// A step from a value to a part of it.
 #[derive(Clone, Copy)]
 pub enum Key<'k> {
-    /// What stands in brackets: an index, a key or a range.
+    /// The value in brackets: an index, a key or a range.
     Index(&'k Dynamic),
     /// The name of a property.
     Name(&'k str),
 }
 
-/// The int in brackets. Errors: another type stands there, or a name of a property leads on from a value of this type, which has none.
+/// Returns the int in brackets. Errors: another type in the brackets, or the name of a property
+/// that values of this type don't have.
 pub(crate) fn index_in(
     key: &Key<'_>,
     store: &Store,
@@ -28,7 +29,7 @@ pub(crate) fn index_in(
     }
 }
 
-/// The text in brackets, or the name. Errors: another type stands there.
+/// Returns the text in brackets, or the name. Errors: another type in the brackets.
 pub(crate) fn name_in<'k>(key: &Key<'k>, store: &'k Store) -> Result<&'k str, FaultKind> {
     match *key {
         Key::Index(index) => match index.as_immutable_string_ref(store) {

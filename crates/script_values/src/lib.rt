@@ -1,4 +1,5 @@
-//! What the operators, indices and functions of a small script language mean on values. Nothing here knows of the language's trees.
+//! What the operators, indices and functions of a small script language do with values. Nothing
+//! here depends on the language's trees.
 #![tactic(auto)]
 
 mod any_functions;

@@ -11,13 +11,13 @@ use rhai_value::{Dynamic, Map, Store};
 /// A function on a map.
 #[derive(Clone, Copy)]
 pub enum MapFunction {
-    /// It leaves the map as it is.
+    /// It doesn't change the map.
     Ask(MapQuestion),
     /// It may change the map.
     Change(MapChange),
 }
 
-/// A function that leaves a map as it is.
+/// A function that doesn't change a map.
 #[derive(Clone, Copy)]
 pub enum MapQuestion {
     /// `len()`
@@ -51,7 +51,7 @@ pub enum MapChange {
     FillWith,
 }
 
-/// The function of this name for so many arguments behind the map.
+/// Finds the function with this name and number of arguments after the map.
 pub(crate) fn map_function(name: &str, count: usize) -> Option<MapFunction> {
     match (count, name) {
         (0, "len") => Some(MapFunction::Ask(MapQuestion::Len)),
@@ -70,7 +70,7 @@ pub(crate) fn map_function(name: &str, count: usize) -> Option<MapFunction> {
     }
 }
 
-/// Calls a function on a map that leaves it as it is, if it is one.
+/// Calls a function that doesn't change a map, if it is one.
 pub(crate) fn ask_map(
     function: Option<MapFunction>,
     means: &Means,
@@ -117,8 +117,8 @@ fn map_answer(
     }
 }
 
-/// Changes a map, and answers what the change gives. Where memory is refused, the arguments stay; of the entries of another map the
-/// first ones may be set then.
+/// Changes a map, and returns the result. If an allocation fails, the arguments are unchanged; the
+/// first entries of another map may be set then.
 pub(crate) fn change_map(
     change: MapChange,
     means: &Means,
@@ -152,7 +152,7 @@ pub(crate) fn change_map(
     Ok(Dynamic::UNIT)
 }
 
-/// Refuses a new key of a map that has as many entries as it may.
+/// Fails for a new key of a map that has as many entries as it may.
 pub(crate) fn check_entry(means: &Means, entries: &Map, key: &str) -> Result<(), FaultKind> {
     if means.entries == 0 || entries.len() < means.entries || maps::contains(entries, key) {
         return Ok(());
@@ -160,7 +160,7 @@ pub(crate) fn check_entry(means: &Means, entries: &Map, key: &str) -> Result<(),
     Err(FaultKind::TooManyEntries)
 }
 
-/// Refuses the keys of another map, if a map would have more entries with them than it may.
+/// Fails if a map would have more entries than it may with the keys of another map.
 pub(crate) fn check_entries(means: &Means, entries: &Map, other: &Map) -> Result<(), FaultKind> {
     let most = entries.len().saturating_add(other.len());
     if means.entries == 0 || most <= means.entries {
@@ -178,7 +178,7 @@ pub(crate) fn check_entries(means: &Means, entries: &Map, other: &Map) -> Result
     Ok(())
 }
 
-/// Sets the value of a key, which stays where it was if memory is refused.
+/// Sets the value of a key; if an allocation fails, the value is left where it was.
 fn set(entries: &mut Map, key: &str, value: &mut Dynamic) -> Result<(), FaultKind> {
     if !maps::contains(entries, key) {
         maps::set(entries, key, Dynamic::UNIT)?;

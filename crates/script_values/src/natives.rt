@@ -30,7 +30,7 @@ pub struct Native {
     pub any: Option<AnyFunction>,
 }
 
-/// Finds the functions of this name for so many arguments behind the receiver.
+/// Finds the functions with this name and number of arguments after the receiver.
 /// Cost: constant; no memory.
 pub fn native_of(name: &str, arguments: usize) -> Native {
     Native {
@@ -47,7 +47,7 @@ pub fn native_of(name: &str, arguments: usize) -> Native {
 }
 
 impl Native {
-    /// Finds the function of this name without arguments that values of the type of this one have.
+    /// Finds the function with this name, without arguments, for values of the type of this one.
     pub(crate) fn without_arguments(held: &Dynamic, name: &str) -> Native {
         let mut native = Native {
             array: None,
@@ -74,7 +74,7 @@ impl Native {
         native
     }
 
-    /// Tells whether it may change a receiver that holds what this value does.
+    /// Returns whether it may change a receiver that holds a value of this type.
     /// Cost: that of `Dynamic::held`; no memory.
     pub fn changes(&self, receiver: &Dynamic, store: &Store) -> bool {
         let Some(held) = receiver.held(store) else {
@@ -95,8 +95,8 @@ impl Native {
         }
     }
 
-    /// Calls the function that leaves its receiver as it is, if the type of the receiver has one.
-    /// Errors: an argument of another type, and what the function refuses.
+    /// Calls the function that doesn't change its receiver, if the type of the receiver has one.
+    /// Errors: an argument of another type, and those of the function.
     /// Cost: that of the function.
     pub fn ask(
         &self,
@@ -137,8 +137,10 @@ impl Native {
         }
     }
 
-    /// Calls the function that may change its receiver, which is no holder, if the type of the receiver has one.
-    /// Errors: an argument of another type, and what the function refuses. Where memory is refused, the arguments stay.
+    /// Calls the function that may change its receiver, which is no holder, if the type of the
+    /// receiver has one.
+    /// Errors: an argument of another type, and those of the function. If an allocation fails, the
+    /// arguments are unchanged.
     /// Cost: that of the function.
     pub fn change(
         &self,

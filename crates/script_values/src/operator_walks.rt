@@ -1,4 +1,4 @@
-//! What operators go through, in operations.
+//! The cost of operators, in operations.
 
 use crate::assigning::Assignment;
 use crate::cost::{bytes_cost, copy_cost, entries_cost, has_parts, values_cost};
@@ -8,10 +8,12 @@ use crate::ways::{print_cost, walk_cost};
 use rhai_text::Token;
 use rhai_value::{Dynamic, Store, Union};
 
-/// Counts the operations that an operator goes through beside itself: nothing of ints and other small values; what a text is joined with,
-/// as its printed form is; all of what is joined or compared. Where it is more than `most`, no more is counted than shows that.
-/// Errors: what is compared or printed in cells is more than an array may have items; memory for lists is refused.
-/// Cost: the number of values, as far as they are counted.
+/// Counts the operations that an operator costs in addition to itself: nothing for ints and other
+/// small values; for a value that is joined with a text, the cost of printing it; for what is
+/// joined or compared, all of it. Stops counting once the result is more than `most`.
+/// Errors: what is compared or printed in cells is more than an array may have items; the
+/// allocation of a list fails.
+/// Cost: the number of values that are counted.
 pub fn binary_cost(
     op: Token,
     means: &Means,
@@ -61,10 +63,10 @@ pub fn binary_cost(
     }
 }
 
-/// Counts the operations that an assignment by an operator goes through beside itself, as `binary_cost` does; what a text, a blob, an array
-/// or a map gets behind it doesn't count what was there.
+/// Counts the operations that an assigning operator costs in addition to itself, as `binary_cost`
+/// does; appending to a text, a blob, an array or a map doesn't count what it contained before.
 /// Errors: as `binary_cost`.
-/// Cost: the number of values, as far as they are counted.
+/// Cost: the number of values that are counted.
 pub fn assign_cost(
     op: Assignment,
     means: &Means,
@@ -102,7 +104,7 @@ pub fn assign_cost(
     }
 }
 
-/// What goes through the bytes of a text or a blob.
+/// Returns the cost of the bytes of a text or a blob.
 fn own_bytes(value: &Dynamic) -> u64 {
     match value.parts() {
         Union::Str(_, _, text) => bytes_cost(text.len()),
@@ -135,7 +137,7 @@ fn copies_of_both(means: &Means, x: &Dynamic, y: &Dynamic, most: u64) -> Result<
     Ok(first.saturating_add(copy_cost(means.alloc, y, most)?))
 }
 
-/// What a sum of two values goes through.
+/// Returns the cost of a sum of two values.
 fn plus_cost(
     means: &Means,
     store: &Store,

@@ -1,4 +1,4 @@
-//! What reads and writes at places inside values go through, in operations.
+//! The cost of reads and writes at places inside values, in operations.
 
 use crate::cost::{characters_cost, copy_cost};
 use crate::faults::FaultKind;
@@ -12,18 +12,19 @@ use crate::ways::walk_cost;
 use crate::writing::Change;
 use rhai_value::{Dynamic, Store, Union};
 
-/// Where keys lead through arrays and maps.
+/// How far keys lead through arrays and maps.
 #[derive(Clone, Copy)]
 struct Reached<'s> {
-    /// What is held there, if they lead anywhere.
+    /// The value held there, if it exists.
     held: Option<&'s Dynamic>,
-    /// How many keys are left, which lead into what is held.
+    /// How many keys are left, which lead into that value.
     left: u64,
-    /// What the keys themselves go through.
+    /// The cost of the keys themselves.
     cost: u64,
 }
 
-/// Counts the operations that `look` goes through beside itself: the bytes of a text of which a part is made.
+/// Counts the operations that `look` costs in addition to itself: the bytes of a text whose part is
+/// returned.
 /// Cost: that of `look`; no memory.
 pub fn look_cost(means: &Means, store: &Store, source: &Dynamic, keys: &[Key<'_>]) -> u64 {
     let reached = reach(means, store, source, keys);
@@ -36,10 +37,10 @@ pub fn look_cost(means: &Means, store: &Store, source: &Dynamic, keys: &[Key<'_>
     }
 }
 
-/// Counts the operations that `read` goes through beside itself: the copy, and the bytes of a text of which a part is read. Where it is
-/// more than `most`, no more is counted than shows that.
-/// Errors: memory for lists is refused.
-/// Cost: that of `look`, and the number of values, as far as they are counted.
+/// Counts the operations that `read` costs in addition to itself: the copy, and the bytes of a text
+/// whose part is read. Stops counting once the result is more than `most`.
+/// Errors: the allocation of a list fails.
+/// Cost: that of `look`, and the number of values that are counted.
 pub fn read_cost(
     means: &Means,
     store: &Store,
@@ -59,10 +60,11 @@ pub fn read_cost(
     Ok(reached.cost.saturating_add(moved))
 }
 
-/// Counts the operations that `write` goes through beside itself: what an operator goes through, and the bytes of a text of which a part
-/// is written, with those of the part. Where it is more than `most`, no more is counted than shows that.
+/// Counts the operations that `write` costs in addition to itself: the cost of an operator, and the
+/// bytes of a text whose part is written, with those of the part. Stops counting once the result is
+/// more than `most`.
 /// Errors: as `assign_cost`.
-/// Cost: that of `look`, and the number of values, as far as they are counted.
+/// Cost: that of `look`, and the number of values that are counted.
 pub fn write_cost(
     means: &Means,
     store: &Store,
@@ -89,7 +91,7 @@ pub fn write_cost(
     Ok(reached.cost.saturating_add(moved))
 }
 
-/// Goes along keys through arrays and maps.
+/// Follows keys through arrays and maps.
 fn reach<'s>(
     means: &Means,
     store: &'s Store,
@@ -131,7 +133,7 @@ fn reach<'s>(
     }
 }
 
-/// What keys come to that lead nowhere.
+/// The result for keys that don't lead to a value.
 fn nowhere<'s>(cost: u64) -> Reached<'s> {
     Reached {
         held: None,
@@ -140,12 +142,12 @@ fn nowhere<'s>(cost: u64) -> Reached<'s> {
     }
 }
 
-/// Whether items or entries stand in a value.
+/// Whether a value has items or entries.
 fn is_listing(value: &Dynamic) -> bool {
     matches!(value.parts(), Union::Array(_, _, _) | Union::Map(_, _, _))
 }
 
-/// What goes through the bytes of a value that is a text.
+/// Returns the cost of the bytes of a value that is a text.
 fn text_cost(value: &Dynamic) -> u64 {
     match value.parts() {
         Union::Str(_, _, text) => characters_cost(text),

@@ -1,4 +1,4 @@
-//! Properties of values that are no maps: functions without arguments that are read like fields.
+//! Properties of values other than maps: functions without arguments, read like fields.
 
 use crate::argument_values::Arguments;
 use crate::cost::values_cost;
@@ -46,7 +46,7 @@ pub(crate) fn property(
     Err(FaultKind::NoParts(held.type_name(store)))
 }
 
-/// What the reading of a property makes, in operations.
+/// Returns the size of the result of reading a property, in operations.
 pub(crate) fn property_cost(means: &Means, store: &Store, held: &Dynamic, name: &str) -> u64 {
     if !is_property(name) {
         return 0;
@@ -57,7 +57,7 @@ pub(crate) fn property_cost(means: &Means, store: &Store, held: &Dynamic, name: 
     cost.unwrap_or(0).saturating_add(made_cost(held, name))
 }
 
-/// What stands in the array that a property makes.
+/// Returns the size of the array that a property makes.
 fn made_cost(held: &Dynamic, name: &str) -> u64 {
     let Union::Str(_, _, text) = held.parts() else {
         return 0;

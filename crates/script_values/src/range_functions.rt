@@ -1,4 +1,4 @@
-//! Functions on ranges and function pointers. None changes what it is called on.
+//! Functions on ranges and function pointers. None changes its receiver.
 
 use crate::argument_values::{Arguments, int};
 use crate::bounds::bounds_of;
@@ -32,10 +32,10 @@ pub enum PointerFunction {
     IsAnonymous,
 }
 
-/// The name of an anonymous function begins so.
+/// The prefix of an anonymous function's name.
 const ANONYMOUS: &str = "anon$";
 
-/// The function of this name for so many arguments behind the range.
+/// Finds the function with this name and number of arguments after the range.
 pub(crate) fn range_function(name: &str, count: usize) -> Option<RangeFunction> {
     match (count, name) {
         (0, "start") => Some(RangeFunction::Start),
@@ -48,7 +48,7 @@ pub(crate) fn range_function(name: &str, count: usize) -> Option<RangeFunction> 
     }
 }
 
-/// The function of this name for so many arguments behind the function pointer.
+/// Finds the function with this name and number of arguments after the function pointer.
 pub(crate) fn pointer_function(name: &str, count: usize) -> Option<PointerFunction> {
     match (count, name) {
         (0, "name") => Some(PointerFunction::Name),

@@ -6,7 +6,7 @@ use crate::keys::Key;
 use crate::resources::Means;
 use rhai_value::{Dynamic, Store};
 
-/// What went wrong on the way to a place, and at which key: how many led on before.
+/// What went wrong on the path to a place, and at which key: the number of keys before it.
 #[derive(Drop)]
 pub struct PlaceFault {
     /// The number of the key in the list.
@@ -15,8 +15,8 @@ pub struct PlaceFault {
     pub kind: FaultKind,
 }
 
-/// Finds what the keys lead to from a value: what stands there, or a value that is made. A key that a map lacks leads to
-/// unit.
+/// Follows the keys from a value: finds a value inside it, or makes a new one. A key that a map
+/// lacks leads to unit.
 /// Errors: the first key that leads nowhere, and why.
 /// Cost: that of `Dynamic::held` and of a look-up for each key.
 pub fn look<'s>(
@@ -41,7 +41,7 @@ pub fn look<'s>(
     Ok(Found::Item(place))
 }
 
-/// Reads what the keys lead to from a value, as `look` finds it: a copy that is no holder.
+/// Reads the value that the keys lead to, as `look` finds it: a copy that is no holder.
 /// Errors: the first key that leads nowhere, and why.
 /// Cost: that of `look`, and the copy.
 /// rhai: an expression with indices and properties.
@@ -64,7 +64,7 @@ pub fn read(
     }
 }
 
-/// Reads on from a value that was made for the key of this number.
+/// Continues from a new value, which was made for the key of this number.
 fn read_on(
     means: &Means,
     store: &Store,

@@ -1,4 +1,4 @@
-//! What the functions on ints, characters, function pointers and blobs go through, in operations.
+//! The cost of functions on ints, characters, function pointers and blobs, in operations.
 
 use crate::argument_values::Arguments;
 use crate::blob_bytes::bytes_meant;
@@ -10,7 +10,7 @@ use crate::range_functions::PointerFunction;
 use crate::walks::{Counting, span_between, span_from};
 use rhai_value::{Blob, FnPtr, INT};
 
-/// So many operations stand for a text of an int, and for the other case of a character.
+/// The cost of formatting an int, and of changing the case of a character.
 const TEXT_COST: u64 = 4;
 
 pub(crate) fn int_cost(function: Option<IntFunction>, number: INT) -> Option<u64> {
@@ -101,7 +101,7 @@ fn blob_change_cost(
             Err(_) => 0,
         },
         BlobChange::Remove | BlobChange::Reverse => bytes_cost(own),
-        // of a text that isn't ASCII more may be gone through than is written
+        // a text that isn't ASCII may need a longer walk than the bytes written
         BlobChange::WriteText => values_cost(bytes_meant(own, arguments, store)),
         BlobChange::WriteAscii => values_cost(bytes_meant(own, arguments, store)).saturating_add(
             written_cost(counting, arguments),
@@ -109,7 +109,7 @@ fn blob_change_cost(
     }
 }
 
-/// What goes through the text that is written.
+/// Returns the cost of the text that is written.
 fn written_cost(counting: &Counting<'_>, arguments: &Arguments) -> u64 {
     let mut cost = 0u64;
     for argument in [&arguments.second, &arguments.third] {

@@ -13,13 +13,13 @@ use rhai_value::{Blob, Dynamic, FnPtr, INT, Store};
 /// A function on a text.
 #[derive(Clone, Copy)]
 pub enum TextFunction {
-    /// It leaves the text as it is.
+    /// It doesn't change the text.
     Ask(TextQuestion),
-    /// It may put another text in its place.
+    /// It may replace the text by another.
     Change(TextChange),
 }
 
-/// A function that leaves a text as it is.
+/// A function that doesn't change a text.
 #[derive(Clone, Copy)]
 pub enum TextQuestion {
     /// `len()`
@@ -68,7 +68,7 @@ pub enum TextQuestion {
     Function,
 }
 
-/// A function that may put another text in the place of one.
+/// A function that may replace a text by another.
 #[derive(Clone, Copy)]
 pub enum TextChange {
     /// `crop(index)`, `crop(range)`
@@ -93,7 +93,7 @@ pub enum TextChange {
     MakeLower,
 }
 
-/// The function of this name for so many arguments behind the text.
+/// Finds the function with this name and number of arguments after the text.
 pub(crate) fn text_function(name: &str, count: usize) -> Option<TextFunction> {
     if let Some(question) = question_of(name, count) {
         return Some(TextFunction::Ask(question));
@@ -145,7 +145,7 @@ fn change_of(name: &str, count: usize) -> Option<TextChange> {
     }
 }
 
-/// Calls a function on a text that leaves it as it is, if it is one.
+/// Calls a function that doesn't change a text, if it is one.
 pub(crate) fn ask_text(
     function: Option<TextFunction>,
     means: &Means,
@@ -213,14 +213,14 @@ fn text_answer(
     }
 }
 
-/// Whether a text has a part: a text or a character.
+/// Whether a text contains a part: a text or a character.
 fn has_part(store: &Store, held: &ImmutableString, part: &Dynamic) -> Result<Dynamic, FaultKind> {
     let mut buffer = [0; 4];
     let part = text_or_character(part, store, &mut buffer)?;
     Ok(Dynamic::from_bool(texts::contains(held, part)))
 }
 
-/// Where a text has a part first.
+/// Returns the index of the first occurrence of a part in a text.
 fn place_of_part(
     store: &Store,
     held: &ImmutableString,
@@ -231,7 +231,7 @@ fn place_of_part(
     Ok(place_or_none(texts::index_of(held, part)))
 }
 
-/// Where a text has a part first from a character on.
+/// Returns the index of the first occurrence of a part in a text, from a character on.
 fn place_of_part_from(
     means: &Means,
     store: &Store,
@@ -244,7 +244,7 @@ fn place_of_part_from(
     Ok(place_or_none(place_from(means, held, part, int(start, store)?)?))
 }
 
-/// The bytes of a text.
+/// Returns the bytes of a text.
 fn to_blob(means: &Means, held: &ImmutableString) -> Result<Dynamic, FaultKind> {
     check_size(means.limits.items, held.len(), SizeKind::Items)?;
     let mut bytes: Blob = Vec::new(means.alloc);

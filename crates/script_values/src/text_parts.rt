@@ -1,4 +1,4 @@
-//! Parts of texts, and texts with another one in the place of a part.
+//! Parts of texts, and texts with a part replaced.
 
 use crate::argument_values::{Arguments, int, text, text_or_character};
 use crate::bounds::{bounds_of, piece_of};
@@ -10,7 +10,7 @@ use rhai_packs::texts;
 use rhai_text::{ImmutableString, SizeKind};
 use rhai_value::{Dynamic, INT, Store};
 
-/// So many characters from an index on.
+/// Returns this many characters from an index on.
 pub(crate) fn sub_string(
     means: &Means,
     held: &ImmutableString,
@@ -20,7 +20,7 @@ pub(crate) fn sub_string(
     Ok(texts::sub_string(means.alloc, held, start, length)?)
 }
 
-/// The characters from an index on, or those of a range.
+/// Returns the characters from an index on, or those of a range.
 pub(crate) fn sub_string_from(
     means: &Means,
     store: &Store,
@@ -31,7 +31,8 @@ pub(crate) fn sub_string_from(
     Ok(Dynamic::from(sub_string(means, held, start, length)?))
 }
 
-/// Where a part starts, and how many characters it has at most: from an index on, or those of a range.
+/// Returns where a part starts, and its maximal number of characters: from an index on, or those of
+/// a range.
 fn part_from(from: &Dynamic, store: &Store) -> Result<(INT, INT), FaultKind> {
     match bounds_of(from, store) {
         Some(bounds) => Ok(piece_of(bounds)),
@@ -39,7 +40,8 @@ fn part_from(from: &Dynamic, store: &Store) -> Result<(INT, INT), FaultKind> {
     }
 }
 
-/// Where a part stands in a text from an index on, counted from the front of the text.
+/// Returns the index of a part in a text, searched from an index on and counted from the beginning
+/// of the text.
 pub(crate) fn place_from(
     means: &Means,
     held: &ImmutableString,
@@ -110,7 +112,7 @@ pub(crate) fn change_text(
     Ok(Dynamic::UNIT)
 }
 
-/// Refuses a text in the place of each occurrence of a part, if what comes out would be too long and longer than before.
+/// Fails if replacing each occurrence of a part would make a text too long, and longer than before.
 fn check_replaced(
     means: &Means,
     held: &ImmutableString,
@@ -130,7 +132,7 @@ fn check_replaced(
     Ok(())
 }
 
-/// Puts a character or a text behind a text, over and over, until it has so many characters.
+/// Appends a character or a text repeatedly, until a text has this many characters.
 fn pad(
     means: &Means,
     store: &Store,

@@ -8,7 +8,7 @@ use rhai_packs::texts;
 use rhai_text::{ImmutableString, SizeKind};
 use rhai_value::{Array, Dynamic, INT, Store};
 
-/// The parts of a text before and from an index on, or between the occurrences of a character or of a text.
+/// Splits a text at an index, or between the occurrences of a character or of a text.
 pub(crate) fn split(
     means: &Means,
     store: &Store,
@@ -29,7 +29,7 @@ pub(crate) fn split(
     Ok(Dynamic::from_array(texts::split(means.alloc, held, separator)?))
 }
 
-/// The parts of a text between white space.
+/// Splits a text at white space.
 pub(crate) fn split_words(means: &Means, held: &ImmutableString) -> Result<Dynamic, FaultKind> {
     let mut parts = Vec::new(means.alloc);
     for part in held.as_str().split_whitespace() {
@@ -38,7 +38,7 @@ pub(crate) fn split_words(means: &Means, held: &ImmutableString) -> Result<Dynam
     Ok(Dynamic::from_array(parts))
 }
 
-/// The parts of a text between the first occurrences of a separator, so many at most.
+/// Splits a text at the first occurrences of a separator, into at most this many parts.
 pub(crate) fn split_at_most(
     means: &Means,
     store: &Store,
@@ -55,7 +55,7 @@ pub(crate) fn split_at_most(
     Ok(Dynamic::from_array(parts))
 }
 
-/// The parts of a text between the occurrences of a separator, from the last on.
+/// Splits a text at the occurrences of a separator, beginning with the last.
 pub(crate) fn split_back(
     means: &Means,
     store: &Store,
@@ -71,7 +71,7 @@ pub(crate) fn split_back(
     Ok(Dynamic::from_array(parts))
 }
 
-/// The same, so many at most.
+/// As `split_back`, into at most this many parts.
 pub(crate) fn split_back_at_most(
     means: &Means,
     store: &Store,
@@ -88,12 +88,12 @@ pub(crate) fn split_back_at_most(
     Ok(Dynamic::from_array(parts))
 }
 
-/// How many parts there may be: one at least.
+/// Returns how many parts there may be, at least one.
 fn pieces(most: INT) -> usize {
     usize::try_from(most).unwrap_or(1).max(1)
 }
 
-/// Puts a part behind the others.
+/// Appends a part.
 fn add_part(means: &Means, parts: &mut Array, part: &str) -> Result<(), FaultKind> {
     check_size(
         means.limits.items,
@@ -104,7 +104,7 @@ fn add_part(means: &Means, parts: &mut Array, part: &str) -> Result<(), FaultKin
     Ok(())
 }
 
-/// Refuses a separator that splits a text into more parts than an array may have items.
+/// Fails if a separator splits a text into more parts than an array may have items.
 fn check_parts(means: &Means, held: &ImmutableString, separator: &str) -> Result<(), FaultKind> {
     if means.limits.items == 0 || held.len().saturating_add(2) <= means.limits.items {
         return Ok(());

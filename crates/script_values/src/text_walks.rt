@@ -1,4 +1,4 @@
-//! What the functions on texts go through, in operations.
+//! The cost of functions on texts, in operations.
 
 use crate::argument_values::{Arguments, text_or_character};
 use crate::cost::{bytes_cost, characters_cost, operations_of_bytes, values_cost};
@@ -43,7 +43,7 @@ fn question_cost(
                 .saturating_add(key_cost(first, store))
         }
         TextQuestion::Split | TextQuestion::SplitBack => {
-            // the separators are counted first, and then sought
+            // the separators are counted first, and then searched
             characters_cost(text)
                 .saturating_mul(2)
                 .saturating_add(separated_cost(text, first, store))
@@ -69,7 +69,7 @@ fn question_cost(
     }
 }
 
-/// What the parts of a text go through that are made: an operation each.
+/// Returns the cost of the parts of a text that are made: one operation each.
 fn words_cost(text: &ImmutableString) -> u64 {
     let mut count = 0u64;
     for _ in text.as_str().split_whitespace() {
@@ -78,7 +78,8 @@ fn words_cost(text: &ImmutableString) -> u64 {
     count
 }
 
-/// The same of the parts between the occurrences of a separator, and what the separator goes through.
+/// As `words_cost`, for the parts between the occurrences of a separator, plus the cost of the
+/// separator.
 fn separated_cost(text: &ImmutableString, separator: &Dynamic, store: &Store) -> u64 {
     let mut buffer = [0; 4];
     match text_or_character(separator, store, &mut buffer) {
@@ -114,7 +115,7 @@ fn change_cost(
     }
 }
 
-/// What is gone through for so many characters of a padding.
+/// Returns the cost of this many characters of padding.
 fn padding_cost(more: u64, padding: &Dynamic, store: &Store) -> u64 {
     if let Ok(character) = padding.as_char(store) {
         return operations_of_bytes(more.saturating_mul(character.len_utf8() as u64));
@@ -128,7 +129,8 @@ fn padding_cost(more: u64, padding: &Dynamic, store: &Store) -> u64 {
     }
 }
 
-/// What a text goes through that gets another one in the place of each occurrence of a part: an operation for each, and the bytes.
+/// Returns the cost of replacing each occurrence of a part in a text: one operation each, and the
+/// bytes.
 fn replaced_cost(
     change: TextChange,
     text: &ImmutableString,
@@ -157,7 +159,7 @@ fn replaced_cost(
         .saturating_add(bytes_cost(part.len()))
 }
 
-/// How many bytes a text or a character has.
+/// Returns how many bytes a text or a character has.
 fn length_of(value: &Dynamic, store: &Store) -> u64 {
     let mut buffer = [0; 4];
     match text_or_character(value, store, &mut buffer) {
@@ -166,7 +168,8 @@ fn length_of(value: &Dynamic, store: &Store) -> u64 {
     }
 }
 
-/// How often a part occurs in a text, without overlaps; an empty part before each character and at the end.
+/// Returns how often a part occurs in a text, without overlaps; an empty part occurs before each
+/// character and at the end.
 pub(crate) fn occurrences(text: &str, part: &str) -> u64 {
     if part.is_empty() {
         return (text.chars().count() as u64).saturating_add(1);

@@ -1,10 +1,10 @@
-//! Operators before one value.
+//! Unary operators.
 
 use crate::faults::{FaultKind, mismatch};
 use rhai_text::{ArithmeticFault, EvalAltResult, Position};
 use rhai_value::{Dynamic, Store};
 
-/// An operator before one value.
+/// A unary operator.
 #[derive(Clone, Copy, Debug, PartialEq, Eq)]
 pub enum UnaryOperator {
     /// `!`, of a boolean.
@@ -15,8 +15,8 @@ pub enum UnaryOperator {
     Keep,
 }
 
-/// Answers what an operator makes of a value, which is only read.
-/// Errors: another type, and `Overflow` of the least int's negative. No other comes.
+/// Applies an operator to a value, which is only read.
+/// Errors: another type, and `Overflow` if the least int is negated. No others.
 /// Cost: that of `Dynamic::held`; no memory.
 pub fn unary(op: UnaryOperator, store: &Store, value: &Dynamic) -> Result<Dynamic, FaultKind> {
     match op {

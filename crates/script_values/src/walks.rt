@@ -1,4 +1,4 @@
-//! What the functions of the packages go through, in operations.
+//! The cost of functions of the packages, in operations.
 
 use crate::any_functions::AnyFunction;
 use crate::argument_values::Arguments;
@@ -14,22 +14,24 @@ use crate::text_walks::text_cost;
 use crate::ways::{print_cost, walk_cost, walks_cost};
 use rhai_value::{Array, Dynamic, INT, Map, Store, Union};
 
-/// What a count of operations needs besides values.
+/// What counting operations needs besides values.
 #[derive(Clone, Copy)]
 pub(crate) struct Counting<'c> {
     pub(crate) means: &'c Means,
     pub(crate) store: &'c Store,
-    /// What is more than so many operations isn't counted further.
+    /// Counting stops once the result is more than this.
     pub(crate) most: u64,
 }
 
 impl Native {
-    /// Counts the operations that a call goes through beside itself: nothing where that is no more than a constant; the receiver's own
-    /// items or bytes where these are moved or sought through; the receiver and arguments with all that they hold where they are compared,
-    /// printed or copied; as many items or bytes as an argument says. What the call makes isn't counted, nor what it lets go. Where it is
-    /// more than `most`, no more is counted than shows that.
-    /// Errors: what is gone through in cells is more than an array may have items; memory for lists is refused.
-    /// Cost: the number of values, as far as they are counted.
+    /// Counts the operations that a call costs in addition to itself: nothing if that is at most a
+    /// constant; the receiver's own items or bytes if these are moved or searched; the receiver and
+    /// arguments with everything in them if they are compared, printed or copied; as many items or
+    /// bytes as an argument says. The size of the result isn't counted, nor what is dropped. Stops
+    /// counting once the result is more than `most`.
+    /// Errors: what is visited in cells is more than an array may have items; the allocation of a
+    /// list fails.
+    /// Cost: the number of values that are counted.
     pub fn cost(
         &self,
         means: &Means,
@@ -75,14 +77,14 @@ fn any_cost(
     }
 }
 
-/// The part of a list of so many items that a function extracts: where it begins, and how many items it has.
+/// The part of a list that a function extracts: where it begins, and how many items it has.
 #[derive(Clone, Copy)]
 pub(crate) struct Span {
     pub(crate) start: usize,
     pub(crate) length: usize,
 }
 
-/// So many items from an index on, as many as there are.
+/// Returns this many items from an index on, as far as there are any.
 pub(crate) fn span_at(count: usize, index: INT, length: INT) -> Span {
     let distance = index.unsigned_abs() as usize;
     let start = if index < 0 {
@@ -98,7 +100,7 @@ pub(crate) fn span_at(count: usize, index: INT, length: INT) -> Span {
     }
 }
 
-/// The items from an index on, or those of a range; none where the argument is neither.
+/// Returns the items from an index on, or those of a range; none if the argument is neither.
 pub(crate) fn span_from(count: usize, from: &Dynamic, store: &Store) -> Span {
     if let Some(bounds) = bounds_of(from, store) {
         return match span_of(bounds, count) {
@@ -112,7 +114,7 @@ pub(crate) fn span_from(count: usize, from: &Dynamic, store: &Store) -> Span {
     }
 }
 
-/// So many items from an index on, which two arguments say; none where they are no ints.
+/// Returns a number of items from an index on, both given as arguments; none if they are not ints.
 pub(crate) fn span_between(count: usize, arguments: &Arguments, store: &Store) -> Span {
     let (Ok(index), Ok(length)) = (
         arguments.first.as_int(store),
@@ -123,7 +125,7 @@ pub(crate) fn span_between(count: usize, arguments: &Arguments, store: &Store) -
     span_at(count, index, length)
 }
 
-/// How many items or characters an int wants beyond so many.
+/// Returns how many more items or characters than this an int requests.
 pub(crate) fn missing(count: usize, wanted: &Dynamic, store: &Store) -> u64 {
     let wanted = wanted.as_int(store).unwrap_or(0);
     u64::try_from(wanted)
@@ -179,14 +181,14 @@ fn array_question_cost(
     }
 }
 
-/// What a search for a value among items goes through.
+/// Returns the cost of searching for a value among items.
 fn sought_cost(counting: &Counting<'_>, items: &Array, value: &Dynamic) -> Result<u64, FaultKind> {
     let (means, store, most) = (counting.means, counting.store, counting.most);
     let wanted = walk_cost(means, store, value, most)?;
     Ok(wanted.saturating_add(walks_cost(means, store, items.as_slice(), most)?))
 }
 
-/// What a copy of what a value holds goes through.
+/// Returns the cost of copying the value held by a value.
 fn held_copy_cost(counting: &Counting<'_>, value: &Dynamic) -> Result<u64, FaultKind> {
     match value.held(counting.store) {
         Some(held) => Ok(copy_cost(counting.means.alloc, held, counting.most)?),
@@ -194,7 +196,7 @@ fn held_copy_cost(counting: &Counting<'_>, value: &Dynamic) -> Result<u64, Fault
     }
 }
 
-/// What copies of the items of a span go through.
+/// Returns the cost of copying the items of a span.
 fn span_cost(counting: &Counting<'_>, items: &Array, span: Span) -> Result<u64, FaultKind> {
     let end = span.start.saturating_add(span.length);
     match items.as_slice().get(span.start..end) {
@@ -255,7 +257,7 @@ fn array_change_cost(
     }
 }
 
-/// The items of a range, or so many from an index on, as the arguments say.
+/// Returns the items of a range, or a number of them from an index on, as the arguments say.
 fn part_span(count: usize, arguments: &Arguments, store: &Store) -> Span {
     match bounds_of(&arguments.first, store) {
         Some(bounds) => {
@@ -266,7 +268,7 @@ fn part_span(count: usize, arguments: &Arguments, store: &Store) -> Span {
     }
 }
 
-/// How often each of so many items is compared where they are sorted: as often as their number has bits.
+/// Returns how often sorting compares each of this many items: the bit length of their number.
 fn rounds_of(count: usize) -> u64 {
     u64::from(usize::BITS.saturating_sub(count.leading_zeros()))
 }
@@ -316,7 +318,7 @@ fn map_cost(
     Ok(Some(cost))
 }
 
-/// What a look-up of a key goes through.
+/// Returns the cost of looking up a key.
 pub(crate) fn key_cost(key: &Dynamic, store: &Store) -> u64 {
     match key.as_immutable_string_ref(store) {
         Ok(key) => bytes_cost(key.len()),

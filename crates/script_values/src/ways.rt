@@ -1,4 +1,4 @@
-//! Values that are reached on many ways.
+//! Values that are reachable on many paths.
 ghost use Rattle.std.specs.Prelude.{◌≡◌, ◌+◌, ◌<◌, true, length, is_some, IfOk, IfSome, IfNone};
 ghost use Rattle.rhai_value.specs.Tree.{cell_of};
 
@@ -10,17 +10,18 @@ use rhai_value::{Dynamic, Path, Store};
 use std::alloc::AllocError;
 use std::mem;
 
-/// Refuses a value to print or to compare which more would be gone through in cells than an array may have items. A cell is
-/// gone through on each way that leads to it, so what takes little room may be reached very often.
-/// Errors: `ErrorDataTooLarge`, at no place; memory is refused.
-/// Cost: what is gone through, as far as it is let through; memory for lists of what is left, one for each open cell.
+/// Refuses to print or compare a value if a walk would visit more values in its cells than an array
+/// may have items. A walk visits a cell on each path to it, so a small value may take very many
+/// visits.
+/// Errors: `ErrorDataTooLarge`, without a position; an allocation fails.
+/// Cost: what is visited, as far as it is allowed; memory for work lists, one for each open cell.
 pub fn check_ways(means: &Means, store: &Store, value: &Dynamic) -> Result<(), FaultKind> {
     walk_cost(means, store, value, u64::MAX)?;
     Ok(())
 }
 
-/// Counts the operations that it takes to go through a value with all that it holds, in cells on each way that leads to them. Where it is
-/// more than `most`, no more is counted than shows that.
+/// Counts the operations of a walk over a value and everything in it, entering cells on each path
+/// to them. Stops counting once the result is more than `most`.
 /// Errors: as `check_ways`, as far as it is counted.
 /// Cost: that of `check_ways`.
 pub fn walk_cost(
@@ -37,8 +38,8 @@ pub fn walk_cost(
     Ok(operations_of(walk_weight(value)))
 }
 
-/// Counts the operations that it takes to print what a value holds, as `walk_cost` counts; what is no text is written item by item, of which
-/// each counts three times.
+/// Counts the operations of printing the value held by a value, as `walk_cost` counts; anything but
+/// a text is written item by item, and each item counts three times.
 /// Errors: as `check_ways`, as far as it is counted.
 /// Cost: that of `check_ways`.
 pub fn print_cost(
@@ -54,8 +55,8 @@ pub fn print_cost(
     Ok(cost.saturating_mul(3))
 }
 
-/// Refuses values that are gone through together, as `check_ways` does one.
-/// Errors: `ErrorDataTooLarge`, at no place; memory is refused.
+/// Refuses values that are visited together, as `check_ways` does for one.
+/// Errors: `ErrorDataTooLarge`, without a position; an allocation fails.
 /// Cost: that of `check_ways`.
 pub(crate) fn check_all_ways(
     means: &Means,
@@ -66,7 +67,7 @@ pub(crate) fn check_all_ways(
     Ok(())
 }
 
-/// Counts the operations that it takes to go through values together, as `walk_cost` does of one.
+/// Counts the operations of a walk over several values, as `walk_cost` does for one.
 /// Errors: as `check_ways`, as far as it is counted.
 /// Cost: that of `check_ways`.
 pub(crate) fn walks_cost(
@@ -91,7 +92,7 @@ fn leads_on(value: &Dynamic) -> bool {
     has_parts(value) || value.is_shared()
 }
 
-/// As how many values it counts to go through some, beside so much; as far as it is no more than so many operations.
+/// Counts the visited values, plus this many; stops once they cost more than this many operations.
 fn go_through<'v>(
     means: &Means,
     store: &'v Store,
@@ -134,7 +135,7 @@ fn go_through<'v>(
     Ok(weight)
 }
 
-/// Opens the cell of a holder, unless it is open or can't be read.
+/// Enters the cell of a holder, unless it is already open or can't be read.
 fn open<'s>(
     path: &mut Path,
     store: &'s Store,
@@ -147,7 +148,7 @@ fn open<'s>(
     path.enter(store, value)
 }
 
-/// Closes the cell that was opened last.
+/// Leaves the cell that was entered last.
 fn close(path: &mut Path)
     requires { 0 < length path.old }
     ensures { length path.new + 1 ≡ length path.old }
@@ -155,7 +156,7 @@ fn close(path: &mut Path)
     path.leave();
 }
 
-/// Refuses so many values, if they are more than an array may have items.
+/// Fails if these are more values than an array may have items.
 fn check_count(means: &Means, count: u64) -> Result<(), FaultKind> {
     let most = means.limits.items as u64;
     if most != 0 && count > most {

@@ -20,15 +20,15 @@ use rhai_value::{Array, Dynamic, INT, Map, Part, PlaceError, PlaceErrorKind, Ste
 pub enum Change {
     /// This value.
     Set(Dynamic),
-    /// What an operator makes of what stands there and this value.
+    /// An operator's result for the present value and this one.
     Assign(Assignment, Dynamic),
 }
 
-/// Writes at the place to which the keys lead from a value. The last key may lead to a part of a text, a blob or an int, or
-/// to a key that a map lacks, which is then made; those before it lead from arrays and maps to what stands in them. The value is
-/// moved out of the change.
-/// Errors: the key that leads nowhere, and why, or what the last part refuses; what was there stays then. Where memory is refused, the
-/// change has its value still.
+/// Writes to the place that the keys lead to from a value. The last key may lead to a part of a
+/// text, a blob or an int, or to a key that a map lacks, which is then added; those before it lead
+/// through arrays and maps. The value is moved out of the change.
+/// Errors: the key that leads nowhere, and why, or the last part's refusal; the place is unchanged
+/// then. If an allocation fails, the change still has its value.
 /// Cost: that of `Dynamic::with_place`, and of the change.
 /// rhai: an assignment to a chain of indices and properties.
 pub fn write(
@@ -65,9 +65,9 @@ pub fn write(
     }
 }
 
-/// Calls a function that may change its receiver at the place to which the keys lead, through arrays and maps; `None` where
-/// the type of what stands there has no such function.
-/// Errors: the key that leads nowhere, and why, or what the function refuses.
+/// Calls a function that may change its receiver, on the value that the keys lead to through arrays
+/// and maps; `None` if the type of that value has no such function.
+/// Errors: the key that leads nowhere, and why, or those of the function.
 /// Cost: that of `Dynamic::with_place`, and of the function.
 pub fn change_at(
     means: &Means,
@@ -91,7 +91,7 @@ pub fn change_at(
     }
 }
 
-/// The answer of the last step.
+/// Returns the result of the last step.
 fn done_at(done: Result<(), FaultKind>, step: usize) -> Result<(), PlaceFault> {
     match done {
         Ok(()) => Ok(()),
@@ -99,7 +99,7 @@ fn done_at(done: Result<(), FaultKind>, step: usize) -> Result<(), PlaceFault> {
     }
 }
 
-/// Writes at a value itself.
+/// Writes to a value itself.
 fn write_whole(
     means: &Means,
     store: &mut Store,
@@ -109,7 +109,7 @@ fn write_whole(
     done_at(write_item(means, store, root, change), 0)
 }
 
-/// Writes at an item, or what it holds.
+/// Writes to an item, or to the value that it holds.
 fn write_item(
     means: &Means,
     store: &mut Store,
@@ -132,7 +132,7 @@ fn set_item(store: &mut Store, item: &mut Dynamic, value: &mut Dynamic) -> Resul
     }
 }
 
-/// The keys as steps. Errors: one that leads to no item and no key.
+/// Converts keys to steps. Errors: one that leads to no item and no key.
 fn steps_of<'k>(
     means: &Means,
     store: &Store,
@@ -152,7 +152,7 @@ fn steps_of<'k>(
     Ok(steps)
 }
 
-/// A key as a step, by the value that the key itself is.
+/// Converts a key to a step, by the value of the key itself.
 fn step_of<'k>(key: &Key<'k>, store: &Store) -> Result<Step<'k>, FaultKind> {
     match *key {
         Key::Name(name) => Ok(Step::Key(name)),
@@ -168,7 +168,7 @@ fn step_of<'k>(key: &Key<'k>, store: &Store) -> Result<Step<'k>, FaultKind> {
     }
 }
 
-/// The fault of a step that isn't gone.
+/// Makes the fault for a step that failed.
 fn fault_on_way(error: PlaceError, keys: &[Key<'_>], store: &Store) -> PlaceFault {
     let kind = match error.kind {
         PlaceErrorKind::Barred | PlaceErrorKind::Lost => in_use(),
@@ -186,7 +186,7 @@ fn fault_on_way(error: PlaceError, keys: &[Key<'_>], store: &Store) -> PlaceFaul
     }
 }
 
-/// The int that the key of this number is.
+/// Returns the int of the key with this number.
 fn number_at(keys: &[Key<'_>], step: usize, store: &Store) -> INT {
     match keys.get(step) {
         Some(Key::Index(index)) => index.as_int(store).unwrap_or(0),
@@ -194,7 +194,7 @@ fn number_at(keys: &[Key<'_>], step: usize, store: &Store) -> INT {
     }
 }
 
-/// Writes at what one key leads to from a value that is no holder.
+/// Writes to the part at one key of a value that is no holder.
 fn write_part(
     means: &Means,
     store: &mut Store,
@@ -221,7 +221,8 @@ fn write_part(
     Ok(part.write_back(source, means.alloc, store, Position::NONE)?)
 }
 
-/// Refuses a value in the place of a part of a text, if the text would be too long and longer than before.
+/// Fails if writing a value over a part of a text would make the text too long, and longer than
+/// before.
 fn check_written(
     means: &Means,
     source: &Dynamic,
@@ -239,7 +240,7 @@ fn check_written(
     Ok(())
 }
 
-/// How many bytes a text or a character has in a text.
+/// Returns how many bytes a text or a character adds to a text.
 fn length_in_text(value: &Dynamic) -> usize {
     match value.parts() {
         Union::Str(_, _, text) => text.len(),
@@ -271,7 +272,7 @@ fn write_in_array(
     }
 }
 
-/// The item at an index, to write; a negative one counts from the end.
+/// Borrows mutably the item at an index; a negative one counts from the end.
 fn item_mut(items: &mut Array, index: INT) -> Option<&mut Dynamic> {
     let place = calc_index(items.len(), index, true)?;
     items.get_mut(place)

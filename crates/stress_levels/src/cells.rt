@@ -1,4 +1,5 @@
-//! A chain of cells, each of which holds the one before; and the same closed, the first one holding the last.
+//! A chain of cells, each with a holder of the one before; and the same closed in a loop, the first
+//! one holding the last.
 
 use crate::collected::collect;
 use rhai_show::{debug_text, display_text, hashed, is_hashable};
@@ -8,7 +9,7 @@ use std::alloc::{AllocError, Global};
 /// The int in the first cell of a chain.
 const BOTTOM: i64 = 7;
 
-/// A new cell with this in it.
+/// Makes a new cell with this content.
 fn cell(store: &mut Store, content: Dynamic) -> Result<Dynamic, AllocError> {
     let Ok(mut holder) = Dynamic::UNIT.into_shared(store) else {
         return Err(AllocError);
@@ -17,14 +18,14 @@ fn cell(store: &mut Store, content: Dynamic) -> Result<Dynamic, AllocError> {
     Ok(holder)
 }
 
-/// Writes what is in a cell.
+/// Writes the content of a cell.
 fn write(store: &mut Store, holder: &mut Dynamic, content: Dynamic) {
     if let Some(place) = holder.write_whole(store) {
         *place = content;
     }
 }
 
-/// The holders of the first and of the last of so many cells.
+/// Makes a chain of this many cells, and returns the holders of the first and of the last.
 fn chain(alloc: Global, store: &mut Store, count: usize) -> Result<(Dynamic, Dynamic), AllocError> {
     let first = cell(store, Dynamic::from_int(BOTTOM))?;
     let mut last = first.copy(alloc)?;
@@ -34,7 +35,7 @@ fn chain(alloc: Global, store: &mut Store, count: usize) -> Result<(Dynamic, Dyn
     Ok((first, last))
 }
 
-/// Whether the text of each form has so many characters.
+/// Whether the text in each format has this many characters.
 fn is_printed(
     alloc: Global,
     store: &Store,
@@ -46,7 +47,7 @@ fn is_printed(
     Ok(shown == characters && told == characters)
 }
 
-/// Whether a value has these many hash bytes, or none.
+/// Whether a value has this many hash bytes, or none.
 fn is_hashed(
     alloc: Global,
     store: &Store,
@@ -63,7 +64,8 @@ fn is_hashed(
     }
 }
 
-/// What went wrong first with a holder whose text has so many characters, and which has so many hash bytes, if any.
+/// Returns the first thing that is wrong with a holder whose text has this many characters and
+/// which has this many hash bytes, if any.
 fn fault(
     alloc: Global,
     store: &Store,
@@ -83,7 +85,8 @@ fn fault(
     Ok(None)
 }
 
-/// What went wrong first with a chain of so many cells: its text is the int with a mark for each cell, its hash bytes are the int's.
+/// Returns the first thing that is wrong with a chain of this many cells: its text is the int with
+/// a mark for each cell, its hash bytes are the int's.
 pub fn chain_fault(alloc: Global, count: usize) -> Result<Option<&'static str>, AllocError> {
     let mut store = Store::new(alloc);
     let (_, mut last) = chain(alloc, &mut store, count)?;
@@ -92,7 +95,8 @@ pub fn chain_fault(alloc: Global, count: usize) -> Result<Option<&'static str>, 
     fault(alloc, &store, &last, characters, Some(9))
 }
 
-/// The same of a closed one: its text ends where the first holder comes again, and it has no hash.
+/// The same for a closed chain: its text ends where the first holder occurs again, and it has no
+/// hash.
 pub fn ring_fault(alloc: Global, count: usize) -> Result<Option<&'static str>, AllocError> {
     let mut store = Store::new(alloc);
     let (mut first, mut last) = chain(alloc, &mut store, count)?;

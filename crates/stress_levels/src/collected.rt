@@ -4,7 +4,7 @@ ghost use Rattle.std.specs.Prelude.{◌≡◌, length, IfOk};
 use rhai_value::{Dynamic, Reach, Store};
 use std::alloc::{AllocError, Global};
 
-/// The cells that the value itself names.
+/// Finds the cells that the value itself refers to.
 fn met(alloc: Global, store: &Store, value: &mut Dynamic) -> Result<Reach, AllocError>
     ensures { IfOk result (λ reach. length reach ≡ length store.now) }
 {
@@ -13,7 +13,7 @@ fn met(alloc: Global, store: &Store, value: &mut Dynamic) -> Result<Reach, Alloc
     Ok(reach)
 }
 
-/// Gives back all cells that the value doesn't reach.
+/// Frees all cells that the value doesn't reach.
 pub fn collect(alloc: Global, store: &mut Store, value: &mut Dynamic) -> Result<(), AllocError> {
     let reach = met(alloc, store, value)?;
     let kept = store.collect(reach);

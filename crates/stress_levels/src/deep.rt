@@ -1,4 +1,4 @@
-//! What is done with a value of many levels, and whether it was done right.
+//! Operations on a value of many levels, and whether their results are right.
 
 use crate::collected::collect;
 use crate::shape::{Shape, bottom, is_whole};
@@ -36,7 +36,7 @@ impl Deep {
         Ok(is_whole(&copy, self.depth, store) && self.is_whole(store))
     }
 
-    /// It is painted down to the bottom, but for what is curried.
+    /// Whether painting reaches the bottom, except in curried values.
     pub fn is_painted(&mut self, store: &Store) -> bool {
         self.value.set_access_mode(AccessMode::ReadOnly);
         let Some(found) = bottom(&self.value, self.depth) else {
@@ -52,7 +52,7 @@ impl Deep {
         !self.value.is_locked(store)
     }
 
-    /// Each value is visited once.
+    /// Whether each value is visited once.
     pub fn is_scanned(&mut self, store: &Store) -> bool {
         let mut visits = Visits::none();
         self.value.deep_scan(&mut visits);
@@ -79,7 +79,7 @@ impl Deep {
         }
     }
 
-    /// It is shared, and a flat copy of what its cell has is taken.
+    /// Whether it can be shared, and a flat copy of its cell's content taken.
     pub fn is_flattened(&self, alloc: Global, store: &mut Store) -> Result<bool, AllocError> {
         let Ok(holder) = self.value.copy(alloc)?.into_shared(store) else {
             return Err(AllocError);
@@ -90,7 +90,7 @@ impl Deep {
         Ok(is_whole(&flat, self.depth, store))
     }
 
-    /// A scope keeps it, and gives a copy of it.
+    /// Whether a scope keeps it, and returns a copy of it.
     pub fn is_kept(&self, alloc: Global, store: &Store) -> Result<bool, AllocError> {
         let mut scope = Scope::new(alloc);
         scope.push_dynamic("x", self.value.copy(alloc)?)?;
@@ -103,14 +103,14 @@ impl Deep {
         }
     }
 
-    /// It is met and given its new numbers in a collection.
+    /// Whether a collection finds its cells, and renumbers its holders.
     pub fn is_collected(&mut self, alloc: Global, store: &mut Store) -> Result<bool, AllocError> {
         collect(alloc, store, &mut self.value)?;
         Ok(self.is_whole(store))
     }
 }
 
-/// What went wrong first where the value is copied or asked for locks.
+/// Returns the first thing that is wrong if the value is copied or searched for locks.
 fn read(deep: &Deep, alloc: Global, store: &Store) -> Result<Option<&'static str>, AllocError> {
     if !deep.is_copied(alloc, store)? {
         return Ok(Some("copied"));
@@ -121,7 +121,7 @@ fn read(deep: &Deep, alloc: Global, store: &Store) -> Result<Option<&'static str
     Ok(None)
 }
 
-/// The same where it is printed or hashed.
+/// The same if it is printed or hashed.
 fn told(deep: &Deep, alloc: Global, store: &Store) -> Result<Option<&'static str>, AllocError> {
     if !deep.is_printed(alloc, store)? {
         return Ok(Some("printed"));
@@ -132,7 +132,7 @@ fn told(deep: &Deep, alloc: Global, store: &Store) -> Result<Option<&'static str
     Ok(None)
 }
 
-/// The same where copies of it are held by a cell or by an entry.
+/// The same if a cell or an entry has copies of it.
 fn held(deep: &Deep, alloc: Global, store: &mut Store) -> Result<Option<&'static str>, AllocError> {
     if !deep.is_flattened(alloc, store)? {
         return Ok(Some("flattened"));
@@ -143,7 +143,7 @@ fn held(deep: &Deep, alloc: Global, store: &mut Store) -> Result<Option<&'static
     Ok(None)
 }
 
-/// The same where it is gone through to be written.
+/// The same if it is walked to be written.
 fn written(
     deep: &mut Deep,
     alloc: Global,
@@ -161,7 +161,7 @@ fn written(
     Ok(None)
 }
 
-/// What went wrong first with a value of so many levels.
+/// Returns the first thing that is wrong with a value of this many levels.
 pub fn fault(
     alloc: Global,
     shape: Shape,

@@ -5,7 +5,7 @@ use rhai_run::{Answer, Command, Expr, Literal, World, apply};
 use rhai_text::{ImmutableString, Limits, Token};
 use std::alloc::{AllocError, Global};
 
-/// What is made of an expression to have one that is a level deeper.
+/// How an expression is made one level deeper.
 #[derive(Clone, Copy)]
 pub(crate) enum Level {
     BlockOfOne,
@@ -62,7 +62,7 @@ fn block_of_three(alloc: Global, first: Expr, inner: Expr, last: Expr) -> Result
     Ok(Expr::Block(parts))
 }
 
-/// An expression that is a level deeper; the number stands on either side where something else than one does.
+/// Makes an expression one level deeper; for some levels the number is on the other side.
 fn deeper(alloc: Global, level: Level, number: i64, inner: Expr) -> Result<Expr, AllocError> {
     match level {
         Level::BlockOfOne => block_of_one(alloc, inner),
@@ -89,7 +89,7 @@ fn nested(alloc: Global, level: Level, depth: usize) -> Result<Expr, AllocError>
     Ok(whole)
 }
 
-/// The text of what an expression comes to, and how many values and entries there are then.
+/// Returns the text of an expression's value, and how many values and entries there are then.
 fn evaluated(alloc: Global, world: &mut World, expr: &Expr) -> Result<String, AllocError> {
     match eval(world, expr) {
         Ok(None) => {}
@@ -105,7 +105,7 @@ fn evaluated(alloc: Global, world: &mut World, expr: &Expr) -> Result<String, Al
     }
 }
 
-/// What an expression of so many levels about 0 comes to, on a new world.
+/// Returns the result of an expression of this many levels around 0, on a new world.
 pub(crate) fn outcome(alloc: Global, level: Level, depth: usize) -> Result<String, AllocError> {
     let expr = nested(alloc, level, depth)?;
     let mut world = World::new(alloc, Limits { text: 0, items: 0 });

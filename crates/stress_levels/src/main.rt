@@ -1,5 +1,6 @@
-//! Does with values and expressions of very many levels, and with very many shares, all that is done with them. The first argument says
-//! which: `values`, `expressions`, `shares` or `all`; the second one is the number of levels.
+//! Does everything that can be done with values and expressions of very many levels, and with very
+//! many shared values. The first argument says which: `values`, `expressions`, `shares` or `all`;
+//! the second one is the number of levels.
 #![tactic(auto)]
 
 mod cells;
@@ -30,7 +31,7 @@ fn told(outcome: Result<Option<&'static str>, AllocError>) -> &'static str {
     }
 }
 
-/// Says what comes of values of so many levels, and of chains of so many cells.
+/// Prints the outcome of values of this many levels, and of chains of this many cells.
 fn tell_values(rt: &(impl Print + AllocGlobal), depth: usize) -> io::Result<()> {
     for shape in Shape::ALL {
         let outcome = told(fault(rt.alloc(), shape, depth));
@@ -42,7 +43,7 @@ fn tell_values(rt: &(impl Print + AllocGlobal), depth: usize) -> io::Result<()> 
     println!(rt; "{depth} cells in a ring: {ring}")
 }
 
-/// Says what expressions of so many levels come to.
+/// Prints the results of expressions of this many levels.
 fn tell_expressions(rt: &(impl Print + AllocGlobal), depth: usize) -> io::Result<()> {
     for level in Level::ALL {
         match outcome(rt.alloc(), level, depth) {
@@ -53,7 +54,7 @@ fn tell_expressions(rt: &(impl Print + AllocGlobal), depth: usize) -> io::Result
     Ok(())
 }
 
-/// Says what comes of very many shares; answers whether memory was there for them.
+/// Prints the outcome of very many shared values; returns whether the allocations succeeded.
 fn tell_shares(rt: &(impl Print + AllocGlobal)) -> io::Result<bool> {
     let shared = share_values(rt.alloc());
     let is_right = shared.is_ok();
@@ -65,7 +66,8 @@ fn tell_shares(rt: &(impl Print + AllocGlobal)) -> io::Result<bool> {
     Ok(is_right)
 }
 
-/// Does what the arguments say; answers whether shares, where they are asked for, had memory.
+/// Does what the arguments say; returns whether the allocations for shared values succeeded, if
+/// these were requested.
 fn run(rt: &(impl Print + Env + AllocGlobal)) -> io::Result<bool> {
     let mut words = env::args(rt)?.skip(1);
     let what = match words.next() {

@@ -4,7 +4,7 @@ use rhai_text::ImmutableString;
 use rhai_value::{Dynamic, FnPtr, Map, Store, Union};
 use std::alloc::{AllocError, Global};
 
-/// What a level of a value is.
+/// The kind of each level of a value.
 #[derive(Clone, Copy)]
 pub enum Shape {
     /// An array of one item.
@@ -13,7 +13,7 @@ pub enum Shape {
     Maps,
     /// A function pointer with one curried value.
     Functions,
-    /// These three in turn.
+    /// These three in rotation.
     Mixed,
     /// An array of three items: the next level, with an empty array on either side.
     Sides,
@@ -38,7 +38,7 @@ impl Shape {
         }
     }
 
-    /// The int at the bottom of so many levels.
+    /// Wraps the int in this many levels.
     pub fn nested(self, alloc: Global, depth: usize) -> Result<Dynamic, AllocError> {
         let mut value = Dynamic::from_int(BOTTOM);
         for level in 0..depth {
@@ -111,7 +111,7 @@ fn inside(value: &Dynamic) -> Option<&Dynamic> {
     }
 }
 
-/// What stands so many levels down.
+/// Returns the value this many levels down.
 pub fn bottom(value: &Dynamic, depth: usize) -> Option<&Dynamic> {
     let mut found = value;
     for _ in 0..depth {
@@ -120,7 +120,7 @@ pub fn bottom(value: &Dynamic, depth: usize) -> Option<&Dynamic> {
     Some(found)
 }
 
-/// Whether the int stands so many levels down.
+/// Whether the int is this many levels down.
 pub fn is_whole(value: &Dynamic, depth: usize, store: &Store) -> bool {
     match bottom(value, depth) {
         Some(found) => found.as_int(store) == Ok(BOTTOM),

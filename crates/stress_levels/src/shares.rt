@@ -1,16 +1,17 @@
-//! Three million values that are shared one after another, in a world that gives cells back when it is time to.
+//! Three million values that are shared one after another, in a world that collects cells when a
+//! collection is due.
 
 use rhai_run::{Command, Literal, World, apply};
 use rhai_text::Limits;
 use std::alloc::{AllocError, Global};
 
-/// How often a value is shared between two times of asking, by some hundred commands.
+/// How often a value is shared between two checks, by some hundred commands.
 const BETWEEN: usize = 33;
 
 /// How many values are shared.
 const SHARED: usize = 3_000_000;
 
-/// Shares a value and lets go of it, so often.
+/// Shares a value and drops it, this many times.
 fn share_and_drop(world: &mut World, times: usize) -> Result<(), AllocError> {
     for _ in 0..times {
         apply(world, &Command::Put(Literal::Int(1)))?;

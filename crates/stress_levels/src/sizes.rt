@@ -1,4 +1,4 @@
-//! How much there is of a value of many levels: of values, of characters, of hash bytes.
+//! The sizes of a value of many levels: values, characters, hash bytes.
 
 use crate::shape::Shape;
 
@@ -32,7 +32,7 @@ fn levels_of(shape: Shape, depth: usize) -> Levels {
     levels
 }
 
-/// So much of each level, and of the int at the bottom.
+/// Adds up these amounts for each level, and for the int at the bottom.
 fn sum(levels: &Levels, each: [usize; 4], bottom: usize) -> usize {
     let [array, map, function, sides] = each;
     levels
@@ -44,17 +44,19 @@ fn sum(levels: &Levels, each: [usize; 4], bottom: usize) -> usize {
         .saturating_add(bottom)
 }
 
-/// How many values there are: a level is one, and two empty arrays where they stand on its sides.
+/// Returns the number of values: a level is one, plus two empty arrays if it has these on its
+/// sides.
 pub fn values(shape: Shape, depth: usize) -> usize {
     sum(&levels_of(shape, depth), [1, 1, 1, 3], 1)
 }
 
-/// The characters in Debug: `[..]`, `#{"k": ..}`, `Fn("f", ..)` and `[[], .., []]` about the `7`.
+/// The characters in debug format: `[..]`, `#{"k": ..}`, `Fn("f", ..)` and `[[], .., []]` around
+/// the `7`.
 pub fn debug_characters(shape: Shape, depth: usize) -> usize {
     sum(&levels_of(shape, depth), [2, 8, 9, 10], 1)
 }
 
-/// The characters in Display, which differs for a function pointer alone: that is `Fn(f)`.
+/// The characters in display format, which only differs for a function pointer: that is `Fn(f)`.
 pub fn display_characters(shape: Shape, depth: usize) -> usize {
     let is_function = match shape {
         Shape::Arrays | Shape::Maps | Shape::Sides => false,
@@ -68,7 +70,8 @@ pub fn display_characters(shape: Shape, depth: usize) -> usize {
     }
 }
 
-/// The hash bytes: a kind and a count of eight bytes, and for a key or a name nine more; an empty array has nine, as the int has.
+/// The hash bytes: a kind and a count of eight bytes, and nine more for a key or a name; an empty
+/// array has nine, as the int has.
 pub fn hash_bytes(shape: Shape, depth: usize) -> usize {
     sum(&levels_of(shape, depth), [9, 18, 18, 27], 9)
 }

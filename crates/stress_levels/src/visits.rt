@@ -1,4 +1,4 @@
-//! A visitor that counts the values that it comes to, and makes each int the one at the bottom.
+//! A visitor that counts the values it visits, and sets each int to the one at the bottom.
 ghost use Rattle.std.specs.Prelude.{◌^◌, ◌-◌, ◌+◌, min, pos};
 ghost use Rattle.rhai_value.specs.Parts.{with_int};
 ghost use Rattle.rhai_value.specs.Scan.{nodes_kept};

@@ -1,11 +1,11 @@
-//! Lines on two worlds whose cells have other numbers: the answers must be the same.
+//! Lines on two worlds with different cell numbers: the answers must be the same.
 
 use crate::rows::{are_written, commands_of, make, room, row_of, wanted};
 use crate::sections::{Section, UNLIMITED, halves};
 use rhai_run::{Command, World, run_both};
 use std::alloc::{AllocError, Global};
 
-/// The commands of lines that may have answers.
+/// Reads the commands of lines that may have answers.
 fn commands_in(alloc: Global, rows: &str) -> Result<Vec<Command>, AllocError> {
     let mut lines = Vec::new(alloc);
     for row in rows.lines() {
@@ -14,7 +14,7 @@ fn commands_in(alloc: Global, rows: &str) -> Result<Vec<Command>, AllocError> {
     commands_of(alloc, &lines)
 }
 
-/// Runs the commands on both worlds, each behind lines of its own.
+/// Runs the commands on both worlds, each after its own setup lines.
 fn both_answer(
     alloc: Global,
     first: &mut World,
@@ -33,7 +33,7 @@ fn both_answer(
     }
 }
 
-/// Whether both worlds answer alike, and as is wanted where that is said.
+/// Whether both worlds answer alike, and as the rows say if they have answers.
 pub(crate) fn is_answered(
     alloc: Global,
     section: &Section<'_>,

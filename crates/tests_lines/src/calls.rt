@@ -1,4 +1,4 @@
-//! Calls that no row makes, each by its name.
+//! Calls that no row makes, each with its name.
 mod both;
 mod collected;
 mod expressions;
@@ -11,7 +11,7 @@ mod printed;
 use crate::Tally;
 use std::io;
 
-/// Counts a call, and tells it where it is wrong.
+/// Counts a call, and reports it if it is wrong.
 fn tell(rt: &impl Print, name: &str, is_right: bool, tally: &mut Tally) -> io::Result<()> {
     tally.tried = tally.tried.saturating_add(1);
     if is_right {

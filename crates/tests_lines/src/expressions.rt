@@ -1,5 +1,5 @@
-//! Expressions, one after another on a world, and what comes of each: its value or its refusal, and how many values the hand and how many entries the
-//! scope has then.
+//! Expressions, one after another on a world, and the outcome of each: its value or its refusal,
+//! and how many values the hand and how many entries the scope has then.
 mod words;
 
 use crate::rows::{commands_in, make, row_of};
@@ -12,7 +12,7 @@ use std::alloc::{AllocError, Global};
 use std::io::Eprint;
 use words::expr_of;
 
-/// Takes away what an evaluation has made and not cleaned up, over so many values and entries.
+/// Removes what an evaluation left beyond this many values and entries.
 fn clean(world: &mut World, values: usize, entries: usize) -> Result<(), AllocError> {
     for _ in values..world.hand().len() {
         apply(world, &Command::Drop)?;
@@ -21,7 +21,8 @@ fn clean(world: &mut World, values: usize, entries: usize) -> Result<(), AllocEr
     Ok(())
 }
 
-/// Evaluates. Where memory is refused, what was there before is to be there still, and the expression is evaluated once more.
+/// Evaluates. If an allocation fails, what was there before must still be there, and the expression
+/// is evaluated once more.
 fn eval_at_last(
     rt: &impl Eprint,
     alloc: Global,
@@ -44,7 +45,7 @@ fn eval_at_last(
     }
 }
 
-/// The text of the last value of the hand.
+/// Returns the text of the last value of the hand.
 fn last_text(world: &mut World) -> Result<Answer, AllocError> {
     match world.hand().len().checked_sub(1) {
         Some(last) => apply(world, &Command::Debug(last)),
@@ -52,7 +53,7 @@ fn last_text(world: &mut World) -> Result<Answer, AllocError> {
     }
 }
 
-/// The text of what an expression came to, and how many values and entries there are then.
+/// Returns the text of an expression's outcome, and how many values and entries there are then.
 fn outcome_text(
     alloc: Global,
     world: &mut World,
@@ -72,7 +73,7 @@ fn outcome_text(
     format!(in alloc; "{} in {values}, {entries}", text.trim_end())
 }
 
-/// Whether an expression comes to what is wanted; what it comes to is written.
+/// Whether an expression has the expected outcome; writes its actual one.
 fn comes_to(
     rt: &impl Eprint,
     alloc: Global,
@@ -90,7 +91,7 @@ fn comes_to(
     Ok(found.as_str() == row.1)
 }
 
-/// Whether each of the rows comes to what it says.
+/// Whether each of the rows has the outcome that it says.
 fn all_come(
     rt: &impl Eprint,
     alloc: Global,
@@ -108,7 +109,7 @@ fn all_come(
     Ok(true)
 }
 
-/// Whether the section comes to what it says.
+/// Whether the section has the outcomes that it says.
 pub(crate) fn is_answered(
     rt: &impl Eprint,
     alloc: Global,

@@ -1,4 +1,4 @@
-//! Commands that answer where all memory is refused.
+//! Commands that succeed even if every allocation fails.
 
 use crate::rows::{commands_in, make, room, wanted};
 use crate::sections::{Section, UNLIMITED, halves};
@@ -16,8 +16,8 @@ fn are_applied(world: &mut World, commands: &[Command], out: &mut Vec<u8>) -> bo
     true
 }
 
-/// Whether commands answer behind others, and behind a request that nothing hangs on: so they do where that one and all later ones are
-/// refused.
+/// Whether commands have the right answers after others, and after an allocation whose failure
+/// doesn't matter: then also if that one and all later ones fail.
 fn are_free(
     alloc: Global,
     before: &[Command],
@@ -35,7 +35,7 @@ fn are_free(
     }
 }
 
-/// Whether the section is answered as it says.
+/// Whether the section has the answers that it says.
 pub(crate) fn is_answered(
     alloc: Global,
     section: &Section<'_>,

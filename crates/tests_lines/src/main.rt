@@ -1,5 +1,6 @@
-//! Answers rows, each a line and its answer, on worlds of script values, and tells those that are answered otherwise. The arguments are files of
-//! rows, a way before them where only that is to be tried, and `calls`. The README says which ways there are.
+//! Executes rows, each a line and its answer, on worlds of script values, and prints those with a
+//! different answer. The arguments are files of rows, with a way before them if only that one is to
+//! be tried, and `calls`. The README lists the ways.
 #![tactic(auto)]
 
 mod alike;
@@ -20,7 +21,8 @@ use std::process::ExitCode;
 use std::rt::{Env, Files};
 use std::{env, fs, io};
 
-/// How many sections were tried, and in how many ways one was answered otherwise; and the rows of those that a journal can have.
+/// How many sections were tried, and in how many ways one had different answers; and the rows of
+/// those that a journal can contain.
 #[derive(Drop)]
 struct Tally {
     tried: u64,
@@ -28,7 +30,7 @@ struct Tally {
     journal: String,
 }
 
-/// Whether a section is answered as it says, and what was answered.
+/// Whether a section has the answers that it says, and the actual answers.
 fn is_answered(
     rt: &(impl Eprint + AllocGlobal),
     way: Way,
@@ -62,7 +64,7 @@ fn try_in(
     println!(rt; "{} ({}) is answered:\n{found}", section.name, way.name())
 }
 
-/// Tries a section: lines in the ways that are asked for, and others once.
+/// Tries a section: lines in the requested ways, and others once.
 fn try_section(
     rt: &(impl Print + Eprint + AllocGlobal),
     only: Option<Way>,
@@ -102,7 +104,7 @@ fn try_file(
     Ok(())
 }
 
-/// Tries what the arguments name: files, a way in which those behind it are tried, and `calls`.
+/// Tries what the arguments name: files, a way for the files after it, and `calls`.
 fn try_files(
     rt: &(impl Files + Print + Eprint + Env + AllocGlobal),
     tally: &mut Tally,
@@ -120,7 +122,7 @@ fn try_files(
     Ok(())
 }
 
-/// Tries the journal of all lines, four times one behind another.
+/// Tries the journal of all lines, repeated four times.
 fn try_journal(rt: &(impl Print + AllocGlobal), tally: &mut Tally) -> io::Result<()> {
     let alloc: Global = rt.alloc();
     let commands = written::long_run(alloc, tally.journal.as_str(), 4)?;
@@ -131,7 +133,7 @@ fn try_journal(rt: &(impl Print + AllocGlobal), tally: &mut Tally) -> io::Result
     println!(rt; "{} commands in a journal", commands.len())
 }
 
-/// Whether all is answered as it should be.
+/// Whether all answers are right.
 fn is_all_right(rt: &(impl Files + Print + Eprint + Env + AllocGlobal)) -> io::Result<bool> {
     let mut tally = Tally {
         tried: 0,
@@ -151,7 +153,7 @@ fn main(rt: HostRuntime) -> ExitCode {
         Ok(true) => ExitCode::SUCCESS,
         Ok(false) => ExitCode::from(1),
         Err(error) => {
-            // where standard error fails too, the exit status is all that is left to say
+            // if standard error fails too, only the exit status is left to report it
             let _ = eprintln!(rt; "error: {error}");
             ExitCode::from(2)
         }

@@ -6,13 +6,13 @@ use std::alloc::{AllocError, Global};
 
 const BAD_LINE: &str = "refused BadLine";
 
-/// The line and the answer of a row. Where an answer goes on, the line is empty.
+/// Returns the line and the answer of a row. If the row continues an answer, the line is empty.
 pub(crate) fn row_of(row: &str) -> Option<(&str, &str)> {
     let (line, answer) = row.split_once(" ->")?;
     Some((line, answer.strip_prefix(' ').unwrap_or(answer)))
 }
 
-/// The control character whose picture this is, or the character itself.
+/// Returns the control character for a picture, or the character itself.
 fn without_picture(c: char) -> char {
     match c {
         '\u{2421}' => '\u{7f}',
@@ -21,7 +21,7 @@ fn without_picture(c: char) -> char {
     }
 }
 
-/// A text in which each picture of a control character, `␀` to `␟` and `␡`, is that character.
+/// Replaces each picture of a control character, `␀` to `␟` and `␡`, by that character.
 pub(crate) fn without_pictures(alloc: Global, text: &str) -> Result<String, AllocError> {
     let mut out = String::new(alloc);
     for c in text.chars() {
@@ -30,7 +30,8 @@ pub(crate) fn without_pictures(alloc: Global, text: &str) -> Result<String, Allo
     Ok(out)
 }
 
-/// The answers of the rows, each on a line of its own; where only commands are asked, not those of lines that say none.
+/// Returns the answers of the rows, each on a line of its own; for commands only, without those of
+/// lines that are no commands.
 pub(crate) fn wanted(alloc: Global, rows: &str, of_all: bool) -> Result<String, AllocError> {
     let mut text = String::new(alloc);
     for (_, answer) in rows.lines().filter_map(row_of) {
@@ -54,7 +55,7 @@ pub(crate) fn input_of(alloc: Global, rows: &str) -> Result<String, AllocError> 
     Ok(text)
 }
 
-/// The lines of rows that say a command.
+/// Returns the lines of rows that are commands.
 pub(crate) fn lines_of(alloc: Global, rows: &str) -> Result<Vec<&str>, AllocError> {
     let mut lines = Vec::new(alloc);
     for (line, answer) in rows.lines().filter_map(row_of) {
@@ -65,7 +66,7 @@ pub(crate) fn lines_of(alloc: Global, rows: &str) -> Result<Vec<&str>, AllocErro
     Ok(lines)
 }
 
-/// The commands that the lines say, where each says one.
+/// Reads the commands of the lines, if each is one.
 pub(crate) fn commands_of(alloc: Global, lines: &[&str]) -> Result<Vec<Command>, AllocError> {
     let mut commands = Vec::new(alloc);
     for line in lines {
@@ -77,13 +78,13 @@ pub(crate) fn commands_of(alloc: Global, lines: &[&str]) -> Result<Vec<Command>,
     Ok(commands)
 }
 
-/// The commands that rows say.
+/// Reads the commands of rows.
 pub(crate) fn commands_in(alloc: Global, rows: &str) -> Result<Vec<Command>, AllocError> {
     let lines = lines_of(alloc, rows)?;
     commands_of(alloc, &lines)
 }
 
-/// Room for what is written, so that writing wants none.
+/// Reserves capacity for what is written, so that writing doesn't allocate.
 pub(crate) fn room(alloc: Global) -> Result<Vec<u8>, AllocError> {
     Vec::with_capacity(alloc, 1 << 14)
 }
@@ -98,7 +99,7 @@ pub(crate) fn are_written(answers: &[Answer], out: &mut Vec<u8>) -> bool {
     true
 }
 
-/// Runs the commands that make a world.
+/// Runs the commands that set up a world.
 pub(crate) fn make(world: &mut World, commands: &[Command]) -> Result<(), AllocError> {
     match run(world, commands) {
         Ok(_) => Ok(()),

@@ -4,21 +4,24 @@ use rhai_text::Limits;
 
 pub(crate) const UNLIMITED: Limits = Limits { text: 0, items: 0 };
 
-/// What stands between the rows that make a world and those that are asked of it.
+/// Separates the rows that set up a world from those that are tested.
 const BETWEEN: &str = "---\n";
 
-/// What the rows of a section are.
+/// The kind of a section's rows.
 #[derive(Clone, Copy)]
 pub(crate) enum Kind {
     /// Lines and their answers, on a world with these limits: `texts 3`, `items 2`, or none.
     Lines(Limits),
-    /// Lines that two worlds answer alike, with answers or without them: `alike`. The lines that make each world stand before.
+    /// Lines that two worlds answer alike, with answers or without them: `alike`. The lines that
+    /// set up each world come before.
     Alike,
-    /// Commands that never want memory, and their answers: `free`. The lines that make the world stand before.
+    /// Commands that never allocate, and their answers: `free`. The lines that set up the world
+    /// come before.
     Free,
-    /// Lines, and how the commands that they say are written: `written`.
+    /// Lines, and how their commands are written: `written`.
     Written,
-    /// Expressions, and what comes of them: `expressions`. The lines that make the world may stand before.
+    /// Expressions, and their outcomes: `expressions`. The lines that set up the world may come
+    /// before.
     Expressions,
 }
 
@@ -30,7 +33,7 @@ pub(crate) struct Section<'a> {
     pub(crate) rows: &'a str,
 }
 
-/// The kind that a word and a number say.
+/// Returns the kind for a word and a number.
 fn kind_of(word: &str, count: usize) -> Option<Kind> {
     match word {
         "texts" => Some(Kind::Lines(Limits {
@@ -49,7 +52,7 @@ fn kind_of(word: &str, count: usize) -> Option<Kind> {
     }
 }
 
-/// The kind that stands behind the name.
+/// Returns the kind after the name.
 fn said_kind(said: &str) -> Option<Kind> {
     match said.split_once(' ') {
         Some((word, count)) => kind_of(word, count.parse::<usize>().ok()?),
@@ -57,7 +60,7 @@ fn said_kind(said: &str) -> Option<Kind> {
     }
 }
 
-/// The section that begins with its name; `None` where it has no rows or its kind is none.
+/// Returns the section that begins with its name; `None` if it has no rows or no valid kind.
 pub(crate) fn section_of(part: &str) -> Option<Section<'_>> {
     let (head, rows) = part.strip_prefix("# ").unwrap_or(part).split_once('\n')?;
     match head.split_once(" | ") {
@@ -74,7 +77,7 @@ pub(crate) fn section_of(part: &str) -> Option<Section<'_>> {
     }
 }
 
-/// The rows that make the world, and those that are asked of it.
+/// Returns the rows that set up the world, and those that are tested.
 pub(crate) fn halves(rows: &str) -> (&str, &str) {
     rows.split_once(BETWEEN).unwrap_or(("", rows))
 }

@@ -1,4 +1,5 @@
-//! What a host sees of a world: the values of its hand, with tags and modes, and the scope. Marks are seen in the texts.
+//! A host's view of a world: the values of its hand, with tags and modes, and the scope. Marks show
+//! in the texts.
 
 use rhai_run::World;
 use rhai_show::debug_text;
@@ -17,7 +18,7 @@ fn write_value(
     out.push_str(&text)
 }
 
-/// What is seen.
+/// Returns the view.
 pub(crate) fn seen(alloc: Global, world: &World) -> Result<String, AllocError> {
     let mut out = String::new(alloc);
     for value in world.hand() {
@@ -27,12 +28,12 @@ pub(crate) fn seen(alloc: Global, world: &World) -> Result<String, AllocError> {
     Ok(out)
 }
 
-/// Whether this is seen.
+/// Whether the view is this one.
 pub(crate) fn is_seen(alloc: Global, world: &World, before: &str) -> Result<bool, AllocError> {
     Ok(seen(alloc, world)?.as_str() == before)
 }
 
-/// Tells on standard error what was refused memory.
+/// Reports on standard error what failed to allocate.
 pub(crate) fn tell(rt: &impl Eprint, what: &str) {
     let _ = rt.eprintln(format_args!("refused: {what}"));
 }

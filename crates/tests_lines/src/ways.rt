@@ -1,5 +1,6 @@
-//! The ways in which the lines of a section are answered. Where memory is refused, each goes on: what was refused is told on standard error, the world is
-//! to be seen as before, and what is left is done once more.
+//! The ways in which the lines of a section are executed. If an allocation fails, each way
+//! continues: it reports the failure on standard error, checks that the view of the world is
+//! unchanged, and repeats what is left.
 mod each;
 mod lines;
 mod runs;
@@ -13,22 +14,22 @@ use std::io::Eprint;
 
 #[derive(Clone, Copy, PartialEq, Eq)]
 pub(crate) enum Way {
-    /// By one run over lines.
+    /// In one run over lines.
     Lines,
-    /// One command after another.
+    /// Command by command.
     Apply,
-    /// One command after another; the world is collected after each.
+    /// Command by command, with a collection after each.
     Collect,
     /// In one run.
     Run,
-    /// In one run over two worlds, the first of which has cells that nothing reaches.
+    /// In one run over two worlds, the first of which has unreachable cells.
     Both,
 }
 
 pub(crate) const ALL: [Way; 5] = [Way::Lines, Way::Apply, Way::Collect, Way::Run, Way::Both];
 
 impl Way {
-    /// The word for it.
+    /// Returns its name.
     pub(crate) fn name(self) -> &'static str {
         match self {
             Way::Lines => "lines",
@@ -40,12 +41,13 @@ impl Way {
     }
 }
 
-/// The way of this name.
+/// Returns the way with this name.
 pub(crate) fn way_named(name: &str) -> Option<Way> {
     ALL.into_iter().find(|way| way.name() == name)
 }
 
-/// Whether lines are answered in this way, where one alone may be asked for: a run over lines knows no limits.
+/// Whether lines are executed in this way, if possibly only one is requested: a run over lines has
+/// no limits.
 pub(crate) fn are_taken(way: Way, only: Option<Way>, limits: Limits) -> bool {
     let is_asked = match only {
         Some(asked) => asked == way,
@@ -54,7 +56,7 @@ pub(crate) fn are_taken(way: Way, only: Option<Way>, limits: Limits) -> bool {
     is_asked && (way != Way::Lines || limits == UNLIMITED)
 }
 
-/// Answers the lines of rows on a world with limits.
+/// Executes the lines of rows on a world with limits.
 fn answer(
     rt: &impl Eprint,
     alloc: Global,
@@ -77,7 +79,7 @@ fn answer(
     is_right
 }
 
-/// Whether the lines of rows are answered as they say, on a new world with limits.
+/// Whether the lines of rows have the answers that they say, on a new world with limits.
 pub(crate) fn is_answered(
     rt: &impl Eprint,
     alloc: Global,

@@ -7,7 +7,7 @@ use rhai_lines::{command, journal, line_of};
 use rhai_run::{Command, World, run};
 use std::alloc::{AllocError, Global};
 
-/// How the command that a line says is written; nothing where there is none.
+/// Writes the command of a line; nothing if it is none.
 fn write_back(alloc: Global, line: &str, out: &mut Vec<u8>) -> Result<(), AllocError> {
     if let Some(command) = command(alloc, line.as_bytes())? {
         if let Some(line) = line_of(alloc, &command)? {
@@ -17,7 +17,7 @@ fn write_back(alloc: Global, line: &str, out: &mut Vec<u8>) -> Result<(), AllocE
     out.extend_from_slice(b"\n")
 }
 
-/// Whether the commands that lines say are written as the rows say.
+/// Whether the commands of lines are written as the rows say.
 pub(crate) fn is_answered(
     alloc: Global,
     rows: &str,
@@ -29,7 +29,7 @@ pub(crate) fn is_answered(
     Ok(out.as_slice() == wanted(alloc, rows, true)?.as_bytes())
 }
 
-/// The commands of the rows, so many times one behind another.
+/// Reads the commands of the rows, repeated this often.
 pub(crate) fn long_run(
     alloc: Global,
     rows: &str,
@@ -42,7 +42,7 @@ pub(crate) fn long_run(
     Ok(commands)
 }
 
-/// What a run over the commands answers.
+/// Returns the answers of a run over the commands.
 fn answered(alloc: Global, commands: &[Command]) -> Result<Vec<u8>, AllocError> {
     let mut out = room(alloc)?;
     let mut world = World::new(alloc, UNLIMITED);
@@ -54,7 +54,7 @@ fn answered(alloc: Global, commands: &[Command]) -> Result<Vec<u8>, AllocError> 
     if is_written { Ok(out) } else { Err(AllocError) }
 }
 
-/// Whether a run over the journal of commands writes what a run over the commands answers.
+/// Whether a run over the journal of commands prints the same as a run over the commands.
 pub(crate) fn is_replayed(alloc: Global, commands: &[Command]) -> Result<bool, AllocError> {
     let Some(text) = journal(alloc, commands)? else {
         return Ok(false);

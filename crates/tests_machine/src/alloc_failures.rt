@@ -1,5 +1,5 @@
-//! Runs to which memory is refused, once or from then on: each goes on as if nothing had been refused, or wants memory still. `checks/alloc_failures/run`
-//! tries each request.
+//! Runs in which an allocation fails, once or from then on: each continues as if none had failed,
+//! or still reports the failure. `checks/alloc_failures/run` makes each allocation fail in turn.
 
 use crate::runs::LIMITS;
 use script_code::compile;
@@ -9,10 +9,10 @@ use std::alloc::{AllocError, Global};
 use std::io::Eprint;
 use std::test::Fail;
 
-/// A run that was refused memory more often wants it still.
+/// After this many failures a run still needs memory.
 const MOST_REFUSALS: usize = 3;
 
-/// Calls, closures and what is caught.
+/// Calls, closures and caught errors.
 const CALLS: &str = "
 fn deep(n) { if n == 0 { throw [\"bottom\", [n]] } deep(n - 1) }
 try { deep(5) } catch (e) { print(e); }
@@ -38,7 +38,7 @@ index 3 out of range of 1
 [[1], [2], [3]]
 ";
 
-/// What is written, moved and appended.
+/// Values that are written, moved and appended.
 const WRITES: &str = "
 let map = #{first: [1], second: #{inner: [2]}};
 map.third = [3];
@@ -69,7 +69,7 @@ const WRITES_PRINT: &str =
 zbcd--
 ";
 
-/// Whether a script prints this, however memory is refused to its run.
+/// Whether a script prints this, whichever allocation of its run fails.
 fn goes_on(rt: &impl Eprint, alloc: Global, text: &str, printed: &str) -> Result<bool, AllocError> {
     let Ok(script) = parse(alloc, text) else {
         return Err(AllocError);

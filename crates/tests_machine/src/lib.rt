@@ -1,4 +1,4 @@
-//! Growths that compiled scripts are refused. `checks/tests` has the other tests of scripts.
+//! Failing growth of compiled scripts' memory. `checks/tests` has the other tests of scripts.
 #![tactic(auto)]
 
 #[cfg(test)]

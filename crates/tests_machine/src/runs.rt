@@ -1,4 +1,4 @@
-//! Runs of scripts, as the tests begin and drive them.
+//! Runs of scripts, as the tests start and drive them.
 
 use rhai_text::Limits;
 use rhai_value::INT;
@@ -20,7 +20,7 @@ pub(crate) const LIMITS: RunLimits = RunLimits {
     calls: 20,
 };
 
-/// The compiled form of a script that may call `ask(x)` of the host.
+/// Compiles a script that may call `ask(x)` of the host.
 pub(crate) fn compiled(alloc: Global, text: &str) -> Option<Program> {
     let script = parse(alloc, text).ok()?;
     let mut host = Vec::new(alloc);
@@ -34,12 +34,12 @@ pub(crate) fn compiled(alloc: Global, text: &str) -> Option<Program> {
     compile(alloc, &script, host.as_slice()).ok()
 }
 
-/// A run of a program.
+/// Starts a run of a program.
 pub(crate) fn begun(alloc: Global, program: &Program) -> Option<Run> {
     Run::new(alloc, program, &LIMITS).ok()
 }
 
-/// Goes on by so many operations at a time until the run is done or calls the host.
+/// Continues by this many operations at a time until the run is done or calls the host.
 pub(crate) fn driven(run: &mut Run, program: &Program, at_once: u64) -> Outcome {
     for _ in 0..100_000 {
         let outcome = run.go(program, at_once);
@@ -50,7 +50,7 @@ pub(crate) fn driven(run: &mut Run, program: &Program, at_once: u64) -> Outcome 
     Outcome::Paused
 }
 
-/// The int with which a run was done.
+/// Returns the int that is the run's value.
 pub(crate) fn value_of(run: &Run, outcome: &Outcome) -> Option<INT> {
     match outcome {
         Outcome::Done(value) => value.as_int(run.store()).ok(),
@@ -64,7 +64,7 @@ pub(crate) fn value_of(run: &Run, outcome: &Outcome) -> Option<INT> {
     }
 }
 
-/// Whether a run ended by a fault that says this, with its line and column.
+/// Whether a run ended with a fault with this message, including line and column.
 pub(crate) fn is_told(alloc: Global, run: &Run, outcome: &Outcome, wanted: &str) -> bool {
     match outcome {
         Outcome::Fault(fault) => match told(alloc, run, fault) {

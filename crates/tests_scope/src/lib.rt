@@ -1,4 +1,5 @@
-//! Proved callers of operators, targets and the scope, and growths that are refused. `checks/tests` has their other tests.
+//! Proved callers of operators, targets and the scope, and failing allocations. `checks/tests` has
+//! their other tests.
 #![tactic(auto)]
 
 #[cfg(test)]

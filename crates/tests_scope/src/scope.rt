@@ -8,7 +8,7 @@ use rhai_text::ImmutableString;
 use rhai_value::{Dynamic, Store};
 use std::alloc::{AllocError, Global};
 
-/// Whether the int of a name is this one.
+/// Whether this is the int of a name.
 fn is_int(scope: &Scope, store: &Store, name: &str, wanted: i64) -> bool {
     match scope.get(name) {
         Some(value) => value.as_int(store) == Ok(wanted),

@@ -12,7 +12,7 @@ use std::alloc::Global;
 use std::process::Abort;
 use std::test::Fail;
 
-/// A holder of a new cell with the value; the value itself where there is no room.
+/// Makes a holder of a new cell with the value; the value itself if the allocation fails.
 fn shared(value: Dynamic, store: &mut Store) -> Dynamic {
     match value.into_shared(store) {
         Ok(holder) => holder,
@@ -37,7 +37,7 @@ fn is_copy_of_seven(value: &Dynamic) -> bool {
     matches!(value.parts(), Union::Int(3, AccessMode::ReadWrite, 7))
 }
 
-/// A constant text with tag 3; unit where there is no room.
+/// Makes a constant text with tag 3; unit if the allocation fails.
 fn hello(alloc: Global) -> Dynamic {
     let mut value = match Dynamic::from_text(alloc, "hello") {
         Ok(text) => text.into_read_only(),
@@ -55,7 +55,7 @@ fn is_text(value: &Dynamic, wanted: &str) -> bool {
     }
 }
 
-/// A constant blob of two bytes with tag 3; unit where there is no room.
+/// Makes a constant blob of two bytes with tag 3; unit if the allocation fails.
 fn bytes(alloc: Global) -> Dynamic {
     let mut value = match Vec::from_slice(alloc, &[1, 2]) {
         Ok(bytes) => Dynamic::from_blob(bytes).into_read_only(),
@@ -73,7 +73,7 @@ fn is_bytes(value: &Dynamic, wanted: &[u8]) -> bool {
     }
 }
 
-/// Whether a working value was refused, at line 3 and position 4, by these names.
+/// Whether a working value was refused, at line 3 and column 4, with these type names.
 fn is_refused(done: Result<(), EvalAltResult>, wanted: &str, found: &str) -> bool {
     match done {
         Err(EvalAltResult::ErrorMismatchDataType(w, f, pos)) => {

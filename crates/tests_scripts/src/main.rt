@@ -1,5 +1,5 @@
-//! Runs the scripts that its arguments name, and compares what each prints with the text beside it: tells those that differ, and how many
-//! were as expected.
+//! Runs the scripts named by its arguments, and compares what each prints with the text beside it:
+//! prints those that differ, and how many were as expected.
 #![tactic(auto)]
 
 use rhai_text::Limits;
@@ -20,7 +20,7 @@ const LIMITS: ScriptLimits = ScriptLimits {
     calls: 100,
 };
 
-/// What a script prints, with the error by which it ended, if it did.
+/// Returns what a script prints, with the error that ended it, if one did.
 fn printed(alloc: Global, text: &str) -> Result<String, AllocError> {
     let mut out = String::new(alloc);
     let mut operations = 0;
@@ -30,7 +30,7 @@ fn printed(alloc: Global, text: &str) -> Result<String, AllocError> {
     }
 }
 
-/// Whether the script of a name prints what is expected; it is told what it prints where not.
+/// Whether the script with a name prints what is expected; if not, prints its output.
 fn is_as_expected(rt: &(impl Files + Print + AllocGlobal), name: &str) -> io::Result<bool> {
     let path = format!(in rt.alloc(); "{name}.rhai")?;
     let text = fs::read_to_string(rt, path.as_str())?;

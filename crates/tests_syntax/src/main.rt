@@ -1,5 +1,6 @@
-//! Reads rows, each a script and what it is read as, `script -> shape`, and tells those that are read otherwise. A section begins with `# name`; in one that
-//! is named `# name | 1000 times` the script is a row's text that often, and a 1.
+//! Reads rows, each a script and its parsed shape, `script -> shape`, and prints those that are
+//! parsed differently. A section begins with `# name`; in one named `# name | 1000 times` the
+//! script is a row's text repeated that often, and a 1.
 #![tactic(auto)]
 
 mod shape;
@@ -10,14 +11,14 @@ use std::alloc::{AllocError, Global};
 use std::io;
 use std::process::ExitCode;
 
-/// How many rows were read as they say, and how many otherwise.
+/// How many rows were parsed as they say, and how many differently.
 #[derive(Drop)]
 struct Tally {
     right: u64,
     wrong: u64,
 }
 
-/// A text in which each picture of a line feed, `␊`, is one.
+/// Returns a text with each picture of a line feed, `␊`, replaced by one.
 fn with_line_feeds(alloc: Global, text: &str) -> Result<String, AllocError> {
     let mut out = String::new(alloc);
     for c in text.chars() {
@@ -26,7 +27,7 @@ fn with_line_feeds(alloc: Global, text: &str) -> Result<String, AllocError> {
     Ok(out)
 }
 
-/// What a script is read as: the shape of its trees, or its fault, and where that is.
+/// Parses a script: returns the shape of its trees, or its fault and position.
 fn read(alloc: Global, script: &str) -> Result<String, AllocError> {
     let mut out = String::new(alloc);
     match parse(alloc, script) {
@@ -39,7 +40,7 @@ fn read(alloc: Global, script: &str) -> Result<String, AllocError> {
     Ok(out)
 }
 
-/// The unit so many times, and a 1.
+/// Repeats the unit this many times, and appends a 1.
 fn repeated(alloc: Global, unit: &str, count: usize) -> Result<String, AllocError> {
     let mut text = String::new(alloc);
     for _ in 0..count {
@@ -49,7 +50,7 @@ fn repeated(alloc: Global, unit: &str, count: usize) -> Result<String, AllocErro
     Ok(text)
 }
 
-/// What a repeated script is read as: its fault, if it has one.
+/// Parses a repeated script: returns its fault, if it has one.
 fn read_repeated(alloc: Global, unit: &str, count: usize) -> Result<String, AllocError> {
     let script = repeated(alloc, unit, count)?;
     let mut out = String::new(alloc);
@@ -61,13 +62,13 @@ fn read_repeated(alloc: Global, unit: &str, count: usize) -> Result<String, Allo
     Ok(out)
 }
 
-/// How often the texts of a section are repeated, if they are.
+/// Returns how often the texts of a section are repeated, if they are.
 fn times(head: &str) -> Option<usize> {
     let (_, said) = head.split_once(" | ")?;
     said.strip_suffix(" times")?.parse::<usize>().ok()
 }
 
-/// Reads the script of a row, and tells where that is otherwise than it says.
+/// Parses the script of a row, and prints a difference from the row.
 fn try_row(
     rt: &(impl Print + AllocGlobal),
     count: Option<usize>,
@@ -104,7 +105,7 @@ fn try_section(
     Ok(())
 }
 
-/// Whether all rows of the input are read as they say.
+/// Whether all rows of the input are parsed as they say.
 fn are_right(rt: &(impl Input + Print + AllocGlobal)) -> io::Result<bool> {
     let text = io::read_to_string(rt.alloc(), rt.reader())?;
     let mut tally = Tally { right: 0, wrong: 0 };

@@ -1,5 +1,6 @@
-//! Growths that are refused, once or from then on: each test is to pass, or to end by want of memory while its values are made ready, whichever
-//! request is refused; `checks/alloc_failures/run` tries them all. What is refused is said on standard error.
+//! Failing allocations, once or from then on: whichever fails, each test must pass, or end with a
+//! failed allocation while its values are set up; `checks/alloc_failures/run` tries each. Failures
+//! are reported on standard error.
 mod casts;
 mod deep;
 mod free;
@@ -13,7 +14,7 @@ fn tell(rt: &impl Eprint, what: &str) {
     let _ = rt.eprintln(format_args!("refused: {what}"));
 }
 
-/// Whether this is the text that is held.
+/// Whether this text is held.
 fn is_text(value: &Dynamic, store: &Store, wanted: &str) -> bool {
     match value.as_immutable_string_ref(store) {
         Ok(text) => text.as_str() == wanted,

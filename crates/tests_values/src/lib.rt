@@ -1,4 +1,5 @@
-//! Proved callers of the crates of values, and growths that are refused. `checks/tests` has their other tests.
+//! Proved callers of the crates of values, and failing allocations. `checks/tests` has their other
+//! tests.
 #![tactic(auto)]
 
 #[cfg(test)]

@@ -1,4 +1,4 @@
-//! Proved callers of printed forms and hash bytes.
+//! Proved callers of formatting and hash bytes.
 mod hash;
 mod readme;
 mod same;

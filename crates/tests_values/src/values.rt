@@ -1,8 +1,8 @@
-//! Values that the tests are made of. Where there is no room, another value comes, so that a test fails.
+//! Values for the tests. If an allocation fails, a different value is used, so that a test fails.
 use rhai_value::{Blob, Dynamic, INT, Store};
 use std::alloc::Global;
 
-/// A holder of a new cell with the value; the value itself where there is no room.
+/// Makes a holder of a new cell with the value; the value itself if the allocation fails.
 pub(crate) fn shared(value: Dynamic, store: &mut Store) -> Dynamic {
     match value.into_shared(store) {
         Ok(holder) => holder,
@@ -10,7 +10,7 @@ pub(crate) fn shared(value: Dynamic, store: &mut Store) -> Dynamic {
     }
 }
 
-/// A copy; unit where there is no room.
+/// Copies a value; unit if the allocation fails.
 pub(crate) fn copied(alloc: Global, value: &Dynamic) -> Dynamic {
     match value.copy(alloc) {
         Ok(copy) => copy,
@@ -18,7 +18,7 @@ pub(crate) fn copied(alloc: Global, value: &Dynamic) -> Dynamic {
     }
 }
 
-/// Puts a value, which may be a holder, into the cell of a holder.
+/// Writes a value, which may be a holder, into the cell of a holder.
 pub(crate) fn put(holder: &mut Dynamic, value: Dynamic, store: &mut Store) -> bool {
     match holder.write_whole(store) {
         Some(content) => {
@@ -29,14 +29,14 @@ pub(crate) fn put(holder: &mut Dynamic, value: Dynamic, store: &mut Store) -> bo
     }
 }
 
-/// A holder of a new cell with this value in it, which may be a holder.
+/// Makes a holder of a new cell with this content, which may be a holder.
 pub(crate) fn cell_with(value: Dynamic, store: &mut Store) -> Dynamic {
     let mut holder = shared(Dynamic::UNIT, store);
     let _ = put(&mut holder, value, store);
     holder
 }
 
-/// A holder of its own cell.
+/// Makes a holder of its own cell.
 pub(crate) fn closed(alloc: Global, store: &mut Store) -> Dynamic {
     let mut holder = shared(Dynamic::UNIT, store);
     let again = copied(alloc, &holder);
@@ -44,7 +44,7 @@ pub(crate) fn closed(alloc: Global, store: &mut Store) -> Dynamic {
     holder
 }
 
-/// A chain of so many holders that ends at 7.
+/// Makes a chain of this many holders that ends at 7.
 pub(crate) fn chain(store: &mut Store, length: usize) -> Dynamic {
     let mut value = Dynamic::from_int(7);
     for _ in 0..length {
@@ -53,7 +53,8 @@ pub(crate) fn chain(store: &mut Store, length: usize) -> Dynamic {
     value
 }
 
-/// A holder of the first of so many cells that each hold the next one, the last one the first.
+/// Makes a holder of the first of this many cells that each hold the next one, the last one the
+/// first.
 pub(crate) fn ring(alloc: Global, store: &mut Store, length: usize) -> Dynamic {
     let mut first = shared(Dynamic::UNIT, store);
     let mut value = copied(alloc, &first);
@@ -64,7 +65,7 @@ pub(crate) fn ring(alloc: Global, store: &mut Store, length: usize) -> Dynamic {
     first
 }
 
-/// A text; unit where there is no room.
+/// Makes a text; unit if the allocation fails.
 pub(crate) fn text_of(alloc: Global, text: &str) -> Dynamic {
     match Dynamic::from_text(alloc, text) {
         Ok(text) => text,
@@ -72,7 +73,7 @@ pub(crate) fn text_of(alloc: Global, text: &str) -> Dynamic {
     }
 }
 
-/// A blob of these bytes; unit where there is no room.
+/// Makes a blob of these bytes; unit if the allocation fails.
 pub(crate) fn blob_of(alloc: Global, bytes: &[u8]) -> Dynamic {
     match Blob::from_slice(alloc, bytes) {
         Ok(bytes) => Dynamic::from_blob(bytes),
@@ -80,7 +81,7 @@ pub(crate) fn blob_of(alloc: Global, bytes: &[u8]) -> Dynamic {
     }
 }
 
-/// An array of these two values; unit where there is no room.
+/// Makes an array of these two values; unit if the allocation fails.
 pub(crate) fn pair_of(alloc: Global, first: Dynamic, second: Dynamic) -> Dynamic {
     match vec![in alloc; first, second] {
         Ok(items) => Dynamic::from_array(items),
@@ -96,12 +97,12 @@ pub(crate) fn holds(value: &Dynamic, store: &Store, wanted: INT) -> bool {
     }
 }
 
-/// Whether the type that is held has this name.
+/// Whether the held type has this name.
 pub(crate) fn is_named(value: &Dynamic, store: &Store, name: &str) -> bool {
     value.type_name(store) == name
 }
 
-/// Whether a value is, or has inside, a holder of a cell that is marked or no cell of the store.
+/// Whether a value is, or contains, a holder of a cell that is marked or not in the store.
 pub(crate) fn is_locked(value: &Dynamic, store: &Store) -> bool {
     value.is_locked(store)
 }

@@ -1,2 +1,2 @@
-//! Proved callers of types of Rust.
+//! Proved callers of Rust types.
 mod readme;

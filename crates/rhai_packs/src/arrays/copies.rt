@@ -1,4 +1,4 @@
-//! Copies of items, and items in the place of others.
+//! Copies of items, and replacing items.
 ghost use Rattle.std.specs.Prelude.{◌≡◌, ◌++◌, length, map, replicate, is_ok, if◌then◌else◌, IfOk, IsOk};
 ghost use Rattle.rhai_text.specs.declared.error.SizeKind.TheVariants as size;
 ghost use Rattle.rhai_value.specs.Tree.{copy};
@@ -11,9 +11,9 @@ use rhai_text::{EvalAltResult, Limits, SizeKind};
 use rhai_value::{Array, Dynamic, INT};
 use std::alloc::{AllocError, Global};
 
-/// Copies so many items from an index on, as many as there are; an index before the front means the front.
-/// Errors: memory is refused.
-/// Cost: the copies.
+/// Copies up to `count` items from an index on; an index before the front means the front.
+/// Errors: an allocation fails.
+/// Cost: that of the copies.
 /// rhai: `extract`.
 pub fn extract(alloc: Global, items: &Array, index: INT, count: INT) -> Result<Array, AllocError>
     ensures { IfOk result (λ part. part.items ≡ map copy (first_of (after items.now.items index) count)) }
@@ -23,7 +23,7 @@ pub fn extract(alloc: Global, items: &Array, index: INT, count: INT) -> Result<A
     copies(alloc, &items.as_slice()[start..start + len])
 }
 
-/// Copies of all items, for which room is taken once.
+/// Copies of all items, with one allocation for the list.
 fn copies(alloc: Global, items: &[Dynamic]) -> Result<Array, AllocError>
     ensures { IfOk result (λ made. made.items ≡ map copy items.now) }
 {
@@ -34,10 +34,10 @@ fn copies(alloc: Global, items: &[Dynamic]) -> Result<Array, AllocError>
     Ok(made)
 }
 
-/// Puts copies of an item behind the others until there are so many; where there are that many, nothing changes, and no
-/// memory is wanted.
-/// Errors: more items than the limit allows, or memory; the items stay.
-/// Cost: the copies, and where the array has to grow the number of all items.
+/// Appends copies of an item until the array has the wanted length; if it has that already, changes
+/// and allocates nothing.
+/// Errors: more items than the limit allows, or a failed allocation; the array is unchanged.
+/// Cost: that of the copies, and the number of all items if the array must grow.
 /// rhai: `pad`.
 pub fn pad(
     alloc: Global,
@@ -62,7 +62,7 @@ pub fn pad(
     Ok(())
 }
 
-/// So many copies of an item.
+/// `count` copies of an item.
 fn repeated(alloc: Global, item: &Dynamic, count: usize) -> Result<Array, AllocError>
     ensures { IfOk result (λ made. made.items ≡ replicate count (copy item.now)) }
 {

@@ -1,4 +1,4 @@
-//! Items that repeat the one before them.
+//! Items equal to the one before them.
 ghost use Rattle.std.specs.Prelude.{◌≡◌, ◌≤◌, ◌<◌, ◌↔◌, [], length, slice_index, vec_capacity, IfOk, IsTrue, OnErr, OnOk};
 ghost use Rattle.rhai_packs.specs.Repeats.{AreRepeats, IsDeduped, IsRepeat, unflagged};
 ghost use Rattle.rhai_packs.specs.Same.{AreSame};
@@ -8,9 +8,9 @@ use rhai_value::{Array, Dynamic, Store};
 use std::alloc::{AllocError, Global};
 use std::mem;
 
-/// Drops each item that is the same as the one before it, as plain values are compared: of a run of items that are the same
-/// the first one stays.
-/// Errors: memory is refused; the items stay.
+/// Drops each item equal to the one before it, compared as plain values: of a run of equal items
+/// the first one is kept.
+/// Errors: an allocation fails; the array is unchanged.
 /// Cost: the hash bytes of each item twice, and a list as long as the array.
 /// rhai: `dedup`.
 pub fn dedup(alloc: Global, items: &mut Array, store: &Store) -> Result<(), AllocError>
@@ -24,7 +24,7 @@ pub fn dedup(alloc: Global, items: &mut Array, store: &Store) -> Result<(), Allo
     Ok(())
 }
 
-/// Which items are the same as the one before them.
+/// Which items are equal to the one before them.
 fn repeats(alloc: Global, items: &[Dynamic], store: &Store) -> Result<Vec<bool>, AllocError>
     ensures { IfOk result (λ repeats. AreRepeats store.now items.now repeats.items) }
 {
@@ -35,7 +35,7 @@ fn repeats(alloc: Global, items: &[Dynamic], store: &Store) -> Result<Vec<bool>,
     Ok(repeats)
 }
 
-/// Whether an item is the same as the one before it.
+/// Whether an item is equal to the one before it.
 fn is_repeat(alloc: Global, items: &[Dynamic], i: usize, store: &Store) -> Result<bool, AllocError>
     requires { i < length items.now }
     ensures { IfOk result (λ b. IsTrue b ↔ IsRepeat store.now items.now i) }
@@ -46,7 +46,7 @@ fn is_repeat(alloc: Global, items: &[Dynamic], i: usize, store: &Store) -> Resul
     are_same(alloc, &items[i - 1], &items[i], store)
 }
 
-/// Whether two values are the same.
+/// Whether two values are equal as plain values.
 fn are_same(alloc: Global, x: &Dynamic, y: &Dynamic, store: &Store) -> Result<bool, AllocError>
     ensures { IfOk result (λ b. IsTrue b ↔ AreSame store.now x.now y.now) }
 {
@@ -56,7 +56,7 @@ fn are_same(alloc: Global, x: &Dynamic, y: &Dynamic, store: &Store) -> Result<bo
     }
 }
 
-/// The items that aren't flagged, moved into a list that has room for all.
+/// The unflagged items, moved into a list with room for all.
 fn without_flagged(items: Array, flags: &[bool], room: Array) -> Array
     requires room { length items.items ≤ vec_capacity room }
     requires empty { room.items ≡ [] }

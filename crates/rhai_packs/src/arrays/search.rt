@@ -1,5 +1,5 @@
-//! Items that are sought, as plain values: without tags, modes and holders. A value that isn't anything without them, as one with a
-//! holder of a marked cell, is the same as nothing.
+//! Searches for items as plain values. A value that has no plain value, such as one with a holder
+//! of a marked cell, is equal to nothing.
 ghost use Rattle.std.specs.Prelude.{◌≡◌, ◌↔◌, [], is_some, IfOk, IsTrue, Some, None, true};
 ghost use Rattle.rhai_value.specs.Tree.{Tree};
 ghost use Rattle.rhai_show.specs.InRange.{IsHashed};
@@ -10,9 +10,9 @@ use rhai_show::{Hashed, hashed};
 use rhai_value::{Array, Dynamic, Store};
 use std::alloc::{AllocError, Global};
 
-/// Answers whether an item is the same as a value.
-/// Errors: memory is refused.
-/// Cost: the hash bytes of the value, and of the items up to the one that is found.
+/// Returns whether an item equals a value.
+/// Errors: an allocation fails.
+/// Cost: the hash bytes of the value, and of the items up to the first equal one.
 /// rhai: `contains`.
 pub fn contains(
     alloc: Global,
@@ -25,8 +25,8 @@ pub fn contains(
     Ok(index_of(alloc, items, store, wanted)?.is_some())
 }
 
-/// Finds the place of the first item that is the same as a value; where the release answers -1, that is `None`.
-/// Errors: as `contains`.
+/// Finds the index of the first item that equals a value; `None` where rhai returns -1.
+/// Errors: those of `contains`.
 /// Cost: that of `contains`.
 /// rhai: `index_of`.
 #[tactic(auto, using(crate::proofs::Sames::same_as_nothing))]
@@ -49,7 +49,7 @@ pub fn index_of(
     Ok(None)
 }
 
-/// Whether a value is the same as the one with these hash bytes.
+/// Whether a value equals the one with these hash bytes.
 #[tactic(auto, using(crate::proofs::Sames::same_where_plain, crate::proofs::Sames::same_as_nothing))]
 fn is_same(
     alloc: Global,

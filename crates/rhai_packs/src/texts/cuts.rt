@@ -1,4 +1,4 @@
-//! Texts that are cut into an array of texts.
+//! Splitting a text into an array of texts.
 ghost use Rattle.std.specs.Prelude.{◌≡◌, ◌<◌, ◌∷◌, [], List, ℕ, IfOk, length, map};
 ghost use Rattle.std.specs.Char.{encode_utf8};
 ghost use Rattle.std.specs.Str.{chars as characters_of, encode_utf8_all};
@@ -12,9 +12,9 @@ use rhai_text::ImmutableString;
 use rhai_value::{Array, Dynamic, INT};
 use std::alloc::{AllocError, Global};
 
-/// Makes an array of the two texts before an index and from it on; a negative index counts from the end, and one outside
-/// means the nearer end.
-/// Errors: memory is refused.
+/// Makes an array of the two texts before an index and from it on; a negative index counts from the
+/// end, and one out of range means the nearer end.
+/// Errors: an allocation fails.
 /// Cost: the length of the text.
 /// rhai: `split`.
 pub fn split_at(alloc: Global, text: &ImmutableString, index: INT) -> Result<Array, AllocError>
@@ -30,9 +30,9 @@ pub fn split_at(alloc: Global, text: &ImmutableString, index: INT) -> Result<Arr
     Ok(parts)
 }
 
-/// Makes an array of the texts between the occurrences of a separator, which are found from left to right and don't
-/// overlap; an empty separator stands before each character and at the end.
-/// Errors: memory is refused.
+/// Makes an array of the texts between the occurrences of a separator, found from left to right
+/// without overlaps; an empty separator occurs before each character and at the end.
+/// Errors: an allocation fails.
 /// Cost: the length of the text, for a given separator.
 /// rhai: `split`.
 pub fn split(alloc: Global, text: &ImmutableString, separator: &str) -> Result<Array, AllocError>
@@ -45,7 +45,7 @@ pub fn split(alloc: Global, text: &ImmutableString, separator: &str) -> Result<A
 }
 
 /// Makes an array of the texts between the occurrences of a character.
-/// Errors: memory is refused.
+/// Errors: an allocation fails.
 /// Cost: the length of the text.
 /// rhai: `split`.
 pub fn split_char(
@@ -59,7 +59,7 @@ pub fn split_char(
     split_at_each(alloc, text.as_str(), separator.encode_utf8(&mut buffer))
 }
 
-/// The texts between the occurrences of a separator that isn't empty.
+/// The texts between the occurrences of a non-empty separator.
 fn split_at_each(alloc: Global, text: &str, separator: &str) -> Result<Array, AllocError>
     requires { 0 < length separator.now }
     ensures { IfOk result (λ parts. (all : List (List ℕ)) × AreBetween separator.now text.now all × (parts.items ≡ map (λ t. fresh (text_leaf t)) all)) }

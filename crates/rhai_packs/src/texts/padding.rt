@@ -1,4 +1,4 @@
-//! Texts that get a number of characters.
+//! Padding texts to a number of characters.
 ghost use Rattle.std.specs.Prelude.{◌≡◌, ◌+◌, ◌*◌, ◌^◌, ◌<◌, ◌≤◌, ◌++◌, [], ℕ, is_ok, if◌then◌else◌, length, replicate, take, IfOk, IsOk, MatchOption};
 ghost use Rattle.std.specs.List.{repeat};
 ghost use Rattle.std.specs.Str.{chars as characters_of, encode_utf8_all};
@@ -14,9 +14,9 @@ use rhai_text::{EvalAltResult, ImmutableString, Limits, SizeKind};
 use rhai_value::INT;
 use std::alloc::{AllocError, Global};
 
-/// Puts a character behind the others until there are so many; where there are that many, nothing changes, and no memory is
-/// wanted.
-/// Errors: more bytes than the limit allows, or memory; the text stays.
+/// Appends a character until the text has the wanted number of characters; if it has that already,
+/// changes and allocates nothing.
+/// Errors: more bytes than the limit allows, or a failed allocation; the text is unchanged.
 /// Cost: the length of the text and of the new one.
 /// rhai: `pad`.
 pub fn pad(
@@ -41,9 +41,9 @@ pub fn pad(
     )
 }
 
-/// Puts a text behind the characters, over and over and cut off at last, until there are so many; where there are that
-/// many, or where it is empty, nothing changes, and no memory is wanted.
-/// Errors: as `pad`.
+/// Appends a text repeatedly, the last time truncated, until there are the wanted number of
+/// characters; if there are already, or if the padding is empty, changes and allocates nothing.
+/// Errors: those of `pad`.
 /// Cost: that of `pad`.
 /// rhai: `pad`.
 pub fn pad_with_string(
@@ -73,7 +73,7 @@ pub fn pad_with_string(
     }
 }
 
-/// The text with so many characters of a padding behind it, which has so many and isn't empty.
+/// The text followed by a number of characters of a non-empty padding, whose length is given.
 fn extended(
     alloc: Global,
     limits: &Limits,
@@ -102,7 +102,8 @@ fn extended(
     }
 }
 
-/// That so many bytes are allowed beside so many, where `None` is more of them than a number can say.
+/// Fails unless `more` bytes are allowed beside `first`; `None` means more bytes than a `usize`
+/// counts.
 fn may_pad(limits: &Limits, first: usize, more: Option<usize>) -> Result<(), EvalAltResult>
     ensures { (n : ℕ) → MatchOption more (2 ^ 64 ≤ n) (λ k. k ≡ n) → IsLimited size.Text (may_grow_by limits.now.text first n) result }
 {
@@ -122,14 +123,14 @@ fn may_pad(limits: &Limits, first: usize, more: Option<usize>) -> Result<(), Eva
     }
 }
 
-/// How many bytes so many whole texts and a part have, if a number can say it.
+/// The number of bytes of `whole` repetitions and a part, if a `usize` counts it.
 fn bytes_of(whole: usize, bytes: usize, part: usize) -> Option<usize>
     ensures { MatchOption result (2 ^ 64 ≤ whole * bytes + part) (λ n. n ≡ whole * bytes + part) }
 {
     whole.checked_mul(bytes)?.checked_add(part)
 }
 
-/// The text with so many whole texts and a part behind it.
+/// The text followed by a number of repetitions and a part.
 fn padded(
     alloc: Global,
     text: &ImmutableString,
@@ -144,7 +145,7 @@ fn padded(
     text.concat(alloc, more.as_str())
 }
 
-/// The first so many characters.
+/// The first `count` characters.
 fn first_characters(text: &str, count: usize) -> &str
     ensures { result.now ≡ encode_utf8_all (take count (characters_of text.now)) }
 {

@@ -1,5 +1,5 @@
-//! No definition of the scope looks at the numbers of cells: what it makes of entries that are equal up to these numbers is again
-//! equal up to them.
+//! No definition of the scope depends on cell numbers: entries equal up to a renaming give results
+//! equal up to it.
 ghost use Rattle.std.specs.Prelude.{◌≡◌, ℕ, Bool, List, Option, map, reverse, take, option_map};
 ghost use Rattle.std.specs.List.{AllZip, zip};
 ghost use Rattle.rhai_value.specs.Relation.{Renaming, Related, Alike, IsOneToOne, RelatedCells};
@@ -18,7 +18,7 @@ ghost use Rattle.rhai_scope.specs.ScopeBytes.{scope_bytes};
 ghost use Rattle.rhai_scope.specs.ScopeText.{scope_text};
 ghost use Rattle.rhai_scope.specs.Typed.{set_or_pushed, removed_at, written_entry};
 
-/// Look-ups find the same place, and related entries there.
+/// Look-ups find the same position, and related entries there.
 #[tactic(auto, using(crate::proofs::SameEntries::same_position, crate::proofs::SameEntries::same_writable, crate::proofs::SameEntries::same_last_entry, crate::proofs::SameEntries::same_named, crate::proofs::SameEntries::same_aliases_named, crate::proofs::SameEntries::same_constant_named))]
 pub fn lookups_are_renamed()
     ensures position { (r : Renaming) (name : List ℕ) (es fs : List Entry) → RelatedEntries r es fs → last_position name es ≡ last_position name fs }
@@ -30,7 +30,7 @@ pub fn lookups_are_renamed()
         → option_map is_constant_entry (last_entry name es) ≡ option_map is_constant_entry (last_entry name fs) }
 {}
 
-/// Entries that come and go.
+/// Adding and removing entries.
 #[tactic(auto, using(crate::proofs::SameEntries::same_pushed, crate::proofs::SameEntries::same_taken, crate::proofs::SameEntries::same_popped, crate::proofs::SameEntries::same_removed_at, crate::proofs::SameEntries::same_extended, crate::proofs::SameEntries::same_extended_flagged, crate::proofs::SameEntries::same_extended_values, crate::proofs::SameEntries::same_flagged_values))]
 pub fn entries_that_come_and_go_are_renamed()
     ensures pushed { (r : Renaming) (m : AccessMode) (name : List ℕ) (t u : Tree) (es fs : List Entry) → Related r t u → RelatedEntries r es fs
@@ -48,7 +48,7 @@ pub fn entries_that_come_and_go_are_renamed()
         → RelatedEntries r (extended_flagged es (flagged_values ns ts)) (extended_flagged fs (flagged_values ns us)) }
 {}
 
-/// Entries that change.
+/// Changing entries.
 #[tactic(auto, using(crate::proofs::SameEntries::same_changed_named, crate::proofs::SameEntries::same_with_value, crate::proofs::SameEntries::same_with_value_at, crate::proofs::SameEntries::same_aliased, crate::proofs::SameEntries::same_written_entry, crate::proofs::SameEntries::same_set_or_pushed))]
 pub fn changes_are_renamed()
     ensures named { (r : Renaming) (f g : Entry → Entry) (name : List ℕ) (es fs : List Entry) → RespectEntries r f g → RelatedEntries r es fs
@@ -61,7 +61,7 @@ pub fn changes_are_renamed()
         → RelatedEntries r (set_or_pushed o name t es) (set_or_pushed o name u fs) }
 {}
 
-/// Copies, and what is visible.
+/// Copies, and the visible entries.
 #[tactic(auto, using(crate::proofs::SameEntries::same_copied, crate::proofs::SameEntries::same_copies, crate::proofs::SameEntries::same_visible))]
 pub fn copies_are_renamed()
     ensures entry { (r : Renaming) → RespectEntries r copied_entry copied_entry }
@@ -69,7 +69,7 @@ pub fn copies_are_renamed()
     ensures visible { (r : Renaming) (es fs : List Entry) → RelatedEntries r es fs → RelatedEntries r (visible es) (visible fs) }
 {}
 
-/// The printed text and the hash bytes are the same, and what the iterators show is related.
+/// The printed text and the hash bytes are equal, and the iterators yield related items.
 #[tactic(auto, using(crate::proofs::SamePrints::same_text, crate::proofs::SamePrints::same_bytes, crate::proofs::SamePrints::same_shown_flat, crate::proofs::SamePrints::same_shown_raw, crate::proofs::SamePrints::same_names_text, crate::proofs::SamePrints::same_flat_values))]
 pub fn what_is_shown_is_renamed()
     ensures text { (r : Renaming) (s z : List Cell) (es fs : List Entry) → IsOneToOne r → RelatedCells r s z → RelatedEntries r es fs → scope_text s es ≡ scope_text z fs }

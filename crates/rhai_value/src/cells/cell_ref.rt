@@ -1,6 +1,6 @@
-//! What a holder has of its cell.
+//! The cell number inside a holder.
 
-/// The cell of a holder. Nothing tells its number.
+/// The cell of a holder. No call reveals its number.
 #[derive(Clone, Copy)]
 pub struct CellRef {
     pub(crate) index: usize,

@@ -7,8 +7,8 @@ use crate::cells::store::Store;
 use crate::value::dynamic::Dynamic;
 use crate::value::type_id::TypeId;
 
-/// Where a value stands that a chain leads to: it is the first of the chain itself, or in a cell. Contracts name it; no public
-/// call hands one out.
+/// Where the value at the end of a chain is: the chain's first value itself, or a cell. Contracts
+/// name this type; no public call returns one.
 #[derive(Copy, Clone)]
 pub enum Site {
     /// The first value itself.
@@ -17,17 +17,17 @@ pub enum Site {
     InCell(usize),
 }
 
-/// What a value and its own cell tell, without a walk, of its first content.
+/// What a value and its own cell say about its first content, without a walk.
 pub(crate) enum Near<'s> {
-    /// It is the value itself, which is no holder.
+    /// The value itself, which isn't a holder.
     Here,
-    /// The cell of this number has it.
+    /// The first content is in the cell of this number.
     InCell(usize, &'s Dynamic),
-    /// There is none: the holder's cell is marked or no cell of the store.
+    /// There is no first content: the holder's cell is marked or not in the store.
     Barred,
 }
 
-/// Where a chain ends, and there what is held, and where it stands.
+/// Where a chain ends, the held value there, and its site.
 pub(crate) enum ChainEnd<'s> {
     Held(Site, &'s Dynamic),
     Stuck(&'s Dynamic),
@@ -35,7 +35,7 @@ pub(crate) enum ChainEnd<'s> {
 }
 
 impl Dynamic {
-    /// Where the held value stands.
+    /// The site of the held value.
     pub(crate) fn held_site(&self, store: &Store) -> Option<Site>
         ensures { result ≡ site_of (end store.now [] self.now) }
     {
@@ -45,7 +45,7 @@ impl Dynamic {
         }
     }
 
-    /// Where the held value stands, and the held type.
+    /// The site and the type of the held value.
     pub(crate) fn held_site_and_type(&self, store: &Store) -> (Option<Site>, TypeId)
         ensures site { result.0 ≡ site_of (end store.now [] self.now) }
         ensures kind { result.1 ≡ end_type (end store.now [] self.now) }
@@ -56,7 +56,8 @@ impl Dynamic {
         }
     }
 
-    /// Where the chain ends. Most chains have one holder or none, and their end is found without an account of what was passed.
+    /// Finds the end of the chain. Most chains have at most one holder, so their end is found
+    /// without tracking visited cells.
     #[inline(always)]
     #[tactic(auto, using(crate::proofs::Chains::end_at_first, crate::proofs::Chains::end_first, crate::proofs::Chains::end_barred))]
     pub(crate) fn chain_end<'s>(&'s self, store: &'s Store) -> ChainEnd<'s>
@@ -72,9 +73,9 @@ impl Dynamic {
         }
     }
 
-    /// Follows holders from cell to cell. Of the cells that were passed one is kept, and another after 1, 2, 4, 8 and so on steps,
-    /// so that a chain which comes back to a cell soon comes back to the one that is kept (Brent's way). A chain of more holders
-    /// than there are cells is closed in any case.
+    /// Follows holders from cell to cell. Brent's cycle detection: it remembers one visited cell,
+    /// and replaces it after 1, 2, 4, 8, .. steps, so a chain that returns to a cell soon meets the
+    /// remembered one. A chain with more holders than there are cells is closed in any case.
     #[inline(never)]
     fn long_chain_end<'s>(&'s self, store: &'s Store) -> ChainEnd<'s>
         ensures { end_seen result ≡ end store.now [] self.now }
@@ -111,8 +112,9 @@ impl Dynamic {
         }
     }
 
-    /// Lends the value where the chain of holders ends; `None` where the chain is stuck or closed.
-    /// Cost: the length of the chain, and where it closes the number of cells; no memory.
+    /// Borrows the value at the end of the chain of holders; `None` if the chain is stuck or
+    /// closed.
+    /// Cost: the length of the chain, or the number of cells if the chain is closed; no memory.
     /// rhai: `Dynamic::read_lock`, which looks at one cell.
     #[inline(always)]
     #[tactic(auto, using(crate::proofs::Chains::held_at_first, crate::proofs::Chains::held_first, crate::proofs::Chains::held_barred))]
@@ -129,7 +131,7 @@ impl Dynamic {
         }
     }
 
-    /// What is held, in a function of its own, so that the calls that ask for what is near stay short.
+    /// The held value, in a separate function, so that callers that find it nearby stay short.
     #[inline(never)]
     pub(crate) fn held_far<'s>(&'s self, store: &'s Store) -> Option<&'s Dynamic>
         ensures { option_copied result ≡ held_in (end store.now [] self.now) }

@@ -1,4 +1,4 @@
-// Cells that are open where many are.
+// Open cells, if there are many.
 ghost use Rattle.std.specs.Prelude.{◌≡◌, ◌↔◌, ◌∷◌, [], drop, not, IfOk, OnErr, IsTrue, if◌then◌else◌};
 ghost use Rattle.rhai_value.specs.Walk.{is_open};
 
@@ -6,7 +6,8 @@ use std::alloc::{AllocError, Global};
 use std::collections::BTreeSet;
 use std::marker::Model;
 
-/// The cells that a path has open past the first few: in the order of opening, and in a set, to look one up. Contracts see the one opened last first.
+/// The open cells of a path beyond the first few: a list in the order of opening, and a set for
+/// look-ups. Contracts see the one opened last first.
 #[derive(Drop)]
 pub(crate) struct DeepCells {
     order: Vec<usize>,
@@ -34,7 +35,7 @@ impl DeepCells {
         }
     }
 
-    /// Opens a cell, unless it is open, and tells whether it wasn't.
+    /// Opens a cell unless it is open. Returns whether it was closed before.
     pub(crate) fn open(&mut self, cell: usize) -> Result<bool, AllocError>
         ensures told { IfOk result (λ is_new. is_new ≡ not (is_open cell self.old)) }
         ensures opened { IfOk result (λ is_new. self.new ≡ (if is_new then cell ∷ self.old else self.old)) }
@@ -48,7 +49,7 @@ impl DeepCells {
         Ok(is_new)
     }
 
-    /// Closes the cell that was opened last, and tells whether there was one.
+    /// Closes the cell opened last. Returns whether there was one.
     pub(crate) fn close(&mut self) -> bool
         ensures told { IsTrue (not result) ↔ (self.old ≡ []) }
         ensures closed { self.new ≡ drop 1 self.old }

@@ -1,4 +1,4 @@
-//! Values without their holders.
+//! Flattening: values without their holders.
 ghost use Rattle.std.specs.Prelude.{◌≡◌, IfOk, IfErr, IsOk, OnOk, OnErr, None, [], option_copied};
 ghost use Rattle.rhai_value.specs.End.{end, flat, flattened, value_ahead};
 ghost use Rattle.rhai_value.specs.Seen.{flat_source};
@@ -10,8 +10,9 @@ use crate::value::dynamic::Dynamic;
 use std::alloc::{AllocError, Global};
 
 impl Dynamic {
-    /// Copies what is held; the holder at which the chain is stuck; the value itself where the chain closes.
-    /// Errors: memory for the copy is refused.
+    /// Copies the held value. If the chain is stuck, copies the holder at which it is stuck; if it
+    /// closes, the value itself.
+    /// Errors: the allocation of the copy fails.
     /// Cost: that of `held` and of `copy`.
     /// rhai: `Dynamic::flatten_clone`, which looks at one cell.
     #[inline(always)]
@@ -24,10 +25,11 @@ impl Dynamic {
         source.copy(alloc)
     }
 
-    /// Takes the value's holders off: it becomes what `flatten_clone` answers, or stays, modes kept, if it is no holder, if
-    /// its own cell is marked or no cell of the store, and if the chain closes.
-    /// Errors: memory for the copy is refused; the value stays.
-    /// Cost: that of `flatten_clone`; constant, with no memory, of a value that is no holder.
+    /// Replaces a holder by what `flatten_clone` returns. A value that isn't a holder, a holder
+    /// whose own cell is marked or not in the store, and one whose chain closes stay unchanged,
+    /// modes included.
+    /// Errors: the allocation of the copy fails; the value is unchanged.
+    /// Cost: that of `flatten_clone`; for a value that isn't a holder, constant, without memory.
     #[inline(always)]
     #[tactic(auto, using(crate::proofs::SameFlat::flattened_kept, crate::proofs::SameFlat::flattened_copied))]
     pub fn flatten_in_place(&mut self, alloc: Global, store: &Store) -> Result<(), AllocError>
@@ -43,8 +45,8 @@ impl Dynamic {
         Ok(())
     }
 
-    /// Takes the holders off a value that is passed, as `flatten_in_place` does.
-    /// Errors: the value comes back where memory is refused.
+    /// Flattens an owned value, as `flatten_in_place` does.
+    /// Errors: the value itself, if an allocation fails.
     /// Cost: that of `flatten_in_place`.
     /// rhai: `Dynamic::flatten`, which moves the content out of the last holder.
     #[inline(always)]
@@ -64,7 +66,7 @@ impl Dynamic {
         }
     }
 
-    /// What `flatten` copies.
+    /// The value that `flatten` copies.
     #[inline(always)]
     #[tactic(auto, using(crate::proofs::SameFlat::own_source, crate::proofs::SameFlat::near_source, crate::proofs::SameFlat::barred_source, crate::proofs::SameFlat::far_source))]
     fn flat_source<'s>(&'s self, store: &'s Store) -> Option<&'s Dynamic>
@@ -79,7 +81,7 @@ impl Dynamic {
         }
     }
 
-    /// What stands where the chain ends, if it doesn't close.
+    /// The value at the end of the chain, unless it closes.
     #[inline(never)]
     fn value_ahead<'s>(&'s self, store: &'s Store) -> Option<&'s Dynamic>
         ensures { option_copied result ≡ value_ahead (end store.now [] self.now) }

@@ -1,4 +1,4 @@
-//! Marks on cells: the right to write to one cell while no one else reads it.
+//! Marks on cells: exclusive write access to one cell.
 ghost use Rattle.std.specs.Prelude.{◌≡◌, ◌<◌, [], true, false, length, option_map, Some, IfSome};
 ghost use Rattle.std.specs.Borrow.{Lends, sem};
 ghost use Rattle.rhai_value.specs.contracts.value.dynamic.Dynamic as dynamic_type;
@@ -11,8 +11,8 @@ use crate::cells::store::Store;
 use crate::value::dynamic::Dynamic;
 use std::marker::Model;
 
-/// The right to read and to write what is in one marked cell. It must be spent, by `Store::release`: the compiler refuses to let
-/// it go. Contracts see the number of the cell.
+/// Exclusive access, to read and write, to the content of one marked cell. It must be spent by
+/// `Store::release`: the compiler refuses to drop it. Contracts see the cell's number.
 pub struct WriteToken {
     pub(crate) cell: usize,
 }
@@ -26,10 +26,10 @@ impl Model for WriteToken {
 }
 
 impl Store {
-    /// Marks the cell of a holder; `None`, with nothing changed, for a value that is no holder and for a cell that is
-    /// marked or no cell of the store.
+    /// Marks the cell of a holder. Returns `None`, and changes nothing, for a value that isn't a
+    /// holder and for a cell that is marked or not in the store.
     /// Cost: constant; no memory.
-    /// rhai: `Dynamic::write_lock`, which gives a guard.
+    /// rhai: `Dynamic::write_lock`, which returns a guard.
     #[tactic(auto, using(crate::proofs::MarkedCells::first_within))]
     pub fn mark(&mut self, d: &Dynamic) -> Option<WriteToken>
         ensures which { result ≡ first_cell self.old d.now }
@@ -39,9 +39,9 @@ impl Store {
         self.mark_at(d.first_site(self))
     }
 
-    /// Marks the cell in which the held value of a holder stands; `None`, with nothing changed, for a value that is no
-    /// holder and where the chain is stuck or closed.
-    /// Cost: the length of the chain, and where it closes the number of cells; no memory.
+    /// Marks the cell that contains a holder's held value. Returns `None`, and changes nothing, for
+    /// a value that isn't a holder and if the chain is stuck or closed.
+    /// Cost: the length of the chain, or the number of cells if the chain is closed; no memory.
     #[tactic(auto, using(crate::proofs::MarkedCells::held_within))]
     pub fn mark_held(&mut self, d: &Dynamic) -> Option<WriteToken>
         ensures which { result ≡ held_cell (end self.old [] d.now) }
@@ -66,7 +66,7 @@ impl Store {
         }
     }
 
-    /// Lends what is in the token's cell.
+    /// Borrows the content of the token's cell.
     /// Cost: constant; no memory.
     pub fn through(&self, t: &WriteToken) -> &Dynamic
         requires { is_marked_at self.now t.now ≡ true }
@@ -75,7 +75,7 @@ impl Store {
         &self.cells[t.cell].content
     }
 
-    /// Lends what is in the token's cell, to write.
+    /// Borrows the content of the token's cell mutably.
     /// Cost: constant; no memory.
     pub fn through_mut(&mut self, t: &WriteToken) -> &mut Dynamic
         requires { is_marked_at self.old t.now ≡ true }
@@ -85,7 +85,7 @@ impl Store {
         self.content_mut(t.cell)
     }
 
-    /// Clears the mark of the token's cell, and spends the token.
+    /// Clears the mark of the token's cell, and consumes the token.
     /// Cost: constant; no memory.
     pub fn release(&mut self, t: WriteToken)
         requires { is_marked_at self.old t ≡ true }

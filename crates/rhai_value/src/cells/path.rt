@@ -1,4 +1,4 @@
-//! The cells that are open on a walk.
+//! The cells that a walk has open.
 ghost use Rattle.std.specs.Prelude.{◌≡◌, ◌<◌, ◌∷◌, [], length, drop, not, IfOk, IfSome, IfNone, IsOk, None, OnErr, option_copied, if◌then◌else◌};
 ghost use Rattle.rhai_value.specs.End.{first};
 ghost use Rattle.rhai_value.specs.Walk.{entry, is_open};
@@ -11,10 +11,11 @@ use arrayvec::ArrayVec;
 use std::alloc::{AllocError, Global};
 use std::marker::Model;
 
-/// So many open cells take no memory.
+/// The number of open cells that fit without an allocation.
 pub const FIRST_CELLS: usize = 8;
 
-/// The cells that are open on a walk over values, the one opened last first. It keeps a walk from following a loop for ever.
+/// The cells that a walk over values has open, the one opened last first. It keeps a walk from
+/// looping for ever.
 #[derive(Drop)]
 pub struct Path {
     first: ArrayVec<usize, FIRST_CELLS>,
@@ -33,7 +34,7 @@ impl Model for Path {
 }
 
 impl Path {
-    /// Makes a path on which no cell is open.
+    /// Makes a path with no open cell.
     /// Cost: constant; no memory.
     pub fn new(alloc: Global) -> Self
         ensures { result ≡ [] }
@@ -44,7 +45,7 @@ impl Path {
         }
     }
 
-    /// Opens a cell, unless it is open, and tells whether it wasn't.
+    /// Opens a cell unless it is open. Returns whether it was closed before.
     #[tactic(auto, using(crate::proofs::Paths::open_either))]
     fn open(&mut self, cell: usize) -> Result<bool, AllocError>
         ensures told { IfOk result (λ is_new. is_new ≡ not (is_open cell self.old)) }
@@ -62,9 +63,9 @@ impl Path {
         Ok(true)
     }
 
-    /// Opens the cell of a holder and lends its content; `None`, with nothing changed, for a value that is no holder and
-    /// for a cell that is open, marked or no cell of the store.
-    /// Errors: memory for one more open cell is refused, and nothing changes.
+    /// Opens the cell of a holder and borrows its content. Returns `None`, and changes nothing, for
+    /// a value that isn't a holder and for a cell that is open, marked or not in the store.
+    /// Errors: the allocation for one more open cell fails, and nothing changes.
     /// Cost: the logarithm of the number of open cells.
     pub fn enter<'s>(
         &mut self,
@@ -93,7 +94,7 @@ impl Path {
         }
     }
 
-    /// Closes the cell that was opened last.
+    /// Closes the cell opened last.
     /// Cost: the logarithm of the number of open cells; no memory.
     pub fn leave(&mut self)
         requires { 0 < length self.old }

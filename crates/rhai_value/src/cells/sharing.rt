@@ -11,10 +11,10 @@ use std::alloc::AllocError;
 use std::mem;
 
 impl Dynamic {
-    /// Moves the value into a new cell, and puts a holder of it with tag 0 and the value's mode in its place; the content
-    /// keeps its tag and mode. A holder stays as it is.
-    /// Errors: memory for the cell is refused, and nothing changes.
-    /// Cost: constant, but where the store has to grow.
+    /// Moves the value into a new cell, and replaces it by a holder of that cell with tag 0 and the
+    /// value's mode; the content keeps its tag and mode. A holder is left unchanged.
+    /// Errors: the allocation of the cell fails, and nothing changes.
+    /// Cost: constant, unless the store must grow.
     #[inline(always)]
     pub fn share_in_place(&mut self, store: &mut Store) -> Result<(), AllocError>
         ensures own { OnOk result (self.new ≡ shared_value store.old self.old) }
@@ -37,8 +37,8 @@ impl Dynamic {
         Ok(())
     }
 
-    /// Shares a value that is passed, as `share_in_place` does.
-    /// Errors: the value comes back where memory for the cell is refused.
+    /// Shares an owned value, as `share_in_place` does.
+    /// Errors: the value itself, if the allocation of the cell fails.
     /// Cost: that of `share_in_place`.
     /// rhai: `Dynamic::into_shared`.
     #[inline(always)]

@@ -1,4 +1,4 @@
-//! The first content of a value: the value itself, or what the cell of a holder has.
+//! The first content of a value: the value itself, or for a holder the content of its cell.
 ghost use Rattle.std.specs.Prelude.{◌≡◌, [], true, is_some, option_map, option_copied, IfErr, IfSome, None, OnOk};
 ghost use Rattle.std.specs.Borrow.{sem, follows_if, name_if_some};
 ghost use Rattle.std.specs.Option.{ghost_name_of};
@@ -16,7 +16,8 @@ use crate::value::access_mode::AccessMode;
 use crate::value::dynamic::Dynamic;
 
 impl Dynamic {
-    /// Lends the value itself, or what the cell of a holder has; `None` where that cell is marked or no cell of the store.
+    /// Borrows the value itself, or for a holder the content of its cell; `None` if that cell is
+    /// marked or not in the store.
     /// Cost: constant; no memory.
     /// rhai: `Dynamic::read_lock::<Dynamic>`.
     pub fn read_whole<'s>(&'s self, store: &'s Store) -> Option<&'s Dynamic>
@@ -29,7 +30,8 @@ impl Dynamic {
         }
     }
 
-    /// Where the first content is. Most chains of holders end there, so each search along a chain looks there before it walks.
+    /// Where the first content is. Most chains end there, so each search along a chain tries this
+    /// before it walks.
     #[inline(always)]
     pub(crate) fn near<'s>(&'s self, store: &'s Store) -> Near<'s>
         ensures site { near_site result ≡ first_site store.now self.now }
@@ -44,13 +46,13 @@ impl Dynamic {
         }
     }
 
-    /// Lends the value itself, or what the cell of a holder has, to write; `None` where that cell is marked or no cell of
-    /// the store.
+    /// Borrows the value itself, or for a holder the content of its cell, mutably; `None` if that
+    /// cell is marked or not in the store.
     ///
-    /// Once it was written, the value is the one that was written over it, where it is no holder, or else the store has
-    /// that in the holder's cell; the other is as it was, and both are where there is none. Proofs that the check writes by
-    /// itself don't read that of a call that lends from two: `InStore::whole_mut`, which lends from the pair of them, says
-    /// it to those.
+    /// After the write, the written value is the value itself if it isn't a holder, and otherwise
+    /// the content of the holder's cell; everything else is unchanged, and if the result is `None`,
+    /// nothing changes. Automatic proofs can't use the clause of a call that borrows from two
+    /// arguments; for them, `InStore::whole_mut` says the same of the pair.
     /// Cost: constant; no memory.
     /// rhai: `Dynamic::write_lock::<Dynamic>`.
     pub fn write_whole<'s>(&'s mut self, store: &'s mut Store) -> Option<&'s mut Dynamic>
@@ -64,9 +66,9 @@ impl Dynamic {
         either(own, far)
     }
 
-    /// Writes over the value itself, or over what the cell of a holder has.
-    /// Errors: the content comes back where that cell is marked or no cell of the store, and nothing changes.
-    /// Cost: constant, and the drop of what was there; no memory.
+    /// Replaces the value itself, or for a holder the content of its cell.
+    /// Errors: returns `content`, and nothing changes, if that cell is marked or not in the store.
+    /// Cost: constant, and the drop of the old value; no memory.
     /// rhai: an assignment through `Dynamic::write_lock::<Dynamic>`.
     pub fn set_whole(&mut self, store: &mut Store, content: Dynamic) -> Result<(), Dynamic>
         ensures there { OnOk result (is_some (first store.old self.old) ≡ true) }
@@ -84,11 +86,11 @@ impl Dynamic {
         }
     }
 
-    /// Lends the value where the chain of holders ends, to write; `None` where the chain is stuck or closed.
+    /// Borrows the held value mutably; `None` if the chain is stuck or closed.
     ///
-    /// Once it was written, value and store are what they become where what is held is written over, and both are as before
-    /// where there is none. Proofs that the check writes by itself don't read that of a call that lends from two:
-    /// `InStore::held_mut`, which lends from the pair of them, says it to those.
+    /// After the write, the value and the store are those with the held value replaced; if the
+    /// result is `None`, both are unchanged. Automatic proofs can't use the clause of a call that
+    /// borrows from two arguments; for them, `InStore::held_mut` says the same of the pair.
     /// Cost: that of `held`; no memory.
     pub fn held_mut<'s>(&'s mut self, store: &'s mut Store) -> Option<&'s mut Dynamic>
         ensures* writes_back { sem 𝓛 (LendsHeld dynamic_type.the_row self.entry store.entry (ghost_name_of result) (λ w _. w)) }
@@ -101,7 +103,7 @@ impl Dynamic {
         either(own, far)
     }
 
-    /// Where the first content stands.
+    /// The site of the first content.
     pub(crate) fn first_site(&self, store: &Store) -> Option<Site>
         ensures { result ≡ first_site store.now self.now }
     {
@@ -112,8 +114,8 @@ impl Dynamic {
         }
     }
 
-    /// Tells whether the value is a constant: the value's own mode, or the mode of what the cell of a holder has; `false`
-    /// where that cell is marked or no cell of the store.
+    /// Returns whether the value is a constant, by its own mode, or for a holder by the mode of the
+    /// content of its cell; `false` if that cell is marked or not in the store.
     /// Cost: constant; no memory.
     /// rhai: `Dynamic::is_read_only`.
     pub fn is_read_only(&self, store: &Store) -> bool
@@ -135,7 +137,8 @@ impl Dynamic {
     }
 }
 
-/// Where the first content stands. A value and a store that are lent to write are asked here, since both are lent on afterwards.
+/// The site of the first content. Callers that borrow value and store mutably ask for the site
+/// first, since they borrow both again afterwards.
 #[inline(always)]
 fn first_place_of(value: &mut Dynamic, store: &mut Store) -> Place
     ensures place { result ≡ first_cell store.old value.old }
@@ -145,7 +148,7 @@ fn first_place_of(value: &mut Dynamic, store: &mut Store) -> Place
     value.first_place(store)
 }
 
-/// The same of the held value.
+/// The site of the held value.
 #[inline(always)]
 fn held_place_of(value: &mut Dynamic, store: &mut Store) -> Place
     ensures place { result ≡ held_cell (end store.old [] value.old) }
@@ -155,13 +158,13 @@ fn held_place_of(value: &mut Dynamic, store: &mut Store) -> Place
     value.held_place(store)
 }
 
-/// A value that is no holder.
+/// A value that isn't a holder.
 #[derive(Drop)]
 pub(crate) struct Own<'a> {
     value: &'a mut Dynamic,
 }
 
-/// A value that is no holder, to write.
+/// A value that isn't a holder, mutably.
 #[inline(always)]
 fn own_mut(value: &mut Dynamic) -> Option<Own<'_>>
     ensures* stays { sem 𝓛 (follows_if dynamic_type.the_row dynamic_type.the_row value.entry.ghost_name (name_if_some (λ w. w.value.ghost_name) result) (λ w. w) value.old) }
@@ -173,7 +176,7 @@ fn own_mut(value: &mut Dynamic) -> Option<Own<'_>>
     }
 }
 
-/// The first of two references, or else the second.
+/// The first of two references, or otherwise the second.
 #[inline(always)]
 fn either<'s>(own: Option<Own<'s>>, far: Option<&'s mut Dynamic>) -> Option<&'s mut Dynamic>
     ensures { result ≡ either_of (option_map (λ w. w.value) own.entry) far.entry }

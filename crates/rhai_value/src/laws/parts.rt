@@ -1,4 +1,4 @@
-//! Laws of parts, items and keys that are written, each the contract of a function that does nothing.
+//! Laws of writes to parts, items and keys, each the contract of a function with an empty body.
 ghost use Rattle.std.specs.Prelude.{◌≡◌, ◌↔◌, [], ℕ, List, None, Some, IsSome, slice_set};
 ghost use Rattle.std.specs.BTreeMap.{insert_entry, is_at};
 ghost use Rattle.std.specs.Map.{lookup, remove_entry, set_value};
@@ -15,7 +15,8 @@ ghost use Rattle.rhai_value.specs.Writes.{written};
 
 use crate::parts::part::Part;
 
-/// A part that is written over itself changes nothing: neither the value that has it, nor, where it is held, value and store.
+/// Writing a part over itself changes nothing: neither the value that has it, nor, if it is held,
+/// value and store.
 pub fn part_is_written_over_itself<T: Part>()
     ensures own { (t : Tree) (m : T.Meaning) → T.part_of t ≡ Some m → with_content (T.content m) t ≡ t }
     ensures value { (s : List Cell) (t : Tree) (m : T.Meaning) → held_part T.part_of (end s [] t) ≡ Some m
@@ -26,15 +27,16 @@ pub fn part_is_written_over_itself<T: Part>()
         → written h (with_content (T.content m)) ≡ h }
 {}
 
-/// What was written over a held value, and is no holder, is held at the same place.
+/// A value that isn't a holder, once written over a held value, is held at the same site.
 #[tactic(auto, using(crate::proofs::WrittenEnds::end_written))]
 pub fn what_is_written_is_held()
     ensures { (s : List Cell) (t v : Tree) (f : Tree → Tree) (site : Site) → end s [] t ≡ held site v → cell_of (f v) ≡ None
         → end_after f s t ≡ held site (f v) }
 {}
 
-/// The children that a list of items makes are these items. A held array has a list of items, and once others were written there it has those: so where one item was written, the list with
-/// that place changed.
+/// The children that a list of items makes are these items. A held array has a list of items, and
+/// after other items are written it has those; so writing one item changes the list at that index
+/// only.
 #[tactic(auto, using(crate::proofs::Items::items_back, crate::proofs::Items::items_held, crate::proofs::Items::items_told, crate::proofs::Items::items_written))]
 pub fn items_are_chained()
     ensures children { (xs : List Tree) → items_in (trees_of xs) ≡ xs }
@@ -45,9 +47,9 @@ pub fn items_are_chained()
         → held_part items_of (end_after (with_items (slice_set xs i x)) s t) ≡ Some (slice_set xs i x) }
 {}
 
-/// The value that a held map has at a key is the one that a look-up in its rows finds. Once an entry was inserted, the value of a key
-/// changed, or a key removed, the map has that at the key, and at each other key what it had. All keys are texts, as those of a `Map`
-/// are.
+/// The value that a held map has at a key is the one that a look-up in its rows finds. After
+/// inserting an entry, changing the value of a key, or removing a key, the map has the result at
+/// that key, and at each other key what it had. All keys are texts, as those of a `Map` are.
 #[tactic(auto, using(crate::proofs::Items::key_found))]
 pub fn keys_are_chained()
     ensures found { (e : End) (rs : Rows) (k : List ℕ) → AreTexts rs → IsUtf8 k → held_part map_of e ≡ Some (fields_of rs)

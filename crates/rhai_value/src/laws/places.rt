@@ -1,4 +1,4 @@
-//! Laws of work at places, each the contract of a function that does nothing.
+//! Laws of work at places, each the contract of a function with an empty body.
 ghost use Rattle.std.specs.Prelude.{◌≡◌, ℕ, ℤ, [], ◌∷◌, true, false, List, length, Some, None, Ok, slice_get};
 ghost use Rattle.std.specs.Borrow.{Bor};
 ghost use Rattle.std.specs.Str.{chars};
@@ -13,15 +13,16 @@ ghost use Rattle.rhai_value.specs.Steps.{item_at, item_place, with_item};
 ghost use Rattle.rhai_value.specs.Store.{is_marked_at};
 ghost use Rattle.rhai_value.specs.Tree.{Tree, cell_of};
 
-/// Where a store is left as it was lent, the mark is kept, and what is put back is written over what is held.
+/// If the work leaves the store as it found it, the mark is kept, and the new content is written
+/// over the held value.
 #[tactic(auto, using(crate::proofs::Placed::lent_is_kept, crate::proofs::Placed::lent_comes_back))]
 pub fn what_is_lent_comes_back()
     ensures kept { (s : List Cell) (t : Tree) → is_kept (held_cell (end s [] t)) (lent_out (held_cell (end s [] t)) s) ≡ true }
     ensures back { (s : List Cell) (t w : Tree) → put_back (held_cell (end s [] t)) w (lent_out (held_cell (end s [] t)) s) ≡ store_after (λ _. w) (end s [] t) s }
 {}
 
-/// What is written one step down stands there, and what stands elsewhere in an array or a map stays; an item that is written over
-/// itself changes nothing.
+/// A write one step down is found there, and the rest of an array or a map is unchanged; writing an
+/// item over itself changes nothing.
 #[tactic(auto, using(crate::proofs::Stepped::item_written, crate::proofs::Stepped::item_over_itself, crate::proofs::Stepped::other_item, crate::proofs::Stepped::other_key))]
 pub fn items_are_written_alone()
     ensures written { (p : Step) (t y w : Tree) → item_at p t ≡ Ok y → item_at p (with_item p t w) ≡ Ok w }
@@ -31,9 +32,10 @@ pub fn items_are_written_alone()
     ensures other_keys { (k q : Bor (List ℕ)) (t w : Tree) → (chars q.now ≡ chars k.now → ⊥) → item_at (Key q) (with_item (Key k) t w) ≡ item_at (Key q) t }
 {}
 
-/// A cell that isn't marked while work is done at a place is left as that work left it, and where the work leaves the store as it was
-/// lent, no mark is lost. No step leads to a value that is no holder, and
-/// one step to an item of it that is none: so what is written there is the item.
+/// A cell that isn't marked during the work at a place is left as the work left it, and if the work
+/// leaves the store as it found it, no mark is lost. From a value that isn't a holder, no steps
+/// lead to the value itself, and one step to an item that isn't a holder leads to this item: so a
+/// write there replaces the item.
 #[tactic(auto, using(crate::proofs::Ways::others_stay, crate::proofs::Ways::no_mark_is_lost, crate::proofs::Ways::no_step, crate::proofs::Ways::one_step))]
 pub fn places_are_written_alone()
     ensures other_cells { (ps : List Step) (s : List Cell) (t : Tree) (q : Place) → way ps s t ≡ Ok q → (w : Tree) (u : List Cell) (d : ℕ) → is_marked_at q.store d ≡ false
@@ -44,7 +46,7 @@ pub fn places_are_written_alone()
         → way (p ∷ []) s t ≡ Ok (around (with_item p t) (whole_place s y)) }
 {}
 
-/// Where steps lead doesn't depend on the numbers of cells, nor does what is left once something was put back there.
+/// Neither the target of steps nor the state after a write there depends on cell numbers.
 #[tactic(auto, using(crate::proofs::SameWays::same_way))]
 pub fn ways_are_renamed()
     ensures { (r : Renaming) (s z : List Cell) (ps : List Step) (t u : Tree) → IsOneToOne r → RelatedCells r s z → Related r t u → RelatedWays r (way ps s t) (way ps z u) }

@@ -1,4 +1,4 @@
-//! Laws of scans, each the contract of a function that does nothing.
+//! Laws of scans, each the contract of a function with an empty body.
 ghost use Rattle.std.specs.Prelude.{◌≡◌};
 ghost use Rattle.rhai_value.specs.Tree.{Tree};
 ghost use Rattle.rhai_value.specs.Relation.{Renaming};
@@ -6,12 +6,13 @@ ghost use Rattle.rhai_value.specs.Scan.{SameVisits, children_scanned, scan};
 
 use crate::walk::scan::Visitor;
 
-/// A scan visits the value, and then the children of what came out, the visitor handed on. No number of nodes is in it.
+/// A scan visits the value, and then the children of the result, with the visitor passed along. The
+/// number of nodes isn't mentioned.
 pub fn scan_opens<V: Visitor>()
     ensures { (v : V) (t : Tree) → scan V.visited v t ≡ children_scanned (scan V.visited) (V.visited v t).0 (V.visited v t).1 }
 {}
 
-/// What a scan makes of a value doesn't depend on the numbers of cells, where a visit doesn't.
+/// The result of a scan doesn't depend on cell numbers if that of a visit doesn't.
 pub fn scan_is_renamed<V: Visitor>()
     ensures { (r : Renaming) → SameVisits r V.visited → SameVisits r (scan V.visited) }
 {}

@@ -1,4 +1,4 @@
-//! Entries that come into the lists of a map, and that go.
+//! Inserting entries into the lists of a map, and removing them.
 ghost use Rattle.std.specs.Prelude.{◌≡◌, ◌+◌, ◌<◌, ◌≤◌, ◌^◌, ◌++◌, ◌∷◌, suc, length, map, take, drop, slice_set, slice_index_or, IsTrue, IfSome, MatchOption, None, vec_len, vec_capacity};
 ghost use Rattle.std.specs.List.{insert, remove};
 ghost use Rattle.std.specs.Str.{IsUtf8};
@@ -13,10 +13,10 @@ use crate::map::seat::Seat;
 use crate::map::{Chunk, Entry, MapParts};
 use crate::value::dynamic::Dynamic;
 
-/// How many entries a list has at the most, unless memory was refused.
+/// The most entries of a list, unless an allocation failed.
 const MOST: usize = 32;
 
-/// Makes room for one entry more, if there is none. Most maps are small, so room grows by few.
+/// Ensures room for one more entry. Most maps are small, so capacity grows in small steps.
 #[inline(always)]
 fn make_room(entries: &mut Vec<Entry>) -> bool
     ensures room { IsTrue result → vec_len entries.new < vec_capacity entries.new }
@@ -35,7 +35,7 @@ fn grow(entries: &mut Vec<Entry>) -> bool
     entries.reserve_exact(more).is_ok()
 }
 
-/// Takes the entries from a place on out of a list; `None` where memory for them is refused.
+/// Splits off the entries of a list from an index on; `None` if their allocation fails.
 fn cut(entries: &mut Vec<Entry>, from: usize) -> Option<Vec<Entry>>
     requires { from < length entries.old.items }
     ensures { MatchOption result (entries.new.items ≡ entries.old.items) (λ upper. (entries.new.items ≡ take from entries.old.items) × (upper.items ≡ drop from entries.old.items)) }
@@ -46,7 +46,8 @@ fn cut(entries: &mut Vec<Entry>, from: usize) -> Option<Vec<Entry>>
 }
 
 impl MapParts {
-    /// Makes room for an entry that comes to a place. Answers the place, which a split moves; `None` where memory is refused to a list.
+    /// Makes room for an entry at a place. Returns the place, which a split moves; `None` if the
+    /// allocation for a list fails.
     #[inline(always)]
     pub(crate) fn room_at(&mut self, seat: Seat) -> Option<Seat>
         requires whole { IsWhole self.old }
@@ -67,7 +68,8 @@ impl MapParts {
         }
     }
 
-    /// Asks for the room of more entries than a word counts, which is refused: one takes 80 bytes.
+    /// Requests room for more entries than `usize` counts, which always fails: an entry takes 80
+    /// bytes.
     #[cold]
     #[inline(never)]
     fn past_all_memory(&mut self) -> Option<Seat>
@@ -80,7 +82,7 @@ impl MapParts {
         None
     }
 
-    /// Splits the list of a place if it is full. Answers the place, which a split moves.
+    /// Splits the list of a place if it is full. Returns the place, which a split moves.
     #[inline(always)]
     fn split_full(&mut self, seat: Seat) -> Seat
         requires whole { IsWhole self.old }
@@ -111,7 +113,7 @@ impl MapParts {
         }
     }
 
-    /// Splits a full list. Where memory is refused, the list stays as it is, and grows past its bound.
+    /// Splits a full list. If an allocation fails, the list stays whole, and grows past its bound.
     #[cold]
     #[inline(never)]
     fn split(&mut self, seat: Seat) -> Seat
@@ -140,7 +142,7 @@ impl MapParts {
         }
     }
 
-    /// Where a full list is split for an entry that comes to a place: for an appended one near the end.
+    /// Where to split a full list for an entry at a place: near the end for an appended entry.
     fn middle_for(&self, seat: Seat) -> usize
         requires list { seat.list < length (lists_of self.now) }
         requires some { 1 < length (list_at self.now seat.list) }
@@ -154,7 +156,7 @@ impl MapParts {
         }
     }
 
-    /// Puts entries as a chunk past the list of a number.
+    /// Inserts entries as a chunk behind the list of this number.
     fn put_chunk(&mut self, number: usize, entries: Vec<Entry>)
         requires within { number < length (lists_of self.old) }
         requires some { 0 < length entries.items }
@@ -168,7 +170,8 @@ impl MapParts {
         insert_chunk(&mut self.rest, number, Chunk { front, entries });
     }
 
-    /// Takes the entries from a place on out of the list of a number, and makes room for one chunk more; `None` where memory for either is refused.
+    /// Splits off the entries from an index on of the list of this number, and makes room for one
+    /// more chunk; `None` if an allocation for either fails.
     fn cut_list(&mut self, number: usize, from: usize) -> Option<Vec<Entry>>
         requires list { number < length (lists_of self.old) }
         requires within { (0 < from) × (from < length (list_at self.old number)) }
@@ -186,7 +189,7 @@ impl MapParts {
         }
     }
 
-    /// Puts an entry at a place of a list that has room.
+    /// Inserts an entry at a place of a list that has room.
     #[inline(always)]
     pub(crate) fn put(&mut self, seat: Seat, key: Key, value: Dynamic)
         requires whole { IsWhole self.old }
@@ -206,7 +209,7 @@ impl MapParts {
         }
     }
 
-    /// Takes the entry at a place out. A chunk that becomes empty goes.
+    /// Removes the entry at a place, and its chunk if that becomes empty.
     #[inline(always)]
     pub(crate) fn take(&mut self, seat: Seat) -> Entry
         requires whole { IsWhole self.old }
@@ -248,7 +251,7 @@ fn insert_chunk(rest: &mut Vec<Chunk>, at: usize, chunk: Chunk)
     drop(rest.insert(at, chunk));
 }
 
-/// Puts an entry into a list that has room.
+/// Inserts an entry into a list that has room.
 #[inline(always)]
 fn put_entry(entries: &mut Vec<Entry>, at: usize, key: Key, value: Dynamic)
     requires within { at ≤ length entries.old.items }
@@ -258,7 +261,7 @@ fn put_entry(entries: &mut Vec<Entry>, at: usize, key: Key, value: Dynamic)
     drop(entries.insert(at, Entry { key, value }));
 }
 
-/// Puts an entry into a chunk that has room.
+/// Inserts an entry into a chunk that has room.
 #[inline(always)]
 fn put_in(chunk: &mut Chunk, at: usize, key: Key, value: Dynamic)
     requires within { at ≤ length chunk.old.entries.items }
@@ -273,7 +276,7 @@ fn put_in(chunk: &mut Chunk, at: usize, key: Key, value: Dynamic)
     put_entry(&mut chunk.entries, at, key, value);
 }
 
-/// Takes an entry out of a chunk.
+/// Removes an entry from a chunk.
 #[inline(always)]
 fn take_in(chunk: &mut Chunk, at: usize) -> Entry
     requires within { at < length chunk.old.entries.items }

@@ -1,11 +1,11 @@
-//! Going over the entries of a map.
+//! Iteration over the entries of a map.
 
 use crate::map::{Chunk, Entry, Map, MapParts};
 use crate::value::dynamic::Dynamic;
 use std::iter::{ExactSizeIterator, FusedIterator, IntoIterator, Iterator};
 use std::marker::Model;
 
-/// The entries of a map that are left, by rising keys. Contracts see their rows.
+/// The remaining entries of a map, by ascending keys. Contracts see their rows.
 #[derive(Drop)]
 pub struct Entries<'a> {
     list: &'a [Entry],
@@ -114,7 +114,7 @@ impl<'a> IntoIterator for &'a Map {
     }
 }
 
-/// The keys of a map that are left, by rising order.
+/// The remaining keys of a map, in ascending order.
 #[derive(Drop)]
 pub struct Keys<'a> {
     pub(crate) entries: Entries<'a>,
@@ -153,7 +153,7 @@ impl<'a> Iterator for Keys<'a> {
 
 impl<'a> FusedIterator for Keys<'a> {}
 
-/// The values of a map that are left, by rising keys.
+/// The remaining values of a map, by ascending keys.
 #[derive(Drop)]
 pub struct Values<'a> {
     pub(crate) entries: Entries<'a>,

@@ -1,4 +1,4 @@
-//! Exchanging all values of a map.
+//! Swapping all values of a map.
 ghost use Rattle.std.specs.Prelude.{◌≡◌, length, map, IfSome};
 ghost use Rattle.rhai_value.specs.Children.{listed_fields};
 ghost use Rattle.rhai_value.specs.RowWalks.{chunk_scanned, chunk_view, row_scanned, scanned};
@@ -11,7 +11,7 @@ use crate::value::dynamic::Dynamic;
 use std::alloc::Global;
 use std::mem;
 
-/// A list of `count` units; `None` where memory is refused.
+/// A list of `count` units; `None` if its allocation fails.
 pub(crate) fn units(count: usize, alloc: Global) -> Option<Vec<Dynamic>>
     ensures { IfSome result (λ ts. length ts.items ≡ count) }
 {
@@ -22,7 +22,8 @@ pub(crate) fn units(count: usize, alloc: Global) -> Option<Vec<Dynamic>>
     Some(values)
 }
 
-/// Exchanges the values of a map, in the order of the keys, for these, as far as they go. Takes no memory; costs the number of values.
+/// Swaps the values of a map, in the order of the keys, with these, as far as they go. Allocates
+/// nothing; costs the number of values.
 pub(crate) fn exchange_values(map: &mut Map, values: &mut Vec<Dynamic>)
     ensures given { fields_of map.new ≡ with_fields (fields_of map.old) values.old.items }
     ensures taken { length values.old.items ≡ length (listed_fields (fields_of map.old)) → values.new.items ≡ listed_fields (fields_of map.old) }
@@ -44,7 +45,8 @@ fn exchange_parts(parts: &mut MapParts, values: &mut Vec<Dynamic>)
     exchange_chunks(&mut parts.rest, values, at);
 }
 
-/// Exchanges the values of a list for those from a number on, if there are that many, and answers the next number.
+/// Swaps the values of a list with those from an index on, if there are that many, and returns the
+/// next index.
 fn exchange_entries(entries: &mut Vec<Entry>, values: &mut Vec<Dynamic>, from: usize) -> usize
     ensures { (parted values.new.items result, rows entries.new.items) ≡ scanned (row_scanned exchanged) (parted values.old.items from) (rows entries.old.items) }
 {
@@ -55,7 +57,7 @@ fn exchange_entries(entries: &mut Vec<Entry>, values: &mut Vec<Dynamic>, from: u
     at
 }
 
-/// The same of chunks.
+/// The same for chunks.
 fn exchange_chunks(rest: &mut Vec<Chunk>, values: &mut Vec<Dynamic>, from: usize) -> usize
     ensures { (parted values.new.items result, map chunk_view rest.new.items) ≡ scanned (chunk_scanned exchanged) (parted values.old.items from) (map chunk_view rest.old.items) }
 {

@@ -1,4 +1,4 @@
-//! Taking a map apart.
+//! Consuming a map.
 
 use crate::map::Map;
 use crate::map::key::Key;
@@ -7,7 +7,8 @@ use std::alloc::{AllocError, Global};
 use std::iter::{ExactSizeIterator, FusedIterator, IntoIterator, Iterator};
 use std::marker::Model;
 
-/// The entries of a map that are left, each with its key as a text of its own, by rising keys. Contracts see their rows.
+/// The remaining entries of a map, each with its key as an owned `String`, by ascending keys.
+/// Contracts see their rows.
 #[derive(Drop)]
 pub struct IntoEntries {
     map: Map,
@@ -29,7 +30,8 @@ impl Model for IntoEntries {
     ghost view = { λ a. a.map };
 }
 
-/// The entries of a map that are left, each with its key, by rising keys. Contracts see their rows.
+/// The remaining entries of a map, each with its `Key`, by ascending keys. Contracts see their
+/// rows.
 #[derive(Drop)]
 pub struct IntoKeyedEntries {
     map: Map,
@@ -53,7 +55,8 @@ impl Model for IntoKeyedEntries {
 impl Map {
     ghost use Rattle.std.specs.Prelude.{◌≡◌};
 
-    /// Takes the map apart: the entries one by one, each with its key as a `String`, by rising keys.
+    /// Consumes the map and iterates over its entries by ascending keys, each with its key as a
+    /// `String`.
     /// Cost: that of `pop_first` for each entry.
     /// rhai: `BTreeMap::into_iter` of its maps.
     pub fn into_entries(self, alloc: Global) -> IntoEntries
@@ -62,7 +65,7 @@ impl Map {
         IntoEntries { map: self, alloc }
     }
 
-    /// Takes the map apart: the entries one by one, each with its key, by rising keys.
+    /// Consumes the map and iterates over its entries by ascending keys, each with its `Key`.
     /// Cost: no memory; that of `pop_first_key` for each entry.
     pub fn into_keyed_entries(self) -> IntoKeyedEntries
         ensures { result ≡ self }
@@ -74,8 +77,8 @@ impl Map {
 impl IntoEntries {
     ghost use Rattle.std.specs.Prelude.{◌≡◌, [], ◌∷◌, length, IfOk, OnErr, MatchOption, string_bytes};
 
-    /// Takes the next entry.
-    /// Errors: memory is refused for the text of its key; nothing changes then.
+    /// Returns the next entry.
+    /// Errors: the allocation of the key's text fails, and nothing changes.
     /// Cost: that of `pop_first`.
     pub fn next(&mut self) -> Result<Option<(String, Dynamic)>, AllocError>
         ensures ok { IfOk result (λ first. MatchOption first ((self.old ≡ []) × (self.new ≡ [])) (λ x. self.old ≡ (string_bytes x.0, x.1) ∷ self.new)) }
@@ -85,7 +88,7 @@ impl IntoEntries {
         self.map.pop_first(alloc)
     }
 
-    /// Counts the entries that are left.
+    /// Returns the number of remaining entries.
     /// Cost: constant.
     pub fn len(&self) -> usize
         ensures { result ≡ length self.now }

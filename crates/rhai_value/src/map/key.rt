@@ -7,17 +7,18 @@ use std::alloc::{AllocError, Global};
 use std::marker::Model;
 use std::str;
 
-/// How many bytes a key has at the most that takes no memory.
+/// The most bytes of a key that is stored inline.
 pub(crate) const SHORT_BYTES: usize = 30;
 
-/// A key of a map. Up to 30 bytes it takes no memory. Contracts see its bytes.
+/// A key of a map. Up to 30 bytes are stored inline, without an allocation. Contracts see its
+/// bytes.
 /// rhai: `Identifier`, which is a `SmartString`.
 #[derive(Drop)]
 pub struct Key {
     form: KeyForm,
 }
 
-/// Few bytes stand here, with their number and with zeros past them; others have memory of their own.
+/// A short key inline, with its length, padded with zeros; a longer one in its own allocation.
 #[derive(Drop)]
 pub(crate) enum KeyForm {
     Short(u8, [u8; SHORT_BYTES]),
@@ -37,8 +38,8 @@ impl Model for Key {
 }
 
 impl Key {
-    /// Makes the key of a text.
-    /// Errors: memory is refused, for a text of more than 30 bytes.
+    /// Makes a key from a text.
+    /// Errors: for a text of more than 30 bytes, its allocation fails.
     /// Cost: the length of the text.
     #[inline(always)]
     pub fn from_str(alloc: Global, text: &str) -> Result<Key, AllocError>
@@ -53,7 +54,7 @@ impl Key {
         Ok(Key { form })
     }
 
-    /// Makes a key of a text that is handed over.
+    /// Makes a key from an owned text.
     /// Cost: no memory.
     #[inline(always)]
     pub fn from_string(text: String) -> Key
@@ -81,7 +82,7 @@ impl Key {
         Key { form }
     }
 
-    /// Lends the text.
+    /// Borrows the text.
     /// Cost: constant.
     #[inline(always)]
     pub fn as_str(&self) -> &str
@@ -96,8 +97,8 @@ impl Key {
         }
     }
 
-    /// Gives the text.
-    /// Errors: memory is refused, for a text of up to 30 bytes; others have theirs.
+    /// Converts the key into its text.
+    /// Errors: for a text of up to 30 bytes, its allocation fails; a longer one is moved.
     /// Cost: the length of the text.
     pub fn into_string(self, alloc: Global) -> Result<String, AllocError>
         ensures { IfOk result (λ s. string_bytes s ≡ self) }
@@ -105,7 +106,7 @@ impl Key {
         String::from_str(alloc, self.as_str())
     }
 
-    /// The first eight bytes as a number, as of `front_of`.
+    /// The first eight bytes as a number, as in `front_of`.
     #[inline(always)]
     pub(crate) fn front(&self) -> u64
         ensures { result ≡ from_be_bytes w64 self.now }
@@ -118,7 +119,7 @@ impl Key {
         }
     }
 
-    /// A second key of the same text.
+    /// Copies the key.
     #[inline(always)]
     pub(crate) fn copy(&self) -> Result<Key, AllocError>
         ensures { IfOk result (λ k. k ≡ self.now) }

@@ -17,7 +17,7 @@ use crate::value::dynamic::Dynamic;
 use std::alloc::Global;
 use std::mem;
 
-/// Exchanges a value in a list.
+/// Swaps a value in a list.
 #[inline(always)]
 fn replace_in(entries: &mut Vec<Entry>, at: usize, value: Dynamic) -> Dynamic
     requires { at < length entries.old.items }
@@ -57,7 +57,7 @@ impl MapParts {
         }
     }
 
-    /// The value at a place, to write to.
+    /// Borrows the value at a place mutably.
     #[inline(always)]
     pub(crate) fn value_at_mut(&mut self, seat: Seat) -> &mut Dynamic
         requires { IsSeated self.old seat }
@@ -71,7 +71,7 @@ impl MapParts {
         }
     }
 
-    /// Exchanges the value at a place.
+    /// Swaps the value at a place.
     #[inline(always)]
     pub(crate) fn replace_at(&mut self, seat: Seat, value: Dynamic) -> Dynamic
         requires whole { IsWhole self.old }
@@ -90,7 +90,7 @@ impl MapParts {
         }
     }
 
-    /// Puts a value at a key that is made of a text.
+    /// Inserts a value at a key made from a text.
     pub(crate) fn insert(
         &mut self,
         key: String,
@@ -115,7 +115,7 @@ impl MapParts {
         }
     }
 
-    /// Puts a value at a key.
+    /// Inserts a value at a key.
     pub(crate) fn insert_key(
         &mut self,
         key: Key,
@@ -140,7 +140,7 @@ impl MapParts {
         }
     }
 
-    /// Puts a value at a text, of which a key is made where it is new.
+    /// Sets the value of a text; makes a key only if the text is new.
     pub(crate) fn set(
         &mut self,
         alloc: Global,

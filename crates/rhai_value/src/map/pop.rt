@@ -95,8 +95,8 @@ impl MapParts {
 }
 
 impl Map {
-    /// Takes the first entry out, which is that of the least key.
-    /// Errors: memory is refused for the text of the key; nothing changes then.
+    /// Removes the first entry, that of the least key.
+    /// Errors: the allocation of the key's text fails, and nothing changes.
     /// Cost: that of `pop_first_key`, and the length of the key.
     /// rhai: `BTreeMap::pop_first`.
     pub fn pop_first(&mut self, alloc: Global) -> Result<Option<(String, Dynamic)>, AllocError>
@@ -116,8 +116,8 @@ impl Map {
         }
     }
 
-    /// Takes the first entry out, with its key.
-    /// Cost: the number of lists or of entries in one, whichever is more; no memory.
+    /// Removes the first entry and returns it with its `Key`.
+    /// Cost: the number of lists or of entries in one, whichever is greater; no memory.
     pub fn pop_first_key(&mut self) -> Option<(Key, Dynamic)>
         ensures { MatchOption result ((self.old ≡ []) × (self.new ≡ [])) (λ x. self.old ≡ (x.0, x.1) ∷ self.new) }
     {
@@ -127,7 +127,7 @@ impl Map {
         }
     }
 
-    /// Takes the last entry out, and answers its value. It takes no memory.
+    /// Removes the last entry, and returns its value. Allocates nothing.
     pub(crate) fn pop_last(&mut self) -> Option<Dynamic>
         ensures fewer { nodes_fields (fields_of self.new) + nodes_trees (trees_of (option_to_list result)) ≡ nodes_fields (fields_of self.old) }
         ensures none { IfNone result (self.new ≡ []) }
@@ -138,7 +138,8 @@ impl Map {
         }
     }
 
-    /// Takes the value of the first entry out, and puts `with` in its place, if there is an entry. It takes no memory.
+    /// Replaces the value of the first entry by `with` and returns it; `Err(with)` if there is no
+    /// entry. Allocates nothing.
     pub(crate) fn swap_first(&mut self, with: Dynamic) -> Result<Dynamic, Dynamic>
         ensures ok { IfOk result (λ x. (nodes_fields (fields_of self.new) + nodes x ≡ nodes_fields (fields_of self.old) + nodes with) × (nodes x < 1 + nodes_fields (fields_of self.old))) }
         ensures err { IfErr result (λ back. (back ≡ with) × (self.new ≡ self.old)) }

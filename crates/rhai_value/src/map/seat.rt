@@ -1,4 +1,4 @@
-//! Where the entries of a map stand.
+//! Where the entries of a map are.
 ghost use Rattle.std.specs.Prelude.{◌≡◌, ◌+◌, ◌<◌, ◌≤◌, ◌^◌, ◌++◌, ℕ, [], length, take, drop, map, slice_index_or, IfOk, IfErr, IfSome, MatchOption};
 ghost use Rattle.rhai_value.specs.Lists.{chunk_rows, joined, lists_of, rows, rows_of, AreAbove, AreBelow, AreFronted, Begins, IsWhole, Row};
 ghost use Rattle.rhai_value.specs.Rows.{bytes_cmp, AreRising, Rows};
@@ -10,14 +10,14 @@ use crate::map::{Chunk, Entry, MapParts};
 use crate::value::dynamic::Dynamic;
 use std::cmp::Ordering;
 
-/// Where an entry stands or would: the number of the list, the first being 0, and the place in it.
+/// Where an entry is or would be: the number of the list, the first being 0, and the index in it.
 #[derive(Copy, Clone)]
 pub(crate) struct Seat {
     pub(crate) list: usize,
     pub(crate) at: usize,
 }
 
-/// How the sought key stands to the first one of a chunk.
+/// Compares the sought key with the first one of a chunk.
 #[inline(always)]
 fn order_to_chunk(sought: &Sought, chunk: &Chunk) -> Ordering
     requires { Begins chunk.now.front chunk.now.entries.items }
@@ -27,7 +27,8 @@ fn order_to_chunk(sought: &Sought, chunk: &Chunk) -> Ordering
     sought.order_to(chunk.front, &chunk.entries[0].key)
 }
 
-/// How many chunks don't begin past a key: the last of these has it, if one has.
+/// The number of chunks that don't begin past a key: if a chunk has the key, it is the last of
+/// these.
 #[inline(always)]
 fn chunks_to(rest: &[Chunk], sought: &Sought) -> usize
     requires fronted { AreFronted rest.now }
@@ -50,7 +51,7 @@ fn chunks_to(rest: &[Chunk], sought: &Sought) -> usize
 }
 
 impl MapParts {
-    /// The list of a number.
+    /// Borrows the list of this number.
     #[inline(always)]
     fn list(&self, number: usize) -> &Vec<Entry>
         requires { number < length (lists_of self.now) }
@@ -64,7 +65,7 @@ impl MapParts {
         }
     }
 
-    /// Where a key stands, or else where it would.
+    /// Where a key is, or otherwise where it would be.
     #[inline(always)]
     pub(crate) fn seat(&self, sought: &Sought) -> Result<Seat, Seat>
         requires { IsWhole self.now }
@@ -78,7 +79,7 @@ impl MapParts {
         }
     }
 
-    /// The value at a place.
+    /// Borrows the value at a place.
     #[inline(always)]
     pub(crate) fn value_at(&self, seat: Seat) -> &Dynamic
         requires { IsSeated self.now seat }
@@ -88,7 +89,7 @@ impl MapParts {
         &entries[seat.at].value
     }
 
-    /// The place itself if an entry stands there, or else that of the next one.
+    /// The place itself if it has an entry, and otherwise the place of the next entry.
     #[inline(always)]
     pub(crate) fn seat_from(&self, seat: Seat) -> Option<Seat>
         requires whole { IsWhole self.now }
@@ -108,7 +109,7 @@ impl MapParts {
         })
     }
 
-    /// How many entries the list of a number has.
+    /// The number of entries in the list of this number.
     #[inline(always)]
     pub(crate) fn list_len(&self, number: usize) -> usize
         requires { number < length (lists_of self.now) }

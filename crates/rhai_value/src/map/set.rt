@@ -1,4 +1,4 @@
-//! Values of a map's keys that are set.
+//! Setting the value of a key.
 ghost use Rattle.std.specs.Prelude.{◌≡◌, Some, None, IfOk, IfErr, OnOk, OnErr};
 ghost use Rattle.std.specs.BTreeMap.{insert_entry, is_at};
 ghost use Rattle.std.specs.Map.{lookup};
@@ -8,12 +8,13 @@ use crate::map::Map;
 use crate::value::dynamic::Dynamic;
 
 impl Map {
-    /// Sets the value of a key, and answers the one that was there. A key that is there keeps its own text, and a new one
-    /// is made of the passed text only where it isn't.
-    /// Errors: the value comes back where the key is new and memory is refused, for the key or for the entry; nothing
-    /// changes then.
-    /// Cost: that of `get_mut` where the key is there, with no memory; else that of `insert`, and the length of the key. A key
-    /// of up to 30 bytes takes memory for its entry alone, where its list has no room.
+    /// Sets the value of a key, and returns the old one. An existing key keeps its own text; only a
+    /// new one is made from the passed text.
+    /// Errors: the value itself, if the key is new and the allocation of the key or the entry
+    /// fails; nothing changes.
+    /// Cost: that of `get_mut` for an existing key, without memory; otherwise that of `insert`, and
+    /// the length of the key. A key of up to 30 bytes allocates only for its entry, if its list has
+    /// no room.
     pub fn set(&mut self, key: &str, value: Dynamic) -> Result<Option<Dynamic>, Dynamic>
         ensures old { IfOk result (λ old. old ≡ lookup (is_at (bytes_cmp key.now)) self.old) }
         ensures set { OnOk result (self.new ≡ insert_entry bytes_cmp self.old key.now value) }

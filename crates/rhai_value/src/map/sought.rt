@@ -1,4 +1,4 @@
-//! What keys are sought by, and how it stands to them.
+//! Sought keys, and how they compare.
 ghost use Rattle.std.specs.Prelude.{◌≡◌, ◌<◌, length, IfOk, IfErr};
 ghost use Rattle.std.specs.Cmp.Lexicographic.{slice_cmp};
 ghost use Rattle.std.specs.Ordering.{nat_cmp};
@@ -11,7 +11,7 @@ use crate::map::key::Key;
 use std::cmp::Ordering;
 use std::marker::Model;
 
-/// The text that a key is sought by, with its front. Contracts see its bytes.
+/// A sought text, with its front. Contracts see its bytes.
 #[derive(Drop)]
 pub(crate) struct Sought<'a> {
     front: u64,
@@ -29,7 +29,8 @@ impl<'a> Model for Sought<'a> {
     ghost invariant = { λ s. s.front ≡ from_be_bytes w64 s.text.now };
 }
 
-/// The first eight bytes as a number, the first one first, with zeros past the end. Numbers stand as the bytes do.
+/// The first eight bytes as a big-endian number, padded with zeros. Numbers compare as the bytes
+/// do.
 pub(crate) fn front_of(text: &str) -> u64
     ensures { result ≡ from_be_bytes w64 text.now }
 {
@@ -42,7 +43,7 @@ pub(crate) fn front_of(text: &str) -> u64
     ])
 }
 
-/// The front of less than eight bytes.
+/// The front of fewer than eight bytes.
 fn short_front(bytes: &[u8]) -> u64
     requires { length bytes.now < 8 }
     ensures { result ≡ from_be_bytes w64 bytes.now }
@@ -63,7 +64,7 @@ fn short_front(bytes: &[u8]) -> u64
     }
 }
 
-/// How the texts of two fronts stand.
+/// Compares two texts whose fronts are given.
 fn order(front: u64, text: &str, other_front: u64, other: &str) -> Ordering
     requires fronts { (front ≡ from_be_bytes w64 text.now) × (other_front ≡ from_be_bytes w64 other.now) }
     ensures { result ≡ slice_cmp nat_cmp text.now other.now }
@@ -74,7 +75,8 @@ fn order(front: u64, text: &str, other_front: u64, other: &str) -> Ordering
     if other_front < front {
         return Ordering::Greater;
     }
-    // Two texts of at most eight bytes and of one front differ by zero bytes at an end alone, which the lengths tell.
+    // Two texts of at most eight bytes with the same front differ only by zero bytes at the end, so
+    // their lengths decide.
     if text.len() <= 8 && other.len() <= 8 {
         return text.len().cmp(&other.len());
     }
@@ -92,7 +94,7 @@ impl<'a> Sought<'a> {
         }
     }
 
-    /// How the text stands to a key of this front.
+    /// Compares the text with a key that has this front.
     #[inline(always)]
     pub(crate) fn order_to(&self, front: u64, key: &Key) -> Ordering
         requires { front ≡ from_be_bytes w64 key.now }
@@ -102,7 +104,7 @@ impl<'a> Sought<'a> {
     }
 }
 
-/// Where the sought key stands in a sorted list of entries, or else where it would.
+/// Where the sought key is in a sorted list of entries, or otherwise where it would be.
 #[inline(always)]
 pub(crate) fn place_in(entries: &[Entry], sought: &Sought) -> Result<usize, usize>
     requires { AreRising (rows entries.now) }

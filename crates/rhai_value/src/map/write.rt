@@ -1,4 +1,4 @@
-//! Writing to each value of a map.
+//! Writing to all values of a map.
 ghost use Rattle.std.specs.Prelude.{◌≡◌, map};
 ghost use Rattle.rhai_value.specs.RowWalks.{chunk_scanned, chunk_view, row_scanned, scanned};
 ghost use Rattle.rhai_value.specs.Lists.{rows, rows_of, IsWhole};
@@ -8,11 +8,11 @@ ghost use Rattle.rhai_value.specs.Scan.{fields_scanned};
 use crate::map::{Chunk, Entry, Map, MapParts};
 use crate::value::dynamic::Dynamic;
 
-/// What `Map::write_values` does with each value.
+/// The callback of `Map::write_values`.
 pub trait ValueWriter {
     ghost use Rattle.rhai_value.specs.Tree.{Tree};
 
-    /// What a write makes of the writer and of the value.
+    /// The writer and the value after a write.
     ghost writes: { Self → Tree → Self × Tree };
 
     /// Writes to a value.
@@ -21,8 +21,8 @@ pub trait ValueWriter {
 }
 
 impl Map {
-    /// Writes to each value, by rising keys, the writer being handed on; the keys stay.
-    /// Cost: the number of entries, and what the writer takes; no memory of its own.
+    /// Calls the writer on each value, by ascending keys, and passes it along; keys are unchanged.
+    /// Cost: the number of entries, and that of the writer; allocates nothing itself.
     /// rhai: `BTreeMap::values_mut` of its maps.
     pub fn write_values<W: ValueWriter>(&mut self, writer: &mut W)
         ensures { (writer.new, fields_of self.new) ≡ fields_scanned W.writes writer.old (fields_of self.old) }

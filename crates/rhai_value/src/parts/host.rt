@@ -1,4 +1,4 @@
-//! The parts of values that are the host's own: numbers of other widths, and ranges.
+//! The parts of values of the host's types: integers of other widths, and ranges.
 ghost use Rattle.std.specs.Prelude.{◌≡◌, refl, true, option_map};
 ghost use Rattle.std.specs.Borrow.{sem, LendsIf};
 ghost use Rattle.rhai_value.specs.contracts.value.host.Host as host_type_row;
@@ -19,24 +19,24 @@ use crate::value::type_id::TypeId;
 use crate::value::union::Union;
 use std::alloc::{AllocError, Global};
 
-/// A type of the host's: a number of another width than a script's own, or a range.
+/// A host type: an integer of another width than a script's own, or a range.
 pub trait HostPart: Sized + Copy + Drop {
-    /// The type of the values that have one.
+    /// The type of the values that have such a part.
     const KIND: TypeId;
 
     ghost KIND: { TypeId };
 
     ghost host: { Self → Host };
 
-    /// Makes it one of the host's values.
+    /// Converts it into a host value.
     fn into_host(self) -> Host
         ensures { result ≡ host self };
 
-    /// Lends what one of the host's values is, if it is of this type.
+    /// Borrows this part of a host value, if it is of this type.
     fn in_host(value: &Host) -> Option<&Self>
         ensures { option_map (λ r. host r.now) result ≡ host_at KIND value.now };
 
-    /// Lends what one of the host's values is, if it is of this type, to write.
+    /// Borrows this part of a host value mutably, if it is of this type.
     fn in_host_mut(value: &mut Host) -> Option<&mut Self>
         ensures* writes_back { sem 𝓛 (LendsIf host_type_row.the_row Self.row value.entry result (λ w. host w) value.old) }
         ensures value { option_map (λ r. host r.now) result ≡ host_at KIND value.old };

@@ -1,4 +1,4 @@
-//! A value together with its store, both to write: the lender of references into what the value holds.
+//! A value together with its store, both mutable: the source of references into the held value.
 ghost use Rattle.std.specs.Prelude.{◌≡◌, [], IfOk, IfErr, Some, None, option_map};
 ghost use Rattle.std.specs.Borrow.{sem, LendsIf, LendsIfOk};
 ghost use Rattle.rhai_text.specs.contracts.immutable_string.ImmutableString as text_type;
@@ -17,19 +17,19 @@ use crate::value::dynamic::Dynamic;
 use crate::value::union::{Array, Blob};
 use rhai_text::ImmutableString;
 
-/// A value and its store, both to write. A reference that may come from the one or from the other is lent from the pair, so that
-/// its contract can say what both are once it was written.
+/// A value and its store, both mutable. A reference that may come from either is borrowed from the
+/// pair, so that its contract can give both after the write.
 #[derive(Drop)]
 pub struct InStore<'a> {
     /// The value.
     pub value: &'a mut Dynamic,
-    /// The store whose cells its holders name.
+    /// The store whose cells its holders refer to.
     pub store: &'a mut Store,
 }
 
 impl<'a> InStore<'a> {
-    /// Lends the value itself, or what the cell of a holder has, to write; `None` where that cell is marked or no cell of
-    /// the store.
+    /// Borrows the value itself, or for a holder the content of its cell, mutably; `None` if that
+    /// cell is marked or not in the store.
     /// Cost: constant; no memory.
     /// rhai: `Dynamic::write_lock::<Dynamic>`.
     pub fn whole_mut(&mut self) -> Option<&mut Dynamic>
@@ -42,7 +42,7 @@ impl<'a> InStore<'a> {
         }
     }
 
-    /// Lends the held value, to write; `None` where the chain is stuck or closed.
+    /// Borrows the held value mutably; `None` if the chain is stuck or closed.
     /// Cost: that of `Dynamic::held`; no memory.
     pub fn held_mut(&mut self) -> Option<&mut Dynamic>
         ensures* writes_back { sem 𝓛 (LendsIf in_store_row dynamic_type.the_row self.entry result (λ w. written self.old (λ _. w)) self.old) }
@@ -52,7 +52,7 @@ impl<'a> InStore<'a> {
         self.held_at_mut(site)
     }
 
-    /// The same, where the held value stands being known.
+    /// Borrows the held value mutably, given its site.
     pub(crate) fn held_at_mut(&mut self, site: Option<Site>) -> Option<&mut Dynamic>
         requires { site ≡ site_of (end self.old.store.now [] self.old.value.now) }
         ensures* writes_back { sem 𝓛 (LendsIf in_store_row dynamic_type.the_row self.entry result (λ w. written self.old (λ _. w)) self.old) }
@@ -65,9 +65,10 @@ impl<'a> InStore<'a> {
     }
 }
 
-/// The held content of one kind, to write, or the name of the held type. Each takes no memory.
+/// Mutable borrows of the held content by type; if the type differs, the error is its name. None of
+/// these calls allocates.
 impl<'a> InStore<'a> {
-    /// Lends the held text, to write.
+    /// Borrows the held text mutably.
     /// Errors: the name of the held type.
     /// Cost: that of `Dynamic::held`; no memory.
     /// rhai: `Dynamic::as_immutable_string_mut`.
@@ -80,7 +81,7 @@ impl<'a> InStore<'a> {
         Ok(self.part_mut::<ImmutableString>()?)
     }
 
-    /// Lends the held array, to write.
+    /// Borrows the held array mutably.
     /// Errors: the name of the held type.
     /// Cost: that of `Dynamic::held`; no memory.
     /// rhai: `Dynamic::as_array_mut`.
@@ -93,7 +94,7 @@ impl<'a> InStore<'a> {
         Ok(self.part_mut::<Array>()?)
     }
 
-    /// Lends the held blob, to write.
+    /// Borrows the held blob mutably.
     /// Errors: the name of the held type.
     /// Cost: that of `Dynamic::held`; no memory.
     /// rhai: `Dynamic::as_blob_mut`.
@@ -106,7 +107,7 @@ impl<'a> InStore<'a> {
         Ok(self.part_mut::<Blob>()?)
     }
 
-    /// Lends the held map, to write.
+    /// Borrows the held map mutably.
     /// Errors: the name of the held type.
     /// Cost: that of `Dynamic::held`; no memory.
     /// rhai: `Dynamic::as_map_mut`.

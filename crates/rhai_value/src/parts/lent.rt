@@ -1,4 +1,4 @@
-//! Parts lent from a value or from its store, with what both are once the part was written.
+//! Parts borrowed from a value or its store, with the state of both after the write.
 ghost use Rattle.std.specs.Prelude.{◌≡◌, ◌<◌, [], length, option_map, option_and_then, is_some, IfSome, IfOk, IfErr};
 ghost use Rattle.std.specs.Borrow.{sem, LendsIf, name_if_ok};
 ghost use Rattle.rhai_value.specs.contracts.value.dynamic.Dynamic as dynamic_type;
@@ -15,12 +15,12 @@ use crate::value::dynamic::Dynamic;
 use crate::value::type_id::TypeId;
 
 impl Dynamic {
-    /// Lends what is held, if it is of this kind, to write, being told whether the value itself has such a part.
-    /// Once it was written, value and store are what they become where what is held has this content.
+    /// Borrows the held part of this type mutably; `is_own` says whether the value itself has such
+    /// a part. After the write, value and store are those with this content held.
     ///
-    /// That comes first which is no reference: of a method of the value, a proof that the check writes by itself would take
-    /// the value alone for what lends, and couldn't make the call.
-    /// Errors: the name of the held type; value and store are as before.
+    /// A parameter that isn't a reference comes first: for a method of the value, an automatic
+    /// proof would take the value as the only source of the borrow, and couldn't make the call.
+    /// Errors: the name of the held type; value and store are unchanged.
     /// Cost: that of `Dynamic::held`; no memory.
     #[inline(always)]
     pub fn lent_part_mut<'s, T: Part>(
@@ -41,14 +41,15 @@ impl Dynamic {
     }
 }
 
-/// Where what is held stands, and the held type.
+/// The site and the type of the held value.
 #[derive(Copy, Clone)]
 pub(crate) struct HeldPlace {
     place: Place,
     kind: TypeId,
 }
 
-/// Where what is held stands. No chain is followed where the value itself has such a part, so that writes to it stay short.
+/// The site of the held value. If the value itself has such a part, no chain is followed, so such
+/// writes stay short.
 #[inline(always)]
 fn place_of<T: Part>(is_own: bool, value: &mut Dynamic, store: &mut Store) -> HeldPlace
     requires { is_own ≡ is_some (T.part_of value.old) }
@@ -67,7 +68,7 @@ fn place_of<T: Part>(is_own: bool, value: &mut Dynamic, store: &mut Store) -> He
     }
 }
 
-/// The same where the chain is followed.
+/// The site, found along the chain.
 #[inline(never)]
 fn far_place_of(value: &Dynamic, store: &Store) -> HeldPlace
     ensures place { result.place ≡ held_cell (end store.now [] value.now) }
@@ -80,7 +81,7 @@ fn far_place_of(value: &Dynamic, store: &Store) -> HeldPlace
     }
 }
 
-/// What the value itself has, to write.
+/// Borrows the value's own part mutably.
 #[inline(always)]
 fn own_part_of<T: Part>(value: &mut Dynamic) -> Option<&mut T>
     ensures* writes_back { sem 𝓛 (LendsIf dynamic_type.the_row T.row value.entry result (λ w. with_content (T.content (T.meaning w)) value.old) value.old) }
@@ -89,7 +90,7 @@ fn own_part_of<T: Part>(value: &mut Dynamic) -> Option<&mut T>
     T::own_mut(value)
 }
 
-/// What the content of a cell has, to write, if there is one.
+/// Borrows the part of a cell's content mutably, if there is one.
 #[inline(always)]
 fn content_part_of<T: Part>(store: &mut Store, found: HeldPlace) -> Option<&mut T>
     requires { IfSome found.place (λ c. c < length store.old) }
@@ -102,7 +103,8 @@ fn content_part_of<T: Part>(store: &mut Store, found: HeldPlace) -> Option<&mut 
     }
 }
 
-/// The first of two references, or else the second; with neither, the name of the held type.
+/// The first of two references, or otherwise the second; if there is neither, the name of the held
+/// type.
 #[inline(always)]
 fn either_part<'s, T: Part>(
     own: Option<&'s mut T>,

@@ -1,4 +1,4 @@
-//! Parts of values: the Rust types of which a value may have one, each the content of one constructor.
+//! Parts of values: Rust types, each the content of one constructor.
 ghost use Rattle.std.specs.Prelude.{◌≡◌, [], true, Option, Some, None, option_map, is_some, IfOk, IfErr, IsOk, IsSome, OnOk};
 ghost use Rattle.std.specs.Borrow.{sem, Lends, LendsIf, LendsIfOk};
 ghost use Rattle.rhai_value.specs.contracts.value.dynamic.Dynamic as dynamic_type;
@@ -17,29 +17,29 @@ use crate::value::type_id::TypeId;
 use std::alloc::{AllocError, Global};
 use std::mem;
 
-/// A type of which a value may have one, as the content of one constructor.
+/// A Rust type that is the content of one constructor.
 pub trait Part: Sized + Drop {
-    /// The type of the values that have one.
+    /// The type of the values that have such a part.
     const KIND: TypeId;
 
     ghost KIND: { TypeId };
 
-    // What contracts see of one.
+    // What contracts see of a part.
     ghost Meaning: { Type 0 };
 
     ghost meaning: { Self → Meaning };
 
-    // The content that it makes.
+    // The content made from a part.
     ghost content: { Meaning → Content };
 
-    // What a value has.
+    // The part of a value.
     ghost part_of: { Tree → Option Meaning };
 
-    /// Lends what the value itself has, if it is of this kind.
+    /// Borrows the value's own part, if it is of this type.
     fn own(value: &Dynamic) -> Option<&Self>
         ensures { option_map (λ r. meaning r.now) result ≡ part_of value.now };
 
-    /// Lends what the value itself has, to write.
+    /// Borrows the value's own part mutably.
     fn own_mut(value: &mut Dynamic) -> Option<&mut Self>
         ensures* writes_back { sem 𝓛 (LendsIf dynamic_type.the_row Self.row value.entry result (λ w. with_content (content (meaning w)) value.old) value.old) }
         ensures value { option_map (λ r. meaning r.now) result ≡ part_of value.old };
@@ -48,32 +48,33 @@ pub trait Part: Sized + Drop {
     fn make(self) -> Dynamic
         ensures { result ≡ made (content (meaning self)) };
 
-    /// Moves what the value itself has out of it.
-    /// Errors: the value comes back where it is of another kind.
+    /// Moves the value's own part out of it.
+    /// Errors: the value itself, if it is of another type.
     fn take_out(value: Dynamic) -> Result<Self, Dynamic>
         ensures ok { IfOk result (λ x. part_of value ≡ Some (meaning x)) }
         ensures err { IfErr result (λ back. (back ≡ value) × (part_of value ≡ None)) };
 
     /// Copies the content.
-    /// Errors: memory for the copy is refused.
+    /// Errors: the allocation of the copy fails.
     /// Cost: that of `Dynamic::copy`.
     fn try_clone(&self, alloc: Global) -> Result<Self, AllocError>
         ensures copied { IfOk result (λ x. content (meaning x) ≡ copy_content (content (meaning self.now))) }
         ensures free { TakesNoMemory (made (content (meaning self.now))) → IsOk result };
 
-    // The type is that of a constructor.
+    // The type has a constructor.
     ghost constructs: { is_content_type KIND ≡ true };
 
-    // A value that is made of one has it.
+    // A value made from a part has it.
     ghost made_has: { (x : Self) → part_of (made (content (meaning x))) ≡ Some (meaning x) };
 
-    // A value has one exactly where it is of the type, and then this is its content.
+    // A value has a part exactly if it is of the type, and then the part is its content.
     ghost reads: { (t : Tree) → option_map content (part_of t) ≡ typed_content KIND t };
 }
 
-/// What the value itself has or holds, if it is of one kind.
+/// What the value itself has or holds, by type.
 impl Dynamic {
-    /// Lends what is held, if it is of this kind. What the value itself has is found without a look at its holders.
+    /// Borrows the held part, if it is of this type. The value's own part is found without
+    /// following holders.
     /// Cost: that of `Dynamic::held`; no memory.
     #[inline(always)]
     pub fn held_part<'s, T: Part>(&'s self, store: &'s Store) -> Option<&'s T>
@@ -95,18 +96,19 @@ impl Dynamic {
         }
     }
 
-    /// Lends what is held, which is of this kind.
+    /// Borrows the held part, which must be of this type.
     /// Cost: that of `Dynamic::held`; no memory.
     #[inline(always)]
     pub fn known_part<'s, T: Part>(&'s self, store: &'s Store) -> &'s T
         requires { is_some (held_part T.part_of (end store.now [] self.now)) ≡ true }
         ensures { held_part T.part_of (end store.now [] self.now) ≡ Some (T.meaning result.now) }
     {
-        // Which values have a part is said by the `requires`, and by no type: the store's content alone tells where a chain leads.
+        // The `requires` says which values have the part; no type can, since the end of a chain
+        // depends on the store's content.
         self.held_part::<T>(store).unwrap()
     }
 
-    /// Lends what is held, if it is of this kind.
+    /// Borrows the held part, if it is of this type.
     /// Errors: the name of the held type.
     /// Cost: that of `Dynamic::held`; no memory.
     #[inline(always)]
@@ -121,11 +123,11 @@ impl Dynamic {
         }
     }
 
-    /// Lends what is held, if it is of this kind, to write.
+    /// Borrows the held part mutably, if it is of this type.
     ///
-    /// This is one call of `lent_part_mut`, which says what value and store are once it was written. There are two, since a
-    /// proof that the check writes by itself can't call a method of the value with a clause on two lenders; such a proof
-    /// reads it of `InStore::part_mut`, which lends from the pair of the two.
+    /// One call of `lent_part_mut`, whose contract gives value and store after the write. Both
+    /// calls exist, since an automatic proof can't call a method of the value with a clause on two
+    /// sources of a borrow; such a proof uses `InStore::part_mut`, which borrows from the pair.
     /// Errors: the name of the held type.
     /// Cost: that of `Dynamic::held`; no memory.
     #[inline(always)]
@@ -141,8 +143,9 @@ impl Dynamic {
         Dynamic::lent_part_mut::<T>(is_own, self, store)
     }
 
-    /// Writes this over what is held, if that is of this kind, tag and mode staying, and answers what was there.
-    /// Errors: the part comes back where another type is held, and nothing changes.
+    /// Replaces the held part if that is of this type, keeps tag and mode, and returns the old
+    /// part.
+    /// Errors: the new part, if another type is held; nothing changes.
     /// Cost: that of `Dynamic::held`; no memory.
     #[inline(always)]
     pub fn put_part<T: Part>(&mut self, store: &mut Store, part: T) -> Result<T, T>
@@ -160,7 +163,7 @@ impl Dynamic {
         }
     }
 
-    /// The same of what the value itself has.
+    /// The same for the value's own part.
     #[inline(always)]
     fn put_own_part<T: Part>(&mut self, part: T) -> Result<T, T>
         ensures ok { IfOk result (λ old. (T.part_of self.old ≡ Some (T.meaning old)) × (self.new ≡ with_content (T.content (T.meaning part)) self.old)) }
@@ -172,7 +175,7 @@ impl Dynamic {
         }
     }
 
-    /// The same of a holder whose cell itself has one.
+    /// The same for a holder whose own cell has such a part.
     #[inline(always)]
     fn put_near_part<T: Part>(&self, store: &mut Store, part: T) -> Result<T, T>
         ensures ok { IfOk result (λ old. held_part T.part_of (end store.old [] self.now) ≡ Some (T.meaning old)) }
@@ -189,7 +192,7 @@ impl Dynamic {
         }
     }
 
-    /// The same of any value, in a function of its own, so that writes over what is near stay short.
+    /// The same for any value, in a separate function, so that writes to nearby parts stay short.
     #[inline(never)]
     fn put_held_part<T: Part>(&mut self, store: &mut Store, part: T) -> Result<T, T>
         ensures ok { IfOk result (λ old. held_part T.part_of (end store.old [] self.old) ≡ Some (T.meaning old)) }
@@ -206,10 +209,10 @@ impl Dynamic {
     }
 }
 
-/// What is held in a store, if it is of one kind, to write.
+/// Mutable borrows of a held part by type.
 impl<'a> InStore<'a> {
-    /// Lends what is held, if it is of this kind, to write. What the value itself has is found without a look at its
-    /// holders.
+    /// Borrows the held part mutably, if it is of this type. The value's own part is found without
+    /// following holders.
     /// Errors: the name of the held type.
     /// Cost: that of `Dynamic::held`; no memory.
     #[inline(always)]
@@ -226,7 +229,7 @@ impl<'a> InStore<'a> {
         }
     }
 
-    /// Lends what is held, which is of this kind, to write.
+    /// Borrows the held part, which must be of this type, mutably.
     /// Cost: that of `Dynamic::held`; no memory.
     #[inline(always)]
     pub fn held_part_mut<T: Part>(&mut self) -> &mut T
@@ -236,7 +239,7 @@ impl<'a> InStore<'a> {
     {
         match self.part_mut::<T>() {
             Ok(part) => part,
-            // The store's content alone tells where a chain leads.
+            // The end of a chain depends on the store's content.
             Err(_) => unreachable!(),
         }
     }
@@ -254,8 +257,8 @@ impl<'a> InStore<'a> {
     }
 }
 
-/// Where what is held stands, and its type. No chain is followed where the value itself has such a part, so that writes to it
-/// stay short.
+/// The site and the type of the held value. If the value itself has such a part, no chain is
+/// followed, so such writes stay short.
 #[inline(always)]
 fn site_with_part<T: Part>(value: &Dynamic, store: &Store) -> (Option<Site>, TypeId)
     ensures site { result.0 ≡ site_of (end store.now [] value.now) }
@@ -267,7 +270,7 @@ fn site_with_part<T: Part>(value: &Dynamic, store: &Store) -> (Option<Site>, Typ
     }
 }
 
-/// The same where the chain is followed.
+/// The site and the type, found along the chain.
 #[inline(never)]
 fn far_site(value: &Dynamic, store: &Store) -> (Option<Site>, TypeId)
     ensures site { result.0 ≡ site_of (end store.now [] value.now) }

@@ -1,4 +1,4 @@
-//! Places in a store: where a first content or a held value stands.
+//! Places in a store: the site of a first content or a held value.
 ghost use Rattle.std.specs.Prelude.{◌≡◌, ◌<◌, [], length, option_map, IfSome};
 ghost use Rattle.std.specs.Borrow.{sem, LendsIf};
 ghost use Rattle.rhai_value.specs.contracts.value.dynamic.Dynamic as dynamic_type;
@@ -11,8 +11,8 @@ use crate::cells::store::Store;
 use crate::value::dynamic::Dynamic;
 use std::marker::Model;
 
-/// Where a first content or a held value stands: in one cell of a store, or in none, where it is the value itself or isn't there.
-/// Nothing tells the number of the cell, which contracts see.
+/// Where a first content or a held value is: in one cell of a store, or in none, if it is the value
+/// itself or doesn't exist. No call reveals the cell's number, which contracts see.
 #[derive(Copy, Clone)]
 pub struct Place {
     cell: Option<usize>,
@@ -29,7 +29,7 @@ impl Model for Place {
 }
 
 impl Place {
-    /// The cell of a site, if it is one.
+    /// The cell of a site, if it is in a cell.
     #[inline(always)]
     pub(crate) fn of(site: Option<Site>) -> Place
         ensures { result ≡ site_cell site }
@@ -41,9 +41,10 @@ impl Place {
     }
 }
 
-/// Where a value's content stands that is found along its holders. Each takes no memory.
+/// The place of a value's first content or held value, found along its holders. None of these calls
+/// allocates.
 impl Dynamic {
-    /// Finds where the first content stands.
+    /// Finds the place of the first content.
     /// Cost: constant; no memory.
     #[inline(always)]
     #[tactic(auto, using(crate::proofs::MarkedCells::first_open))]
@@ -54,7 +55,7 @@ impl Dynamic {
         Place::of(self.first_site(store))
     }
 
-    /// Finds where the held value stands.
+    /// Finds the place of the held value.
     /// Cost: that of `held`; no memory.
     #[tactic(auto, using(crate::proofs::MarkedCells::held_open))]
     pub fn held_place(&self, store: &Store) -> Place
@@ -66,8 +67,8 @@ impl Dynamic {
 }
 
 impl Store {
-    /// Lends what stands in a place, if it is an unmarked cell, to write. What a marked cell has is lent for its token alone, so
-    /// a place that was kept while its cell was marked lends nothing.
+    /// Borrows the content of a place mutably, if it is an unmarked cell. The content of a marked
+    /// cell is borrowed only through its token, so a place kept from before the mark gives `None`.
     /// Cost: constant; no memory.
     #[inline(always)]
     #[tactic(auto, using(crate::proofs::MarkedCells::open_within))]
@@ -79,7 +80,7 @@ impl Store {
         self.cell_content_mut(place)
     }
 
-    /// Lends what stands in a place, if it is one of the cells, to write.
+    /// Borrows the content of a place mutably, if it is a cell.
     #[inline(always)]
     pub(crate) fn cell_content_mut(&mut self, place: Place) -> Option<&mut Dynamic>
         requires { IfSome place (λ c. c < length self.old) }

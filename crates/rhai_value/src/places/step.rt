@@ -8,16 +8,18 @@ use crate::value::union::INT;
 /// A step down into a held value.
 #[derive(Debug, PartialEq, Eq, Copy, Clone)]
 pub enum Step<'k> {
-    /// To the item of an array; a negative index counts from the end.
+    /// To an item of an array; a negative index counts from the end.
     Index(INT),
-    /// To the value of a map's key.
+    /// To the value of a key of a map.
     Key(&'k str),
 }
 
-/// Why there was no work at a place, or why what was made there could not be put back, and at which step: how many were gone before.
+/// Why the work at a place didn't happen, or why its result could not be put back, and at which
+/// step: the number of steps taken before.
 #[derive(Debug, PartialEq, Eq, Copy, Clone)]
 pub struct PlaceError {
-    /// The number of the step in the list; past the last one where this is about the place itself.
+    /// The index of the step in the list; the number of steps if the error concerns the target
+    /// itself.
     pub step: usize,
     /// What is wrong there.
     pub kind: PlaceErrorKind,
@@ -26,21 +28,22 @@ pub struct PlaceError {
 /// What is wrong with a step.
 #[derive(Debug, PartialEq, Eq, Copy, Clone)]
 pub enum PlaceErrorKind {
-    /// Nothing is held there: a cell on the way is marked or no cell of the store, or the holders come back to one of their cells.
+    /// Nothing is held there: a cell on the way is marked or not in the store, or the chain closes.
     Barred,
-    /// A value of this type is held there, which has no such items.
+    /// The held value is of this type, which has no such items.
     OtherType(TypeId),
-    /// The array that is held there has only so many items.
+    /// The held array has only this many items.
     NoItem(usize),
-    /// The map that is held there lacks the key.
+    /// The held map lacks the key.
     NoKey,
-    /// There are more steps than `Dynamic::with_place` goes.
+    /// There are more steps than `Dynamic::with_place` takes.
     TooFar,
-    /// The mark of the cell, in which the value before the step stands, was gone when the work was done.
+    /// The cell with the value before the step was no longer marked when the work was done.
     Lost,
 }
 
-/// Tells the place of an item in a list of this length, if there is one; a negative index counts from the end.
+/// Returns the place of an item in a list of this length, if there is one; a negative index counts
+/// from the end.
 #[tactic(auto, using(crate::proofs::Stepped::place_within))]
 pub fn item_place(length: usize, index: INT) -> Option<usize>
     ensures place { result ≡ item_place length index }

@@ -1,4 +1,4 @@
-//! Work at a held value with the store at hand.
+//! Work at a held value with access to the store.
 ghost use Rattle.std.specs.Prelude.{◌≡◌, [], true, None, Some, Err, IfSome, IfNone, is_some};
 ghost use Rattle.rhai_value.specs.End.{end, held_in};
 ghost use Rattle.rhai_value.specs.Places.{WorksAt, IsLent, put_back};
@@ -10,24 +10,26 @@ use crate::cells::marks::WriteToken;
 use crate::cells::store::Store;
 use crate::value::dynamic::Dynamic;
 
-/// Why nothing was done at a held value, or why what was made of it could not be put back.
+/// Why the work at a held value didn't happen, or why its result could not be put back.
 #[derive(Debug, PartialEq, Eq, Copy, Clone)]
 pub enum HeldError {
-    /// Nothing is held: a cell on the way is marked or no cell of the store, or the holders come back to one of their cells.
+    /// Nothing is held: a cell on the way is marked or not in the store, or the chain closes.
     Barred,
-    /// The mark of the cell was gone when the work was done.
+    /// The cell was no longer marked when the work was done.
     Lost,
 }
 
 impl Dynamic {
-    /// Works at the held value, with the store at hand.
+    /// Calls `f` on the held value and the store.
     ///
-    /// The cell in which the value stands is marked meanwhile, and its content is outside: who looks at the cell finds it marked, as
-    /// rhai finds a cell that is borrowed. A value that is no holder has no cell, and nothing is marked. What `f` made of the value is
-    /// put back in its place when `f` returns, whatever it answers. `f` may make cells, and read and write others; it must not
-    /// collect them, since then the cell may have another number.
-    /// Errors: `Barred`, with nothing changed and `f` not called; `Lost` where `f` left a store in which the cell isn't marked, which
-    /// stays as `f` left it, and what `f` made of the value is dropped.
+    /// Meanwhile the cell of the held value is marked, and its content is outside: code that looks
+    /// at the cell finds it marked, as rhai finds a borrowed cell. A value that isn't a holder has
+    /// no cell, and nothing is marked. When `f` returns, whatever its result, the changed value is
+    /// put back. `f` may make cells, and read and write others; it must not collect them, since
+    /// then the cell may have another number.
+    /// Errors: `Barred`, with nothing changed and `f` not called; `Lost` if `f` left a store in
+    /// which the cell isn't marked: the store stays as `f` left it, and the changed value is
+    /// dropped.
     /// Cost: that of `held`, and of `f`; no memory.
     /// rhai: what `Dynamic::write_lock` guards.
     pub fn with_held<R: Drop, F: FnOnce(&mut Dynamic, &mut Store) -> R + Drop>(
@@ -55,7 +57,8 @@ impl Dynamic {
 }
 
 impl Store {
-    /// Marks the cell in which the held value of a holder stands, and takes the value out; nothing changes where none is held.
+    /// Marks the cell of a holder's held value, and takes the value out; changes nothing if none is
+    /// held.
     #[tactic(auto, using(crate::proofs::Placed::none_held))]
     pub(crate) fn lend_held(&mut self, holder: &Dynamic) -> Option<(WriteToken, Dynamic)>
         requires { is_some (cell_of holder.now) ≡ true }
@@ -67,7 +70,8 @@ impl Store {
         Some((token, content))
     }
 
-    /// Puts a content into the cell of a token, and clears its mark; answers whether the mark was there, and else changes nothing.
+    /// Puts a content into the token's cell, and clears its mark. Returns whether the mark was
+    /// there; if not, changes nothing.
     #[tactic(auto, using(crate::proofs::RelatedCells::marked_put))]
     pub(crate) fn put_back(&mut self, token: WriteToken, content: Dynamic) -> bool
         ensures kept { result ≡ is_marked_at self.old token }

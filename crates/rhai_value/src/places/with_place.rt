@@ -1,4 +1,4 @@
-//! Work at a place inside a held value, with the store at hand.
+//! Work at a place inside a held value with access to the store.
 ghost use Rattle.std.specs.Prelude.{◌≡◌, ◌+◌, ◌≤◌, ◌<◌, ◌∷◌, ℤ, Err, Ok, length};
 ghost use Rattle.rhai_value.specs.declared.value.access_mode.AccessMode.{AccessMode};
 ghost use Rattle.rhai_value.specs.declared.places.step.PlaceError.{PlaceError as Nowhere};
@@ -23,19 +23,22 @@ use crate::places::step::{PlaceError, PlaceErrorKind, Step, item_place};
 use crate::value::dynamic::Dynamic;
 use crate::value::union::{Array, INT};
 
-/// The most steps that a way may have.
+/// The most steps to a place.
 const MOST_STEPS: usize = 64;
 
 impl Dynamic {
-    /// Works at a place inside the held value, with the store at hand.
+    /// Calls `f` on the value at a place inside the held value, and the store.
     ///
-    /// The steps lead down from what the value holds: by an index to the item of an array, by a key to the value of a map. What is met
-    /// on the way may be held in a cell, and so may be what stands at the place; `f` gets what is held there. Each of these cells is
-    /// marked meanwhile, as those of `with_held` are, and what `f` made is put back in its place, whatever `f` answers; all other items,
-    /// keys and cells are as `f` left them. `f` may make cells, and read and write others; it must not collect them.
-    /// Errors: the step that can't be gone, and why, with nothing changed and `f` not called; `TooFar` where there are more than 64
-    /// steps; `Lost` where `f` left a store in which one of the cells isn't marked, whose content is dropped then.
-    /// Cost: that of `held` for each step, of a look-up for each key, and of `f`; no memory. Each step takes a piece of the stack.
+    /// The steps lead down from the held value: by an index to an item of an array, by a key to a
+    /// value of a map. The values on the way may be held in cells, and so may the one at the place;
+    /// `f` gets the held one. Each of these cells is marked meanwhile, as in `with_held`, and the
+    /// changed value is put back, whatever the result of `f`; all other items, keys and cells are
+    /// as `f` left them. `f` may make cells, and read and write others; it must not collect them.
+    /// Errors: the step that failed, and why, with nothing changed and `f` not called; `TooFar` for
+    /// more than 64 steps; `Lost` if `f` left a store in which one of the cells isn't marked, whose
+    /// content is then dropped.
+    /// Cost: that of `held` for each step, of a look-up for each key, and of `f`; no memory. Each
+    /// step uses some stack.
     /// rhai: an assignment to a chain of indices and properties.
     pub fn with_place<R: Drop, F: FnOnce(&mut Dynamic, &mut Store) -> R + Drop>(
         &mut self,
@@ -57,9 +60,10 @@ impl Dynamic {
         work_below(self, store, steps, 0, f)
     }
 
-    /// Writes another value at a place inside the held value: over what is held there, as `with_place` finds it.
-    /// Errors: as those of `with_place` but `Lost`, with nothing changed; the value that was to be written is dropped.
-    /// Cost: that of `with_place`, and the drop of what was there; no memory.
+    /// Replaces the value at a place inside the held value: the held one there, as `with_place`
+    /// finds it.
+    /// Errors: those of `with_place` except `Lost`, with nothing changed; the new value is dropped.
+    /// Cost: that of `with_place`, and the drop of the old value; no memory.
     /// rhai: an assignment to a chain of indices and properties.
     #[tactic(auto, using(crate::proofs::Ways::no_mark_is_lost))]
     pub fn put_at(
@@ -76,7 +80,7 @@ impl Dynamic {
     }
 }
 
-/// Works at the place to which the steps lead from a value, `gone` being the number of those before.
+/// Works at the place that the steps lead to from a value, after `gone` steps.
 #[cycle(work)]
 fn work_below<R: Drop, F: FnOnce(&mut Dynamic, &mut Store) -> R + Drop>(
     value: &mut Dynamic,
@@ -109,7 +113,7 @@ fn work_below<R: Drop, F: FnOnce(&mut Dynamic, &mut Store) -> R + Drop>(
     }
 }
 
-/// The same from a value that is no holder.
+/// The same for a value that isn't a holder.
 #[cycle(work)]
 fn work_in<R: Drop, F: FnOnce(&mut Dynamic, &mut Store) -> R + Drop>(
     value: &mut Dynamic,
@@ -138,7 +142,7 @@ fn work_in<R: Drop, F: FnOnce(&mut Dynamic, &mut Store) -> R + Drop>(
     }
 }
 
-/// The same from an array.
+/// The same for an array.
 #[cycle(work)]
 fn work_in_array<R: Drop, F: FnOnce(&mut Dynamic, &mut Store) -> R + Drop>(
     items: &mut Array,
@@ -162,7 +166,7 @@ fn work_in_array<R: Drop, F: FnOnce(&mut Dynamic, &mut Store) -> R + Drop>(
     }
 }
 
-/// The same from a map.
+/// The same for a map.
 #[cycle(work)]
 fn work_in_map<R: Drop, F: FnOnce(&mut Dynamic, &mut Store) -> R + Drop>(
     map: &mut Map,
@@ -186,7 +190,7 @@ fn work_in_map<R: Drop, F: FnOnce(&mut Dynamic, &mut Store) -> R + Drop>(
     }
 }
 
-/// The value of a key, to write.
+/// Borrows the value of a key mutably.
 fn value_mut<'m>(map: &'m mut Map, key: &str) -> Option<&'m mut Dynamic>
     ensures* writes_back { sem 𝓛 (LendsIf map_type.the_row dynamic_type.the_row map.entry result (λ w. set_value (is_at (bytes_cmp key.now)) map.old w) map.old) }
     ensures value { option_copied_mut result ≡ field_at (chars key.now) (fields_of map.old) }

@@ -12,7 +12,8 @@ use crate::value::union::{Array, Blob, INT};
 use rhai_text::ImmutableString;
 
 impl Dynamic {
-    /// Writes over the held int, tag and mode staying, and tells whether an int is held; where none is, nothing changes.
+    /// Replaces the held int and keeps tag and mode. Returns whether an int is held; if none is,
+    /// changes nothing.
     /// Cost: that of `held`; no memory.
     pub fn set_int(&mut self, store: &mut Store, value: INT) -> bool
         ensures is_int { result ≡ is_some (held_part int_of (end store.old [] self.old)) }
@@ -24,11 +25,13 @@ impl Dynamic {
     }
 }
 
-/// Lends what is held, to write, or names the held type. Each takes no memory, and is one call of `lent_part_mut` at the type, which
-/// says what value and store are once it was written. There are two, since a proof that the check writes by itself can't call a
-/// method of the value with a clause on two lenders; such a proof reads it of the calls of `InStore`, which lend from the pair.
+/// Mutable borrows of held parts; if the type differs, the error is its name. None of these calls
+/// allocates. Each is one call of `lent_part_mut` at the type, whose contract gives value and store
+/// after the write. Both forms exist, since an automatic proof can't call a method of the value
+/// with a clause on two sources of a borrow; such a proof uses the calls of `InStore`, which borrow
+/// from the pair.
 impl Dynamic {
-    /// Lends the held text, to write.
+    /// Borrows the held text mutably.
     /// Errors: the name of the held type.
     /// Cost: that of `held`; no memory.
     /// rhai: `Dynamic::as_immutable_string_mut`.
@@ -43,7 +46,7 @@ impl Dynamic {
         self.as_part_mut::<ImmutableString>(store)
     }
 
-    /// Lends the held array, to write.
+    /// Borrows the held array mutably.
     /// Errors: the name of the held type.
     /// Cost: that of `held`; no memory.
     /// rhai: `Dynamic::as_array_mut`.
@@ -58,7 +61,7 @@ impl Dynamic {
         self.as_part_mut::<Array>(store)
     }
 
-    /// Lends the held blob, to write.
+    /// Borrows the held blob mutably.
     /// Errors: the name of the held type.
     /// Cost: that of `held`; no memory.
     /// rhai: `Dynamic::as_blob_mut`.
@@ -70,7 +73,7 @@ impl Dynamic {
         self.as_part_mut::<Blob>(store)
     }
 
-    /// Lends the held map, to write.
+    /// Borrows the held map mutably.
     /// Errors: the name of the held type.
     /// Cost: that of `held`; no memory.
     /// rhai: `Dynamic::as_map_mut`.

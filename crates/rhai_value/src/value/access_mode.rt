@@ -1,4 +1,4 @@
-//! Whether a value may be written.
+//! Access modes.
 
 /// The mode of a value: whether it may be written.
 /// rhai: `AccessMode`.

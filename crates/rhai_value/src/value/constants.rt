@@ -1,10 +1,10 @@
-//! The values that have names.
+//! Named constants.
 
 use crate::value::access_mode::AccessMode;
 use crate::value::dynamic::Dynamic;
 use crate::value::union::Union;
 
-/// The constants of rhai's `Dynamic` that are no floats, each with tag 0 and mode ReadWrite.
+/// The constants of rhai's `Dynamic` other than floats, each with tag 0 and mode ReadWrite.
 impl Dynamic {
     ghost use Rattle.std.specs.Prelude.{◌≡◌, ◌∷◌, [], map, true, false, pos, negsuc};
     ghost use Rattle.rhai_value.specs.Tree.{fresh, unit, bool, int};
@@ -74,7 +74,7 @@ impl Dynamic {
         union: Union::Int(0, AccessMode::ReadWrite, -2),
     };
 
-    /// Answers all the constants, in this order: a law that says what they are.
+    /// Returns all the constants, in this order: a law that says what they are.
     /// rhai: `Dynamic::UNIT` and its kin.
     pub fn constants() -> [Dynamic; 13]
         ensures { result ≡ map fresh (unit ∷ bool true ∷ bool false ∷ int (pos 0) ∷ int (pos 1)

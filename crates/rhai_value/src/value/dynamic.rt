@@ -1,4 +1,4 @@
-//! A value of a script, and what is its own: constructor, tag and mode.
+//! A value of a script, and its own properties: constructor, tag and mode.
 
 use crate::cells::cell_ref::CellRef;
 use crate::map::Map;
@@ -20,7 +20,7 @@ pub struct Dynamic {
 }
 
 impl Drop for Dynamic {
-    /// Takes no memory, and a bounded piece of the stack, however deep the value is.
+    /// Allocates nothing, and uses a bounded piece of the stack, however deep the value is.
     #[inline(always)]
     fn drop(self) {
         shed(self, NEAR);
@@ -52,7 +52,7 @@ impl Model for Dynamic {
     ghost size_decreases = { λ d h. Prim.omega (arith, falls d.union) };
 }
 
-/// Makers.
+/// Constructors.
 impl Dynamic {
     ghost use Rattle.std.specs.Prelude.{◌≡◌, IfOk};
     ghost use Rattle.std.specs.Str.{chars};
@@ -90,7 +90,7 @@ impl Dynamic {
     }
 
     /// Makes a text, with tag 0 and mode ReadWrite.
-    /// Errors: memory is refused.
+    /// Errors: an allocation fails.
     /// Cost: the length of the text; memory for it.
     /// rhai: `FromStr` and `From<&str>` of `Dynamic`.
     #[inline(always)]
@@ -100,7 +100,8 @@ impl Dynamic {
         Ok(Dynamic::from(ImmutableString::from_str(alloc, value)?))
     }
 
-    /// Makes an array of these items, which keep their tags and modes; with tag 0 and mode ReadWrite.
+    /// Makes an array of these items, which keep their tags and modes; the array has tag 0 and mode
+    /// ReadWrite.
     /// Cost: constant; no memory.
     /// rhai: `Dynamic::from_array`.
     pub fn from_array(items: Array) -> Dynamic
@@ -122,7 +123,8 @@ impl Dynamic {
         }
     }
 
-    /// Makes a map of these values, which keep their tags and modes; with tag 0 and mode ReadWrite.
+    /// Makes a map of these values, which keep their tags and modes; the map has tag 0 and mode
+    /// ReadWrite.
     /// Cost: constant; no memory.
     /// rhai: `Dynamic::from_map`.
     pub fn from_map(map: Map) -> Dynamic
@@ -143,14 +145,14 @@ impl Dynamic {
     ghost use Rattle.rhai_value.specs.Tree.{node, content_of};
     ghost use Rattle.rhai_value.specs.View.{tree_of};
 
-    /// Lends the constructor with its content, for a crate that reads values by cases.
+    /// Borrows the constructor with its content, for a crate that reads values by cases.
     pub const fn parts(&self) -> &Union
         ensures { tree_of result.now ≡ self.now }
     {
         &self.union
     }
 
-    /// Lends the constructor with its content, to write.
+    /// Borrows the constructor with its content mutably.
     pub fn parts_mut(&mut self) -> &mut Union
         ensures* writes_back { sem 𝓛 (Lends dynamic_type.the_row union_type.the_row self.entry result tree_of) }
         ensures value { tree_of result.now ≡ self.old }
@@ -173,7 +175,7 @@ impl Dynamic {
         Dynamic { union }
     }
 
-    /// Puts the value's content under this tag and mode; what stands in it keeps its own.
+    /// Sets the value's tag and mode; the values inside keep theirs.
     /// Cost: constant; no memory.
     #[tactic(auto, using(crate::proofs::Labels::under_label))]
     pub fn labelled(mut self, tag: Tag, mode: AccessMode) -> Dynamic
@@ -185,12 +187,12 @@ impl Dynamic {
     }
 }
 
-/// Tag, mode, and what the value itself is.
+/// Tag, mode and type of the value itself.
 impl Dynamic {
     ghost use Rattle.std.specs.Prelude.{◌≡◌, option_map, is_some};
     ghost use Rattle.rhai_value.specs.Tree.{fresh, unit, tag_of, mode_of, cell_of, with_tag, is_host};
 
-    /// Tells the tag, which the host is free to use.
+    /// Returns the tag, which the host may use freely.
     /// rhai: `Dynamic::tag`.
     pub const fn tag(&self) -> Tag
         ensures { result ≡ tag_of self.now }
@@ -210,7 +212,7 @@ impl Dynamic {
         }
     }
 
-    /// Sets the tag; of a holder not that of the content.
+    /// Sets the tag; for a holder, not that of the content.
     /// rhai: `Dynamic::set_tag`.
     pub fn set_tag(&mut self, tag: Tag)
         ensures { self.new ≡ with_tag tag self.old }
@@ -230,7 +232,7 @@ impl Dynamic {
         }
     }
 
-    /// Tells the value's own mode; of a holder not that of the content.
+    /// Returns the value's own mode; for a holder, not that of the content.
     /// rhai: `Dynamic::access_mode`.
     pub const fn access_mode(&self) -> AccessMode
         ensures { result ≡ mode_of self.now }
@@ -258,7 +260,8 @@ impl Dynamic {
         ensures value { result ≡ self.old }
         ensures left { self.new ≡ fresh unit }
     {
-        // An int by its parts: read as a whole, one that was made just now would wait for them.
+        // Copy an int field by field: reading a value just written as a whole would stall on store
+        // forwarding.
         if let Union::Int(tag, mode, n) = &self.union {
             let union = Union::Int(*tag, *mode, *n);
             *self = Dynamic::UNIT;
@@ -267,7 +270,7 @@ impl Dynamic {
         std::mem::replace(self, Dynamic::UNIT)
     }
 
-    /// Tells whether the value is of one of the host's types.
+    /// Returns whether the value is of one of the host's types.
     /// rhai: `Dynamic::is_variant`.
     pub const fn is_variant(&self) -> bool
         ensures { result ≡ is_host self.now }
@@ -275,7 +278,7 @@ impl Dynamic {
         matches!(&self.union, Union::Variant(_, _, _))
     }
 
-    /// Tells whether the value is a holder of a shared cell.
+    /// Returns whether the value is a holder of a shared cell.
     /// rhai: `Dynamic::is_shared`.
     pub fn is_shared(&self) -> bool
         ensures { result ≡ is_some (cell_of self.now) }
@@ -283,7 +286,7 @@ impl Dynamic {
         self.cell().is_some()
     }
 
-    /// The cell that a holder names.
+    /// The cell that a holder refers to.
     pub(crate) fn cell(&self) -> Option<CellRef>
         ensures { option_map (λ c. c.index) result ≡ cell_of self.now }
     {

@@ -1,4 +1,4 @@
-//! Values from Rust's own, each with tag 0 and mode ReadWrite.
+//! Values from Rust types, each with tag 0 and mode ReadWrite.
 ghost use Rattle.std.specs.Prelude.{◌≡◌};
 ghost use Rattle.rhai_value.specs.Rows.{trees_of};
 ghost use Rattle.rhai_value.specs.Tree.{made, fresh, unit, bool as boolean, int, char as character, text, host, branch, function};

@@ -1,21 +1,21 @@
-//! Values of the host's own types.
+//! Values of the host's types.
 ghost use Rattle.std.specs.Prelude.{◌≡◌};
 ghost use Rattle.rhai_value.specs.Types.{host_type};
 
 use crate::value::type_id::TypeId;
 use crate::value::union::INT;
 
-/// The integers from a start to an end, the end left out. A start past the end is no error.
+/// The integers from a start to an end, excluding the end. A start past the end isn't an error.
 /// rhai: `ExclusiveRange`.
 #[derive(Debug, PartialEq, Eq, Copy, Clone)]
 pub struct ExclusiveRange {
     /// The first integer.
     pub start: INT,
-    /// The integer behind the last one.
+    /// The integer after the last one.
     pub end: INT,
 }
 
-/// The integers from a start to an end, the end with them. A start past the end is no error.
+/// The integers from a start to an end, including the end. A start past the end isn't an error.
 /// rhai: `InclusiveRange`.
 #[derive(Debug, PartialEq, Eq, Copy, Clone)]
 pub struct InclusiveRange {
@@ -25,35 +25,35 @@ pub struct InclusiveRange {
     pub end: INT,
 }
 
-/// A number of another width than a script's own integers, or a range of these.
+/// An integer of another width than a script's own, or a range of a script's integers.
 #[derive(Copy, Clone)]
 pub enum Host {
-    /// 8 bits, without sign.
+    /// 8 bits, unsigned.
     U8(u8),
-    /// 16 bits, without sign.
+    /// 16 bits, unsigned.
     U16(u16),
-    /// 32 bits, without sign.
+    /// 32 bits, unsigned.
     U32(u32),
-    /// 64 bits, without sign.
+    /// 64 bits, unsigned.
     U64(u64),
-    /// 128 bits, without sign.
+    /// 128 bits, unsigned.
     U128(u128),
-    /// 8 bits.
+    /// 8 bits, signed.
     I8(i8),
-    /// 16 bits.
+    /// 16 bits, signed.
     I16(i16),
-    /// 32 bits.
+    /// 32 bits, signed.
     I32(i32),
-    /// 128 bits.
+    /// 128 bits, signed.
     I128(i128),
-    /// A range without its end.
+    /// A range that excludes its end.
     ExclusiveRange(ExclusiveRange),
-    /// A range with its end.
+    /// A range that includes its end.
     InclusiveRange(InclusiveRange),
 }
 
 impl Host {
-    /// Tells the type of the number or of the range.
+    /// Returns the type of the integer or the range.
     pub fn type_id(&self) -> TypeId
         ensures { result ≡ host_type self.now }
     {

@@ -1,4 +1,4 @@
-//! What a value holds, moved out of it.
+//! Moving the held content out of a value.
 ghost use Rattle.std.specs.Prelude.{◌≡◌, [], true, IfOk, IfErr, IsOk, Some, is_some, string_bytes};
 ghost use Rattle.std.specs.Str.{chars};
 ghost use Rattle.rhai_value.specs.End.{end, held_part, array_moved, IsWhyNot};
@@ -14,12 +14,12 @@ use crate::walk::near::NEAR;
 use rhai_text::ImmutableString;
 use std::alloc::{AllocError, Global};
 
-/// Why a value wasn't moved out.
+/// Why a value's content wasn't moved out.
 #[derive(Drop)]
 pub enum IntoError {
     /// Another type is held; this is its name.
     Mismatch(&'static str),
-    /// Memory was refused.
+    /// An allocation failed.
     Memory(AllocError),
 }
 
@@ -34,10 +34,12 @@ impl From<AllocError> for IntoError {
     }
 }
 
-/// The value is gone after an `Err`. A value's own content is moved and takes no memory, but for `into_string`.
+/// After an `Err` the value is gone. A value's own content is moved without an allocation, except
+/// by `into_string`.
 impl Dynamic {
     /// Moves the held text out, as a `String`.
-    /// Errors: `Mismatch` with the name of the held type; `Memory`, where memory for the text is refused.
+    /// Errors: `Mismatch` with the name of the held type; `Memory` if the allocation of the text
+    /// fails.
     /// Cost: the length of the text; memory for it.
     /// rhai: `Dynamic::into_string`.
     pub fn into_string(self, alloc: Global, store: &Store) -> Result<String, IntoError>
@@ -50,9 +52,10 @@ impl Dynamic {
         }
     }
 
-    /// Moves the held text out; it shares its bytes.
-    /// Errors: `Mismatch` with the name of the held type; `Memory`, where a copy of the text is refused.
-    /// Cost: that of `Dynamic::held`, and of `ImmutableString::copy` for a holder.
+    /// Moves the held text out; the result shares its bytes.
+    /// Errors: `Mismatch` with the name of the held type; `Memory` if an allocation for the copy
+    /// fails.
+    /// Cost: that of `Dynamic::held`, and for a holder that of `ImmutableString::copy`.
     /// rhai: `Dynamic::into_immutable_string`.
     #[tactic(auto, using(crate::proofs::InStores::own_text))]
     pub fn into_immutable_string(
@@ -74,9 +77,10 @@ impl Dynamic {
         }
     }
 
-    /// Moves the items of an array out; of a holder it copies the held items.
-    /// Errors: `Mismatch` with the name of the held type; `Memory`, where the copies are refused.
-    /// Cost: constant; of a holder that of the copies.
+    /// Moves the items of an array out; for a holder, copies the held items.
+    /// Errors: `Mismatch` with the name of the held type; `Memory` if an allocation for the copies
+    /// fails.
+    /// Cost: constant; for a holder that of the copies.
     /// rhai: `Dynamic::into_array`.
     #[tactic(auto, using(crate::proofs::Copies::copied_trees))]
     pub fn into_array(self, alloc: Global, store: &Store) -> Result<Array, IntoError>
@@ -94,9 +98,10 @@ impl Dynamic {
         }
     }
 
-    /// Moves the bytes of a blob out; of a holder it copies the held bytes.
-    /// Errors: `Mismatch` with the name of the held type; `Memory`, where the copy is refused.
-    /// Cost: constant; of a holder the number of bytes.
+    /// Moves the bytes of a blob out; for a holder, copies the held bytes.
+    /// Errors: `Mismatch` with the name of the held type; `Memory` if the allocation of the copy
+    /// fails.
+    /// Cost: constant; for a holder the number of bytes.
     /// rhai: `Dynamic::into_blob`.
     #[tactic(auto, using(crate::proofs::InStores::own_blob))]
     pub fn into_blob(self, alloc: Global, store: &Store) -> Result<Blob, IntoError>

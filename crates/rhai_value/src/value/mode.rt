@@ -1,4 +1,4 @@
-//! Setting the mode of a value and of what it holds.
+//! Setting the mode of a value and of the values inside it.
 ghost use Rattle.std.specs.Prelude.{◌≡◌, map};
 ghost use Rattle.rhai_value.specs.Lists.{rows, rows_of, IsWhole};
 ghost use Rattle.rhai_value.specs.RowWalks.{chunk_view, painted_chunk, painted_rows};
@@ -14,10 +14,10 @@ use crate::walk::near::NEAR;
 use crate::walk::paint_far::paint_far;
 
 impl Dynamic {
-    /// Sets the mode of the value and of all that it holds through arrays and maps. Curried values keep their modes, and so
-    /// does what is in a cell.
-    /// Cost: the number of values inside; no memory for values of up to 64 levels. Below them it
-    /// asks for a list, and goes on by calls for another 64 levels where that is refused.
+    /// Sets the mode of the value and of all values inside it through arrays and maps. Curried
+    /// values and cell contents keep their modes.
+    /// Cost: the number of values inside; no memory for values of up to 64 levels. Below those it
+    /// allocates a work list; if that fails, it recurses for another 64 levels.
     /// rhai: `Dynamic::set_access_mode`.
     pub fn set_access_mode(&mut self, mode: AccessMode)
         ensures { self.new ≡ paint mode self.old }
@@ -25,7 +25,7 @@ impl Dynamic {
         paint_value(self, mode, NEAR);
     }
 
-    /// Makes the value a constant, with all that it holds through arrays and maps.
+    /// Makes the value and all values inside it through arrays and maps constant.
     /// Cost: that of `set_access_mode`.
     /// rhai: `Dynamic::into_read_only`.
     pub fn into_read_only(mut self) -> Dynamic
@@ -36,7 +36,7 @@ impl Dynamic {
     }
 }
 
-/// Sets the mode of the value alone.
+/// Sets the mode of the value only.
 pub(crate) fn set_own_mode(value: &mut Dynamic, mode: AccessMode)
     ensures { value.new ≡ with_mode mode value.old }
 {
@@ -55,7 +55,7 @@ pub(crate) fn set_own_mode(value: &mut Dynamic, mode: AccessMode)
     }
 }
 
-// Most values hold no others, so each caller sets their mode in its place.
+// Inlined into callers, since most values contain no others.
 #[inline(always)]
 #[cycle(paint)]
 #[tactic(auto, using(crate::proofs::Paints::painted_trees))]

@@ -2,7 +2,7 @@
 ghost use Rattle.std.specs.Prelude.{◌≡◌};
 ghost use Rattle.rhai_value.specs.Types.{is_host_type, type_name};
 
-/// A type that a value may be of, and the type of what can't be looked into.
+/// The type of a value, including a type for chains that are stuck or closed.
 /// rhai: `TypeId` of `std::any`.
 #[derive(Debug, PartialEq, Eq, Copy, Clone)]
 pub enum TypeId {
@@ -44,9 +44,9 @@ pub enum TypeId {
     Map,
     /// A function pointer.
     FnPtr,
-    /// A range without its end.
+    /// A range that excludes its end.
     ExclusiveRange,
-    /// A range with its end.
+    /// A range that includes its end.
     InclusiveRange,
     /// Any value.
     Dynamic,
@@ -55,7 +55,7 @@ pub enum TypeId {
 }
 
 impl TypeId {
-    /// Tells the name of the type, as scripts see it.
+    /// Returns the name of the type, as scripts see it.
     pub fn name(self) -> &'static str
         ensures { result.now ≡ type_name self }
     {
@@ -85,7 +85,7 @@ impl TypeId {
         }
     }
 
-    /// Tells whether it is one of the host's own types: a number that is no `i64`, or a range.
+    /// Returns whether it is a host type: an integer other than `i64`, or a range.
     pub fn is_host(self) -> bool
         ensures { result ≡ is_host_type self }
     {

@@ -1,4 +1,4 @@
-//! Questions about the type of what is held, which follow chains of holders to their end.
+//! Type tests of held values, which follow chains of holders to their end.
 ghost use Rattle.std.specs.Prelude.{◌≡◌, [], IfOk, IfErr, Some, None, is_some};
 ghost use Rattle.rhai_value.specs.End.{end, held_part, end_type, end_name};
 ghost use Rattle.rhai_value.specs.Items.{items_of};
@@ -14,10 +14,11 @@ use crate::value::type_id::TypeId;
 use crate::value::union::{Array, Blob, INT, Union};
 use rhai_text::ImmutableString;
 
-/// The type of what is held. Each call follows the chain of holders and takes no memory; an unshared value looks at no cell.
+/// The type of the held value. Each call follows the chain of holders and allocates nothing; a
+/// value that isn't a holder reads no cell.
 impl Dynamic {
-    /// Tells the held type, or `TypeId::Shared` where the chain is stuck or closed.
-    /// Cost: that of `held`; no memory, as for each question below.
+    /// Returns the held type, or `TypeId::Shared` if the chain is stuck or closed.
+    /// Cost: that of `held`; no memory, as for each call below.
     /// rhai: `Dynamic::type_id`.
     pub fn type_id(&self, store: &Store) -> TypeId
         ensures { result ≡ end_type (end store.now [] self.now) }
@@ -28,7 +29,7 @@ impl Dynamic {
         }
     }
 
-    /// Tells the name of the held type, or `<shared>` where the chain is stuck or closed.
+    /// Returns the name of the held type, or `<shared>` if the chain is stuck or closed.
     /// Cost: that of `held`; no memory.
     /// rhai: `Dynamic::type_name`.
     pub fn type_name(&self, store: &Store) -> &'static str
@@ -37,7 +38,7 @@ impl Dynamic {
         self.type_id(store).name()
     }
 
-    /// The same in a function of its own, since it is asked where a call fails.
+    /// The same in a separate function, since it is only called when a call fails.
     #[cold]
     #[inline(never)]
     pub(crate) fn held_name(&self, store: &Store) -> &'static str
@@ -64,7 +65,7 @@ impl Dynamic {
         }
     }
 
-    /// Tells whether unit is held.
+    /// Returns whether unit is held.
     /// Cost: that of `held`; no memory.
     /// rhai: `Dynamic::is_unit`.
     pub fn is_unit(&self, store: &Store) -> bool
@@ -73,7 +74,7 @@ impl Dynamic {
         self.held_part::<()>(store).is_some()
     }
 
-    /// Tells whether a boolean is held.
+    /// Returns whether a boolean is held.
     /// Cost: that of `held`; no memory.
     /// rhai: `Dynamic::is_bool`.
     pub fn is_bool(&self, store: &Store) -> bool
@@ -82,7 +83,7 @@ impl Dynamic {
         self.held_part::<bool>(store).is_some()
     }
 
-    /// Tells whether an int is held.
+    /// Returns whether an int is held.
     /// Cost: that of `held`; no memory.
     /// rhai: `Dynamic::is_int`.
     pub fn is_int(&self, store: &Store) -> bool
@@ -91,7 +92,7 @@ impl Dynamic {
         self.held_part::<INT>(store).is_some()
     }
 
-    /// Tells whether a character is held.
+    /// Returns whether a character is held.
     /// Cost: that of `held`; no memory.
     /// rhai: `Dynamic::is_char`.
     pub fn is_char(&self, store: &Store) -> bool
@@ -100,7 +101,7 @@ impl Dynamic {
         self.held_part::<char>(store).is_some()
     }
 
-    /// Tells whether a text is held.
+    /// Returns whether a text is held.
     /// Cost: that of `held`; no memory.
     /// rhai: `Dynamic::is_string`.
     pub fn is_string(&self, store: &Store) -> bool
@@ -109,7 +110,7 @@ impl Dynamic {
         self.held_part::<ImmutableString>(store).is_some()
     }
 
-    /// Tells whether an array is held.
+    /// Returns whether an array is held.
     /// Cost: that of `held`; no memory.
     /// rhai: `Dynamic::is_array`.
     pub fn is_array(&self, store: &Store) -> bool
@@ -118,7 +119,7 @@ impl Dynamic {
         self.held_part::<Array>(store).is_some()
     }
 
-    /// Tells whether a blob is held.
+    /// Returns whether a blob is held.
     /// Cost: that of `held`; no memory.
     /// rhai: `Dynamic::is_blob`.
     pub fn is_blob(&self, store: &Store) -> bool
@@ -127,7 +128,7 @@ impl Dynamic {
         self.held_part::<Blob>(store).is_some()
     }
 
-    /// Tells whether a map is held.
+    /// Returns whether a map is held.
     /// Cost: that of `held`; no memory.
     /// rhai: `Dynamic::is_map`.
     pub fn is_map(&self, store: &Store) -> bool
@@ -136,7 +137,7 @@ impl Dynamic {
         self.held_part::<Map>(store).is_some()
     }
 
-    /// Tells whether a function pointer is held.
+    /// Returns whether a function pointer is held.
     /// Cost: that of `held`; no memory.
     /// rhai: `Dynamic::is_fnptr`.
     pub fn is_fnptr(&self, store: &Store) -> bool
@@ -146,9 +147,9 @@ impl Dynamic {
     }
 }
 
-/// What is held, if it is of one kind, or the name of the held type.
+/// The held content by type; if the type differs, the error is its name.
 impl Dynamic {
-    /// Answers the held unit.
+    /// Returns the held unit.
     /// Errors: the name of the held type.
     /// Cost: that of `held`; no memory.
     /// rhai: `Dynamic::as_unit`.
@@ -160,7 +161,7 @@ impl Dynamic {
         self.as_part::<()>(store).copied()
     }
 
-    /// Answers the held boolean.
+    /// Returns the held boolean.
     /// Errors: the name of the held type.
     /// Cost: that of `held`; no memory.
     /// rhai: `Dynamic::as_bool`.
@@ -172,7 +173,7 @@ impl Dynamic {
         self.as_part::<bool>(store).copied()
     }
 
-    /// Answers the held int.
+    /// Returns the held int.
     /// Errors: the name of the held type.
     /// Cost: that of `held`; no memory.
     /// rhai: `Dynamic::as_int`.
@@ -184,7 +185,7 @@ impl Dynamic {
         self.as_part::<INT>(store).copied()
     }
 
-    /// Answers the held character.
+    /// Returns the held character.
     /// Errors: the name of the held type.
     /// Cost: that of `held`; no memory.
     /// rhai: `Dynamic::as_char`.
@@ -196,7 +197,7 @@ impl Dynamic {
         self.as_part::<char>(store).copied()
     }
 
-    /// Lends the held text.
+    /// Borrows the held text.
     /// Errors: the name of the held type.
     /// Cost: that of `held`; no memory.
     /// rhai: `Dynamic::as_immutable_string_ref`.
@@ -211,7 +212,7 @@ impl Dynamic {
         self.as_part::<ImmutableString>(store)
     }
 
-    /// Lends the held array.
+    /// Borrows the held array.
     /// Errors: the name of the held type.
     /// Cost: that of `held`; no memory.
     /// rhai: `Dynamic::as_array_ref`.
@@ -225,7 +226,7 @@ impl Dynamic {
         self.as_part::<Array>(store)
     }
 
-    /// Lends the held blob.
+    /// Borrows the held blob.
     /// Errors: the name of the held type.
     /// Cost: that of `held`; no memory.
     /// rhai: `Dynamic::as_blob_ref`.
@@ -237,7 +238,7 @@ impl Dynamic {
         self.as_part::<Blob>(store)
     }
 
-    /// Lends the held map.
+    /// Borrows the held map.
     /// Errors: the name of the held type.
     /// Cost: that of `held`; no memory.
     /// rhai: `Dynamic::as_map_ref`.

@@ -12,7 +12,7 @@ use rhai_text::ImmutableString;
 /// rhai: `INT`.
 pub type INT = i64;
 
-/// A number of the host's own on a value.
+/// A number that the host may set on a value.
 /// rhai: `Tag`.
 pub type Tag = i32;
 
@@ -24,7 +24,7 @@ pub type Array = Vec<Dynamic>;
 /// rhai: `Blob`.
 pub type Blob = Vec<u8>;
 
-/// What a value is: its tag, its mode and its content.
+/// The constructors of a value, each with its tag, its mode and its content.
 /// rhai: `Union`, which is private.
 #[cycle(dynamic)]
 #[derive(Drop)]
@@ -47,7 +47,7 @@ pub enum Union {
     Map(Tag, AccessMode, Map),
     /// A function pointer.
     FnPtr(Tag, AccessMode, FnPtr),
-    /// A value of the host's own types.
+    /// A value of one of the host's types.
     Variant(Tag, AccessMode, Host),
     /// A holder of a shared cell.
     Shared(Tag, AccessMode, CellRef),

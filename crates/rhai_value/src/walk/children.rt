@@ -1,12 +1,12 @@
-//! The values that stand in a value, one after another.
+//! The children of a value, one after another.
 
 use crate::map::entries::Values;
 use crate::value::dynamic::Dynamic;
 use crate::value::union::Union;
 use std::marker::Model;
 
-/// The values that are left of those that stand in a value: items, curried values, or values by rising keys. Contracts see the list
-/// of them.
+/// The remaining children of a value: items, curried values, or values by ascending keys. Contracts
+/// see the list of them.
 #[derive(Drop)]
 pub(crate) struct Children<'a> {
     left: ChildrenLeft<'a>,
@@ -41,7 +41,7 @@ impl<'a> Children<'a> {
     ghost use Rattle.std.specs.Prelude.{◌≡◌, ◌↔◌, [], ◌∷◌, IsTrue, MatchOption};
     ghost use Rattle.rhai_value.specs.Children.{children_of};
 
-    /// The values that stand in this one; none where it is a leaf or a holder.
+    /// The children of this value; none for a leaf or a holder.
     #[tactic(auto, using(crate::proofs::Childrens::listed_trees, crate::proofs::Childrens::listed_values))]
     pub(crate) fn of(value: &'a Dynamic) -> Children<'a>
         ensures { result ≡ children_of value.now }

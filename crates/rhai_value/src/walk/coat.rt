@@ -1,4 +1,4 @@
-//! A value that is being painted.
+//! Values being painted.
 
 use crate::map::MapParts;
 use crate::map::seat::Seat;
@@ -6,21 +6,21 @@ use crate::value::dynamic::Dynamic;
 use crate::value::union::Tag;
 use std::alloc::Global;
 
-/// A value that is being painted: its tag, and what stands in it.
+/// Frame of a painting: the value's tag, and its children.
 #[derive(Drop)]
 pub(crate) enum Coat {
     Array(Tag, CoatedItems),
     Fields(Tag, CoatedFields),
 }
 
-/// The items of an array, and how many of these were taken to be painted.
+/// The items of an array, and the number of those already taken.
 #[derive(Drop)]
 pub(crate) struct CoatedItems {
     pub(crate) items: Vec<Dynamic>,
     pub(crate) next: usize,
 }
 
-/// The parts of a map, and the place up to which the entries were taken to be painted.
+/// The parts of a map, and the place up to which entries were taken.
 #[derive(Drop)]
 pub(crate) struct CoatedFields {
     pub(crate) parts: Box<MapParts>,

@@ -16,13 +16,14 @@ use crate::walk::near::NEAR;
 use std::alloc::{AllocError, Global};
 
 impl Dynamic {
-    /// Copies the value with all that it holds, every mode being ReadWrite; the copy of a holder names the same cell.
-    /// Errors: memory is refused; what was copied so far is gone.
-    /// Cost: the number of values inside, and of bytes in blobs; texts share their bytes. Memory is asked once for each array,
-    /// blob, list of a map and key of more than 30 bytes, and for a list below the 64th level. The keys of a map there are
-    /// inserted one by one.
+    /// Copies the value and all values inside it, with every mode ReadWrite; the copy of a holder
+    /// refers to the same cell.
+    /// Errors: an allocation fails; the partial copy is dropped.
+    /// Cost: the number of values inside, and of bytes in blobs; texts share their bytes. One
+    /// allocation for each array, blob, list of a map and key of more than 30 bytes, and a work
+    /// list below the 64th level. The keys of maps below that are inserted one by one.
     /// rhai: `Clone` of `Dynamic`.
-    // Inlined, the kinds that are copied most often are made where the caller wants them.
+    // Inlined, so that the most frequent types are built where the caller wants them.
     #[inline(always)]
     pub fn copy(&self, alloc: Global) -> Result<Dynamic, AllocError>
         ensures value { IfOk result (λ d. d ≡ copy self.now) }
@@ -51,8 +52,8 @@ impl Dynamic {
     }
 
     /// Copies values, each as `copy` does.
-    /// Errors: memory is refused; what was copied so far is gone.
-    /// Cost: that of `copy` for each value, and memory for their list; none where there is no value.
+    /// Errors: an allocation fails; the partial copy is dropped.
+    /// Cost: that of `copy` for each value, and memory for the list; none for no values.
     pub fn copies(alloc: Global, values: &[Dynamic]) -> Result<Vec<Dynamic>, AllocError>
         ensures value { IfOk result (λ v. v.items ≡ map copy values.now) }
         ensures free { values.now ≡ [] → IsOk result }
@@ -114,7 +115,8 @@ fn copied_union(union: &Union, alloc: Global, levels: u32) -> Result<Union, Allo
     }
 }
 
-// Adds the copy of what arrays hold most often, each kind by a write of its own; says whether it did.
+// Appends the copy of a frequent item type, with a separate write for each type. Returns whether it
+// did.
 #[inline(always)]
 fn push_short(copies: &mut Vec<Dynamic>, union: &Union, alloc: Global) -> Result<bool, AllocError>
     requires { vec_len copies.old < vec_capacity copies.old }
@@ -153,7 +155,7 @@ fn push_short(copies: &mut Vec<Dynamic>, union: &Union, alloc: Global) -> Result
     }
 }
 
-// The copies of the items, for which room is taken once.
+// Copies the items into a list allocated once.
 #[cycle(copy)]
 pub(crate) fn copied_items(
     items: &[Dynamic],
@@ -197,7 +199,7 @@ pub(crate) fn copied_map(map: &Map, alloc: Global, levels: u32) -> Result<Map, A
     }
 }
 
-// List by list.
+// Copies list by list.
 #[cycle(copy)]
 fn copied_parts(parts: &MapParts, alloc: Global, levels: u32) -> Result<MapParts, AllocError>
     requires { IsWhole parts.now }
@@ -228,7 +230,7 @@ fn copied_chunks(rest: &Vec<Chunk>, alloc: Global, levels: u32) -> Result<Vec<Ch
     Ok(copies)
 }
 
-// Ints, which the lists of maps hold most often, are copied where they go.
+// Ints, the most frequent values of maps, are copied in place.
 #[cycle(copy)]
 fn copied_entries(
     entries: &Vec<Entry>,

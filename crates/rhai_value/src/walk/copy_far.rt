@@ -1,4 +1,4 @@
-//! Copies of values that are nested deep.
+//! Copies of deeply nested values.
 ghost use Rattle.std.specs.Prelude.{◌≡◌, ◌+◌, ◌<◌, [], ◌∷◌, ◌++◌, map, IfOk, OnOk, MatchOption, MatchResult};
 ghost use Rattle.rhai_value.specs.Levels.{items_copy, items_after, fields_copy, fields_after, level_copy, level_left, nodes_in, nodes_of_rows};
 ghost use Rattle.rhai_value.specs.Rows.{bytes_cmp};
@@ -16,7 +16,7 @@ use crate::walk::job::Job;
 use crate::walk::level::{CopiedFields, CopiedItems, Level};
 use std::alloc::{AllocError, Global};
 
-/// The copy of a value that holds no others, or else its level.
+/// The copy of a value without children, or otherwise its frame.
 #[tactic(auto, using(crate::proofs::Leveled::opened_items, crate::proofs::Leveled::opened_rows))]
 fn opened<'a>(union: &'a Union, alloc: Global) -> Result<Result<Union, Level<'a>>, AllocError>
     ensures { IfOk result (λ r. MatchResult r (λ u. tree_of u ≡ copy (tree_of union.now)) (λ l. (level_copy l ≡ copy (tree_of union.now)) × (level_left l < nodes (tree_of union.now)))) }
@@ -54,7 +54,7 @@ fn opened<'a>(union: &'a Union, alloc: Global) -> Result<Result<Union, Level<'a>
     Ok(Ok(union))
 }
 
-/// Adds the copies of items up to one that holds others, of which it gives the level.
+/// Appends the copies of items up to one with children, and returns that one's frame.
 fn items_step<'a>(
     items: &mut CopiedItems<'a>,
     alloc: Global,
@@ -73,7 +73,7 @@ fn items_step<'a>(
     Ok(None)
 }
 
-/// The same of the entries of a map, and keeps the key of that one.
+/// The same for the entries of a map; keeps that entry's key.
 fn fields_step<'a>(
     fields: &mut CopiedFields<'a>,
     alloc: Global,
@@ -109,7 +109,7 @@ fn insert_copy(done: &mut Map, key: &str, copied: Dynamic) -> Result<(), AllocEr
     }
 }
 
-/// The copies of all that stands in a value, on a bounded piece of the stack.
+/// The copies of all values inside a value, with bounded stack.
 #[derive(Drop)]
 struct Copying<'a> {
     alloc: Global,
@@ -175,7 +175,7 @@ impl<'a> Job for Copying<'a> {
     }
 }
 
-/// The copy of a value, on a bounded piece of the stack.
+/// Copies a value, with bounded stack.
 pub(crate) fn copied_far(union: &Union, alloc: Global) -> Result<Union, AllocError>
     ensures { IfOk result (λ u. tree_of u ≡ copy (tree_of union.now)) }
 {

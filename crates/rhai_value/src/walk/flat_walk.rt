@@ -1,13 +1,13 @@
-//! A job over all that a frame leads to, with the frames in a list of their own.
+//! Runs a job over everything that a frame leads to, with a work list of frames.
 ghost use Rattle.std.specs.Prelude.{◌≡◌, ◌+◌, ◌≤◌, IfOk};
 
 use crate::walk::job::{Job, Search};
 use std::alloc::{AllocError, Global};
 use std::mem;
 
-/// Runs a job over all that a frame leads to.
-/// Errors: the job fails, or memory for the list of frames is refused.
-/// Cost: a step for each node; memory for a frame a level.
+/// Runs a job over everything that a frame leads to.
+/// Errors: the job fails, or the allocation of the work list fails.
+/// Cost: a step for each node; memory for a frame per level.
 pub(crate) fn walked<J: Job>(
     job: &mut J,
     first: J::Frame,
@@ -35,8 +35,9 @@ pub(crate) fn walked<J: Job>(
     }
 }
 
-/// Runs a search over all that a frame leads to. Where memory for a frame is refused, it goes on by a call for that child.
-/// Cost: a step for each node; memory for a frame a level, where there is any.
+/// Runs a search over everything that a frame leads to. If the allocation of a frame fails, it
+/// recurses for that child.
+/// Cost: a step for each node; memory for a frame per level, if it can be allocated.
 pub(crate) fn searched<J: Search>(job: &mut J, first: J::Frame, alloc: Global) -> J::Done
     requires { J.is_ready first }
     ensures done { J.run (J.seen job.old) first ≡ (J.seen job.new, result) }

@@ -1,4 +1,4 @@
-//! A value of which the children were taken out, to be scanned one after another.
+//! A value whose children are taken out and scanned one after another.
 ghost use Rattle.std.specs.Prelude.{◌≡◌, ◌+◌, ◌-◌, ◌<◌, ◌≤◌, ◌∷◌, ◌++◌, [], List, length, slice_set, slice_index_or, IfErr, OnOk, MatchOption, MatchResult};
 ghost use Rattle.rhai_value.specs.Children.{listed_fields};
 ghost use Rattle.rhai_value.specs.Hollow.{hollow_left, with_children, with_fields, AreTakenOut};
@@ -11,7 +11,7 @@ use crate::value::dynamic::Dynamic;
 use crate::value::union::Union;
 use std::mem;
 
-/// A value that is being scanned, without what stands in it; that, and how much of it was taken to be scanned.
+/// Frame of a scan: the emptied container, its children, and how many of them were taken.
 #[derive(Drop)]
 pub(crate) struct Hollow {
     pub(crate) shell: Dynamic,
@@ -20,8 +20,8 @@ pub(crate) struct Hollow {
 }
 
 impl Hollow {
-    /// Takes out what stands in a value. The value comes back where nothing can stand in it, and where memory for the values of a
-    /// map is refused.
+    /// Takes a value's children out. Returns the value if it can't have children, and if the
+    /// allocation for the values of a map fails.
     #[tactic(auto, using(crate::proofs::Hollows::taken_left))]
     pub(crate) fn open(value: Dynamic) -> Result<Hollow, Dynamic>
         ensures { MatchResult result (λ h. (h.next ≡ 0) × AreTakenOut value h.shell h.children.items × (hollow_left h < nodes value)) (λ back. back ≡ value) }
@@ -54,7 +54,7 @@ impl Hollow {
         Some(mem::replace(&mut self.children[at], Dynamic::UNIT))
     }
 
-    /// Puts the child back that was taken last.
+    /// Puts the child taken last back.
     pub(crate) fn put(&mut self, child: Dynamic)
         requires { (0 < self.old.next) × (self.old.next ≤ length self.old.children.items) }
         ensures children { self.new.children.items ≡ slice_set self.old.children.items (self.old.next - 1) child }
@@ -64,7 +64,7 @@ impl Hollow {
         self.children[self.next - 1] = child;
     }
 
-    /// The value with its children in it.
+    /// Rebuilds the value with its children.
     pub(crate) fn close(self) -> Dynamic
         ensures { result ≡ with_children self.shell self.children.items }
     {
@@ -105,7 +105,7 @@ fn take_items(items: &mut Vec<Dynamic>) -> Vec<Dynamic>
     mem::replace(items, Vec::new(alloc))
 }
 
-/// Takes the values of a map, and leaves unit in the place of each; `None` where memory is refused.
+/// Takes the values of a map, and leaves unit in the place of each; `None` if an allocation fails.
 #[tactic(auto, using(crate::proofs::Hollows::listed_length, crate::proofs::Hollows::fields_twice))]
 fn take_values(map: &mut Map) -> Option<Vec<Dynamic>>
     ensures { MatchOption result (map.new ≡ map.old) (λ ts. (ts.items ≡ listed_fields (fields_of map.old))
@@ -137,7 +137,8 @@ fn put_children(value: &mut Dynamic, children: Vec<Dynamic>)
     }
 }
 
-/// Goes down into a child for which `top` waits. The child comes back where nothing can stand in it, and where memory is refused.
+/// Enters a child while `top` waits for it. Returns the child if it can't have children, and if an
+/// allocation fails.
 #[tactic(auto, using(crate::proofs::Hollows::children_kept))]
 pub(crate) fn go_down(
     frames: &mut Vec<Hollow>,

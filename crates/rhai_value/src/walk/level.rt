@@ -1,4 +1,4 @@
-//! A value that is being copied.
+//! Values being copied.
 
 use crate::map::Map;
 use crate::map::entries::Entries;
@@ -6,7 +6,7 @@ use crate::value::dynamic::Dynamic;
 use crate::value::union::Tag;
 use rhai_text::ImmutableString;
 
-/// A value that is being copied: its tag, of a function its name, and what stands in it.
+/// Frame of a copy: the value's tag, a function's name, and the children.
 #[derive(Drop)]
 pub(crate) enum Level<'a> {
     Array(Tag, CopiedItems<'a>),
@@ -14,14 +14,14 @@ pub(crate) enum Level<'a> {
     Fields(Tag, CopiedFields<'a>),
 }
 
-/// The items that are left, and the copies of those before.
+/// The remaining items, and the copies of those before.
 #[derive(Drop)]
 pub(crate) struct CopiedItems<'a> {
     pub(crate) rest: &'a [Dynamic],
     pub(crate) done: Vec<Dynamic>,
 }
 
-/// The entries that are left, the copies of those before, and the key of the one that is under way.
+/// The remaining entries, the copies of those before, and the key of the one in progress.
 #[derive(Drop)]
 pub(crate) struct CopiedFields<'a> {
     pub(crate) key: &'a str,

@@ -1,4 +1,4 @@
-//! Values that hold a locked cell.
+//! Values that contain a holder of a locked cell.
 ghost use Rattle.std.specs.Prelude.{◌≡◌, ◌+◌, ◌<◌, ◌∷◌, true, false, None};
 ghost use Rattle.rhai_value.specs.Locked.{is_locked, is_one_locked, is_field_locked, any_locked};
 ghost use Rattle.rhai_value.specs.Rows.{trees_of, fields_of};
@@ -14,10 +14,10 @@ use std::alloc::Global;
 use std::iter::Iterator;
 
 impl Dynamic {
-    /// Tells whether the value is, or has inside it at any depth, a holder of a cell that is marked or no cell of the
-    /// store. What is in a cell isn't looked at.
-    /// Cost: the number of values inside; no memory for values of up to 64 levels. Below them it asks for a list, and goes on
-    /// by calls for another 64 levels where that is refused.
+    /// Returns whether the value is, or contains at any depth, a holder of a cell that is marked or
+    /// not in the store. It does not look into cells.
+    /// Cost: the number of values inside; no memory for values of up to 64 levels. Below those it
+    /// allocates a work list; if that fails, it recurses for another 64 levels.
     /// rhai: `Dynamic::is_locked`.
     pub fn is_locked(&self, store: &Store) -> bool
         ensures { result ≡ is_locked store.now self.now }
@@ -61,8 +61,8 @@ fn locks(value: &Dynamic, store: &Store, levels: u32) -> bool
     }
 }
 
-// The same with the values that are yet to be visited in a list, so that the calls don't nest. Where memory for the list is refused,
-// it goes on by calls.
+// The same with a work list of values to visit, so that calls don't nest. If its allocation fails,
+// it recurses.
 #[inline(never)]
 #[cycle(locks)]
 fn locks_far(value: &Dynamic, store: &Store, alloc: Global) -> bool
@@ -104,7 +104,7 @@ fn locks_far(value: &Dynamic, store: &Store, alloc: Global) -> bool
     false
 }
 
-// Enters a value; where memory for that is refused, says whether it is locked.
+// Enters a value; if the allocation for that fails, returns whether it is locked.
 #[cycle(locks)]
 fn is_locked_or_entered<'a>(visits: &mut Visits<'a>, found: &'a Dynamic, store: &Store) -> bool
     requires { cell_of found.now ≡ None }

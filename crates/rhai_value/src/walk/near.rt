@@ -1,4 +1,4 @@
-//! How deep a walk goes by calls.
+//! How deep a walk recurses.
 
-/// How many levels of a value a walk goes down by calls, which is faster; what lies deeper is walked through by a loop.
+/// How many levels of a value a walk recurses, which is faster; it walks deeper ones with a loop.
 pub const NEAR: u32 = 64;

@@ -1,4 +1,4 @@
-//! Painting of values that are nested deep.
+//! Painting of deeply nested values.
 ghost use Rattle.std.specs.Prelude.{◌≡◌, ◌+◌, ◌-◌, ◌<◌, ◌≤◌, [], length, drop, slice_set, slice_index_or, MatchOption, MatchResult};
 ghost use Rattle.rhai_value.specs.Coats.{painted_from, painted_past, painted_with, coat_whole, coat_left, IsReady, IsTaken};
 ghost use Rattle.rhai_value.specs.Lists.{rows_in, IsWhole, IsWholeIn};
@@ -18,7 +18,7 @@ use crate::walk::job::Search;
 use std::alloc::Global;
 use std::mem;
 
-/// The coat of an array or a map, or else the painted value.
+/// The frame of an array or a map, or otherwise the painted value.
 #[tactic(auto, using(crate::proofs::Paints::painted_trees))]
 fn coated(value: Dynamic, mode: AccessMode) -> Result<Dynamic, Coat>
     ensures { MatchResult result (λ d. d ≡ paint mode value) (λ c. (coat_whole mode c ≡ paint mode value) × (coat_left c < nodes value) × IsReady c) }
@@ -73,7 +73,7 @@ fn taken_at(items: &mut Vec<Dynamic>, at: usize) -> Dynamic
     mem::replace(&mut items[at], Dynamic::UNIT)
 }
 
-/// Paints the items up to one that holds others, of which it gives the coat.
+/// Paints the items up to one with children, and returns that one's frame.
 fn items_coat_step(items: &mut Vec<Dynamic>, next: &mut usize, mode: AccessMode) -> Option<Coat>
     requires { next.old ≤ length items.old.items }
     ensures { MatchOption result
@@ -93,7 +93,7 @@ fn items_coat_step(items: &mut Vec<Dynamic>, next: &mut usize, mode: AccessMode)
     None
 }
 
-/// The same of the entries of a map from a place on.
+/// The same for the entries of a map from a place on.
 fn fields_coat_step(parts: &mut MapParts, next: &mut Seat, mode: AccessMode) -> Option<Coat>
     requires whole { IsWhole parts.old }
     requires open { IsOpen parts.old next.old }
@@ -115,7 +115,7 @@ fn fields_coat_step(parts: &mut MapParts, next: &mut Seat, mode: AccessMode) -> 
     None
 }
 
-/// A coat of paint on a value and on all that it holds through arrays and maps.
+/// The frames of a painting of a value and all values inside it through arrays and maps.
 #[derive(Drop)]
 struct Painting {
     mode: AccessMode,
@@ -184,7 +184,8 @@ impl Search for Painting {
     }
 }
 
-/// Sets the mode of the value and of all that it holds through arrays and maps, on a bounded piece of the stack.
+/// Sets the mode of the value and of all values inside it through arrays and maps, with bounded
+/// stack.
 pub(crate) fn paint_far(value: &mut Dynamic, mode: AccessMode, alloc: Global)
     ensures { value.new ≡ paint mode value.old }
 {

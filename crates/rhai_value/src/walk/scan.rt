@@ -1,4 +1,4 @@
-//! Visits to a value and to all that it holds.
+//! Visits to a value and all values inside it.
 ghost use Rattle.std.specs.Prelude.{◌≡◌, ◌+◌, ◌*◌, ◌<◌, ◌≤◌, map};
 ghost use Rattle.rhai_value.specs.Frames.{unwound, sizes, AreAll};
 ghost use Rattle.rhai_value.specs.RowWalks.{chunk_scanned, chunk_view, row_scanned, scanned};
@@ -15,15 +15,15 @@ use crate::walk::hollow::{Hollow, go_down};
 use crate::walk::near::NEAR;
 use std::alloc::Global;
 
-/// What `deep_scan` does with each value that it comes to.
+/// The callback of `deep_scan`.
 pub trait Visitor {
     ghost use Rattle.std.specs.Prelude.{◌≤◌};
     ghost use Rattle.rhai_value.specs.Tree.{Tree, nodes};
 
-    /// What a visit makes of the visitor and of the value.
+    /// The visitor and the value after a visit.
     ghost visited: { Self → Tree → Self × Tree };
 
-    /// No nodes are added, so that a scan ends.
+    /// A visit adds no nodes, so that a scan ends.
     ghost adds_no_nodes: { (v : Self) (t : Tree) → nodes (visited v t).1 ≤ nodes t };
 
     /// Visits a value, before its children.
@@ -32,11 +32,11 @@ pub trait Visitor {
 }
 
 impl Dynamic {
-    /// Visits the value, and then the children of what came out, each with all that it holds: the items of an array, the
-    /// values of a map in the order of the keys, the curried values of a function pointer, from left to right. A holder is
-    /// visited, its cell isn't entered.
-    /// Cost: the number of values that are visited; no memory for values of up to 64 levels. Below them it asks for a list,
-    /// and goes on by calls for another 64 levels where that is refused.
+    /// Visits the value, and then the children of the result, recursively: the items of an array,
+    /// the values of a map in the order of the keys, the curried values of a function pointer, from
+    /// left to right. A holder is visited; its cell isn't entered.
+    /// Cost: the number of visited values; no memory for values of up to 64 levels. Below those it
+    /// allocates a work list; if that fails, it recurses for another 64 levels.
     /// rhai: `Dynamic::deep_scan`, which takes a closure.
     pub fn deep_scan<V: Visitor>(&mut self, visitor: &mut V)
         ensures { (visitor.new, self.new) ≡ scan V.visited visitor.old self.old }
@@ -45,7 +45,7 @@ impl Dynamic {
     }
 }
 
-// Most values hold no others, so each caller visits them in their place.
+// Inlined into callers, since most values contain no others.
 #[inline(always)]
 #[cycle(scan)]
 fn scan_value<V: Visitor>(value: &mut Dynamic, visitor: &mut V, levels: u32)
@@ -146,8 +146,8 @@ fn scan_chunks<V: Visitor>(rest: &mut Vec<Chunk>, visitor: &mut V, levels: u32)
     }
 }
 
-// The same with what stands in the value, and in the values below, taken out of them one after another, so that the calls don't nest.
-// Where memory for that is refused, it goes on by calls.
+// The same with the children taken out one after another, level by level, so that calls don't nest.
+// If an allocation for that fails, it recurses.
 #[inline(never)]
 #[cycle(scan)]
 fn scan_far<V: Visitor>(value: &mut Dynamic, visitor: &mut V, alloc: Global)
@@ -186,7 +186,7 @@ fn scan_hollow<V: Visitor>(first: Hollow, visitor: &mut V, alloc: Global) -> Dyn
     }
 }
 
-// Visits a child for which `top` waits, and goes down into it, or else scans all of it.
+// Visits a child while `top` waits, and enters it, or otherwise scans all of it.
 #[cycle(scan)]
 fn scan_child<V: Visitor>(
     child: Dynamic,

@@ -1,4 +1,5 @@
-//! Dropping a value on a bounded piece of the stack, with no memory, in time that grows with the number of values inside.
+//! Dropping a value with bounded stack and no allocation, in time linear in the number of values
+//! inside.
 ghost use Rattle.std.specs.Prelude.{◌≡◌, ◌<◌, ◌≤◌, ◌+◌, [], IfOk, IfErr, IfNone, IsTrue};
 ghost use Rattle.std.specs.Option.{option_to_list};
 ghost use Rattle.rhai_value.specs.Rows.{trees_of};
@@ -10,8 +11,9 @@ use crate::value::fn_ptr::FnPtr;
 use crate::value::union::Union;
 use std::mem;
 
-/// Drops a value: the first levels by calls, what lies deeper by a loop. Most values hold no other, and are dropped where they stand:
-/// a value is taken apart here, so that none is moved as a whole.
+/// Drops a value: the first levels recursively, deeper ones with a loop. Most values contain no
+/// others, and are dropped in place: the value is taken apart here, so that none is moved as a
+/// whole.
 #[inline(always)]
 #[cycle(shed)]
 pub(crate) fn shed(value: Dynamic, levels: u32) {
@@ -82,9 +84,10 @@ fn shed_entries(entries: Vec<Entry>, levels: u32) {
     entries.destroy_empty();
 }
 
-// Takes the children of `whole` one after another. Most hold no other, and go at once. Where one has children of its own, the loop goes
-// down it, and puts what it came from in the place of the first of these, so that the way back stands in the values themselves. The child that is taken
-// last from a value goes in the value's place, be it the way back or not; so each value is gone down once.
+// Takes the children of `whole` one after another. Most contain no others, and are dropped at once.
+// If one has children, the loop enters it, and puts its parent in the place of the first of these,
+// so that the way back is stored in the values themselves. The last child of a value takes the
+// value's place, whether it is the way back or not; so each value is entered once.
 fn shed_far(value: Dynamic) {
     let mut whole = value;
     while let Some(child) = take_child(&mut whole) {
@@ -113,7 +116,7 @@ fn shed_far(value: Dynamic) {
     close(whole);
 }
 
-/// Drops a value that holds no other.
+/// Drops a value without children.
 #[tactic(auto, using(crate::proofs::Sheds::bare_trees, crate::proofs::Sheds::bare_rows))]
 fn close(value: Dynamic)
     requires { nodes value ≤ 1 }
@@ -148,7 +151,7 @@ fn close_map(map: Map)
     }
 }
 
-/// Whether the value holds no other.
+/// Whether the value has no children.
 #[tactic(auto, using(crate::proofs::Sheds::no_nodes))]
 fn is_bare(value: &Dynamic) -> bool
     ensures { IsTrue result → nodes value.now ≤ 1 }
@@ -168,7 +171,7 @@ fn is_bare(value: &Dynamic) -> bool
     }
 }
 
-/// Takes a child out, if there is one: the last.
+/// Takes the last child out, if there is one.
 #[tactic(auto, using(crate::proofs::Sheds::nodes_append, crate::proofs::Sheds::no_nodes))]
 fn take_child(value: &mut Dynamic) -> Option<Dynamic>
     ensures fewer { nodes value.new + nodes_trees (trees_of (option_to_list result)) ≡ nodes value.old }
@@ -189,7 +192,7 @@ fn take_child(value: &mut Dynamic) -> Option<Dynamic>
     }
 }
 
-/// Takes a child out, and puts `with` in its place, if there is a child: the one that `take_child` takes last.
+/// Takes the child out that `take_child` takes last, and puts `with` in its place, if there is one.
 fn swap_child(value: &mut Dynamic, with: Dynamic) -> Result<Dynamic, Dynamic>
     ensures ok { IfOk result (λ x. (nodes value.new + nodes x ≡ nodes value.old + nodes with) × (nodes x < nodes value.old)) }
     ensures err { IfErr result (λ back. (back ≡ with) × (value.new ≡ value.old)) }

@@ -1,4 +1,4 @@
-// Blocks, and the statements of blocks alone.
+// Blocks, and the statements that only blocks contain.
 
 use super::Parser;
 use crate::error::{SyntaxError, SyntaxFault};
@@ -8,7 +8,7 @@ use rhai_text::{ImmutableString, Position};
 use script_tree::{Arm, Block, Expr};
 
 impl Parser {
-    /// Reads a block; its statements stand on this level.
+    /// Parses a block, with its statements at this level.
     #[cycle(parse)]
     pub(super) fn block(&mut self, levels: usize) -> Result<Block, SyntaxError> {
         self.expect(Symbol::OpenBrace)?;
@@ -17,7 +17,8 @@ impl Parser {
         Ok(block)
     }
 
-    /// Reads statements up to a brace, or to the end, which stays the next lexeme. Their variables end there.
+    /// Parses statements up to a brace or the end, and leaves that as the next lexeme. Their
+    /// variables end there.
     #[cycle(parse)]
     pub(super) fn statements(&mut self, levels: usize) -> Result<Block, SyntaxError> {
         let first_slot = self.names.count();
@@ -39,7 +40,8 @@ impl Parser {
         })
     }
 
-    /// Reads a statement and the semicolon behind it. The last of a block has none, nor has one that ends in a block.
+    /// Parses a statement and its semicolon. The last statement of a block needs none, nor does one
+    /// that ends with a block.
     #[cycle(parse)]
     pub(super) fn terminated_statement(
         &mut self,
@@ -69,7 +71,8 @@ impl Parser {
             || self.is_next(Symbol::End)
     }
 
-    /// Reads what consists of blocks. Errors: the symbol begins nothing of the kind, and no other expression either.
+    /// Parses a construct with blocks. Errors: the symbol begins none of them, and no other
+    /// expression either.
     #[cycle(parse)]
     pub(super) fn construct(&mut self, levels: usize, symbol: Symbol) -> Result<Expr, SyntaxError> {
         match symbol {
@@ -177,7 +180,7 @@ impl Parser {
         })
     }
 
-    /// Reads the name of what is caught, if one is given.
+    /// Parses the name for what is caught, if there is one.
     fn caught_name(&mut self) -> Result<Option<ImmutableString>, SyntaxError> {
         if !self.takes(Symbol::OpenParenthesis)? {
             return Ok(None);

@@ -10,7 +10,7 @@ use rhai_text::{ImmutableString, Position};
 use script_tree::{Expr, Step};
 
 impl Parser {
-    /// Reads an operand with the steps behind it.
+    /// Parses an operand with the steps after it.
     #[cycle(parse)]
     pub(super) fn chain(&mut self, levels: usize) -> Result<Expr, SyntaxError> {
         let root = self.primary(levels)?;
@@ -94,14 +94,14 @@ impl Parser {
         Ok(Step::Property { key, position })
     }
 
-    /// Reads the arguments of a call, in parentheses.
+    /// Parses the arguments of a call, in parentheses.
     #[cycle(parse)]
     pub(super) fn arguments(&mut self, levels: usize) -> Result<Vec<Expr>, SyntaxError> {
         self.expect(Symbol::OpenParenthesis)?;
         self.list(levels, Symbol::CloseParenthesis)
     }
 
-    /// Reads expressions, up to this symbol.
+    /// Parses expressions up to this symbol.
     #[cycle(parse)]
     pub(super) fn list(&mut self, levels: usize, end: Symbol) -> Result<Vec<Expr>, SyntaxError> {
         let mut items = Vec::new(self.alloc);

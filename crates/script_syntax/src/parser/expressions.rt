@@ -9,7 +9,7 @@ use script_tree::{Expr, Operator, Term, UnaryOperator};
 use std::mem;
 
 impl Parser {
-    /// Reads an expression, by operators of this level and tighter ones.
+    /// Parses an expression with operators of at least this precedence.
     #[cycle(parse)]
     pub(super) fn expression(&mut self, levels: usize, least: u8) -> Result<Expr, SyntaxError> {
         let outer = mem::replace(&mut self.lowest, levels);
@@ -33,7 +33,7 @@ impl Parser {
         Ok(read)
     }
 
-    /// Reads a part one level below this one.
+    /// Parses a part one level below this one.
     #[cycle(parse)]
     pub(super) fn part(&mut self, levels: usize) -> Result<Box<Expr>, SyntaxError> {
         let below = self.below(levels)?;
@@ -41,7 +41,7 @@ impl Parser {
         Ok(Box::new(self.alloc, part)?)
     }
 
-    /// Reads the operators of one level that come, each with its right operand.
+    /// Parses the following operators of one precedence, each with its right operand.
     #[cycle(parse)]
     fn run(&mut self, levels: usize, level: u8) -> Result<Vec<Term>, SyntaxError> {
         let below = self.below(levels)?;
@@ -62,7 +62,7 @@ impl Parser {
         Ok(terms)
     }
 
-    /// Reads `in` or `!in` behind an item, and what contains it or not.
+    /// Parses `in` or `!in` after an item, and the container.
     #[cycle(parse)]
     fn membership(&mut self, levels: usize, item: Expr) -> Result<Expr, SyntaxError> {
         let below = self.below(levels)?;
@@ -74,7 +74,7 @@ impl Parser {
         self.contains(container, item, is_in, position)
     }
 
-    /// What tells whether a container has an item, or whether it lacks it.
+    /// Makes the test whether a container has an item, or lacks it.
     fn contains(
         &mut self,
         container: Expr,
@@ -94,7 +94,7 @@ impl Parser {
         self.with_unary(UnaryOperator::Not, contains, position)
     }
 
-    /// Reads an operand, with the operators before it.
+    /// Parses an operand, with its unary operators.
     #[cycle(parse)]
     fn unary(&mut self, levels: usize) -> Result<Expr, SyntaxError> {
         self.reach(levels);
@@ -108,7 +108,7 @@ impl Parser {
         self.with_unary(operator, operand, position)
     }
 
-    /// The operand with an operator before it; an int is negated at once.
+    /// Applies a unary operator to an operand; an int literal is negated directly.
     fn with_unary(
         &mut self,
         operator: UnaryOperator,
@@ -127,7 +127,7 @@ impl Parser {
         })
     }
 
-    /// The level of the operator that comes next, unless it is looser than this one.
+    /// Returns the precedence of the next operator, if it is at least this one.
     fn next_level(&self, least: u8) -> Option<u8> {
         let level = match self.symbol()? {
             Symbol::In | Symbol::NotIn => MEMBERSHIP,
@@ -136,7 +136,7 @@ impl Parser {
         if level < least { None } else { Some(level) }
     }
 
-    /// The operator that comes next, if it has this level.
+    /// Returns the next operator, if it has this precedence.
     fn next_operator(&self, wanted: u8) -> Option<Operator> {
         let (level, operator) = operator_of(self.symbol()?)?;
         if level == wanted {
@@ -146,7 +146,7 @@ impl Parser {
         }
     }
 
-    /// The operator before an operand that comes next.
+    /// Returns the next unary operator.
     fn next_unary(&self) -> Option<UnaryOperator> {
         match self.symbol()? {
             Symbol::Not => Some(UnaryOperator::Not),
@@ -157,7 +157,7 @@ impl Parser {
     }
 }
 
-/// The loosest level of operators in a right operand at this level.
+/// Returns the lowest precedence in the right operand of an operator with this precedence.
 fn least_behind(level: u8) -> u8 {
     if level == POWER {
         level

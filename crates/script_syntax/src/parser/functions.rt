@@ -11,7 +11,7 @@ use script_tree::{Block, Expr, Function, MOST_LEVELS};
 use std::mem;
 
 impl Parser {
-    /// Reads a function of the script. It sees no variable from outside.
+    /// Parses a function of the script. It sees no variables from outside.
     pub(super) fn function(&mut self) -> Result<(), SyntaxError> {
         self.advance()?;
         let position = self.position;
@@ -44,7 +44,8 @@ impl Parser {
         Ok(())
     }
 
-    /// Names the function that comes next in the table; `false` where one has this name, number of parameters and type already.
+    /// Records the next function of the table under its name; returns `false` if one has this name,
+    /// number of parameters and type already.
     fn define(
         &mut self,
         this_type: &Option<ImmutableString>,
@@ -61,7 +62,8 @@ impl Parser {
         Ok(is_new)
     }
 
-    /// Reads the name of a function, with the type of what a method is called on before it.
+    /// Parses the name of a function; before it, for a method of one type, the type of the
+    /// receiver.
     fn function_name(&mut self) -> Result<(Option<ImmutableString>, String), SyntaxError> {
         if let Lexeme::Text(_) = &self.lexeme {
             let text = self.take_lexeme();
@@ -85,7 +87,8 @@ impl Parser {
         Ok((None, word))
     }
 
-    /// Reads the parameters of a function up to this symbol, declares them, and says how many they are.
+    /// Parses the parameters of a function up to this symbol, declares them, and returns their
+    /// number.
     fn parameters(&mut self, end: Symbol) -> Result<usize, SyntaxError> {
         for _ in 0..self.lexemes_left() {
             if self.is_next(end) {
@@ -105,7 +108,7 @@ impl Parser {
         Ok(self.names.count())
     }
 
-    /// Reads an anonymous function.
+    /// Parses an anonymous function.
     #[cycle(parse)]
     pub(super) fn closure(&mut self, levels: usize) -> Result<Expr, SyntaxError> {
         let position = self.position;
@@ -122,7 +125,7 @@ impl Parser {
         self.made_closure(parameters, body, begins, position)
     }
 
-    /// Ends an anonymous function, whose body was read.
+    /// Completes an anonymous function, whose body was parsed.
     fn made_closure(
         &mut self,
         parameters: usize,
@@ -167,7 +170,7 @@ impl Parser {
     }
 }
 
-/// The type that a word before the name of a function names.
+/// Returns the type that a word before the name of a function means.
 fn type_named(word: &str) -> &str {
     if word == "int" { "i64" } else { word }
 }

@@ -7,7 +7,7 @@ use crate::symbol::Symbol;
 use script_tree::{Arm, Block, Expr};
 
 impl Parser {
-    /// Reads the block of a loop.
+    /// Parses the block of a loop.
     #[cycle(parse)]
     fn loop_body(&mut self, levels: usize) -> Result<Block, SyntaxError> {
         self.names.enter_loop();
@@ -88,7 +88,7 @@ impl Parser {
         })
     }
 
-    /// Reads the names of the item and of its index: `x`, or `(x, i)`.
+    /// Parses the names of the item and of its index: `x`, or `(x, i)`.
     fn loop_names(&mut self) -> Result<(String, Option<String>), SyntaxError> {
         if !self.takes(Symbol::OpenParenthesis)? {
             return Ok((self.name()?, None));

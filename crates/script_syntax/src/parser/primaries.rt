@@ -1,4 +1,4 @@
-// Literals, variables, calls and what stands in brackets.
+// Literals, variables, calls, and expressions in brackets.
 ghost use Rattle.std.specs.Prelude.{◌≡◌};
 
 use super::Parser;
@@ -12,7 +12,7 @@ use script_tree::{Expr, Field, Missing, Slot, Variable};
 use std::collections::BTreeSet;
 
 impl Parser {
-    /// Reads an operand without the steps behind it.
+    /// Parses an operand without the steps after it.
     #[cycle(parse)]
     pub(super) fn primary(&mut self, levels: usize) -> Result<Expr, SyntaxError> {
         match self.symbol() {
@@ -27,13 +27,13 @@ impl Parser {
         }
     }
 
-    /// Goes on behind the one lexeme of a literal.
+    /// Moves past a literal of one lexeme.
     fn literal(&mut self, literal: Expr) -> Result<Expr, SyntaxError> {
         self.advance()?;
         Ok(literal)
     }
 
-    /// Reads an operand that begins with no symbol.
+    /// Parses an operand that doesn't begin with a symbol.
     #[cycle(parse)]
     fn operand(&mut self, levels: usize) -> Result<Expr, SyntaxError> {
         let position = self.position;
@@ -57,7 +57,7 @@ impl Parser {
         }
     }
 
-    /// Reads the arguments of a call.
+    /// Parses the arguments of a call.
     #[cycle(parse)]
     fn call(
         &mut self,
@@ -92,7 +92,7 @@ impl Parser {
         Ok(Expr::Variable { variable, position })
     }
 
-    /// What the function that is read is called on.
+    /// Returns `this`, the receiver of the current function.
     fn this(&mut self, position: Position) -> Result<Expr, SyntaxError> {
         if !self.is_function && !self.names.is_inside() {
             return Err(SyntaxError::Fault(SyntaxFault::ThisOutside, position));
@@ -104,7 +104,7 @@ impl Parser {
         })
     }
 
-    /// A name that nothing has: an anonymous function around it can't be made.
+    /// Handles an unknown name: making an anonymous function around it is a fault.
     fn unknown(&mut self, word: String, position: Position) -> Result<Variable, SyntaxError> {
         if self.names.is_inside() {
             let name = self.kept(word.as_str())?;
@@ -153,7 +153,7 @@ impl Parser {
         Ok(Expr::Object(fields))
     }
 
-    /// Reads the key of a field with its colon; it is none of those that were read.
+    /// Parses the key of a field with its colon; fails if the key occurred before.
     fn key(&mut self, keys: &mut BTreeSet<String>) -> Result<ImmutableString, SyntaxError> {
         let position = self.position;
         let key = match self.take_lexeme() {

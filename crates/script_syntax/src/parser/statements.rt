@@ -8,7 +8,7 @@ use crate::symbol::Symbol;
 use rhai_text::{Position, Token};
 use script_tree::{Assignment, Expr, Step, Variable};
 
-/// What is assigned to.
+/// The target of an assignment.
 #[derive(Drop)]
 struct Place {
     variable: Variable,
@@ -17,7 +17,7 @@ struct Place {
 }
 
 impl Parser {
-    /// Reads a statement, without the semicolon behind it.
+    /// Parses a statement, without its semicolon.
     #[cycle(parse)]
     pub(super) fn statement(&mut self, levels: usize) -> Result<Expr, SyntaxError> {
         self.reach(levels);
@@ -53,7 +53,7 @@ impl Parser {
         }
     }
 
-    /// Reads the value behind a word, if there is one.
+    /// Parses the value after a keyword, if there is one.
     #[cycle(parse)]
     fn behind_word(&mut self, levels: usize) -> Result<Option<Box<Expr>>, SyntaxError> {
         self.advance()?;
@@ -96,7 +96,7 @@ impl Parser {
         }
     }
 
-    /// Reads the value that is assigned to what was read.
+    /// Parses the value assigned to the expression before.
     #[cycle(parse)]
     fn assignment(
         &mut self,
@@ -123,7 +123,8 @@ impl Parser {
         })
     }
 
-    /// The place that an expression names: a variable, or an item or a property at any depth of one.
+    /// Returns the place that an expression denotes: a variable, or an item or a property at any
+    /// depth of one.
     fn place(&self, read: Expr) -> Result<Place, SyntaxError> {
         match read {
             Expr::Chain { root, steps } => {
@@ -136,7 +137,7 @@ impl Parser {
         }
     }
 
-    /// The place that these steps lead to from a variable.
+    /// Returns the place at these steps from a variable.
     fn rooted(&self, root: Expr, steps: Vec<Step>) -> Result<Place, SyntaxError> {
         match root {
             Expr::Variable { variable, position } => Ok(Place {
@@ -149,7 +150,7 @@ impl Parser {
     }
 }
 
-/// Why nothing is assigned to behind a step.
+/// Returns why nothing after a step can be assigned to.
 fn no_place(step: &Step) -> Option<SyntaxFault> {
     match step {
         Step::Method { .. } => Some(SyntaxFault::NoPlace),

@@ -44,7 +44,7 @@ impl Parser {
         Ok(Expr::Switch(Box::new(self.alloc, switch)?))
     }
 
-    /// Reads a case: what it is for, its guard, and what is done.
+    /// Parses a case: its patterns, its guard, and its body.
     #[cycle(parse)]
     fn case(&mut self, levels: usize) -> Result<Case, SyntaxError> {
         let mut patterns = Vec::new(self.alloc);
@@ -69,7 +69,8 @@ impl Parser {
         })
     }
 
-    /// Reads what is done in a case, with the comma behind it. A statement that ends by itself needs none.
+    /// Parses the body of a case, with the comma after it. A statement that ends by itself needs
+    /// none.
     #[cycle(parse)]
     fn case_body(&mut self, levels: usize) -> Result<Block, SyntaxError> {
         self.expect(Symbol::Arrow)?;
@@ -93,7 +94,7 @@ impl Parser {
         })
     }
 
-    /// Reads a literal, or a range of ints.
+    /// Parses a literal, or a range of ints.
     fn pattern(&mut self) -> Result<Pattern, SyntaxError> {
         if self.takes(Symbol::True)? {
             return Ok(Pattern::Literal(Expr::Bool(true)));
@@ -121,7 +122,7 @@ impl Parser {
         Ok(Pattern::Literal(literal))
     }
 
-    /// Whether an int comes next, or a sign that only an int follows here.
+    /// Whether an int comes next, or a sign that has to be followed by an int here.
     fn is_int_next(&self) -> bool {
         self.is_next(Symbol::Operator(Token::Minus)) || matches!(&self.lexeme, Lexeme::Int(_))
     }
@@ -147,7 +148,7 @@ impl Parser {
         Ok(Pattern::Literal(Expr::Int(first)))
     }
 
-    /// Reads an int with its sign.
+    /// Parses an int with its sign.
     fn int(&mut self) -> Result<INT, SyntaxError> {
         let is_negative = self.takes(Symbol::Operator(Token::Minus))?;
         let Lexeme::Int(number) = &self.lexeme else {

@@ -1,4 +1,4 @@
-// Texts in back-ticks, with what stands in them.
+// Texts in back-ticks, with the statements in them.
 ghost use Rattle.std.specs.Prelude.{◌≡◌};
 
 use super::Parser;
@@ -10,7 +10,8 @@ use rhai_text::{ImmutableString, Position, Token};
 use script_tree::{Block, Expr, Operator, Term};
 
 impl Parser {
-    /// Reads a text in back-ticks from behind its first `${` on: a sum of texts and of the blocks in it, each of which is printed into it.
+    /// Parses a text in back-ticks after its first `${`: a sum of texts and of the embedded blocks,
+    /// whose values are printed into it.
     #[cycle(parse)]
     pub(super) fn template(
         &mut self,
@@ -42,7 +43,7 @@ impl Parser {
         })
     }
 
-    /// Reads the statements behind a `${`, up to its brace, which stays the next lexeme.
+    /// Parses the statements after a `${`, up to its brace, which is left as the next lexeme.
     #[cycle(parse)]
     fn embedded(&mut self, levels: usize) -> Result<Block, SyntaxError> {
         self.advance()?;
@@ -55,7 +56,8 @@ impl Parser {
         }
     }
 
-    /// The text behind the brace that comes next, up to the end or the next `${`, and whether it is the last.
+    /// Reads the text after the brace that comes next, up to the end or the next `${`, and returns
+    /// whether it is the last.
     fn template_text(&mut self, start: Position) -> Result<(String, bool), SyntaxError> {
         match template_part(self.alloc, &mut self.cursor, start)? {
             Lexeme::Text(text) => Ok((text, true)),
@@ -67,7 +69,7 @@ impl Parser {
     }
 }
 
-/// What is added to a text.
+/// Makes a summand of a text.
 fn term(operand: Expr, position: Position) -> Term {
     Term {
         operator: Operator::Plain(Token::Plus),

@@ -6,7 +6,7 @@ use crate::sections::UNLIMITED;
 use rhai_run::{Answer, World, run_both};
 use std::alloc::{AllocError, Global};
 
-/// Whether the answers are this text, then that all is done, then that there is no value.
+/// Whether the answers are this text, then done, then that there is no value.
 fn are_answers(alloc: Global, answers: &[Answer], text: &str) -> bool {
     match answers {
         [shown, dropped, gone] => {
@@ -18,7 +18,7 @@ fn are_answers(alloc: Global, answers: &[Answer], text: &str) -> bool {
     }
 }
 
-/// Whether the first world answers 1, and the second 2, where both are asked the same.
+/// Whether the first world answers 1, and the second 2, to the same question.
 fn answer_for_themselves(
     alloc: Global,
     first: &mut World,
@@ -36,7 +36,7 @@ fn answer_for_themselves(
     }
 }
 
-/// Each world answers for itself.
+/// Each world returns its own answers.
 pub(super) fn each_world_gives_its_own_answers(alloc: Global) -> bool {
     let mut first = World::new(alloc, UNLIMITED);
     let mut second = World::new(alloc, UNLIMITED);

@@ -1,4 +1,4 @@
-//! Worlds whose unreached cells are given back, where a row can't show it.
+//! Collections of unreachable cells that a row can't show.
 ghost use Rattle.std.specs.Prelude.{◌≡◌, IfOk};
 ghost use Rattle.rhai_run.specs.Machine.{replies};
 
@@ -9,7 +9,8 @@ use rhai_run::{Answer, Command, Literal, Question, Stopped, World, apply, laws, 
 use rhai_value::TypeId;
 use std::alloc::{AllocError, Global};
 
-/// The caller that the README of `rhai_run` shows: the answers are those of the world before.
+/// The caller in the README of `rhai_run`: the answers are those of the world before the
+/// collection.
 fn collect_and_run(world: &mut World, commands: &[Command]) -> Result<Vec<Answer>, Stopped>
     ensures { IfOk result (λ answers. answers.items ≡ replies world.old commands.now) }
 {
@@ -18,7 +19,7 @@ fn collect_and_run(world: &mut World, commands: &[Command]) -> Result<Vec<Answer
     run(world, commands)
 }
 
-/// Whether commands are answered twice behind a collection.
+/// Whether commands have the right answers twice after a collection.
 fn run_twice(alloc: Global, world: &mut World) -> Result<bool, AllocError> {
     let commands = commands_of(alloc, &["bool true", "share 0", "drop"])?;
     Ok(collect_and_run(world, &commands).is_ok() && collect_and_run(world, &commands).is_ok())
@@ -31,7 +32,7 @@ pub(super) fn a_collected_world_runs(alloc: Global) -> bool {
     matches!(is_right, Ok(true))
 }
 
-/// Whether a command is answered like this.
+/// Whether a command has this answer.
 fn is_answered(alloc: Global, world: &mut World, command: &Command, wanted: &str) -> bool {
     match apply(world, command) {
         Ok(answer) => is_printed(alloc, &answer, wanted),
@@ -39,7 +40,7 @@ fn is_answered(alloc: Global, world: &mut World, command: &Command, wanted: &str
     }
 }
 
-/// Makes a thousand cells and lets go of them, and then collects if that is due.
+/// Makes a thousand cells and drops them, and then collects if a collection is due.
 fn come_and_go(world: &mut World, commands: &[Command]) -> Result<(), AllocError> {
     for _ in 0..1000 {
         make(world, commands)?;
@@ -47,7 +48,7 @@ fn come_and_go(world: &mut World, commands: &[Command]) -> Result<(), AllocError
     world.collect_if_due()
 }
 
-/// Whether a holder of 7 is kept while a hundred thousand cells come and go.
+/// Whether a holder of 7 is kept while a hundred thousand cells are made and dropped.
 fn is_kept(alloc: Global, world: &mut World) -> Result<bool, AllocError> {
     make(world, &commands_of(alloc, &["int 7", "share 0"])?)?;
     let commands = commands_of(alloc, &["int 1", "share 1", "copy 1", "drop", "drop"])?;
@@ -67,7 +68,7 @@ pub(super) fn what_is_held_is_kept_by_collections_that_are_due(alloc: Global) ->
     matches!(is_right, Ok(true))
 }
 
-/// Cells each of which holds the one before.
+/// Makes cells each of which holds the one before.
 fn chain(world: &mut World, len: usize) -> Result<(), AllocError> {
     apply(world, &Command::Put(Literal::Int(1)))?;
     for _ in 0..len {
@@ -77,7 +78,7 @@ fn chain(world: &mut World, len: usize) -> Result<(), AllocError> {
     world.collect()
 }
 
-/// Whether an array is held in the hand, and nothing once it is dropped.
+/// Whether an array is held in the hand, and nothing after it is dropped.
 fn is_held_and_dropped(alloc: Global, world: &mut World) -> Result<bool, AllocError> {
     let asked = Command::Ask(0, Question::Is(TypeId::Array));
     let is_kept = is_answered(alloc, world, &asked, "true");
@@ -86,7 +87,7 @@ fn is_held_and_dropped(alloc: Global, world: &mut World) -> Result<bool, AllocEr
     Ok(is_kept && is_answered(alloc, world, &Command::Show(0), "refused NoValue"))
 }
 
-/// No step goes as deep as the chain is long.
+/// No step recurses as deep as the chain is long.
 pub(super) fn a_long_chain_is_kept_and_given_back(alloc: Global) -> bool {
     let mut world = World::new(alloc, UNLIMITED);
     let is_made = chain(&mut world, 100_000).is_ok();

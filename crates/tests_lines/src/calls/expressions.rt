@@ -1,4 +1,4 @@
-//! The block that the README of `rhai_run` shows.
+//! The block in the README of `rhai_run`.
 
 use super::printed::is_printed;
 use crate::sections::UNLIMITED;
@@ -15,7 +15,7 @@ fn number(alloc: Global, n: i64) -> Result<Box<Expr>, AllocError> {
     Ok(Box::new(alloc, Expr::Literal(Literal::Int(n)))?)
 }
 
-/// Binds a name to a closure of this name that captures `n`.
+/// Binds a name to a closure with this name that captures `n`.
 fn capturing_n(alloc: Global, closure: &str) -> Result<Expr, AllocError> {
     let mut captured = Vec::new(alloc);
     captured.push(name(alloc, "n")?)?;
@@ -23,7 +23,7 @@ fn capturing_n(alloc: Global, closure: &str) -> Result<Expr, AllocError> {
     Ok(Expr::Let(name(alloc, closure)?, Box::new(alloc, value)?))
 }
 
-/// Two closures that capture a name share its cell.
+/// Makes two closures that capture a name and share its cell.
 fn shared_counter(alloc: Global) -> Result<Expr, AllocError> {
     let mut parts = Vec::new(alloc);
     parts.push(Expr::Let(name(alloc, "n")?, number(alloc, 0)?))?;
@@ -34,7 +34,7 @@ fn shared_counter(alloc: Global) -> Result<Expr, AllocError> {
     Ok(Expr::Block(parts))
 }
 
-/// Whether a block comes to this text, as the only value of a hand over an empty scope.
+/// Whether the result of a block is this text, as the only value of a hand over an empty scope.
 fn comes_to(alloc: Global, world: &mut World, expr: &Expr, wanted: &str) -> bool {
     let is_valued = matches!(eval(world, expr), Ok(None));
     match apply(world, &Command::Debug(0)) {

@@ -6,7 +6,7 @@ use std::cell::Cell;
 use std::io;
 use std::io::{ErrorKind, Read, Write};
 
-/// Gives a byte a call, and fails once, at the call before which `calls` others stand.
+/// Returns a byte per call, and fails once, after this many `calls`.
 #[derive(Drop)]
 struct ByteReader<'a> {
     bytes: &'a [u8],
@@ -32,7 +32,7 @@ impl Read for ByteReader<'_> {
     }
 }
 
-/// Takes a byte a call, and fails once, at the write or flush before which `calls` others stand.
+/// Takes a byte per call, and fails once, at the write or flush after this many `calls`.
 #[derive(Drop)]
 struct ByteWriter {
     bytes: Vec<u8>,
@@ -71,7 +71,7 @@ const INPUT: &[u8] = b"int 7\nshow 0\nno\nshow 0";
 
 const OUTPUT: &[u8] = b"ok\n7\nrefused BadLine\n7\n";
 
-/// What stopped a run, by its name.
+/// Returns the name of what stopped a run.
 fn fault(outcome: &Result<(), LinesFault>) -> &'static str {
     match outcome {
         Ok(()) => "none",
@@ -81,8 +81,8 @@ fn fault(outcome: &Result<(), LinesFault>) -> &'static str {
     }
 }
 
-/// Whether a run ends well where a read that was interrupted is made again, or where the reader doesn't come to its fault; and whether any other fault
-/// ends it, behind whole answers.
+/// Whether a run succeeds if an interrupted read is repeated, or if the reader doesn't reach its
+/// fault; and whether any other fault ends it, after whole answers.
 fn is_read(alloc: Global, calls: usize, error: ErrorKind) -> bool {
     let mut reader = ByteReader {
         bytes: INPUT,
@@ -111,8 +111,9 @@ pub(super) fn reads_may_fail(alloc: Global) -> bool {
     true
 }
 
-/// Whether a run ends where the writer fails, behind what was written, or well where it doesn't come to its fault. The input comes in one read: there is
-/// a flush after it, and one after the last line.
+/// Whether a run ends where the writer fails, after what was written, or succeeds if the writer
+/// doesn't reach its fault. The input comes in one read: there is a flush after it, and one after
+/// the last line.
 fn is_written(alloc: Global, calls: usize) -> bool {
     let mut reader = INPUT;
     let mut writer = ByteWriter {
@@ -136,7 +137,7 @@ pub(super) fn writes_may_fail(alloc: Global) -> bool {
     true
 }
 
-/// Takes no byte.
+/// Takes no bytes.
 #[derive(Drop)]
 struct Full {}
 
@@ -150,14 +151,14 @@ impl Write for Full {
     }
 }
 
-/// A writer that takes nothing is a fault of the writer.
+/// A writer that takes nothing is a writer's fault.
 pub(super) fn a_writer_that_takes_nothing_is_a_fault(alloc: Global) -> bool {
     let mut reader = INPUT;
     let outcome = run_lines(alloc, &mut reader, &mut Full {});
     fault(&outcome) == "Write"
 }
 
-/// A line that shows the value at a very long 0.
+/// Makes a line that shows the value at a very long 0.
 fn long_line(alloc: Global) -> Result<Vec<u8>, AllocError> {
     let mut input = b"show ".to_vec(alloc)?;
     for _ in 0..1_000_001 {
@@ -166,7 +167,7 @@ fn long_line(alloc: Global) -> Result<Vec<u8>, AllocError> {
     Ok(input)
 }
 
-/// Whether a line that comes a byte a call is read to its end and answered.
+/// Whether a line that comes one byte per call is read to its end and answered.
 fn is_answered(alloc: Global, line: &[u8], wanted: &[u8]) -> bool {
     let mut reader = ByteReader {
         bytes: line,
@@ -178,7 +179,7 @@ fn is_answered(alloc: Global, line: &[u8], wanted: &[u8]) -> bool {
     fault(&outcome) == "none" && out.as_slice() == wanted
 }
 
-/// A line that comes a byte a call, in more than a million calls.
+/// A line that comes one byte per call, in more than a million calls.
 pub(super) fn a_slow_reader_is_read_to_its_end(alloc: Global) -> bool {
     match long_line(alloc) {
         Ok(line) => is_answered(alloc, &line, b"refused NoValue\n"),
@@ -186,7 +187,8 @@ pub(super) fn a_slow_reader_is_read_to_its_end(alloc: Global) -> bool {
     }
 }
 
-/// Gives a byte a call, as a person who types and waits for each answer, and fails where an answer is kept back.
+/// Returns a byte per call, as a person who types and waits for each answer, and fails if an answer
+/// is kept back.
 #[derive(Drop)]
 struct WaitingReader<'a> {
     bytes: &'a [u8],
@@ -209,7 +211,7 @@ impl Read for WaitingReader<'_> {
     }
 }
 
-/// Knows whether all that was written is flushed.
+/// Records whether everything written is flushed.
 #[derive(Drop)]
 struct FlushedWriter<'a> {
     is_kept_back: &'a Cell<bool>,
@@ -227,7 +229,7 @@ impl Write for FlushedWriter<'_> {
     }
 }
 
-/// A reader that waits for answers is read to its end, and none is kept back then.
+/// A reader that waits for answers is read to its end, and no answer is kept back meanwhile.
 pub(super) fn answers_are_flushed_before_the_next_read(alloc: Global) -> bool {
     let is_kept_back = Cell::new(false);
     let mut reader = WaitingReader {

@@ -1,11 +1,11 @@
-//! Inputs that no row says: lines that end with the input, and bytes that are no characters.
+//! Inputs that no row contains: lines that end with the input, and bytes that are not characters.
 ghost use Rattle.std.specs.Prelude.{◌≡◌, IfOk};
 ghost use Rattle.rhai_lines.specs.Output.{new_world, output};
 
 use rhai_lines::{LinesFault, run_lines};
 use std::alloc::{AllocError, Global};
 
-/// What is written for an input that lies in memory.
+/// Returns what is written for an input in memory.
 pub(crate) fn answers(alloc: Global, input: &[u8]) -> Result<Vec<u8>, LinesFault>
     ensures { IfOk result (λ out. out.items ≡ output new_world input.now) }
 {
@@ -15,7 +15,7 @@ pub(crate) fn answers(alloc: Global, input: &[u8]) -> Result<Vec<u8>, LinesFault
     Ok(out)
 }
 
-/// Whether an input is answered like this.
+/// Whether an input has this output.
 fn is_answered(alloc: Global, input: &[u8], wanted: &[u8]) -> bool {
     match answers(alloc, input) {
         Ok(out) => out.as_slice() == wanted,
@@ -37,7 +37,7 @@ pub(super) fn the_last_line_may_end_with_the_input(alloc: Global) -> bool {
         && is_answered(alloc, b"", b"")
 }
 
-/// The line that puts ten thousand of these digits and a 7, and one that shows it.
+/// Makes the line that puts ten thousand of these digits and a 7, and one that shows it.
 fn many_digits(alloc: Global, digit: u8) -> Result<Vec<u8>, AllocError> {
     let mut input = b"int ".to_vec(alloc)?;
     for _ in 0..10000 {
@@ -47,7 +47,7 @@ fn many_digits(alloc: Global, digit: u8) -> Result<Vec<u8>, AllocError> {
     Ok(input)
 }
 
-/// Whether so many digits are answered like this.
+/// Whether this many digits have this output.
 fn are_digits_answered(alloc: Global, digit: u8, wanted: &[u8]) -> bool {
     match many_digits(alloc, digit) {
         Ok(input) => is_answered(alloc, &input, wanted),

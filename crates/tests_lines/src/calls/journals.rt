@@ -6,7 +6,7 @@ use rhai_text::ImmutableString;
 use rhai_value::{ExclusiveRange, Host};
 use std::alloc::Global;
 
-/// Whether a command has a line; `None` where there was no memory.
+/// Whether a command has a line; `None` if an allocation failed.
 fn has_line(alloc: Global, command: Command) -> Option<bool> {
     match line_of(alloc, &command) {
         Ok(line) => Some(line.is_some()),
@@ -14,7 +14,7 @@ fn has_line(alloc: Global, command: Command) -> Option<bool> {
     }
 }
 
-/// Whether a name that is no word has no line.
+/// Whether a name that isn't a word has no line.
 fn is_unwritten(alloc: Global, name: &str) -> bool {
     let (Ok(entry), Ok(place)) = (
         ImmutableString::from_str(alloc, name),

@@ -1,4 +1,4 @@
-//! Calls of `rhai_run` that no line makes: one command, and what a host sees of a world.
+//! Calls of `rhai_run` that no line makes: one command, and a host's view of a world.
 ghost use Rattle.std.specs.Prelude.{◌≡◌, IfOk};
 ghost use Rattle.rhai_run.specs.declared.command.Command.TheVariants as command;
 ghost use Rattle.rhai_run.specs.Step.{step};
@@ -7,7 +7,7 @@ use crate::sections::UNLIMITED;
 use rhai_run::{Answer, Command, Literal, World, apply};
 use std::alloc::{AllocError, Global};
 
-/// The caller that the README of `rhai_run` shows.
+/// The caller in the README of `rhai_run`.
 fn leave_scope(world: &mut World) -> Result<Answer, AllocError>
     ensures { IfOk result (λ a. (a ≡ (step world.old command.Pop).reply) × (world.new ≡ (step world.old command.Pop).after)) }
 {
@@ -29,7 +29,7 @@ fn has_holder(world: &World) -> bool {
     }
 }
 
-/// A host looks at the hand and at the store.
+/// A host reads the hand and the store.
 pub(super) fn one_command_is_applied(alloc: Global) -> bool {
     let mut world = World::new(alloc, UNLIMITED);
     let put = apply(&mut world, &Command::Put(Literal::Bool(true)));

@@ -1,4 +1,4 @@
-//! How each answer and each refusal is printed, those too that no line of today leads to.
+//! How each answer and each refusal is printed, including those that no line returns today.
 
 use rhai_lines::write_answer;
 use rhai_run::{Answer, Bytes, Refusal, Shown};
@@ -12,7 +12,7 @@ pub(super) fn is_printed(alloc: Global, answer: &Answer, wanted: &str) -> bool {
         && line.as_slice().strip_suffix(b"\n") == Some(wanted.as_bytes())
 }
 
-/// Whether an answer that goes then is.
+/// As `is_printed`, for an answer that is dropped.
 fn prints(alloc: Global, answer: Answer, wanted: &str) -> bool {
     is_printed(alloc, &answer, wanted)
 }
@@ -30,7 +30,7 @@ pub(super) fn answers(alloc: Global) -> bool {
         && prints(alloc, Answer::Int(i128::MIN), least)
 }
 
-/// Whether a text of two lines is printed as it is.
+/// Whether a text of two lines is printed unchanged.
 fn is_text_printed(alloc: Global, text: &str) -> bool {
     match String::from_str(alloc, text) {
         Ok(owned) => prints(alloc, Answer::Text(Shown::from_text(owned)), text),
@@ -57,12 +57,12 @@ fn is_refused(alloc: Global, refusal: Refusal, wanted: &str) -> bool {
     prints(alloc, Answer::Refused(refusal), wanted)
 }
 
-/// Whether the error of a call is.
+/// Whether the error of a call is printed like this.
 fn is_fault(alloc: Global, error: EvalAltResult, wanted: &str) -> bool {
     is_refused(alloc, Refusal::Fault(error), wanted)
 }
 
-/// Whether a fault of arithmetic is.
+/// Whether an arithmetic fault is printed like this.
 fn is_arithmetic(alloc: Global, why: ArithmeticFault, wanted: &str) -> bool {
     is_fault(
         alloc,
@@ -71,7 +71,7 @@ fn is_arithmetic(alloc: Global, why: ArithmeticFault, wanted: &str) -> bool {
     )
 }
 
-/// Whether the error of a value that is too large is.
+/// Whether the error of a value that is too large is printed like this.
 fn is_size(alloc: Global, kind: SizeKind, wanted: &str) -> bool {
     is_fault(
         alloc,

@@ -1,4 +1,4 @@
-//! Expressions as rows of words: operands come before what takes them.
+//! Expressions as rows of words: operands come before their operator.
 
 use rhai_lines::command;
 use rhai_run::{Command, Expr};
@@ -40,7 +40,7 @@ fn names_of(alloc: Global, words: &str) -> Result<Vec<ImmutableString>, AllocErr
     Ok(names)
 }
 
-/// An operator, or an assignment and the name that it is called on.
+/// Reads an operator, or an assignment and the name that it applies to.
 fn operation(alloc: Global, made: &mut Vec<Expr>, rest: &str) -> Result<Expr, AllocError> {
     let value = operand(alloc, made)?;
     match rest.split_once(' ') {
@@ -53,7 +53,7 @@ fn operation(alloc: Global, made: &mut Vec<Expr>, rest: &str) -> Result<Expr, Al
     }
 }
 
-/// A closure of the first name that captures the others.
+/// Reads a closure with the first name that captures the others.
 fn closure(alloc: Global, rest: &str) -> Result<Expr, AllocError> {
     let (name, captured) = rest.split_once(' ').unwrap_or((rest, ""));
     Ok(Expr::Closure(
@@ -74,7 +74,7 @@ fn named(alloc: Global, made: &mut Vec<Expr>, verb: &str, rest: &str) -> Result<
     }
 }
 
-/// A literal is written as the line that puts its value into a hand.
+/// Reads a literal, written as the line that puts its value into a hand.
 fn literal(alloc: Global, words: &str) -> Result<Expr, AllocError> {
     match command(alloc, words.as_bytes())? {
         Some(Command::Put(literal)) => Ok(Expr::Literal(literal)),
@@ -95,7 +95,7 @@ fn take_words(alloc: Global, made: &mut Vec<Expr>, words: &str) -> Result<(), Al
     Ok(made.push(expr)?)
 }
 
-/// The expression that a row says.
+/// Reads the expression of a row.
 pub(crate) fn expr_of(alloc: Global, row: &str) -> Result<Expr, AllocError> {
     let mut made = Vec::new(alloc);
     for words in row.split(';') {

@@ -1,4 +1,4 @@
-//! One command after another.
+//! Command by command.
 
 use crate::seen::{is_seen, seen, tell};
 use rhai_lines::write_answer;
@@ -10,7 +10,8 @@ fn verb(line: &str) -> &str {
     line.split(' ').next().unwrap_or(line)
 }
 
-/// Applies a command. Where memory is refused, the world is to be seen as before, and the command is applied once more.
+/// Applies a command. If an allocation fails, the view of the world must be unchanged, and the
+/// command is applied once more.
 fn apply_at_last(
     rt: &impl Eprint,
     alloc: Global,
@@ -50,7 +51,8 @@ pub(super) fn apply_each(
     Ok(true)
 }
 
-/// Collects. Where memory is refused, the world is to be as before, and it is collected once more; then it is to be seen as before.
+/// Collects. If an allocation fails, the world must be unchanged, and it is collected once more;
+/// then its view must be as before.
 fn collect_at_last(rt: &impl Eprint, alloc: Global, world: &mut World) -> Result<bool, AllocError> {
     let before = seen(alloc, world)?;
     if world.collect().is_err() {

@@ -6,7 +6,7 @@ use rhai_lines::{LinesFault, run_lines};
 use std::alloc::{AllocError, Global};
 use std::io::Eprint;
 
-/// Whether what is written is the answers of a number of first lines, each whole.
+/// Whether the output consists of the answers to some first lines, each complete.
 fn are_first_answers(rows: &str, mut out: &[u8]) -> bool {
     for (line, answer) in rows.lines().filter_map(row_of) {
         if out.is_empty() && !line.is_empty() {
@@ -23,7 +23,8 @@ fn are_first_answers(rows: &str, mut out: &[u8]) -> bool {
     out.is_empty()
 }
 
-/// Answers the lines of the rows; where memory is refused, what was written is to be whole answers, and the lines are answered anew.
+/// Executes the lines of the rows; if an allocation fails, the output must consist of complete
+/// answers, and the lines are executed again.
 pub(super) fn run_lines_at_last(
     rt: &impl Eprint,
     alloc: Global,

@@ -8,10 +8,10 @@ use rhai_text::Limits;
 use std::alloc::{AllocError, Global};
 use std::io::Eprint;
 
-/// Lines that make cells which nothing reaches.
+/// Lines that make unreachable cells.
 const UNREACHED: [&str; 6] = ["unit", "share 0", "drop", "array 0", "share 0", "drop"];
 
-/// Whether a world is seen as one on which these commands ran.
+/// Whether the view of a world is that of one on which these commands ran.
 fn is_as_after(alloc: Global, world: &World, commands: &[Command]) -> Result<bool, AllocError> {
     let mut other = World::new(alloc, UNLIMITED);
     let made = make(&mut other, commands);
@@ -21,7 +21,8 @@ fn is_as_after(alloc: Global, world: &World, commands: &[Command]) -> Result<boo
     is_seen(alloc, world, &text?)
 }
 
-/// Goes on after a stop with the command that was stopped, in a world that is to be as after those before it.
+/// Continues after a stop with the command that was stopped, in a world that must be as after those
+/// before it.
 fn go_on(
     alloc: Global,
     world: &mut World,
@@ -42,7 +43,7 @@ fn go_on(
     }
 }
 
-/// Runs over the commands.
+/// Runs the commands.
 pub(super) fn run_at_last(
     rt: &impl Eprint,
     alloc: Global,
@@ -59,7 +60,7 @@ pub(super) fn run_at_last(
     }
 }
 
-/// Runs on two new worlds; where the first is stopped, the second is to be as new.
+/// Runs on two new worlds; if the first is stopped, the second must be as new.
 fn run_both_at_last(
     rt: &impl Eprint,
     alloc: Global,
@@ -90,7 +91,8 @@ fn run_both_at_last(
     }
 }
 
-/// Runs over the commands on this world, which gets cells that nothing reaches, and on another; both are to answer the same.
+/// Runs the commands on this world, which gets unreachable cells, and on another; both must answer
+/// the same.
 pub(super) fn both_answer(
     rt: &impl Eprint,
     alloc: Global,

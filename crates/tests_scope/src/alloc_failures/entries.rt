@@ -1,4 +1,4 @@
-//! What stays of a scope and what comes back where memory is refused.
+//! What is left of a scope, and what is returned, if an allocation fails.
 use super::tell;
 use rhai_scope::Scope;
 use rhai_text::ImmutableString;
@@ -11,7 +11,7 @@ fn name_of(alloc: Global, name: &str) -> Result<ImmutableString, AllocError> {
     ImmutableString::from_str(alloc, name)
 }
 
-/// What a scope prints.
+/// Formats a scope.
 fn printed(scope: &Scope, store: &Store) -> Result<String, AllocError> {
     Ok(scope.shown(store)?.into_text())
 }
@@ -85,7 +85,7 @@ const CHANGES: [(Change, &str, &str); 13] = [
     ),
 ];
 
-/// Names for which a scope of one entry has no room yet.
+/// Names for which a scope of one entry has no capacity yet.
 const NAMES: [&str; 8] = ["b", "c", "d", "e", "f", "g", "h", "i"];
 
 fn pairs(alloc: Global) -> Result<Vec<(ImmutableString, Dynamic)>, AllocError> {
@@ -96,7 +96,7 @@ fn pairs(alloc: Global) -> Result<Vec<(ImmutableString, Dynamic)>, AllocError> {
     Ok(items)
 }
 
-/// The names with a flag each, of which the last one is set.
+/// Makes a list of the names with a flag each, of which the last one is set.
 fn flagged(alloc: Global) -> Result<Vec<(ImmutableString, bool, Dynamic)>, AllocError> {
     let mut items = Vec::new(alloc);
     for name in NAMES {
@@ -112,7 +112,7 @@ fn is_set(scope: &mut Scope, text: String) -> bool {
     }
 }
 
-/// Does the change; false where memory was refused to it.
+/// Makes the change; returns `false` if an allocation failed.
 fn is_changed(
     change: &Change,
     alloc: Global,
@@ -141,7 +141,8 @@ fn is_changed(
     Ok(is_done)
 }
 
-/// Whether a change leads to a scope that prints as is wanted; where memory is refused all is as before, and the change is done then.
+/// Whether a change results in a scope that prints as expected; if an allocation fails, everything
+/// is unchanged, and the change is made then.
 fn changes(
     rt: &impl Eprint,
     alloc: Global,
@@ -172,7 +173,8 @@ fn scopes_stay(rt: HostRuntime) -> Result<(), Fail> {
     Ok(())
 }
 
-/// Whether an entry is pushed; where memory is refused name and value come back, and it is pushed then.
+/// Whether an entry is pushed; if an allocation fails, name and value are returned, and it is
+/// pushed then.
 fn pushes(rt: &impl Eprint, alloc: Global) -> Result<bool, AllocError> {
     let store = Store::new(alloc);
     let mut scope = Scope::new(alloc);
@@ -189,7 +191,8 @@ fn pushes(rt: &impl Eprint, alloc: Global) -> Result<bool, AllocError> {
     prints(&scope, &store, "[1] const a = 10\n")
 }
 
-/// Whether lists of names and values are moved in; where memory is refused both come back, and they are moved in then.
+/// Whether lists of names and values are moved in; if an allocation fails, both are returned, and
+/// they are moved in then.
 fn moves(rt: &impl Eprint, alloc: Global) -> Result<bool, AllocError> {
     let store = Store::new(alloc);
     let mut scope = Scope::new(alloc);
@@ -208,7 +211,7 @@ fn moves(rt: &impl Eprint, alloc: Global) -> Result<bool, AllocError> {
     prints(&scope, &store, "[1] b = 1\n[2] c = 2\n")
 }
 
-/// The same of flagged names.
+/// As `moves`, for flagged names.
 fn moves_flagged(rt: &impl Eprint, alloc: Global) -> Result<bool, AllocError> {
     let store = Store::new(alloc);
     let mut scope = Scope::new(alloc);

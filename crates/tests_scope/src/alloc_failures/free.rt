@@ -1,4 +1,4 @@
-//! Calls that take no memory: they answer also where all of it is refused.
+//! Calls that don't allocate: they succeed even if all allocations fail.
 use super::is_text;
 use crate::ops::readme::{assign, operate};
 use crate::target::parts::{has_byte, propagated};
@@ -11,7 +11,8 @@ use std::test::Fail;
 
 const UNLIMITED: Limits = Limits { text: 0, items: 0 };
 
-/// Whether a scope with a constant `c` and a text `x` behind it answers by name and by place.
+/// Whether look-ups by name and by position work in a scope with a constant `c` and a text `x`
+/// after it.
 fn is_looked_up(scope: &Scope, store: &Store) -> bool {
     scope.len() == 2
         && scope.contains("x")
@@ -22,7 +23,7 @@ fn is_looked_up(scope: &Scope, store: &Store) -> bool {
         && scope.iter_raw(store).count() == 2
 }
 
-/// Whether a variable `n`, which is the int 3, is lent by its type to read and to write.
+/// Whether a variable `n`, which is the int 3, can be borrowed by its type, immutably and mutably.
 fn is_lent_by_type(scope: &mut Scope, store: &Store) -> bool {
     match scope.get("n") {
         Some(value) if !value.is_shared() => {}
@@ -36,7 +37,7 @@ fn is_lent_by_type(scope: &mut Scope, store: &Store) -> bool {
     is_read && matches!(scope.get("n"), Some(value) if value.as_int(store) == Ok(4))
 }
 
-/// Whether entries are lent for writing, and go.
+/// Whether entries can be borrowed mutably, and dropped.
 fn is_emptied(scope: &mut Scope) -> bool {
     let is_lent = scope.get_mut("x").is_some() && scope.get_mut("c").is_none();
     scope.rewind(2);
@@ -73,7 +74,7 @@ fn is_written_in_blob(blob: &mut Dynamic, store: &mut Store) -> bool {
     write_byte(blob, store, &Dynamic::TEN, 1, Position::NONE).is_ok()
 }
 
-/// Whether a holder is a target, and is let go.
+/// Whether a holder can be made a target, and released.
 fn is_target(holder: &mut Dynamic, store: &mut Store) -> bool {
     match Target::try_from(holder, store) {
         Ok(target) => target.take_ref(store).is_none(),
@@ -81,7 +82,8 @@ fn is_target(holder: &mut Dynamic, store: &mut Store) -> bool {
     }
 }
 
-/// The rows that need no room, with operands and how they are told: ints by their sum, the rest by a boolean.
+/// The rows that don't allocate, with operands and their result: ints by their sum, the rest by a
+/// boolean.
 const ROWS: [(Token, i64, i64, i64); 8] = [
     (Token::Plus, 7, 2, 9),
     (Token::Divide, -7, 2, -3),
@@ -106,7 +108,7 @@ fn is_computed(alloc: Global, store: &mut Store, row: &(Token, i64, i64, i64)) -
     }
 }
 
-/// Whether two values are compared.
+/// Whether two values can be compared.
 fn is_compared(
     alloc: Global,
     store: &mut Store,
@@ -154,7 +156,7 @@ fn is_propagated(alloc: Global, int: &mut Dynamic, blob: &mut Dynamic, store: &m
     propagated(byte, alloc, store).is_ok()
 }
 
-/// Whether a range is made of two ints, and is of one of the host's types.
+/// Whether two ints make a range, which is of one of the host's types.
 fn is_ranged(alloc: Global, store: &mut Store, token: Token) -> bool {
     let (mut first, mut last) = (Dynamic::ONE, Dynamic::TEN);
     match operate(token, alloc, store, &UNLIMITED, &mut first, &mut last) {
@@ -163,7 +165,7 @@ fn is_ranged(alloc: Global, store: &mut Store, token: Token) -> bool {
     }
 }
 
-/// Whether a boolean becomes this by an assignment of `true`.
+/// Whether a boolean gets this value by an assignment of `true`.
 fn is_assigned(alloc: Global, store: &mut Store, token: Token, wanted: bool) -> bool {
     let (mut truth, mut other) = (Dynamic::TRUE, Dynamic::TRUE);
     matches!(

@@ -1,4 +1,4 @@
-//! What stays of operands, where a row that wants memory is refused it.
+//! What is left of operands if an allocation of a row fails.
 use super::tell;
 use crate::ops::readme::{assign, operate};
 use rhai_show::debug_text;
@@ -10,7 +10,7 @@ use std::test::Fail;
 
 const UNLIMITED: Limits = Limits { text: 0, items: 0 };
 
-/// Operands by a letter: a text, a character, a blob, an array, an int.
+/// Makes an operand for a letter: a text, a character, a blob, an array, an int.
 fn operand(alloc: Global, letter: char) -> Result<Dynamic, AllocError> {
     match letter {
         't' => Dynamic::from_text(alloc, "ab"),
@@ -21,7 +21,7 @@ fn operand(alloc: Global, letter: char) -> Result<Dynamic, AllocError> {
     }
 }
 
-/// Rows with both operands, and how first operand and answer are debugged afterwards.
+/// Rows with both operands, and the debug format of the first operand and the result afterwards.
 const ROWS: [(Token, char, char, &str, &str); 14] = [
     (Token::Plus, 't', 't', "\"ab\"", "\"abab\""),
     (Token::Plus, 't', 'c', "\"ab\"", "\"abb\""),
@@ -43,7 +43,7 @@ fn debugs(alloc: Global, value: &Dynamic, store: &Store, wanted: &str) -> Result
     Ok(debug_text(alloc, value, store)?.as_str() == wanted)
 }
 
-/// The answer of an assignment, or of an operator; `None` where memory is refused.
+/// Returns the result of an assignment, or of an operator; `None` if an allocation fails.
 fn called(
     token: Token,
     alloc: Global,
@@ -62,7 +62,8 @@ fn called(
     }
 }
 
-/// Whether a row answers; where memory is refused both operands are as before, and it answers then.
+/// Whether a row has the right result; if an allocation fails, both operands are unchanged, and it
+/// has it then.
 fn answers(
     rt: &impl Eprint,
     alloc: Global,

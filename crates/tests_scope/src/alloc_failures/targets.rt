@@ -1,4 +1,4 @@
-//! What stays and what comes back of targets.
+//! What is left of targets, and what is returned.
 ghost use Rattle.rhai_target.specs.Target.{IsMarkedIn};
 
 use super::{is_text, tell};
@@ -9,7 +9,7 @@ use std::alloc::{AllocError, Global};
 use std::io::Eprint;
 use std::test::Fail;
 
-/// A holder of a text.
+/// Makes a holder of a text.
 fn held(alloc: Global, text: &str, store: &mut Store) -> Result<Dynamic, AllocError> {
     match Dynamic::from_text(alloc, text)?.into_shared(store) {
         Ok(holder) => Ok(holder),
@@ -17,13 +17,14 @@ fn held(alloc: Global, text: &str, store: &mut Store) -> Result<Dynamic, AllocEr
     }
 }
 
-/// Writes a character over the first one of a text; false where memory was refused.
+/// Writes a character over the first one of a text; returns `false` if an allocation failed.
 fn is_char_written(holder: &mut Dynamic, alloc: Global, store: &mut Store) -> bool {
     let value = Dynamic::from_char('x');
     holder.is_string(store) && write_char(holder, alloc, store, &value, 0, Position::NONE).is_ok()
 }
 
-/// Whether a character is written; where memory is refused the text is as before, and it is written then.
+/// Whether a character is written; if an allocation fails, the text is unchanged, and the character
+/// is written then.
 fn writes_char(rt: &impl Eprint, alloc: Global) -> Result<bool, AllocError> {
     let mut store = Store::new(alloc);
     let mut holder = held(alloc, "ab", &mut store)?;
@@ -39,7 +40,7 @@ fn writes_char(rt: &impl Eprint, alloc: Global) -> Result<bool, AllocError> {
     Err(AllocError)
 }
 
-/// Writes a slice between the characters of a text of two; false where memory was refused.
+/// Writes a slice between the characters of a text of two; returns `false` if an allocation failed.
 fn is_slice_written(holder: &mut Dynamic, alloc: Global, store: &mut Store) -> bool {
     let value = Dynamic::from_char('x');
     let slice = Slice {
@@ -50,7 +51,7 @@ fn is_slice_written(holder: &mut Dynamic, alloc: Global, store: &mut Store) -> b
     holder.is_string(store) && write_slice(holder, alloc, store, &value, slice).is_ok()
 }
 
-/// The same of a slice.
+/// As `writes_char`, for a slice.
 fn writes_slice(rt: &impl Eprint, alloc: Global) -> Result<bool, AllocError> {
     let mut store = Store::new(alloc);
     let mut holder = held(alloc, "ab", &mut store)?;
@@ -66,7 +67,8 @@ fn writes_slice(rt: &impl Eprint, alloc: Global) -> Result<bool, AllocError> {
     Err(AllocError)
 }
 
-/// A copy of what a target refers to; where memory is refused the target comes back, and it is taken then.
+/// Copies the value that a target refers to; if an allocation fails, the target is returned, and
+/// the copy is made then.
 fn taken_at_last(
     rt: &impl Eprint,
     target: Target<'_>,
@@ -89,7 +91,7 @@ fn taken_at_last(
     }
 }
 
-/// Whether a copy of a list is taken.
+/// Whether a copy of a list is made.
 fn takes(rt: &impl Eprint, alloc: Global) -> Result<bool, AllocError> {
     let mut store = Store::new(alloc);
     let mut list = Dynamic::from_array(vec![in alloc; Dynamic::ONE]?);
@@ -97,7 +99,7 @@ fn takes(rt: &impl Eprint, alloc: Global) -> Result<bool, AllocError> {
     Ok(taken.is_array(&store) && list.is_array(&store))
 }
 
-/// Lets an own target go, and says whether it is one.
+/// Drops an owned target, and returns whether it is one.
 fn is_own(target: Target<'_>, store: &mut Store) -> bool
     requires { IsMarkedIn store.old target }
 {
@@ -106,7 +108,8 @@ fn is_own(target: Target<'_>, store: &mut Store) -> bool
     is_own
 }
 
-/// Whether a target becomes one of its own; where memory is refused the target comes back, and it does then.
+/// Whether a target becomes an owned one; if an allocation fails, the target is returned, and
+/// becomes one then.
 fn owns(rt: &impl Eprint, alloc: Global) -> Result<bool, AllocError> {
     let mut store = Store::new(alloc);
     let mut list = Dynamic::from_array(vec![in alloc; Dynamic::ONE]?);

@@ -11,7 +11,8 @@ use rhai_text::{ArithmeticFault, EvalAltResult, Limits, Position, Token};
 use rhai_value::{Dynamic, INT, Store};
 use std::alloc::Global;
 
-/// What an operator answers on two variables, which are only read, or `None` where it isn't built in; what it refuses is at this place.
+/// Returns an operator's result for two variables, which are only read, or `None` if it isn't built
+/// in; its errors have this position.
 fn evaluate(
     op: Token,
     alloc: Global,

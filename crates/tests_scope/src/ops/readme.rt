@@ -1,4 +1,4 @@
-//! The callers that the README of `rhai_ops` shows.
+//! The callers in the README of `rhai_ops`.
 ghost use Rattle.std.specs.Prelude.{◌≡◌, None, IfNone, IfOk, IfSome};
 ghost use Rattle.rhai_ops.specs.AssignTable.{assign_row};
 ghost use Rattle.rhai_ops.specs.Outcome.{answers};
@@ -12,7 +12,7 @@ use rhai_text::{EvalAltResult, Limits, Token};
 use rhai_value::{Dynamic, Store};
 use std::alloc::Global;
 
-/// What an operator answers on two values, or `None` where it isn't built in. Both stay.
+/// Returns an operator's result for two values, or `None` if it isn't built in. Both are unchanged.
 pub(crate) fn operate(
     op: Token,
     alloc: Global,
@@ -33,7 +33,7 @@ pub(crate) fn operate(
     Ok(Some(row.call(alloc, store, limits, left, right)?))
 }
 
-/// An assignment to a value, and whether it is built in.
+/// Assigns to a value, and returns whether the assignment is built in.
 pub(crate) fn assign(
     op: Token,
     alloc: Global,

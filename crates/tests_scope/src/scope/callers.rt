@@ -1,4 +1,4 @@
-//! The callers that the README shows.
+//! The callers in the README.
 use super::readme::{aliases_of, declare, declare_all, own_value, set, write_int};
 use super::{is_int, prints};
 use rhai_scope::Scope;
@@ -7,7 +7,7 @@ use rhai_value::{Dynamic, Store};
 use std::alloc::{AllocError, Global};
 use std::test::Fail;
 
-/// Whether a variable is declared, written and set, and nothing is set where a constant is.
+/// Whether a variable is declared, written and set, and a constant isn't set.
 fn is_declared(scope: &mut Scope, store: &Store) -> bool {
     declare(scope, "x").is_ok()
         && is_int(scope, store, "x", 0)
@@ -22,7 +22,7 @@ fn is_declared(scope: &mut Scope, store: &Store) -> bool {
         && scope.len() == 3
 }
 
-/// Whether a name is told its aliases, a line each.
+/// Whether the aliases of a name are listed, one a line.
 fn is_told(alloc: Global, scope: &mut Scope) -> bool {
     if scope.set_alias("x", "b").is_err() || scope.set_alias("x", "a").is_err() {
         return false;
@@ -42,7 +42,7 @@ fn variables_are_declared(rt: HostRuntime) {
     assert!(rt; is_told(alloc, &mut scope));
 }
 
-/// Whether a value is looked into as the one type of a text that it is kept as.
+/// Whether a value can only be borrowed as the one text type in which it is stored.
 fn is_looked_into(scope: &Scope) -> bool {
     own_value::<String>(scope, "t").is_none()
         && own_value::<ImmutableString>(scope, "t").is_some()
@@ -67,7 +67,7 @@ fn values(alloc: Global) -> Result<Vec<Dynamic>, AllocError> {
     Ok(vec![in alloc; Dynamic::ONE, Dynamic::TWO]?)
 }
 
-/// Whether names and values come back where there are fewer values.
+/// Whether names and values are returned if there are fewer values.
 fn come_back(scope: &mut Scope, names: Vec<ImmutableString>, values: Vec<Dynamic>) -> bool {
     match declare_all(scope, names, values) {
         Ok(()) => false,

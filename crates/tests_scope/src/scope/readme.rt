@@ -1,4 +1,4 @@
-//! The callers that the README of `rhai_scope` shows.
+//! The callers in the README of `rhai_scope`.
 ghost use Rattle.std.specs.Prelude.{◌≡◌, false, None, option_map, IfSome, IfOk, IfErr, OnOk, pos};
 ghost use Rattle.std.specs.List.{zip};
 ghost use Rattle.std.specs.Str.{chars};
@@ -22,7 +22,8 @@ pub fn declare(scope: &mut Scope, name: &str) -> Result<(), AllocError>
     scope.push_dynamic(name, Dynamic::from_int(0))
 }
 
-/// Declares variables, if there is a value for each name. Names and values come back where there isn't, and where memory is refused.
+/// Declares variables, if there is a value for each name. Returns names and values if there isn't,
+/// or if an allocation fails.
 pub fn declare_all(
     scope: &mut Scope,
     names: Vec<ImmutableString>,
@@ -37,7 +38,7 @@ pub fn declare_all(
     scope.extend_moved(names, values)
 }
 
-/// The aliases of a name, a line each, if there is an entry of the name.
+/// Returns the aliases of a name, one a line, if there is an entry with the name.
 pub fn aliases_of(alloc: Global, scope: &Scope, name: &str) -> Result<Option<Shown>, AllocError>
     ensures { IfOk result (λ told. told ≡ option_map aliases_text (aliases_named (chars name.now) scope.now)) }
 {
@@ -47,7 +48,7 @@ pub fn aliases_of(alloc: Global, scope: &Scope, name: &str) -> Result<Option<Sho
     }
 }
 
-/// What the own value of a name has of a type, if that value isn't shared.
+/// Borrows the own value of a name as a type, if that value isn't shared.
 pub fn own_value<'s, T: Variant>(scope: &'s Scope, name: &str) -> Option<&'s T> {
     match scope.get(name) {
         Some(value) if !value.is_shared() => scope.get_value_ref(name),
@@ -56,7 +57,7 @@ pub fn own_value<'s, T: Variant>(scope: &'s Scope, name: &str) -> Option<&'s T> 
     }
 }
 
-/// Writes an int where the own value of a name is one, and answers whether it did.
+/// Writes an int if the own value of a name is one, and returns whether it did.
 pub fn write_int(scope: &mut Scope, name: &str, value: i64) -> bool {
     if is_shared(scope, name) {
         return false;

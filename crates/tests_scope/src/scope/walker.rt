@@ -1,4 +1,5 @@
-//! A walker, which seeks a name once, and then reads, writes and names its entry by the position.
+//! A walker, which looks up a name once, and then reads, writes and names its entry by the
+//! position.
 ghost use Rattle.std.specs.Prelude.{◌≡◌, ◌<◌, ◌++◌, ◌∷◌, [], length, option_map, slice_get, Some, IfSome, MatchOption};
 ghost use Rattle.std.specs.Str.{chars};
 ghost use Rattle.rhai_scope.specs.Entry.{with_value};
@@ -10,7 +11,7 @@ use rhai_text::ImmutableString;
 use rhai_value::Dynamic;
 use std::mem;
 
-/// Where a variable stands, if there is one of the name.
+/// Returns the position of a variable, if there is one with the name.
 pub fn resolve(scope: &Scope, name: &str) -> Option<usize>
     ensures position { result ≡ last_position (chars name.now) scope.now }
     ensures within { IfSome result (λ i. i < length scope.now) }
@@ -18,7 +19,7 @@ pub fn resolve(scope: &Scope, name: &str) -> Option<usize>
     scope.search(name)
 }
 
-/// Gives a variable another value, and answers the one that it had.
+/// Replaces the value of a variable, and returns the previous one.
 pub fn exchange(scope: &mut Scope, variable: usize, value: Dynamic) -> Dynamic
     requires { variable < length scope.old }
     ensures had { option_map (λ e. e.value) (slice_get scope.old variable) ≡ Some result }
@@ -27,7 +28,7 @@ pub fn exchange(scope: &mut Scope, variable: usize, value: Dynamic) -> Dynamic
     mem::replace(scope.at_mut(variable), value)
 }
 
-/// What a variable is called.
+/// Returns the name of a variable.
 pub fn name_of(scope: &Scope, variable: usize) -> &str
     requires { variable < length scope.now }
     ensures { option_map (λ e. e.name) (slice_get scope.now variable) ≡ Some (chars result.now) }

@@ -1,4 +1,4 @@
-//! What callers prove from contracts and laws alone.
+//! Properties that callers prove from contracts and laws alone.
 ghost use Rattle.std.specs.Prelude.{◌≡◌, true, is_some, OnErr, OnOk};
 ghost use Rattle.rhai_value.specs.End.{store_with_first};
 ghost use Rattle.rhai_value.specs.Tree.{cell_of};
@@ -7,7 +7,7 @@ use super::readme::write_flag;
 use super::*;
 use rhai_value::laws::{mark_is_cleared, marks_stay, sites_are_read};
 
-/// Writes over what a holder's cell has: marked, written, released.
+/// Overwrites the content of a holder's cell: marked, written, released.
 fn assign(holder: &Dynamic, store: &mut Store, new: Dynamic) -> Result<(), EvalAltResult>
     requires { is_some (cell_of holder.now) ≡ true }
     ensures ok { OnOk result (store.new ≡ store_with_first new store.old holder.now) }
@@ -52,7 +52,7 @@ fn is_made_meanwhile(holder: &Dynamic, store: &mut Store) -> bool {
     }
 }
 
-/// Whether a holder's cell is written over, and opens again.
+/// Whether the content of a holder's cell is overwritten, and the cell is unmarked again.
 fn is_assigned(holder: &Dynamic, store: &mut Store) -> bool {
     holder.is_shared()
         && assign(holder, store, Dynamic::TRUE).is_ok()
@@ -68,7 +68,7 @@ fn a_cell_is_written_through_its_mark(rt: HostRuntime) {
     assert!(rt; is_assigned(&holder, &mut store));
 }
 
-/// Whether a flag is written where an int is held, and nowhere else.
+/// Whether a flag is written if an int is held, and nowhere else.
 fn is_flag(flags: &mut Dynamic, unit: &mut Dynamic, store: &mut Store) -> bool {
     matches!(write_flag(flags, store, &Dynamic::TRUE, 1), Ok(true))
         && flags.as_int(store) == Ok(6)

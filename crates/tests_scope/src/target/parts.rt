@@ -7,7 +7,7 @@ ghost use Rattle.rhai_target.specs.Target.{HasPart, IsMarkedIn};
 
 use super::*;
 
-/// Writes the working value back, spends the target, and answers how it went.
+/// Writes the working value back, spends the target, and returns how it went.
 pub(crate) fn propagated<'a>(
     target: Target<'a>,
     alloc: Global,
@@ -22,7 +22,7 @@ pub(crate) fn propagated<'a>(
     done
 }
 
-/// Whether a blob is held that reaches so far.
+/// Whether a blob with this index is held.
 pub(crate) fn has_byte(value: &Dynamic, store: &Store, index: usize) -> bool
     ensures { OnTrue result (MatchOption (held_part blob_of (end store.now [] value.now)) ⊥ (λ bytes. index < length bytes)) }
 {
@@ -169,7 +169,7 @@ fn characters_are_written_back(rt: HostRuntime) {
     assert!(rt; is_text(&text, "ha42o"));
 }
 
-/// Whether the call does nothing to a target that is no part.
+/// Whether the call does nothing to a target that isn't a part.
 fn is_left(alloc: Global, store: &mut Store, value: &mut Dynamic) -> bool {
     propagated(Target::RefMut(value), alloc, store).is_ok()
 }

@@ -1,4 +1,4 @@
-//! The caller that the README of `rhai_target` shows.
+//! The caller in the README of `rhai_target`.
 ghost use Rattle.std.specs.Prelude.{◌≡◌, ◌<◌, [], IfOk, OnErr};
 ghost use Rattle.std.specs.Bool.{OnFalse, OnTrue};
 ghost use Rattle.rhai_value.specs.End.{end};
@@ -8,7 +8,7 @@ use rhai_target::write_bit;
 use rhai_text::{EvalAltResult, Position};
 use rhai_value::{Dynamic, Store};
 
-/// Writes a flag among those that a variable holds as bits, and answers whether it holds any.
+/// Writes a flag among those that a variable holds as bits, and returns whether it holds any.
 pub(crate) fn write_flag(
     flags: &mut Dynamic,
     store: &mut Store,

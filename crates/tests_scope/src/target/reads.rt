@@ -1,4 +1,4 @@
-//! Parts that are read, found by a whole number, and written back by value.
+//! Parts that are read, found by an int, and written back by value.
 ghost use Rattle.std.specs.Prelude.{◌≡◌, [], true, is_some, IfOk, OnErr};
 ghost use Rattle.std.specs.Bool.{OnFalse};
 ghost use Rattle.rhai_value.specs.End.{end, held_part};
@@ -11,7 +11,7 @@ use rhai_target::{
 };
 use rhai_value::INT;
 
-/// Turns one bit of a variable over, and answers whether there is such a bit.
+/// Inverts one bit of a variable, and returns whether there is such a bit.
 fn turn_bit(
     flags: &mut Dynamic,
     alloc: Global,
@@ -47,7 +47,7 @@ fn a_bit_is_turned_over(rt: HostRuntime) {
     assert!(rt; flags.as_int(&store) == Ok(6));
 }
 
-/// Whether the part is there and its working value prints as this.
+/// Whether the part exists and its working value prints like this.
 fn prints(alloc: Global, part: Result<ReadPart, NoPart>, store: &Store, wanted: &str) -> bool {
     match part {
         Ok(part) => match rhai_show::display_text(alloc, &part.value, store) {
@@ -58,7 +58,7 @@ fn prints(alloc: Global, part: Result<ReadPart, NoPart>, store: &Store, wanted: 
     }
 }
 
-/// Whether no part stands there.
+/// Whether there is no such part.
 fn is_out(part: Result<ReadPart, NoPart>) -> bool {
     matches!(part, Err(NoPart::OutOfRange))
 }
@@ -106,7 +106,7 @@ const MIDDLE: Slice = Slice {
     exclusive: true,
 };
 
-/// Writes a value over that slice of a text, and answers what it read there before.
+/// Writes a value over that slice of a text, and returns the previous slice.
 fn replace_middle(
     alloc: Global,
     text: &mut Dynamic,
@@ -142,7 +142,7 @@ fn is_middle_replaced(alloc: Global, text: &mut Dynamic, store: &mut Store) -> b
     }
 }
 
-/// Whether a value that is no text is refused.
+/// Whether a value that isn't a text is refused.
 fn is_refused_of(alloc: Global, store: &mut Store, mut value: Dynamic) -> bool {
     match replace_middle(alloc, &mut value, store, Dynamic::ONE) {
         Ok(_) => false,
@@ -160,7 +160,7 @@ fn a_slice_is_read_and_replaced(rt: HostRuntime) {
     assert!(rt; is_refused_of(alloc, &mut store, Dynamic::ONE));
 }
 
-/// Whether that slice of a text reads so.
+/// Whether that slice of a text is this one.
 fn reads(alloc: Global, text: &Dynamic, store: &Store, slice: Slice, wanted: &str) -> bool
     requires { is_some (held_part text_of (end store.now [] text.now)) ≡ true }
 {
@@ -204,7 +204,7 @@ fn bits_are_read_also_at_the_top(rt: HostRuntime) {
     assert!(rt; is_out(ReadPart::field_at(&Dynamic::from_int(95), &store, 240, 64)));
 }
 
-/// Whether the target of a part has the part's working value, and leaves the source.
+/// Whether the target of a part has the part's working value, and leaves the source unchanged.
 fn is_target(source: &mut Dynamic, store: &mut Store) -> bool {
     let Ok(part) = ReadPart::char_at(source, store, 0) else {
         return false;

@@ -1,4 +1,5 @@
-//! Every way out of a target: what it refers to, and the store, are afterwards as they were before.
+//! Every way to consume a target: the value that it refers to, and the store, are unchanged
+//! afterwards.
 ghost use Rattle.std.specs.Prelude.{◌≡◌, None};
 ghost use Rattle.rhai_target.specs.Target.{IsMarkedIn, mark_in};
 
@@ -15,7 +16,7 @@ fn is_cloned(alloc: Global, store: &mut Store, value: &mut Dynamic) -> bool {
     }
 }
 
-/// Whether the reference is handed back.
+/// Whether the reference is returned.
 fn is_handed_back(store: &mut Store, value: &mut Dynamic) -> bool {
     match Target::RefMut(value).take_ref(store) {
         Some(reference) => is_seven(reference),
@@ -23,7 +24,7 @@ fn is_handed_back(store: &mut Store, value: &mut Dynamic) -> bool {
     }
 }
 
-/// Whether a target of its own is made of a copy.
+/// Whether an owned target is made from a copy.
 fn is_owned(alloc: Global, store: &mut Store, value: &mut Dynamic) -> bool {
     match Target::RefMut(value).into_owned(alloc, store) {
         Ok(owned) => {
@@ -56,7 +57,7 @@ fn a_value_that_was_referred_to_stays(rt: HostRuntime) {
     assert!(rt; is_seven(&value) && is_five(&other, &store));
 }
 
-/// Whether a value of its own is taken as it is.
+/// Whether an owned value is taken unchanged.
 fn is_taken(alloc: Global, store: &mut Store, value: Dynamic) -> bool {
     match Target::from(value).take_or_clone(alloc, store) {
         Ok(value) => is_seven(&value),
@@ -87,7 +88,7 @@ fn gives_working_value(alloc: Global, store: &mut Store, part: Target<'_>) -> bo
     }
 }
 
-/// Whether a part has no reference to hand back.
+/// Whether a part has no reference to return.
 fn gives_no_reference(store: &mut Store, part: Target<'_>) -> bool
     requires { IsMarkedIn store.old part }
 {
@@ -113,7 +114,7 @@ fn stays_part(alloc: Global, store: &mut Store, part: Target<'_>) -> bool
     }
 }
 
-/// A bit whose working value is true.
+/// Makes a bit whose working value is true.
 fn bit<'a>(source: &'a mut Dynamic) -> Target<'a>
     ensures { mark_in result ≡ None }
 {
@@ -124,7 +125,7 @@ fn bit<'a>(source: &'a mut Dynamic) -> Target<'a>
     }
 }
 
-/// Whether each way out of it is as it should be.
+/// Whether each way to consume it is right.
 fn leaves_bit(alloc: Global, store: &mut Store, source: &mut Dynamic) -> bool {
     let is_taken = gives_working_value(alloc, store, bit(source));
     let is_none = gives_no_reference(store, bit(source));
@@ -133,7 +134,7 @@ fn leaves_bit(alloc: Global, store: &mut Store, source: &mut Dynamic) -> bool {
     is_taken && is_none && is_part
 }
 
-/// Some bits whose working value is true.
+/// Makes some bits whose working value is true.
 fn field<'a>(source: &'a mut Dynamic) -> Target<'a>
     ensures { mark_in result ≡ None }
 {
@@ -145,7 +146,7 @@ fn field<'a>(source: &'a mut Dynamic) -> Target<'a>
     }
 }
 
-/// Whether each way out of it is as it should be.
+/// Whether each way to consume it is right.
 fn leaves_field(alloc: Global, store: &mut Store, source: &mut Dynamic) -> bool {
     let is_taken = gives_working_value(alloc, store, field(source));
     let is_none = gives_no_reference(store, field(source));
@@ -154,7 +155,7 @@ fn leaves_field(alloc: Global, store: &mut Store, source: &mut Dynamic) -> bool 
     is_taken && is_none && is_part
 }
 
-/// A byte whose working value is true.
+/// Makes a byte whose working value is true.
 fn byte<'a>(source: &'a mut Dynamic) -> Target<'a>
     ensures { mark_in result ≡ None }
 {
@@ -165,7 +166,7 @@ fn byte<'a>(source: &'a mut Dynamic) -> Target<'a>
     }
 }
 
-/// Whether each way out of it is as it should be.
+/// Whether each way to consume it is right.
 fn leaves_byte(alloc: Global, store: &mut Store, source: &mut Dynamic) -> bool {
     let is_taken = gives_working_value(alloc, store, byte(source));
     let is_none = gives_no_reference(store, byte(source));
@@ -174,7 +175,7 @@ fn leaves_byte(alloc: Global, store: &mut Store, source: &mut Dynamic) -> bool {
     is_taken && is_none && is_part
 }
 
-/// A character whose working value is true.
+/// Makes a character whose working value is true.
 fn character<'a>(source: &'a mut Dynamic) -> Target<'a>
     ensures { mark_in result ≡ None }
 {
@@ -185,7 +186,7 @@ fn character<'a>(source: &'a mut Dynamic) -> Target<'a>
     }
 }
 
-/// Whether each way out of it is as it should be.
+/// Whether each way to consume it is right.
 fn leaves_character(alloc: Global, store: &mut Store, source: &mut Dynamic) -> bool {
     let is_taken = gives_working_value(alloc, store, character(source));
     let is_none = gives_no_reference(store, character(source));
@@ -194,7 +195,7 @@ fn leaves_character(alloc: Global, store: &mut Store, source: &mut Dynamic) -> b
     is_taken && is_none && is_part
 }
 
-/// A slice whose working value is true.
+/// Makes a slice whose working value is true.
 fn slice<'a>(source: &'a mut Dynamic) -> Target<'a>
     ensures { mark_in result ≡ None }
 {
@@ -207,7 +208,7 @@ fn slice<'a>(source: &'a mut Dynamic) -> Target<'a>
     }
 }
 
-/// Whether each way out of it is as it should be.
+/// Whether each way to consume it is right.
 fn leaves_slice(alloc: Global, store: &mut Store, source: &mut Dynamic) -> bool {
     let is_taken = gives_working_value(alloc, store, slice(source));
     let is_none = gives_no_reference(store, slice(source));

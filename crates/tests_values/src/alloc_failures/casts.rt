@@ -1,4 +1,4 @@
-//! What comes back of casts and makers.
+//! What casts and constructors return.
 use super::{is_text, tell};
 use rhai_cast::DynamicCast;
 use rhai_value::{Dynamic, Store};
@@ -7,7 +7,8 @@ use std::alloc::{AllocError, Global};
 use std::io::Eprint;
 use std::test::Fail;
 
-/// Whether a value is made of a `String`; where memory is refused it comes back, and a value is made of it then.
+/// Whether a value is made from a `String`; if an allocation fails, the string is returned, and a
+/// value is made from it then.
 fn makes(rt: &impl Eprint, alloc: Global) -> Result<bool, AllocError> {
     let store = Store::new(alloc);
     let back = match Dynamic::of(alloc, String::from_str(alloc, "hé")?) {
@@ -24,7 +25,7 @@ fn makes(rt: &impl Eprint, alloc: Global) -> Result<bool, AllocError> {
     }
 }
 
-/// As [`makes`], by the type's own call.
+/// As [`makes`], through the type's own call.
 fn becomes(rt: &impl Eprint, alloc: Global) -> Result<bool, AllocError> {
     let store = Store::new(alloc);
     let back = match String::from_str(alloc, "hé")?.into_dynamic(alloc) {
@@ -38,7 +39,8 @@ fn becomes(rt: &impl Eprint, alloc: Global) -> Result<bool, AllocError> {
     }
 }
 
-/// Whether a value is read as a `String`; where memory is refused it comes back, and is read then.
+/// Whether a value is read as a `String`; if an allocation fails, the value is returned, and is
+/// read then.
 fn is_read(rt: &impl Eprint, alloc: Global) -> Result<bool, AllocError> {
     let store = Store::new(alloc);
     let back = match String::from_dynamic(alloc, Dynamic::from_text(alloc, "hé")?) {
@@ -56,7 +58,8 @@ fn is_read(rt: &impl Eprint, alloc: Global) -> Result<bool, AllocError> {
     }
 }
 
-/// Whether a holder is cast to a `String`; where memory is refused the holder comes back, and is cast then.
+/// Whether a holder is cast to a `String`; if an allocation fails, the holder is returned, and is
+/// cast then.
 fn is_cast(rt: &impl Eprint, alloc: Global) -> Result<bool, AllocError> {
     let mut store = Store::new(alloc);
     let Ok(holder) = Dynamic::from_text(alloc, "hé")?.into_shared(&mut store) else {

@@ -1,4 +1,4 @@
-//! What is done with values of more than 64 levels, whose walks ask for memory.
+//! Operations on values of more than 64 levels, whose walks allocate.
 ghost use Rattle.std.specs.Prelude.{pos};
 ghost use Rattle.rhai_value.specs.Parts.{with_int};
 ghost use Rattle.rhai_value.specs.Scan.{nodes_kept};
@@ -11,10 +11,10 @@ use rhai_value::{AccessMode, Dynamic, FnPtr, INT, Map, Part, Store, Union, Visit
 use std::alloc::{AllocError, Global};
 use std::test::Fail;
 
-/// How many arrays, and how many maps and functions with one.
+/// How many arrays, each with a map and a function.
 const LEVELS: usize = 50;
 
-/// Makes each int 9.
+/// Sets each int to 9.
 #[derive(Drop)]
 struct Nines;
 
@@ -30,7 +30,7 @@ impl Visitor for Nines {
     }
 }
 
-/// An array of a map of a function with this value.
+/// Makes an array of a map of a function with this value.
 fn around(alloc: Global, inner: Dynamic) -> Result<Dynamic, AllocError> {
     let name = ImmutableString::from_str(alloc, "f")?;
     let function = Dynamic::from(FnPtr::new(name, vec![in alloc; inner]?));
@@ -41,7 +41,7 @@ fn around(alloc: Global, inner: Dynamic) -> Result<Dynamic, AllocError> {
     Ok(Dynamic::from_array(vec![in alloc; Dynamic::from_map(map)]?))
 }
 
-/// An int in fifty such arrays.
+/// Makes an int in fifty such arrays.
 fn deep(alloc: Global) -> Result<Dynamic, AllocError> {
     let mut value = Dynamic::from_int(7);
     for _ in 0..LEVELS {
@@ -50,7 +50,7 @@ fn deep(alloc: Global) -> Result<Dynamic, AllocError> {
     Ok(value)
 }
 
-/// The value that stands in another.
+/// Returns the value inside another.
 fn inside(value: &Dynamic) -> Option<&Dynamic> {
     match value.parts() {
         Union::Array(_, _, items) => items.first(),
@@ -60,7 +60,7 @@ fn inside(value: &Dynamic) -> Option<&Dynamic> {
     }
 }
 
-/// The value at the bottom.
+/// Returns the value at the bottom.
 fn bottom(value: &Dynamic) -> Option<&Dynamic> {
     let mut found = value;
     for _ in 0..3 * LEVELS {
@@ -69,7 +69,7 @@ fn bottom(value: &Dynamic) -> Option<&Dynamic> {
     Some(found)
 }
 
-/// Whether this int stands at the bottom.
+/// Whether this int is at the bottom.
 fn has(value: &Dynamic, store: &Store, wanted: i64) -> bool {
     match bottom(value) {
         Some(found) => holds(found, store, wanted),
@@ -77,7 +77,7 @@ fn has(value: &Dynamic, store: &Store, wanted: i64) -> bool {
     }
 }
 
-/// Walks that answer whatever memory does.
+/// Walks that succeed even if allocations fail.
 fn always(alloc: Global, store: &Store) -> Result<bool, AllocError> {
     let mut value = deep(alloc)?;
     value.deep_scan(&mut Nines);
@@ -88,7 +88,7 @@ fn always(alloc: Global, store: &Store) -> Result<bool, AllocError> {
     Ok(is_scanned && is_free && is_hashable && value.is_read_only(store) && has(&value, store, 9))
 }
 
-/// Whether a holder at the bottom that leads nowhere is found.
+/// Whether a dangling holder at the bottom is found.
 fn finds(alloc: Global, store: &Store) -> Result<bool, AllocError> {
     let mut other = Store::new(alloc);
     let Ok(mut value) = Dynamic::from_int(7).into_shared(&mut other) else {
@@ -100,7 +100,7 @@ fn finds(alloc: Global, store: &Store) -> Result<bool, AllocError> {
     Ok(value.is_locked(store) && !value.is_locked(&other))
 }
 
-/// Walks that may want memory, and leave the value as it was.
+/// Walks that may fail to allocate, and leave the value unchanged.
 fn copies(alloc: Global, store: &Store) -> Result<bool, AllocError> {
     let value = deep(alloc)?;
     let copy = value.copy(alloc);
@@ -108,7 +108,8 @@ fn copies(alloc: Global, store: &Store) -> Result<bool, AllocError> {
     Ok(has(&copy?, store, 7) && is_kept)
 }
 
-/// Its text is `[#{"k": Fn("f", ..)}]` fifty times about the int, its hash bytes are 45 a time.
+/// Its text is `[#{"k": Fn("f", ..)}]` fifty times around the int, and its hash bytes are 45 each
+/// time.
 fn tells(alloc: Global, store: &Store) -> Result<bool, AllocError> {
     let value = deep(alloc)?;
     let text = debug_text(alloc, &value, store)?;

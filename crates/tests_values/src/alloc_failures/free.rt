@@ -1,4 +1,4 @@
-//! Calls that take no memory: they answer also where all of it is refused.
+//! Calls that don't allocate: they succeed even if all allocations fail.
 use crate::values::holds;
 use rhai_cast::DynamicCast;
 use rhai_text::ImmutableString;
@@ -6,7 +6,7 @@ use rhai_value::{AccessMode, Blob, Dynamic, ExclusiveRange, Map, Path, Store, la
 use std::alloc::{AllocError, Global};
 use std::test::Fail;
 
-/// Whether the type that is held is told by each call alike.
+/// Whether each call returns the held type.
 fn is_told(value: &Dynamic, store: &Store, name: &str) -> bool {
     let is_known = match name {
         "bool" => value.is_bool(store) && value.as_bool(store) == Ok(true),
@@ -23,12 +23,12 @@ fn is_told(value: &Dynamic, store: &Store, name: &str) -> bool {
         && value.read_whole(store).is_some()
 }
 
-/// The same of a value that goes then.
+/// As `is_told`, for a value that is dropped.
 fn is_told_of(value: Dynamic, store: &Store, name: &str) -> bool {
     is_told(&value, store, name)
 }
 
-/// Whether a value has its tag and mode set, and is taken out of its place.
+/// Whether a value's tag and mode can be set, and the value taken out of its place.
 fn is_marked_and_taken(value: &mut Dynamic, store: &Store) -> bool {
     value.set_tag(5);
     value.set_access_mode(AccessMode::ReadOnly);
@@ -36,7 +36,7 @@ fn is_marked_and_taken(value: &mut Dynamic, store: &Store) -> bool {
     taken.tag() == 5 && value.is_unit(store) && value.tag() == 0
 }
 
-/// Whether an int is written in each way, and copied.
+/// Whether an int can be written in each way, and copied.
 fn is_written(alloc: Global, value: &mut Dynamic, store: &mut Store) -> bool {
     let is_set = value.set_int(store, 8) && holds(value, store, 8);
     let is_held = match value.held_mut(store) {
@@ -60,7 +60,7 @@ fn is_written(alloc: Global, value: &mut Dynamic, store: &mut Store) -> bool {
     is_set && is_held && is_whole && is_copied
 }
 
-/// Whether a value is locked by its type for reading and writing.
+/// Whether a value can be locked by its type for reading and writing.
 fn is_locked_by_type(value: &mut Dynamic, store: &mut Store) -> bool {
     let is_read = value.read_lock::<i64>(store).is_some()
         && value.read_lock::<bool>(store).is_none();
@@ -69,7 +69,7 @@ fn is_locked_by_type(value: &mut Dynamic, store: &mut Store) -> bool {
         && value.write_lock::<ImmutableString>(store).is_none()
 }
 
-/// Whether a cell is marked, seen, written and released.
+/// Whether a cell can be marked, read, written and released.
 fn is_passed_through(holder: &Dynamic, store: &mut Store) -> bool {
     laws::marks_stay();
     let Some(token) = store.mark(holder) else {
@@ -85,7 +85,7 @@ fn is_passed_through(holder: &Dynamic, store: &mut Store) -> bool {
     is_seen && !holder.is_locked(store)
 }
 
-/// Whether what isn't held is neither told nor lent.
+/// Whether calls for another type return nothing.
 fn is_no_other(value: &mut Dynamic, store: &mut Store) -> bool {
     let is_asked = !value.is_array(store)
         && !value.is_blob(store)
@@ -101,7 +101,7 @@ fn is_no_other(value: &mut Dynamic, store: &mut Store) -> bool {
         && value.as_immutable_string_mut(store).is_err()
 }
 
-/// Whether an array, a blob or a map is told, read and lent.
+/// Whether an array, a blob or a map can be read and borrowed.
 fn is_lent(value: &mut Dynamic, store: &mut Store) -> bool {
     let is_array = value.is_array(store)
         && value.as_array_ref(store).is_ok()
@@ -115,7 +115,7 @@ fn is_lent(value: &mut Dynamic, store: &mut Store) -> bool {
     is_array || is_blob || is_map
 }
 
-/// Whether a copy is of the same type.
+/// Whether a copy has the same type.
 fn is_copied(alloc: Global, value: &Dynamic, store: &Store) -> bool {
     match value.copy(alloc) {
         Ok(copy) => copy.type_id(store) == value.type_id(store) && copy.tag() == value.tag(),
@@ -123,17 +123,17 @@ fn is_copied(alloc: Global, value: &Dynamic, store: &Store) -> bool {
     }
 }
 
-/// The same of a value that goes then.
+/// As `is_copied`, for a value that is dropped.
 fn is_copied_of(alloc: Global, value: Dynamic, store: &Store) -> bool {
     is_copied(alloc, &value, store)
 }
 
-/// Whether a value's own constructor and mode are told.
+/// Whether the calls for a value's own variant and mode work.
 fn is_own(value: &Dynamic, store: &Store) -> bool {
     !value.is_shared() && !value.is_read_only(store) && value.access_mode() == AccessMode::ReadWrite
 }
 
-/// A path with the holder's cell open, which is left.
+/// A path that enters the holder's cell, and is dropped.
 fn is_left(path: &mut Path, holder: &Dynamic, store: &Store) -> Result<bool, AllocError> {
     if path.enter(store, holder)?.is_none() {
         return Ok(false);

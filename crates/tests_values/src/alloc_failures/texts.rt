@@ -1,4 +1,5 @@
-//! What stays where texts are refused memory: each is made or appended whole, or not at all.
+//! What is unchanged if the allocation of a text fails: each text is made or appended as a whole,
+//! or not at all.
 use super::tell;
 use rhai_show::debug_text;
 use rhai_text::{ImmutableString, quoted_char_into};
@@ -11,7 +12,7 @@ const LONG: &str = "0123456789\n0123456789\u{1}0123456789\"";
 
 const QUOTED: &str = r#"ab"0123456789\n0123456789\u{1}0123456789\"""#;
 
-/// Whether a text is appended in its quoted form, and where memory is refused nothing is.
+/// Whether a text is appended in its quoted form; if an allocation fails, nothing is.
 fn quotes(rt: &impl Eprint, alloc: Global) -> Result<bool, AllocError> {
     let text = ImmutableString::from_str(alloc, LONG)?;
     let mut out = String::from_str(alloc, "ab")?;
@@ -25,7 +26,7 @@ fn quotes(rt: &impl Eprint, alloc: Global) -> Result<bool, AllocError> {
     Ok(out.as_str() == QUOTED)
 }
 
-/// The same of a character.
+/// As `quotes`, for a character.
 fn quotes_char(rt: &impl Eprint, alloc: Global) -> Result<bool, AllocError> {
     let mut out = String::from_str(alloc, "ab")?;
     if quoted_char_into('\u{1f}', &mut out).is_err() {
@@ -38,7 +39,7 @@ fn quotes_char(rt: &impl Eprint, alloc: Global) -> Result<bool, AllocError> {
     Ok(out.as_str() == r"ab'\u{1f}'")
 }
 
-/// Whether a value is debugged, also once its text was refused memory.
+/// Whether a value is formatted for debugging, also after an allocation for its text failed.
 fn debugs(rt: &impl Eprint, alloc: Global) -> Result<bool, AllocError> {
     let store = Store::new(alloc);
     let value = Dynamic::from_text(alloc, "é\n")?;
@@ -52,7 +53,7 @@ fn debugs(rt: &impl Eprint, alloc: Global) -> Result<bool, AllocError> {
     Ok(text.as_str() == r#""é\n""#)
 }
 
-/// Whether a text grows, and where memory is refused is as it was.
+/// Whether a text grows; if an allocation fails, it is unchanged.
 fn grows(rt: &impl Eprint, alloc: Global, front: &str) -> Result<bool, AllocError> {
     let mut text = ImmutableString::from_str(alloc, front)?;
     if text.push_str(alloc, LONG).is_err() {

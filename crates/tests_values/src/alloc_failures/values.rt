@@ -1,4 +1,4 @@
-//! What comes back of values, maps and paths.
+//! What operations on values, maps and paths return.
 use super::{is_text, tell};
 use crate::values::holds;
 use rhai_value::{Dynamic, Map, Path, Store};
@@ -6,7 +6,7 @@ use std::alloc::{AllocError, Global};
 use std::io::Eprint;
 use std::test::Fail;
 
-/// Whether a text is shared; where memory is refused it comes back, and is shared then.
+/// Whether a text is shared; if an allocation fails, it is returned, and is shared then.
 fn shares(rt: &impl Eprint, alloc: Global) -> Result<bool, AllocError> {
     let mut store = Store::new(alloc);
     let text = Dynamic::from_text(alloc, "hé")?;
@@ -24,7 +24,7 @@ fn shares(rt: &impl Eprint, alloc: Global) -> Result<bool, AllocError> {
     }
 }
 
-/// A holder of a new cell with the value.
+/// Makes a holder of a new cell with the value.
 fn held(value: Dynamic, store: &mut Store) -> Result<Dynamic, AllocError> {
     match value.into_shared(store) {
         Ok(holder) => Ok(holder),
@@ -32,7 +32,7 @@ fn held(value: Dynamic, store: &mut Store) -> Result<Dynamic, AllocError> {
     }
 }
 
-/// A holder of an array of one text.
+/// Makes a holder of an array of one text.
 fn listed(alloc: Global, store: &mut Store) -> Result<Dynamic, AllocError> {
     let text = Dynamic::from_text(alloc, "hé")?;
     held(Dynamic::from_array(vec![in alloc; text]?), store)
@@ -45,7 +45,8 @@ fn is_list(value: &Dynamic, store: &Store) -> bool {
     }
 }
 
-/// Whether a holder is flattened; where memory is refused the holder comes back, and is flattened then.
+/// Whether a holder is flattened; if an allocation fails, the holder is returned, and is flattened
+/// then.
 fn flattens(rt: &impl Eprint, alloc: Global) -> Result<bool, AllocError> {
     let mut store = Store::new(alloc);
     let back = match listed(alloc, &mut store)?.flatten(alloc, &store) {
@@ -69,7 +70,8 @@ fn has(map: &Map, store: &Store, key: &str, wanted: i64) -> bool {
     }
 }
 
-/// Whether a key is inserted; where memory is refused key and value come back, the map has what it had, and it is inserted then.
+/// Whether a key is inserted; if an allocation fails, key and value are returned, the map is
+/// unchanged, and the key is inserted then.
 fn insert_at_last(
     rt: &impl Eprint,
     map: &mut Map,
@@ -94,7 +96,7 @@ fn insert_at_last(
     }
 }
 
-/// Whether five keys are inserted one by one, and the first stays.
+/// Whether five keys are inserted one by one, and the first one is kept.
 fn inserts(rt: &impl Eprint, alloc: Global) -> Result<bool, AllocError> {
     let store = Store::new(alloc);
     let mut map = Map::new(alloc);
@@ -110,7 +112,8 @@ fn inserts(rt: &impl Eprint, alloc: Global) -> Result<bool, AllocError> {
     Ok(true)
 }
 
-/// Whether nine cells open on a path, the first eight of them without memory; where it is refused a cell isn't open, and opens then.
+/// Whether a path enters nine cells, the first eight without allocation; if one fails, the cell
+/// isn't entered, and is entered then.
 fn enters(rt: &impl Eprint, alloc: Global) -> Result<bool, AllocError> {
     let mut store = Store::new(alloc);
     let mut path = Path::new(alloc);
@@ -130,7 +133,7 @@ fn enters(rt: &impl Eprint, alloc: Global) -> Result<bool, AllocError> {
     Ok(true)
 }
 
-/// Whether a value is as before where a copy of it, with its holders or without, is refused memory.
+/// Whether a value is unchanged if copying it, with its holders or without, fails to allocate.
 fn copies(rt: &impl Eprint, alloc: Global) -> Result<bool, AllocError> {
     let mut store = Store::new(alloc);
     let holder = listed(alloc, &mut store)?;

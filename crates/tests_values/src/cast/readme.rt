@@ -1,4 +1,4 @@
-//! The caller that the README shows.
+//! The caller in the README.
 ghost use Rattle.std.specs.Prelude.{◌≡◌, IfOk, unwrap_or};
 ghost use Rattle.rhai_value.specs.End.{flattened};
 ghost use Rattle.rhai_variant.specs.Reads.{read};
@@ -8,7 +8,7 @@ use rhai_value::{Dynamic, Store};
 use rhai_variant::Variant;
 use std::alloc::{AllocError, Global};
 
-/// What the value is as one of Rust's, or another in its place.
+/// Returns the value cast to a Rust type, or another value instead.
 pub fn cast_or<T: Variant>(
     alloc: Global,
     value: Dynamic,

@@ -1,4 +1,4 @@
-//! The proved caller of the README.
+//! The proved caller in the README.
 ghost use Rattle.std.specs.Prelude.{◌≡◌, ◌++◌, ◌∷◌, [], List, OnOk, Some};
 ghost use Rattle.rhai_value.specs.End.{end, held_part, value_after, store_after};
 ghost use Rattle.rhai_value.specs.Items.{with_items};
@@ -10,7 +10,7 @@ use rhai_packs::{arrays, mismatch};
 use rhai_text::{EvalAltResult, Limits};
 use rhai_value::{Array, Dynamic, InStore, Store};
 
-/// Puts an item behind those of the array that is held.
+/// Appends an item to the held array.
 pub(crate) fn push_held(
     array: &mut Dynamic,
     store: &mut Store,

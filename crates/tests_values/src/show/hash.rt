@@ -1,4 +1,4 @@
-//! Which values are hashable, where their cells are many, marked or foreign.
+//! Which values are hashable, if their cells are many, marked or foreign.
 
 ghost use Rattle.std.specs.Prelude.{◌≡◌, ◌↔◌, [], IfOk, IfSome, IsTrue};
 ghost use Rattle.rhai_show.specs.Plain.{plain};
@@ -17,7 +17,7 @@ fn hash_of(bytes: &Hashed) -> u64 {
     hasher.finish()
 }
 
-/// Whether two are equal and have one hash, and a third is another.
+/// Whether two are equal and have the same hash, and a third is different.
 fn are_told_apart(first: &Hashed, second: &Hashed, third: &Hashed) -> bool {
     first == second && hash_of(first) == hash_of(second) && first != third
 }
@@ -33,7 +33,8 @@ fn equal_bytes_have_equal_hashes(rt: HostRuntime) -> Result<(), Fail> {
     Ok(())
 }
 
-/// Whether two values are equal without tags, modes and holders, by their hash bytes; `None` where one has none.
+/// Whether two values are equal without tags, modes and holders, by their hash bytes; `None` if one
+/// has none.
 fn are_alike(
     alloc: Global,
     value: &Dynamic,
@@ -62,12 +63,12 @@ fn sharing_is_not_seen(rt: HostRuntime) -> Result<(), Fail> {
     Ok(())
 }
 
-/// An array of two copies of a value.
+/// Makes an array of two copies of a value.
 fn pair(alloc: Global, value: &Dynamic) -> Dynamic {
     pair_of(alloc, copied(alloc, value), copied(alloc, value))
 }
 
-/// A holder of a pair of holders of a pair, and so on, forty deep, around a holder.
+/// Makes a holder of a pair of holders of a pair, and so on, forty levels deep, around a value.
 fn layers(alloc: Global, inside: &Dynamic, store: &mut Store) -> Dynamic {
     let mut value = shared(pair(alloc, inside), store);
     for _ in 0..40 {
@@ -76,12 +77,12 @@ fn layers(alloc: Global, inside: &Dynamic, store: &mut Store) -> Dynamic {
     value
 }
 
-/// Whether a value is hashable; not where the search found no room.
+/// Whether a value is hashable; `false` also if the search failed to allocate.
 fn is_found_hashable(alloc: Global, value: &Dynamic, store: &Store) -> bool {
     matches!(is_hashable(alloc, value, store), Ok(true))
 }
 
-/// Whether a value is found to have no bytes, by both calls.
+/// Whether both calls find that a value has no bytes.
 fn has_no_bytes(alloc: Global, value: &Dynamic, store: &Store) -> bool {
     let is_none = match hashed(alloc, value, store) {
         Ok(found) => found.is_none(),
@@ -90,7 +91,7 @@ fn has_no_bytes(alloc: Global, value: &Dynamic, store: &Store) -> bool {
     is_none && matches!(is_hashable(alloc, value, store), Ok(false))
 }
 
-/// A cell that two ways lead to in each layer is looked through once; a loop is found below all layers.
+/// A cell that two paths reach in each layer is searched once; a loop is found below all layers.
 #[test]
 fn forty_layers_are_searched(rt: HostRuntime) {
     let alloc = rt.alloc();
@@ -103,7 +104,8 @@ fn forty_layers_are_searched(rt: HostRuntime) {
     assert!(rt; has_no_bytes(alloc, &inside, &store));
 }
 
-/// Whether a value has no bytes while the cell of a holder is marked, and has them again.
+/// Whether a value has no bytes while the cell of a holder is marked, and has them again
+/// afterwards.
 fn is_closed_by_a_mark(
     alloc: Global,
     store: &mut Store,

@@ -1,4 +1,4 @@
-//! The caller that the README shows.
+//! The caller in the README.
 ghost use Rattle.std.specs.Prelude.{◌≡◌, [], IfOk};
 ghost use Rattle.rhai_show.specs.declared.form.Form.TheVariants.{Debug};
 ghost use Rattle.rhai_show.specs.Text.{printed};
@@ -7,7 +7,7 @@ use rhai_show::Shown;
 use rhai_value::{Dynamic, Store};
 use std::alloc::{AllocError, Global};
 
-/// How a value is told of in a message.
+/// Formats a value for a message.
 fn quoted(alloc: Global, value: &Dynamic, store: &Store) -> Result<Shown, AllocError>
     ensures { IfOk result (λ shown. shown ≡ printed store.now [] value.now Debug) }
 {

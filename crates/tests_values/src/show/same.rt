@@ -9,7 +9,7 @@ use rhai_value::{Dynamic, Store};
 use std::alloc::{AllocError, Global};
 use std::test::Fail;
 
-/// Whether two values are the same, where both can be compared.
+/// Whether two values are the same, if both can be compared.
 fn are_same(
     alloc: Global,
     value: &Dynamic,

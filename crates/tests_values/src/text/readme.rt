@@ -1,4 +1,4 @@
-//! The callers that the README shows.
+//! The callers in the README.
 ghost use Rattle.std.specs.Prelude.{◌≡◌, ◌++◌, ◌↔◌, IfOk, OnOk, IsTrue, string_bytes};
 ghost use Rattle.std.specs.Str.{chars};
 ghost use Rattle.rhai_text.specs.Quote.{quoted_text};
@@ -8,7 +8,7 @@ use rhai_text::{EvalAltResult, ImmutableString};
 use std::alloc::Global;
 use std::test::Fail;
 
-/// Whether `name` stays as it is without `part`.
+/// Whether `name` doesn't contain `part`.
 pub fn lacks(
     alloc: Global,
     name: &ImmutableString,
@@ -33,7 +33,7 @@ pub fn append_both(
     Ok(())
 }
 
-/// Whether "ab" lacks a text that isn't in it, and both texts are quoted one after the other.
+/// Whether "ab" lacks a text that isn't in it, and both texts are appended in quotes.
 fn is_shown(alloc: Global, name: &ImmutableString, part: &ImmutableString) -> bool {
     let mut out = String::new(alloc);
     matches!(lacks(alloc, name, part), Ok(false))

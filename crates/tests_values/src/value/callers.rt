@@ -11,7 +11,7 @@ ghost use Rattle.rhai_value.specs.Writes.{first_written, written};
 use rhai_text::ImmutableString;
 use rhai_value::{Array, Blob, Dynamic, InStore, Map, Store, laws};
 
-/// Writes over a value that is no holder.
+/// Overwrites a value that is no holder.
 pub(super) fn overwrite(value: &mut Dynamic, store: &mut Store, other: Dynamic)
     requires { cell_of value.old ≡ None }
     ensures { value.new ≡ other }
@@ -22,7 +22,7 @@ pub(super) fn overwrite(value: &mut Dynamic, store: &mut Store, other: Dynamic)
     }
 }
 
-/// Writes over the first content, and says whether there is one.
+/// Overwrites the first content, and returns whether there is one.
 pub(super) fn write_first(place: &mut InStore<'_>, other: Dynamic) -> bool
     ensures found { result ≡ is_some (first place.old.store.now place.old.value.now) }
     ensures after { OnTrue result (place.new ≡ first_written place.old other) }
@@ -36,7 +36,7 @@ pub(super) fn write_first(place: &mut InStore<'_>, other: Dynamic) -> bool
     }
 }
 
-/// Writes over what is held, and says whether anything is.
+/// Overwrites the held value, and returns whether there is one.
 pub(super) fn write_held(place: &mut InStore<'_>, value: Dynamic) -> bool
     ensures found { result ≡ is_some (held_in (end place.old.store.now [] place.old.value.now)) }
     ensures after { OnTrue result (place.new ≡ written place.old (λ _. value)) }
@@ -133,7 +133,7 @@ fn share_while_marked(
     }
 }
 
-/// What is written through a token is in the cell when the mark is cleared.
+/// A value written through a token is in the cell after the mark is cleared.
 fn write_marked(store: &mut Store, holder: &Dynamic, value: Dynamic)
     ensures { IfSome (first_cell store.old holder.now) (λ c. store.new ≡ put store.old c value) }
 {
@@ -147,7 +147,7 @@ fn write_marked(store: &mut Store, holder: &Dynamic, value: Dynamic)
     store.release(token);
 }
 
-/// A holder of a new cell with the value; the value itself where there is no room.
+/// Makes a holder of a new cell with the value; the value itself if the allocation fails.
 fn shared(value: Dynamic, store: &mut Store) -> Dynamic {
     match value.into_shared(store) {
         Ok(holder) => holder,
@@ -155,7 +155,7 @@ fn shared(value: Dynamic, store: &mut Store) -> Dynamic {
     }
 }
 
-/// Whether a cell opens after another was made while it was marked.
+/// Whether a cell can be read after another was made while it was marked.
 fn is_unmarked_afterwards(store: &mut Store, holder: &Dynamic) -> bool {
     match share_while_marked(store, holder, Dynamic::ONE) {
         Ok(other) => other.is_int(store) && !holder.is_locked(store),
@@ -163,7 +163,7 @@ fn is_unmarked_afterwards(store: &mut Store, holder: &Dynamic) -> bool {
     }
 }
 
-/// Whether what was written to a holder, and through the mark of its cell, is held.
+/// Whether a value written to a holder, and through the mark of its cell, is held.
 fn is_written_through(store: &mut Store, holder: &mut Dynamic) -> bool {
     turn_on(holder, store);
     let is_on = holder.as_bool(store) == Ok(true);

@@ -1,4 +1,5 @@
-//! A call on arrays whose contract says which items the array has, and one that calls it twice, proved from that contract alone.
+//! A call on arrays whose contract gives the items of the array, and one that calls it twice,
+//! proved from that contract alone.
 ghost use Rattle.std.specs.Prelude.{◌≡◌, ◌++◌, ◌∷◌, [], true, List, Some, IfErr, OnOk};
 ghost use Rattle.rhai_value.specs.End.{end, held_part};
 ghost use Rattle.rhai_value.specs.Items.{items_of};
@@ -7,7 +8,8 @@ ghost use Rattle.rhai_value.specs.Tree.{Tree};
 use crate::values::shared;
 use rhai_value::{Array, Dynamic, InStore, Store, laws};
 
-/// Adds an item behind the others. It comes back where no array is held, and where memory is refused; nothing changed then.
+/// Appends an item. The item is returned if no array is held, or if an allocation fails; nothing
+/// has changed then.
 fn push_item(array: &mut Dynamic, store: &mut Store, item: Dynamic) -> Result<(), Dynamic>
     ensures items { OnOk result ((xs : List Tree) × (held_part items_of (end store.old [] array.old) ≡ Some xs)
         × (held_part items_of (end store.new [] array.new) ≡ Some (xs ++ item ∷ []))) }
@@ -28,7 +30,7 @@ fn push_item(array: &mut Dynamic, store: &mut Store, item: Dynamic) -> Result<()
     }
 }
 
-/// Adds two items.
+/// Appends two items.
 fn push_both(array: &mut Dynamic, store: &mut Store, one: Dynamic, other: Dynamic) -> bool
     ensures { result ≡ true → (xs : List Tree) × (held_part items_of (end store.old [] array.old) ≡ Some xs)
         × (held_part items_of (end store.new [] array.new) ≡ Some ((xs ++ one ∷ []) ++ other ∷ [])) }
@@ -39,7 +41,7 @@ fn push_both(array: &mut Dynamic, store: &mut Store, one: Dynamic, other: Dynami
     }
 }
 
-/// Whether an array of so many items is held.
+/// Whether an array of this many items is held.
 fn has_items(value: &Dynamic, store: &Store, count: usize) -> bool {
     match value.as_array_ref(store) {
         Ok(items) => items.len() == count,

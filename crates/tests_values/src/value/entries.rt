@@ -1,4 +1,4 @@
-//! Maps whose keys are set, and that are taken apart.
+//! Maps that are filled and taken apart.
 ghost use Rattle.std.specs.Prelude.{◌≡◌, ◌+◌, ◌-◌, ◌^◌, min, pos};
 ghost use Rattle.rhai_value.specs.Tree.{fresh, int};
 
@@ -27,7 +27,7 @@ fn count_all(map: &mut Map, store: &mut Store, words: &[&str]) -> bool {
     true
 }
 
-/// Makes each value the number of values that came before it.
+/// Sets each value to the number of values before it.
 #[derive(Drop)]
 struct Numbering {
     values: u32,
@@ -42,7 +42,7 @@ impl ValueWriter for Numbering {
     }
 }
 
-/// Sums the ints of a map that is taken apart, each times its place by rising keys, from 1.
+/// Sums the ints of a map that is taken apart, each times the position of its key in order, from 1.
 fn weighed(map: Map, store: &Store) -> INT {
     let mut sum: INT = 0;
     let mut place: INT = 0;
@@ -55,7 +55,7 @@ fn weighed(map: Map, store: &Store) -> INT {
     sum
 }
 
-/// Whether a key had 1, whose value is now another.
+/// Whether a key had 1, before its value is replaced.
 fn replaces(map: &mut Map, store: &Store, key: &str, value: Dynamic) -> bool {
     match map.set(key, value) {
         Ok(Some(old)) => holds(&old, store, 1),
@@ -63,7 +63,7 @@ fn replaces(map: &mut Map, store: &Store, key: &str, value: Dynamic) -> bool {
     }
 }
 
-/// Whether `b a b c b` counts 1, 3 and 1, and what was set comes back.
+/// Whether `b a b c b` counts 1, 3 and 1, and replaced values are returned.
 fn is_counted(store: &mut Store, alloc: Global) -> bool {
     let mut map = Map::new(alloc);
     let is_full = count_all(&mut map, store, &["b", "a", "b", "c", "b"]);
@@ -71,7 +71,7 @@ fn is_counted(store: &mut Store, alloc: Global) -> bool {
     is_full && was && map.len() == 3 && weighed(map, store) == 37
 }
 
-/// Whether the values of three keys are numbered by rising keys: 0, 1 and 2.
+/// Whether the values of three keys are numbered in key order: 0, 1 and 2.
 fn is_numbered(store: &mut Store, alloc: Global) -> bool {
     let mut map = Map::new(alloc);
     let is_full = count_all(&mut map, store, &["b", "c", "a"]);

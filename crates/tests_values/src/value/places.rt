@@ -1,4 +1,4 @@
-//! Work at held values, and at places inside them, with the store at hand.
+//! Work at held values, and at places inside them, with access to the store.
 ghost use Rattle.std.specs.Prelude.{◌≡◌, [], Ok, Err, IfOk, IfErr};
 ghost use Rattle.std.specs.Bool.{OnTrue};
 ghost use Rattle.rhai_value.specs.End.{end, value_after, store_after};
@@ -10,7 +10,7 @@ use rhai_value::{
 };
 use std::alloc::Global;
 
-/// Writes over what is held, and says whether anything is.
+/// Overwrites the held value, and returns whether there is one.
 fn overwrite(value: &mut Dynamic, store: &mut Store, other: Dynamic) -> bool
     ensures own { OnTrue result (value.new ≡ value_after (λ _. other) (end store.old [] value.old) value.old) }
     ensures store { OnTrue result (store.new ≡ store_after (λ _. other) (end store.old [] value.old) store.old) }
@@ -19,7 +19,7 @@ fn overwrite(value: &mut Dynamic, store: &mut Store, other: Dynamic) -> bool
     value.with_held(store, |held, _| *held = other).is_ok()
 }
 
-/// Writes over what is held at a place.
+/// Overwrites the value held at a place.
 fn put_at(
     value: &mut Dynamic,
     store: &mut Store,
@@ -32,7 +32,7 @@ fn put_at(
     value.with_place(store, steps, |place, _| *place = other)
 }
 
-/// Adds to the int at a place, as `a[i].f += y` does: `Ok(false)` where another type is held there.
+/// Adds to the int at a place, as `a[i].f += y` does: `Ok(false)` if another type is held there.
 fn add_at(
     value: &mut Dynamic,
     store: &mut Store,
@@ -45,7 +45,7 @@ fn add_at(
     })
 }
 
-/// Moves what stands at a place into a new cell, where there is room.
+/// Moves the value at a place into a new cell, unless the allocation fails.
 fn share_at(value: &mut Dynamic, store: &mut Store, steps: &[Step<'_>]) -> bool {
     let answer = value.with_place(
         store,
@@ -55,7 +55,7 @@ fn share_at(value: &mut Dynamic, store: &mut Store, steps: &[Step<'_>]) -> bool 
     matches!(answer, Ok(true))
 }
 
-/// A map of one key; unit where there is no room.
+/// Makes a map of one key; unit if the allocation fails.
 fn map_of(alloc: Global, key: &str, value: Dynamic) -> Dynamic {
     let mut map = Map::new(alloc);
     match map.set(key, value) {
@@ -64,7 +64,7 @@ fn map_of(alloc: Global, key: &str, value: Dynamic) -> Dynamic {
     }
 }
 
-/// A captured `[1, #{f: [2, 3]}]`, whose map is captured, too.
+/// Makes a captured `[1, #{f: [2, 3]}]`, whose map is captured, too.
 fn sample(alloc: Global, store: &mut Store) -> Dynamic {
     let inner = pair_of(alloc, Dynamic::TWO, Dynamic::THREE);
     let map = map_of(alloc, "f", inner);
@@ -98,7 +98,7 @@ fn an_int_deep_in_a_captured_array_is_added_to(rt: HostRuntime) {
     assert!(rt; is_added(&mut store, &mut a));
 }
 
-/// Whether the way is refused at this step, for this reason.
+/// Whether the path fails at this step, for this reason.
 fn is_refused(
     store: &mut Store,
     a: &mut Dynamic,
@@ -109,7 +109,7 @@ fn is_refused(
     add_at(a, store, steps, 1) == Err(PlaceError { step, kind })
 }
 
-/// Whether each step that can't be gone is told.
+/// Whether the error names each step that fails.
 fn is_told(store: &mut Store, a: &mut Dynamic) -> bool {
     let f = Step::Key("f");
     is_refused(store, a, &[Step::Index(2)], 0, PlaceErrorKind::NoItem(2))
@@ -148,13 +148,14 @@ fn a_step_that_cannot_be_gone_is_told(rt: HostRuntime) {
     assert!(rt; is_told(&mut store, &mut a));
 }
 
-/// Whether a look at the cell finds it marked meanwhile, also by another holder, and not afterwards.
+/// Whether reading the cell finds it marked meanwhile, also through another holder, and not
+/// afterwards.
 fn is_closed_meanwhile(store: &mut Store, a: &mut Dynamic, again: &Dynamic) -> bool {
     let answer = a.with_held(store, |_, m| is_locked(again, m) && again.held(m).is_none());
     answer == Ok(true) && !is_locked(again, store)
 }
 
-/// Whether a value that stands in itself can't be gone into twice.
+/// Whether a value that contains itself can't be entered twice.
 fn is_barred(store: &mut Store, a: &mut Dynamic) -> bool {
     is_refused(
         store,
@@ -184,7 +185,7 @@ fn a_cell_is_marked_while_work_is_done(rt: HostRuntime) {
     assert!(rt; !overwrite(&mut ring, &mut store, Dynamic::ONE));
 }
 
-/// Whether a cell is made at a place, and what it has is held there.
+/// Whether a cell is made at a place, and its content is held there.
 fn is_shared_at(store: &mut Store, a: &mut Dynamic) -> bool {
     share_at(a, store, &[Step::Index(1), Step::Key("f")])
         && add_at(
@@ -209,7 +210,7 @@ fn cells_are_made_while_work_is_done(rt: HostRuntime) {
     assert!(rt; is_shared_at(&mut store, &mut a));
 }
 
-/// Whether a store that is put in the place of the lent one is found to lack the mark.
+/// Whether replacing the borrowed store by another is detected by the missing mark.
 fn is_lost(store: &mut Store, a: &mut Dynamic, alloc: Global) -> bool {
     let held = a.with_held(store, |_, m| *m = Store::new(alloc));
     held == Err(HeldError::Lost)

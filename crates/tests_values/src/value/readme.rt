@@ -1,4 +1,4 @@
-//! The caller that the README shows.
+//! The caller in the README.
 ghost use Rattle.std.specs.Prelude.{◌≡◌, [], pos, is_some};
 ghost use Rattle.rhai_value.specs.End.{end, held_part, store_after};
 ghost use Rattle.rhai_value.specs.Parts.{int_of, with_int};

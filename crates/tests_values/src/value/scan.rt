@@ -1,4 +1,4 @@
-//! Visitors of a caller's own, and what a scan with them leaves.
+//! A caller's own visitors, and the results of scans with them.
 ghost use Rattle.std.specs.Prelude.{◌≡◌, ◌+◌, ◌-◌, ◌^◌, min, pos, is_some, if◌then◌else◌};
 ghost use Rattle.rhai_value.specs.Parts.{with_int};
 ghost use Rattle.rhai_value.specs.Scan.{scan, nodes_kept, nodes_unit};
@@ -10,7 +10,7 @@ use rhai_text::ImmutableString;
 use rhai_value::{Dynamic, FnPtr, INT, Map, Part, Store, Union, Visitor};
 use std::alloc::Global;
 
-/// Makes each int 0.
+/// Sets each int to 0.
 #[derive(Drop)]
 struct Zeros {
     visits: u64,
@@ -29,7 +29,7 @@ impl Visitor for Zeros {
     }
 }
 
-/// Makes each holder unit.
+/// Replaces each holder with unit.
 #[derive(Drop)]
 struct Unshared {
     visits: u64,
@@ -48,7 +48,7 @@ impl Visitor for Unshared {
     }
 }
 
-/// Makes each int the number of values that were visited before it.
+/// Sets each int to the number of values visited before it.
 #[derive(Drop)]
 struct Numbers {
     visits: u32,
@@ -68,7 +68,7 @@ impl Visitor for Numbers {
     }
 }
 
-/// How many values are visited when all holders are taken out.
+/// Returns how many values are visited when all holders are removed.
 fn unshare(value: &mut Dynamic) -> u64
     ensures { (record { visits = result }, value.new) ≡ scan ⟦<Unshared as Visitor>⟧.visited (record { visits = 0 }) value.old }
 {
@@ -77,7 +77,7 @@ fn unshare(value: &mut Dynamic) -> u64
     visitor.visits
 }
 
-/// How many values are visited when all ints are made 0.
+/// Returns how many values are visited when all ints are set to 0.
 fn zero(value: &mut Dynamic) -> u64 {
     let mut visitor = Zeros { visits: 0 };
     value.deep_scan(&mut visitor);
@@ -99,7 +99,7 @@ fn a_visitor_counts_what_it_comes_to(rt: HostRuntime) {
 /// How many levels the deep value has.
 const LEVELS: INT = 100;
 
-/// Three values as a list; fewer where there is no room.
+/// Three values as a list; fewer if an allocation fails.
 fn three(alloc: Global, first: Dynamic, second: Dynamic, third: Dynamic) -> Vec<Dynamic> {
     match vec![in alloc; first, second, third] {
         Ok(items) => items,
@@ -114,7 +114,7 @@ fn insert(alloc: Global, map: &mut Map, key: &str, value: Dynamic) -> bool {
     }
 }
 
-/// A map of "a" and "c" to ints and "b" to this value, which come in another order.
+/// Makes a map from "a" and "c" to ints and from "b" to this value, inserted in another order.
 fn map_of_three(alloc: Global, value: Dynamic) -> Dynamic {
     let mut map = Map::new(alloc);
     let _ = insert(alloc, &mut map, "c", Dynamic::ONE);
@@ -123,7 +123,7 @@ fn map_of_three(alloc: Global, value: Dynamic) -> Dynamic {
     Dynamic::from_map(map)
 }
 
-/// A function with these curried values; unit where there is no room.
+/// Makes a function with these curried values; unit if the allocation fails.
 fn function_of(alloc: Global, curry: Vec<Dynamic>) -> Dynamic {
     match ImmutableString::from_str(alloc, "f") {
         Ok(name) => Dynamic::from(FnPtr::new(name, curry)),
@@ -131,7 +131,7 @@ fn function_of(alloc: Global, curry: Vec<Dynamic>) -> Dynamic {
     }
 }
 
-/// An array, a map or a function that holds an int, this value, and an int.
+/// Makes an array, a map or a function that contains an int, this value, and an int.
 fn around(alloc: Global, level: INT, value: Dynamic) -> Dynamic {
     match level % 3 {
         0 => Dynamic::from_array(three(alloc, Dynamic::ONE, value, Dynamic::ONE)),
@@ -140,7 +140,7 @@ fn around(alloc: Global, level: INT, value: Dynamic) -> Dynamic {
     }
 }
 
-/// An int within arrays, maps and functions in turn.
+/// Makes an int within arrays, maps and functions in rotation.
 fn deep(alloc: Global) -> Dynamic {
     let mut value = Dynamic::ONE;
     for level in 0..LEVELS {
@@ -149,7 +149,7 @@ fn deep(alloc: Global) -> Dynamic {
     value
 }
 
-/// The first, the second or the third value inside another.
+/// Returns the first, the second or the third value inside another.
 fn child(value: &Dynamic, at: usize) -> Option<&Dynamic> {
     match value.parts() {
         Union::Array(_, _, items) => items.get(at),
@@ -170,8 +170,9 @@ fn is_int(value: Option<&Dynamic>, store: &Store, wanted: INT) -> bool {
     }
 }
 
-/// Whether each of 100 levels has its numbers: before its first int come two values for each level above, and what holds it; before
-/// the innermost int come 200; the last ints follow from the inside out, so that the outermost has 300.
+/// Whether each of 100 levels has its numbers: before its first int come two values for each level
+/// above, and its container; before the innermost int come 200; the last ints follow from the
+/// inside out, so that the outermost has 300.
 fn is_numbered(value: &Dynamic, store: &Store) -> bool {
     let mut here = value;
     let mut first: INT = 1;

@@ -1,4 +1,4 @@
-//! The caller that the README shows.
+//! The caller in the README.
 ghost use Rattle.std.specs.Prelude.{◌≡◌, true, IfSome, IsNone};
 ghost use Rattle.rhai_value.specs.declared.value.type_id.TypeId.TheVariants as type_id;
 ghost use Rattle.rhai_value.specs.Types.{is_type};
@@ -7,7 +7,7 @@ use rhai_variant::Variant;
 use std::alloc::Global;
 use std::test::Fail;
 
-/// Makes a script value and reads it again; only a `String` may find no memory.
+/// Makes a script value and reads it again; only a `String` may fail to allocate.
 pub fn there_and_back<T: Variant>(alloc: Global, x: T) -> Option<T>
     ensures same { IfSome result (λ y. T.tree y ≡ T.tree x) }
     ensures none { IsNone result → is_type T.KIND type_id.String ≡ true }
@@ -21,7 +21,7 @@ pub fn there_and_back<T: Variant>(alloc: Global, x: T) -> Option<T>
     }
 }
 
-/// Whether a text goes there and back.
+/// Whether a text is unchanged by that.
 fn is_back(alloc: Global, text: String) -> bool {
     match there_and_back(alloc, text) {
         Some(text) => text.as_str() == "a",

@@ -4,7 +4,7 @@ use Rattle.rhai_value.specs.Rows.{trees_of}
 use Rattle.rhai_cast.specs.Arrays.{read_all, first_unread}
 use Rattle.rhai_cast.proofs.arrays.read_each.Given as goal
 
--- those read so far, and those read of what is left, are those read of all
+-- the items read so far, and those read from the rest, are those read from all
 abbrev pub invariant-loop-item : goal.invariant-loop-item
 invariant-loop-item g l =
     let k = g.T.Variant.KIND in

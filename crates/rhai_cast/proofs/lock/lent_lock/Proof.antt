@@ -1,4 +1,4 @@
--- `lent_lock` lends from the value or from its store; the other is settled as it was.
+-- `lent_lock` borrows from the value or from its store; the other source is settled unchanged.
 use Rattle.std.proofs.Common.{◌≡◌, ℕ, [], ◌∷◌, Option, option_map, option_and_then, refl, sym, ap, ◌∙◌, MutBor}
 use Rattle.std.proofs.raw_atomic.Walks.{proved}
 use base.Fraction.{full_share, left, right}
@@ -113,7 +113,8 @@ lent_lock_spec {M = M} 𝓤 𝓛 𝓜 𝓡 wired T L P dP dD metP metD =
     peeks ! place.the_row _ (shows 𝓛 place.the_row) x (v₁ ∷ []) (λ is₁. lands_as ! refl refl ((place_laws.the_row_laws.lawful 𝓛).typed x (v₁ ∷ []) is₁).0 $
     move ! (3 ∷ []) $ pick ! (λ ws. split ! $ move ! (1 ∷ []) $ split ! $ heard ! _ (λ cell. split ! $ heard ! _ (λ inside. split ! $ heard ! _ (λ d_same. heard ! _ (λ m_same.
     fsplit ! $ drop ! $ fsplit ! $ fsplit ! $ move ! (2 ∷ []) $ fsplit ! $ fsplit ! $
-    -- [m's last value; its borrow; nothing; d's last value; its borrow; the place; α is over; nothing; what m's and d's holders keep; the token of τ]
+    -- [m's last value; its borrow; nothing; d's last value; its borrow; the place; α has ended;
+    -- nothing; what m's and d's holders keep; the token of τ]
     move ! (6 ∷ []) $ use1 𝓛 (‵ (fdead (α ∷ [])) ⊛ ‵ (fdead (α ∷ []))) (𝓛.lfts.dead_dup (α ∷ [])) $ split ! $ move ! (0 ∷ 9 ∷ 2 ∷ []) $
     use3 𝓛 (later (‵ ((MutRef (named 0) κ sto).own_val (record m { now = ws.1.1.0 }) ms) ⊛ ‵ (flft κ (right q))))
     (comes_back 𝓛 sto (named 0) κ (α ∷ []) (right q) m.ghost_name m.ref_ptr.0 m.ref_ptr.1 ε m.now ws.1.1.0) $ await ! tt $ split ! $ move ! (2 ∷ 9 ∷ 5 ∷ []) $
@@ -164,7 +165,7 @@ lent_lock_spec {M = M} 𝓤 𝓛 𝓜 𝓡 wired T L P dP dD metP metD =
     await ! tt $ pick ! (λ p. split ! $ split ! $ split3 ! $ move ! (3 ∷ []) $
     peeks ! (RefOf T κ) _ (shows 𝓛 (RefOf T κ)) p (v₄ ∷ []) (λ is₄. lands_as ! refl refl (((ref_of_laws T L κ).lawful 𝓛).typed p (v₄ ∷ []) is₄).0 $
     move ! (4 ∷ []) $ pick ! (λ ls₄. split ! $ drop ! $ heard ! _ (λ one.
-    -- [what is lent; the tokens; nothing; what m follows; nothing; what d follows; ..]
+    -- [the returned borrow; the tokens; nothing; what m follows; nothing; what d follows; ..]
     returns ! (look_at ! 0 refl) $ free_all ! refl $ keep ! (0 ∷ 1 ∷ 2 ∷ 4 ∷ 6 ∷ []) $
     suffices ! _ (ends_at 𝓛 ended stayed c ((κs, qs, bounds, a, (bool_vals b, (ds, (ms, tt)))), tt) v₄ p (tt, (tt, (tt, tt))) (tt, (tt, (tt, tt)))) $
     let is : IsLent (param 0 T) P.tree P.KIND m.now d.now x o u = (cell, has_own, has_far) in

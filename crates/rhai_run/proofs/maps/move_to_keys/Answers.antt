@@ -8,7 +8,7 @@ use Rattle.rhai_run.specs.Made.{rows_with, rows_of_keys}
 use Rattle.rhai_run.proofs.MapRows.{found, key_stays, found_more, keys_set, ahead_more, all_given}
 use Rattle.rhai_run.proofs.maps.move_to_keys.Goals as goal
 
--- the key is in the map still
+-- the key is still in the map
 present : (c : goal.After-as_str) → is_some (found (encode_utf8_all c.index-keys-i.result) c.loop-i.map) ≡ true
 present c =
     let ks = c.args.keys.now in

@@ -21,7 +21,7 @@ decreases-add_items l = left_in l.store.now l.path.now + (4 * nodes_trees (trees
 abbrev pub decreases-add_map : goal.decreases-add_map
 decreases-add_map l = left_in l.store.now l.path.now + (4 * nodes_fields (fields_of l.map.now) + 1)
 
--- the bytes so far and those of the items that are left make the whole
+-- the bytes so far and those of the remaining items are the whole
 abbrev pub invariant-add_items-loop-item : goal.invariant-add_items-loop-item
 invariant-add_items-loop-item l = record {
   bytes : l.out.items ++ flat_map (hash_bytes l.store l.fn.path) (drop l.item-index l.items) ≡ (l.fn.out.items ++ count_bytes (length l.items)) ++ flat_map (hash_bytes l.store l.fn.path) l.items;
@@ -30,7 +30,7 @@ invariant-add_items-loop-item l = record {
   plain : are_plain l.store l.fn.path (trees_of (drop l.item-index l.items)) ≡ true;
 }
 
--- the same of the rows; these have no more nodes than the map
+-- the same for the rows; these have no more nodes than the map
 abbrev pub invariant-add_map-loop-key : goal.invariant-add_map-loop-key
 invariant-add_map-loop-key l = record {
   bytes : l.out.items ++ flat_map (row_bytes (hash_bytes l.store l.fn.path)) l.key-iterator ≡ ((l.fn.out.items ++ 7 ∷ []) ++ count_bytes (length l.map)) ++ flat_map (row_bytes (hash_bytes l.store l.fn.path)) l.map;

@@ -84,7 +84,7 @@ is_clean-returns-else-levels-eq0-2-clause-searched t c =
     let h = c.in-Map in
     searched_by c.is_map_clean.result _ _ (map_leaves c.args.store.now c.args.path.now c.args.seen.now c.is_map_clean.new.seen c.args.value.now (fields_of h.map.now) h.ensures.0 h.ensures.1 h.ensures.2) c.is_map_clean.ensures.searched
 
--- no memory is wanted where no holder stands in the value
+-- nothing is allocated if the value contains no holder
 pub are_clean-returns-in_err-is_clean-clause-free : goal.are_clean-returns-in_err-is_clean-clause-free
 are_clean-returns-in_err-is_clean-clause-free t c = λ h.
     let no : false ≡ true = c.in_err-is_clean.ensures.free (item_free c.args.items.now c.loop-item.item-index c.item-item.result (omega arith) c.item-item.is h) in cc
@@ -120,7 +120,7 @@ is_clean-is_map_clean-requires t c =
     let less = map-weight c.args.store.now c.args.path.now c.args.value.now h.map.now h.ensures.0 h.ensures.1 h.ensures.2 in
     (omega arith, c.requires)
 
--- what is left of each level stands in a list
+-- the rest of each level is on a work list
 pub is_far_clean-loop-child-preserved-else-not-is_plain : goal.is_far_clean-loop-child-preserved-else-not-is_plain
 is_far_clean-loop-child-preserved-else-not-is_plain t c =
     let s = c.args.store.now in

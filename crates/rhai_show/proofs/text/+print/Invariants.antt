@@ -31,7 +31,7 @@ decreases-add_function l = left_in l.store.now l.path.now + (4 * nodes_trees (tr
 abbrev pub decreases-add_curried : goal.decreases-add_curried
 decreases-add_curried l = left_in l.store.now l.path.now + (4 * nodes_trees (trees_of l.items.now) + 2)
 
--- the text so far and that of the items which are left make the whole
+-- the text so far and that of the remaining items are the whole
 abbrev pub invariant-add_items-loop-item : goal.invariant-add_items-loop-item
 invariant-add_items-loop-item l =
     let f = λ (t : Tree). printed l.store l.fn.path t l.form in
@@ -40,7 +40,7 @@ invariant-add_items-loop-item l =
       path : l.path ≡ l.fn.path;
     }
 
--- the same of the rows; these have no more nodes than the map
+-- the same for the rows; these have no more nodes than the map
 abbrev pub invariant-add_fields-loop-key : goal.invariant-add_fields-loop-key
 invariant-add_fields-loop-key l =
     let f = row_printed l.form (λ t. printed l.store l.fn.path t l.form) in

@@ -4,12 +4,12 @@ use Rattle.std.specs.Str.{chars}
 use Rattle.rhai_text.proofs.Texts.{IsAscii-rest, IsCharBoundary-cut, chars-front_cut, length-le-cut}
 use Rattle.rhai_text.proofs.edits.part_between.Goals as goal
 
--- how many characters a slice has that ends no sooner than it starts
+-- the number of characters of a slice that doesn't end before it starts
 room : (start end : ℕ) (exclusive : Bool) → start ≤ end → (if exclusive then end - start else end - start + 1) ≡ (if exclusive then end else end + 1) - start
 room start end true h = refl
 room start end false h = omega (arith, h)
 
--- where it ends sooner it has none
+-- it has none if it ends before it starts
 no_room : (start end : ℕ) (exclusive : Bool) → end < start → (if exclusive then end else end + 1) - start ≡ 0
 no_room start end true h = omega (arith, h)
 no_room start end false h = omega (arith, h)

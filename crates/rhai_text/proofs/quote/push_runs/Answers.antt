@@ -48,7 +48,7 @@ loop-c-preserved c =
       left = c.loop-c.invariant.left;
     }
 
--- the whole run stands as it is
+-- the whole run is appended unescaped
 pub returns-clause-ok : goal.returns-clause-ok
 returns-clause-ok c =
     let run = c.loop-c.invariant.plain in

@@ -4,7 +4,7 @@ use Rattle.std.specs.Str.{chars, encode_utf8_all, IsUtf8}
 use Rattle.rhai_text.specs.Quote.{Extends, escaped}
 use Rattle.rhai_text.proofs.quote.push_runs.Given as goal
 
--- what is left of the run follows characters that stand as themselves
+-- the rest of the run follows unescaped characters
 abbrev pub invariant-loop-c : goal.invariant-loop-c
 invariant-loop-c l = record {
   run_text : IsUtf8 l.run;

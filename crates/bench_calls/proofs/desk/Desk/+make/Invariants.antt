@@ -1,7 +1,7 @@
 use Rattle.std.proofs.Common.{◌+◌, ◌*◌}
 use Rattle.bench_calls.proofs.desk.Desk.+make.Given as goal
 
--- the levels that are left, and among functions on one level the order in which they call each other
+-- the remaining levels, and among functions on one level the order in which they call each other
 abbrev pub decreases-value_within : goal.decreases-value_within
 decreases-value_within l = 3 * l.levels + 1
 

@@ -15,7 +15,7 @@ returns-in_ok-text_answer-in-TypeName c =
     ap chars c.type_name.ensures ∙ chars_type_name (end_type (end c.self.inside.store [] t)) ∙ ap (λ (w : State). end_name (end w.store [] t)) c.self.view_is in
     rw c.in-TypeName.is (c.in_ok-text_answer-in-TypeName.ensures ∙ ap answer.Text name, refl)
 
--- what holds of an answer holds of it behind `map_err`
+-- a property of a result holds of it after `map_err`
 abbrev gives : {X : Type 0} (F : Type 0) → X → Result X F
 gives F x = Ok x
 

@@ -1,4 +1,4 @@
--- `as_mut` hands on what `lent_mut` lends.
+-- `as_mut` returns the borrow of `lent_mut`.
 use Rattle.rhai_target.proofs.Steps.{◌≡◌, [], ◌∷◌, Some, refl, MutBor, proved, emp, id⊢, ftrue, flft, named, fact, fact_i, tables, ‵, raw, ◌⊛◌, some, later, ◌$◌, ◌∵◌, !, qed, by, move, keep, drop, use0, use1, use2, split, split3, join, pick, await, suffices, frame, enter, addr, stop, no_more, and_then, returns, alloc_all, pass_all, free_all, look_at, get, through, sets, lands_as, no, shows, MutRef, mut_vals, mut_Tells, RattleType, plain, mut_ref_to, named_lft, nothing, heard, peeks, calls_at, Lasts, lasts, triple_of, framed, Stays, stay_dropped, Goes-spent_ref, ends_at, Lfts}
 use Rattle.rhai_value.specs.Tree.{Tree}
 use Rattle.rhai_value.specs.contracts.value.dynamic.Dynamic as dynamic
@@ -19,7 +19,7 @@ dyn = dynamic.the_row
 abbrev sto : RattleType
 sto = store.the_row
 
--- a target, at the lifetime that stands 1 of two
+-- a target, at the second of two lifetimes
 abbrev Tgt : Lfts 2 → RattleType
 Tgt κs = target.the_row (named_lft 2 1 tt κs)
 
@@ -49,7 +49,7 @@ as_mut_spec 𝓤 𝓛 𝓜 𝓡 wired =
     await ! tt $ pick ! (λ x. split ! $ split ! $ split3 ! $ move ! (3 ∷ []) $
     peeks ! (Ref κ) _ (shows 𝓛 (Ref κ)) x (v ∷ []) (λ is. lands_as ! refl refl (((ref_laws κ).lawful 𝓛).typed x (v ∷ []) is).0 $
     move ! (4 ∷ []) $ pick ! (λ ls. split ! $ drop ! $ split ! $ drop ! $ heard ! _ (λ value.
-    -- [what is lent; the token of κ; that of τ; nothing]
+    -- [the returned borrow; the token of κ; that of τ; nothing]
     returns ! (look_at ! 0 refl) $ free_all ! refl $ keep ! (0 ∷ 1 ∷ 2 ∷ []) $
     suffices ! _ (ends_at 𝓛 f.ended stayed c ((κs, qs, bounds, a, (ds, (ms, tt))), tt) v x (tt, (tt, tt)) (tt, (tt, tt))) $
     nothing ! $ nothing ! $ join ! $ nothing ! $ join ! $ join ! $ nothing ! $ move ! (3 ∷ 0 ∷ []) $ join ! $ move ! (2 ∷ 0 ∷ []) $ join ! $ join ! $ frame ! $

@@ -1,4 +1,4 @@
--- `into_owned` hands a target back, with its reference or without it, and then leaves the value as it was.
+-- `into_owned` returns a target, with its reference or without it, and then leaves the value unchanged.
 use Rattle.rhai_target.proofs.Steps.{◌≡◌, [], ◌∷◌, List, Option, None, Result, IfOk, IfErr, refl, sym, subst, MutBor, proved_at, Ura, full_share, emp, id⊢, ent, via, Lft, GName, Share, ftrue, flft, named, Val, fact, fact_i, tables, Running, Model, Wired, WpFn, Logic, ‵, raw, ◌⊛◌, some, later, ◌$◌, ◌∵◌, !, qed, by, move, keep, use0, use1, use2, use3, split, split3, join, given, fsplit, fpick, feq_l, pick, await, rewrite, suffices, frame, group, whole, sub, enter, of_opd, addr, stop, fld, no_more, and_then, returns, alloc_all, pass_all, free_all, look_at, get, get_in, through, sets, lands_as, lft_new, lft_end, no, yes, rest, shows, Is, lends_again, comes_back, LentAgain, MutRef, mut_vals, mut_Tells, plain, nothing, heard, peeks, Lone, calls_at, Clauses, Lasts, lasts, triple_of, Contract, framed, Stays, says, stay_dropped, stay_ref, Goes-ref, Goes-dropped, walk_of, ends_at, OnOk, OnErr, IsOk, MatchOption}
 use Rattle.std.specs.contracts.alloc.Global as heap
 use Rattle.std.proofs.alloc.Global.TheLaws as heap_laws
@@ -63,26 +63,30 @@ module _ {M : Type 1} {𝓤 : Ura M} (𝓛 : Logic 𝓤) (𝓜 : Model 𝓤 𝓛
       ⊛ raw (fact 𝓤 (OnOk x.0 (ws.1.1.0 ≡ unmarked_from (mark_in d) m.now))) ⊛ raw (fact 𝓤 (IfErr x.0 (λ t. t ≡ d))) ⊛ raw (fact 𝓤 (OnErr x.0 (ws.1.1.0 ≡ m.now)))
       ⊛ raw (fact 𝓤 (MatchOption (reference_in d) (IsOk x.0) (λ r. TakesNoMemory r.now → IsOk x.0))) ⊛ raw (fact 𝓤 (x.1 ≡ let_go (source_of d) (kept_in x.0))))))) (id⊢ 𝓤 _) $
       await ! tt $ pick ! (λ x. split ! $ split ! $ split3 ! $ move ! (1 ∷ []) $ lft_end ! tt $ move ! (3 ∷ []) $
-      -- [what the call gives; α is over; the token of κ; nothing; the rest; what m's holder keeps]
+      -- [the call's result; α has ended; the token of κ; nothing; the rest; what m's holder keeps]
       peeks ! (Beside R κ) _ (shows 𝓛 (Beside R κ)) x (u ∷ []) (λ both.
       use1 𝓛 (‵ (Parts R κ x.0 x.1 u)) (opened 𝓛 R L κ x u) $ fpick ! (λ w. fsplit ! $ feq_l ! (λ shape. fsplit ! $
       peeks ! R _ (shows 𝓛 R) x.0 (w.0 ∷ []) (λ first.
       lands_as ! shape refl (typed 𝓛 R L κ x u _ shape both) $
       sets ! (of_opd ! (get_in ! (fld ! refl (stop !)) (sub ! 0 refl (whole !)))) refl ((L.lawful 𝓛).typed x.0 (w.0 ∷ []) first).0 $
-      -- [what comes back; what is let go; α is over; the token of κ; nothing; the rest; what m's holder keeps]
+      -- [the returned value; the released reference; α has ended; the token of κ; nothing; the
+      -- rest; what m's holder keeps]
       move ! (5 ∷ []) $ pick ! (λ ws. split ! $ move ! (1 ∷ []) $ split ! $ heard ! _ (λ ok. split ! $ heard ! _ (λ cleared. split ! $ heard ! _ (λ err. split ! $ heard ! _ (λ same. split ! $ heard ! _ (λ free. heard ! _ (λ gone.
       fsplit ! $ move ! (1 ∷ []) $ fsplit ! $ move ! (1 ∷ []) $ fsplit ! $ fsplit ! $
-      -- [m's last value; its borrow; nothing; the allocator's; the target's; what comes back; what is let go; α is over; the token of κ; nothing; what m's holder keeps]
+      -- [m's last value; its borrow; nothing; the allocator's; the target's; the returned value;
+      -- the released reference; α has ended; the token of κ; nothing; what m's holder keeps]
       move ! (7 ∷ 10 ∷ 0 ∷ []) $
       use3 𝓛 (later (‵ ((MutRef (named 1) μ store.the_row).own_val (record m { now = ws.1.1.0 }) ms) ⊛ ‵ (flft μ p)))
       (comes_back 𝓛 store.the_row (named 1) μ (α ∷ []) p m.ghost_name m.ref_ptr.0 m.ref_ptr.1 δ m.now ws.1.1.0) $ await ! tt $ split ! $
-      -- [m; the token of μ; its borrow; nothing; the allocator's; the target's; what comes back; what is let go; the token of κ; nothing]
+      -- [m; the token of μ; its borrow; nothing; the allocator's; the target's; the returned value;
+      -- the released reference; the token of κ; nothing]
       move ! (7 ∷ []) $ use1 𝓛 (‵ (Leaves x.1 None)) (settled 𝓛 κ x.1 (w.1 ∷ [])) $ rewrite ! 0 (λ (o : Option (MutBor Tree)). ‵ (Leaves o None)) gone refl $
       use1 𝓛 (‵ (Leaves (source_of d) (kept_in x.0))) (source_left 𝓛 (source_of d) (kept_in x.0) (either_is_kept d x.0 ok err)) $
-      -- [what is left of the source; m; the token of μ; its borrow; nothing; the allocator's; the target's; what comes back; the token of κ; nothing]
+      -- [the source's final value; m; the token of μ; its borrow; nothing; the allocator's; the
+      -- target's; the returned value; the token of κ; nothing]
       returns ! (look_at ! 0 refl) $ free_all ! refl $ keep ! (1 ∷ 8 ∷ 2 ∷ 7 ∷ 0 ∷ []) $
       suffices ! _ (ends_at 𝓛 f.ended stayed c (At (v ∷ []) (g ∷ []) ms) w.0 x.0 (rest ((TargetOf κ).exit no) d, (tt, (ws.1.1.0, tt))) (tt, (tt, (tt, tt)))) $
-      -- [m; the token of κ; that of μ; what comes back; what is left of the source]
+      -- [m; the token of κ; that of μ; the returned value; the source's final value]
       nothing ! $ move ! (1 ∷ 0 ∷ []) $ join ! $ nothing ! $ join ! $ nothing ! $ join ! $ nothing ! $ move ! (3 ∷ 0 ∷ []) $ join ! $ move ! (2 ∷ 0 ∷ []) $ join ! $ group ! 3 $ frame ! $ frame ! $
       use0 𝓛 (given _ (‵ ftrue)) (fact_i 𝓤 _ (emp 𝓤) ok) $ frame ! $ use0 𝓛 (given _ (‵ ftrue)) (fact_i 𝓤 _ (emp 𝓤) cleared) $ frame ! $
       use0 𝓛 (given _ (‵ ftrue)) (fact_i 𝓤 _ (emp 𝓤) err) $ frame ! $ says ! free $ by ! (fact_i 𝓤 _ _ same))))))))))))))))))

@@ -1,4 +1,4 @@
--- `lent_mut` lends from the target or from the store; the other is settled as it was.
+-- `lent_mut` borrows from the target or from the store; the other source is settled unchanged.
 use Rattle.rhai_target.proofs.Steps.{◌≡◌, [], ◌∷◌, Option, Some, refl, MutBor, proved, full_share, emp, id⊢, Lft, GName, ftrue, flft, named, fact, fact_i, tables, lft_new, lft_end, ‵, raw, ◌⊛◌, some, later, ◌$◌, ◌∵◌, !, qed, by, move, keep, drop, use0, use1, use2, use3, split, split3, join, fsplit, pick, await, rewrite, suffices, frame, enter, of_opd, addr, stop, no_more, and_then, returns, alloc_all, pass_all, free_all, look_at, get, through, sets, lands_as, no, shows, lends_again, comes_back, LentAgain, MutRef, mut_vals, mut_Tells, RattleType, plain, mut_ref_to, named_lft, nothing, heard, peeks, follows_if, calls_at, Lasts, lasts, triple_of, framed, Stays, stay_dropped, Goes-spent_ref, ends_at, Lfts}
 use Rattle.std.proofs.Common.{true, option_map, is_some}
 use base.Fraction.{left, right}
@@ -35,7 +35,7 @@ dyn = dynamic.the_row
 abbrev sto : RattleType
 sto = store.the_row
 
--- a target, at the lifetime that stands 1 of two
+-- a target, at the second of two lifetimes
 abbrev Tgt : Lfts 2 → RattleType
 Tgt κs = target.the_row (named_lft 2 1 tt κs)
 
@@ -81,14 +81,17 @@ lent_mut_spec 𝓤 𝓛 𝓜 𝓡 wired =
     -- [the token of β; half the token of τ; nothing; half the token of κ; what the cell has; the rest; what d's holder keeps; the way back]
     move ! (4 ∷ []) $ peeks ! (RefOf κ) _ (shows 𝓛 (RefOf κ)) r (v₁ ∷ []) (λ is₁. lands_as ! refl refl (((ref_of_laws κ).lawful 𝓛).typed r (v₁ ∷ []) is₁).0 $
     move ! (1 ∷ 7 ∷ []) $ use2 𝓛 (‵ (flft (α ∷ []) full_share) ⊛ ‵ (flft τ (left p))) (apply∗ 𝓤 (𝓛.A.lft β s) Both) $ split ! $ lft_end ! tt $
-    -- [α is over; half the token of τ; what the cell has; half the token of τ; nothing; half the token of κ; the rest; what d's holder keeps]
+    -- [α has ended; half the token of τ; what the cell has; half the token of τ; nothing; half the
+    -- token of κ; the rest; what d's holder keeps]
     use1 𝓛 (‵ (fdead β)) (𝓛.lfts.dead-incl β (α ∷ []) (meet_⊑_left (α ∷ []) τ)) $
     move ! (1 ∷ 3 ∷ []) $ use2 𝓛 (‵ (flft τ p)) (𝓛.lfts.lft_join τ p) $
-    -- [the token of τ; β is over; what the cell has; nothing; half the token of κ; the rest; what d's holder keeps]
+    -- [the token of τ; β has ended; what the cell has; nothing; half the token of κ; the rest; what d's holder keeps]
     move ! (5 ∷ []) $ pick ! (λ ws. split ! $ move ! (1 ∷ []) $ split ! $ move ! (1 ∷ []) $ split ! $ heard ! _ (λ has_far. heard ! _ (λ d_same.
-    -- [what m follows; m's and d's last values; the token of τ; β is over; what the cell has; nothing; half the token of κ; what d's holder keeps]
+    -- [what m follows; m's and d's last values; the token of τ; β has ended; what the cell has;
+    -- nothing; half the token of κ; what d's holder keeps]
     move ! (1 ∷ []) $ fsplit ! $ move ! (1 ∷ []) $ fsplit ! $ fsplit ! $
-    -- [d's last value; its borrow; nothing; nothing; what m follows; the token of τ; β is over; what the cell has; nothing; half the token of κ; what d's holder keeps]
+    -- [d's last value; its borrow; nothing; nothing; what m follows; the token of τ; β has ended;
+    -- what the cell has; nothing; half the token of κ; what d's holder keeps]
     move ! (6 ∷ 10 ∷ 0 ∷ []) $
     use3 𝓛 (later (‵ ((MutRef (named 0) κ tg).own_val (record d { now = ws.1.0 }) ds) ⊛ ‵ (flft κ (left q))))
     (comes_back 𝓛 tg (named 0) κ β (left q) d.ghost_name d.ref_ptr.0 d.ref_ptr.1 δ d.now ws.1.0) $ await ! tt $ split ! $
@@ -122,10 +125,10 @@ lent_mut_spec 𝓤 𝓛 𝓜 𝓡 wired =
     await ! tt $ pick ! (λ x. split ! $ split ! $ split ! $ move ! (2 ∷ []) $
     peeks ! (Ref κ) _ (shows 𝓛 (Ref κ)) x (v₃ ∷ []) (λ is₃. lands_as ! refl refl (((ref_laws κ).lawful 𝓛).typed x (v₃ ∷ []) is₃).0 $
     move ! (3 ∷ []) $ pick ! (λ ls₃. split ! $ drop ! $ heard ! _ (λ one.
-    -- [what is lent; the token of κ; nothing; what d follows; the token of τ; nothing; what m follows; ..]
+    -- [the returned borrow; the token of κ; nothing; what d follows; the token of τ; nothing; what m follows; ..]
     returns ! (look_at ! 0 refl) $ free_all ! refl $ keep ! (0 ∷ 1 ∷ 4 ∷ 6 ∷ 3 ∷ []) $
     suffices ! _ (ends_at 𝓛 f.ended stayed c ((κs, qs, bounds, a, (ds, (ms, tt))), tt) v₃ x (tt, (tt, tt)) (tt, (tt, tt))) $
-    -- [what is lent; the token of κ; that of τ; what m follows; what d follows]
+    -- [the returned borrow; the token of κ; that of τ; what m follows; what d follows]
     rewrite ! 3 (λ (F : Fml). ‵ F) (far_side d m o r x has_own has_far one) refl $
     rewrite ! 4 (λ (F : Fml). ‵ F) (own_side d o r x has_own one) refl $
     move ! (4 ∷ 3 ∷ []) $ fjoin ! $ move ! (1 ∷ 2 ∷ 3 ∷ 0 ∷ []) $

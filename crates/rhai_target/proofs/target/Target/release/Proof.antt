@@ -1,4 +1,4 @@
--- `release` lets the reference go, and leaves its value as it was.
+-- `release` releases the reference, and leaves its value unchanged.
 use Rattle.rhai_target.proofs.Steps.{◌≡◌, [], ◌∷◌, List, Option, None, refl, sym, subst, MutBor, proved_at, Ura, full_share, emp, id⊢, ent, via, Lft, GName, Share, ftrue, flft, named, Val, fact, fact_i, tables, Running, Model, Wired, WpFn, Logic, ‵, raw, ◌⊛◌, some, later, ◌$◌, ◌∵◌, !, qed, by, move, keep, use0, use1, use2, use3, split, split3, join, fsplit, pick, await, rewrite, suffices, frame, group, enter, of_opd, addr, stop, no_more, and_then, returns, alloc_all, pass_all, free_all, look_at, get, through, sets, lands_as, lft_new, lft_end, no, rest, shows, Is, lends_again, comes_back, LentAgain, MutRef, mut_vals, mut_Tells, plain, nothing, heard, peeks, Lone, calls_at, Clauses, Lasts, lasts, triple_of, Contract, framed, Stays, stay_dropped, stay_ref, Goes-ref, walk_of, ends_at}
 use mir.Val.{vunit}
 use types.Kit.{feq_i}
@@ -58,20 +58,21 @@ module _ {M : Type 1} {𝓤 : Ura M} (𝓛 : Logic 𝓤) (𝓜 : Model 𝓤 𝓛
       await ! tt $ pick ! (λ o. split ! $ split ! $ split3 ! $ move ! (1 ∷ []) $ lft_end ! tt $ move ! (3 ∷ []) $
       peeks ! R _ (shows 𝓛 R) o (u ∷ []) (λ its. lands_as ! refl refl ((L.lawful 𝓛).typed o (u ∷ []) its).0 $
       sets ! (of_opd ! (unit_lit !)) refl (tt, tt) $
-      -- [what is let go; α is over; the token of κ; nothing; the rest; what m's holder keeps]
+      -- [the released reference; α has ended; the token of κ; nothing; the rest; what m's holder keeps]
       move ! (4 ∷ []) $ pick ! (λ ws. split ! $ move ! (1 ∷ []) $ split ! $ heard ! _ (λ gone. heard ! _ (λ cleared.
       fsplit ! $ move ! (1 ∷ []) $ fsplit ! $ fsplit ! $
-      -- [m's last value; its borrow; nothing; the target's; what is let go; α is over; the token of κ; nothing; what m's holder keeps]
+      -- [m's last value; its borrow; nothing; the target's; the released reference; α has ended;
+      -- the token of κ; nothing; what m's holder keeps]
       move ! (5 ∷ 8 ∷ 0 ∷ []) $
       use3 𝓛 (later (‵ ((MutRef (named 1) μ store.the_row).own_val (record m { now = ws.1.0 }) ms) ⊛ ‵ (flft μ p)))
       (comes_back 𝓛 store.the_row (named 1) μ (α ∷ []) p m.ghost_name m.ref_ptr.0 m.ref_ptr.1 δ m.now ws.1.0) $ await ! tt $ split ! $
-      -- [m; the token of μ; its borrow; nothing; the target's; what is let go; the token of κ; nothing]
+      -- [m; the token of μ; its borrow; nothing; the target's; the released reference; the token of κ; nothing]
       move ! (5 ∷ []) $ use1 𝓛 (‵ (Leaves o None)) (settled 𝓛 κ o (u ∷ [])) $ rewrite ! 0 (λ (s : Option (MutBor Tree)). ‵ (Leaves s None)) gone refl $
-      -- [what is left of the source; m; the token of μ; its borrow; nothing; the target's; the token of κ; nothing]
+      -- [the source's final value; m; the token of μ; its borrow; nothing; the target's; the token of κ; nothing]
       returns ! (look_at ! 0 refl) $ free_all ! refl $ keep ! (1 ∷ 6 ∷ 2 ∷ 0 ∷ []) $
       suffices ! _ (ends_at 𝓛 f.ended stayed c (At (v ∷ []) ms) vunit tt (rest ((TargetOf κ).exit no) d, (ws.1.0, tt)) (tt, (tt, tt))) $
       feq_i ! _ (vunit ∷ []) _ refl $ move ! (1 ∷ 2 ∷ 3 ∷ 0 ∷ []) $
-      -- [m; the token of κ; that of μ; unit; what is left of the source]
+      -- [m; the token of κ; that of μ; unit; the source's final value]
       nothing ! $ move ! (1 ∷ 0 ∷ []) $ join ! $ nothing ! $ join ! $ nothing ! $ move ! (3 ∷ 0 ∷ []) $ join ! $ move ! (2 ∷ 0 ∷ []) $ join ! $ group ! 3 $ frame ! $ frame ! $
       by ! (fact_i 𝓤 _ _ cleared)))))))))))
 

@@ -1,4 +1,4 @@
--- `take_ref` hands a reference back, or lets it go and leaves its value as it was.
+-- `take_ref` returns a reference, or releases it and leaves its value unchanged.
 use Rattle.rhai_target.proofs.Steps.{◌≡◌, [], ◌∷◌, List, Option, None, refl, sym, subst, MutBor, proved_at, Ura, full_share, emp, id⊢, ent, via, Lft, GName, Share, ftrue, flft, named, Val, fact, fact_i, tables, Running, Model, Wired, WpFn, Logic, ‵, raw, ◌⊛◌, some, later, ◌$◌, ◌∵◌, !, qed, by, move, keep, use0, use1, use2, use3, split, split3, join, fsplit, fpick, feq_l, pick, await, rewrite, suffices, frame, group, whole, sub, enter, of_opd, addr, stop, fld, no_more, and_then, returns, alloc_all, pass_all, free_all, look_at, get, get_in, through, sets, lands_as, lft_new, lft_end, no, rest, shows, Is, lends_again, comes_back, LentAgain, MutRef, mut_vals, mut_Tells, plain, nothing, heard, peeks, Lone, calls_at, Clauses, Lasts, lasts, triple_of, Contract, framed, Stays, says, stay_dropped, stay_ref, Goes-ref, walk_of, ends_at}
 use Rattle.rhai_value.specs.declared.cells.store.Cell.{Cell}
 use Rattle.rhai_value.specs.Tree.{Tree}
@@ -53,26 +53,30 @@ module _ {M : Type 1} {𝓤 : Ura M} (𝓛 : Logic 𝓤) (𝓜 : Model 𝓤 𝓛
       use1 𝓛 (later (some (λ (x : Option (MutBor Tree) × Option (MutBor Tree)). ((‵ (flft κ q) ⊛ ‵ (flft (α ∷ []) full_share) ⊛ ‵ ftrue) ⊛ ‵ ((Beside R κ).own_val x (u ∷ []))) ⊛
       some (λ (ws : Lasts g.ended z.0.0 z.0.3). ‵ (lasts g.ended z.0.0 z.0.3 ws) ⊛ raw (fact 𝓤 (x.0 ≡ reference_in d)) ⊛ raw (fact 𝓤 (x.1 ≡ let_go (source_of d) x.0)) ⊛ raw (fact 𝓤 (ws.1.0 ≡ unmarked_from (mark_in d) m.now)))))) (id⊢ 𝓤 _) $
       await ! tt $ pick ! (λ x. split ! $ split ! $ split3 ! $ move ! (1 ∷ []) $ lft_end ! tt $ move ! (3 ∷ []) $
-      -- [what the call gives; α is over; the token of κ; nothing; the rest; what m's holder keeps]
+      -- [the call's result; α has ended; the token of κ; nothing; the rest; what m's holder keeps]
       peeks ! (Beside R κ) _ (shows 𝓛 (Beside R κ)) x (u ∷ []) (λ its.
       use1 𝓛 (‵ (Parts R κ x.0 x.1 u)) (opened 𝓛 R L κ x u) $ fpick ! (λ w. fsplit ! $ feq_l ! (λ shape. fsplit ! $
       peeks ! R _ (shows 𝓛 R) x.0 (w.0 ∷ []) (λ first.
       lands_as ! shape refl (typed 𝓛 R L κ x u _ shape its) $
       sets ! (of_opd ! (get_in ! (fld ! refl (stop !)) (sub ! 0 refl (whole !)))) refl ((L.lawful 𝓛).typed x.0 (w.0 ∷ []) first).0 $
-      -- [what comes back; what is let go; α is over; the token of κ; nothing; the rest; what m's holder keeps]
+      -- [the returned value; the released reference; α has ended; the token of κ; nothing; the
+      -- rest; what m's holder keeps]
       move ! (5 ∷ []) $ pick ! (λ ws. split ! $ move ! (1 ∷ []) $ split ! $ heard ! _ (λ kept. split ! $ heard ! _ (λ gone. heard ! _ (λ cleared.
       fsplit ! $ move ! (1 ∷ []) $ fsplit ! $ fsplit ! $
-      -- [m's last value; its borrow; nothing; the target's; what comes back; what is let go; α is over; the token of κ; nothing; what m's holder keeps]
+      -- [m's last value; its borrow; nothing; the target's; the returned value; the released
+      -- reference; α has ended; the token of κ; nothing; what m's holder keeps]
       move ! (6 ∷ 9 ∷ 0 ∷ []) $
       use3 𝓛 (later (‵ ((MutRef (named 1) μ store.the_row).own_val (record m { now = ws.1.0 }) ms) ⊛ ‵ (flft μ p)))
       (comes_back 𝓛 store.the_row (named 1) μ (α ∷ []) p m.ghost_name m.ref_ptr.0 m.ref_ptr.1 δ m.now ws.1.0) $ await ! tt $ split ! $
-      -- [m; the token of μ; its borrow; nothing; the target's; what comes back; what is let go; the token of κ; nothing]
+      -- [m; the token of μ; its borrow; nothing; the target's; the returned value; the released
+      -- reference; the token of κ; nothing]
       move ! (6 ∷ []) $ use1 𝓛 (‵ (Leaves x.1 None)) (settled 𝓛 κ x.1 (w.1 ∷ [])) $ rewrite ! 0 (λ (o : Option (MutBor Tree)). ‵ (Leaves o None)) gone refl $
       use1 𝓛 (‵ (Leaves (source_of d) x.0)) (source_left 𝓛 (source_of d) x.0 (subst (IsKept (source_of d)) (sym kept) (reference_is_kept d))) $
-      -- [what is left of the source; m; the token of μ; its borrow; nothing; the target's; what comes back; the token of κ; nothing]
+      -- [the source's final value; m; the token of μ; its borrow; nothing; the target's; the
+      -- returned value; the token of κ; nothing]
       returns ! (look_at ! 0 refl) $ free_all ! refl $ keep ! (1 ∷ 7 ∷ 2 ∷ 6 ∷ 0 ∷ []) $
       suffices ! _ (ends_at 𝓛 f.ended stayed c (At (v ∷ []) ms) w.0 x.0 (rest ((TargetOf κ).exit no) d, (ws.1.0, tt)) (tt, (tt, tt))) $
-      -- [m; the token of κ; that of μ; what comes back; what is left of the source]
+      -- [m; the token of κ; that of μ; the returned value; the source's final value]
       nothing ! $ move ! (1 ∷ 0 ∷ []) $ join ! $ nothing ! $ join ! $ nothing ! $ move ! (3 ∷ 0 ∷ []) $ join ! $ move ! (2 ∷ 0 ∷ []) $ join ! $ group ! 3 $ frame ! $ frame ! $
       says ! cleared $ by ! (fact_i 𝓤 _ _ kept)))))))))))))))
 

@@ -1,4 +1,4 @@
--- `try_from` hands on what is found of the value, whose last value follows the reference that the target is, or is as it was.
+-- `try_from` returns the result for the value, whose last value follows the reference in the target, or is unchanged.
 use Rattle.rhai_target.proofs.Steps.{◌≡◌, [], ◌∷◌, Result, IfOk, IfErr, Some, None, refl, sym, subst, proved, full_share, emp, id⊢, Lft, ftrue, flft, GName, named, fact, fact_i, tables, lft_new, lft_end, ‵, raw, ◌⊛◌, some, later, given, ◌$◌, ◌∵◌, !, qed, by, move, keep, drop, use0, use1, use2, use3, split, split3, join, fsplit, pick, await, rewrite, suffices, frame, group, enter, addr, stop, no_more, and_then, returns, alloc_all, pass_all, free_all, look_at, get, through, sets, lands_as, no, follows_if, shows, Laws, lends_again, comes_back, LentAgain, MutRef, mut_vals, mut_Tells, RattleType, plain, mut_ref_to, nothing, heard, peeks, calls_at, Lasts, lasts, triple_of, framed, Stays, says, stay_ref, stay_dropped, Goes-ref, Goes-spent_ref, ends_at}
 use Rattle.std.proofs.Common.{ap, ◌∙◌}
 use mathlib.Core.Option as maybe
@@ -35,7 +35,7 @@ use Rattle.rhai_target.proofs.target.Target.try_from.Code as code
 abbrev stayed : Stays f.ended.signature.params f.ended.kept
 stayed = (stay_dropped (mut_ref_to (0 ∷ []) tt (plain (λ _. dynamic.the_row))) no, (stay_ref (1 ∷ []) tt (plain (λ _. store.the_row)), tt))
 
--- what is found of a value lent for κ
+-- the result for a value borrowed for κ
 abbrev FoundOf : Lft → RattleType
 FoundOf κ = result.the_row (whole.the_row (record { mir = named 0; lft = κ })) (result.the_row marked.the_row error.the_row)
 
@@ -76,13 +76,15 @@ try_from_spec 𝓤 𝓛 𝓜 𝓡 wired =
     some (λ (ws : Lasts g.ended z.0.0 z.0.3). ‵ (lasts g.ended z.0.0 z.0.3 ws) ⊛ ‵ (follows_if dynamic.the_row dynamic.the_row d.ghost_name (name_if_ok (λ w. w.value.ghost_name) x) (λ w. w) d.now)
     ⊛ raw (fact 𝓤 (IsResolved m.now d x)) ⊛ raw (fact 𝓤 (ws.1.0 ≡ marked_with (first_cell m.now d.now) m.now)) ⊛ raw (fact 𝓤 (IsMarkedResolved ws.1.0 x)))))) (id⊢ 𝓤 _) $
     await ! tt $ pick ! (λ x. split ! $ split ! $ split3 ! $ move ! (1 ∷ []) $ lft_end ! tt $ move ! (3 ∷ []) $
-    -- [what is found; α is over; the token of κ; nothing; the rest; what m's holder keeps]
+    -- [what is found; α has ended; the token of κ; nothing; the rest; what m's holder keeps]
     peeks ! (FoundOf κ) _ (shows 𝓛 (FoundOf κ)) x (v ∷ []) (λ is.
     lands_as ! refl refl (((found_laws κ).lawful 𝓛).typed x (v ∷ []) is).0 $
     move ! (4 ∷ []) $ pick ! (λ ws. split ! $ move ! (1 ∷ []) $ split ! $ move ! (1 ∷ []) $ split ! $ heard ! _ (λ which. split ! $ heard ! _ (λ marks. heard ! _ (λ marked.
-    -- [what follows; d's and m's last values; what is found; α is over; the token of κ; nothing; what m's holder keeps]
+    -- [what follows; d's and m's last values; what is found; α has ended; the token of κ; nothing;
+    -- what m's holder keeps]
     move ! (1 ∷ []) $ fsplit ! $ move ! (1 ∷ []) $ fsplit ! $ fsplit ! $
-    -- [m's last value; its borrow; nothing; nothing; what follows; what is found; α is over; the token of κ; nothing; what m's holder keeps]
+    -- [m's last value; its borrow; nothing; nothing; what follows; what is found; α has ended; the
+    -- token of κ; nothing; what m's holder keeps]
     move ! (6 ∷ 9 ∷ 0 ∷ []) $
     use3 𝓛 (later (‵ ((MutRef (named 1) μ store.the_row).own_val (record m { now = ws.1.0 }) ms) ⊛ ‵ (flft μ p)))
     (comes_back 𝓛 store.the_row (named 1) μ (α ∷ []) p m.ghost_name m.ref_ptr.0 m.ref_ptr.1 δ m.now ws.1.0) $ await ! tt $ split ! $

@@ -1,4 +1,4 @@
--- The bytes of a text spell its characters, so they are those characters' encoding.
+-- The bytes of a text are the encoding of its characters.
 use Rattle.std.proofs.Common.{sym, ◌∙◌, ap}
 use Rattle.std.proofs.lemmas.Str.{encodes-chars}
 use Rattle.std.specs.Str.{chars, encode_utf8_all}

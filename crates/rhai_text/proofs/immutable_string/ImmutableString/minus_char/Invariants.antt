@@ -4,7 +4,7 @@ use Rattle.std.specs.Str.Iter.{split_pattern, split_text}
 use Rattle.rhai_text.specs.Text.{minus_char}
 use Rattle.rhai_text.proofs.immutable_string.ImmutableString.minus_char.Given as goal
 
--- what is left to cut, without the character, ends the text
+-- the part still to be split, without the character, ends the text
 abbrev pub invariant-loop-run : goal.invariant-loop-run
 invariant-loop-run l = record {
   pattern : split_pattern l.run-iterator ≡ l.fn.character;

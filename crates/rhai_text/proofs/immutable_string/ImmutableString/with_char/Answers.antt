@@ -6,7 +6,7 @@ use Rattle.std.specs.Str.{chars}
 use Rattle.rhai_text.proofs.Texts.{chars-one, set-at_drop}
 use Rattle.rhai_text.proofs.immutable_string.ImmutableString.with_char.Goals as goal
 
--- the text has no character at the index, so it stays
+-- the text has no character at the index, so it is unchanged
 pub returns-in-None : goal.returns-in-None
 returns-in-None c =
     let cs = chars c.as_str-text.result.now in

@@ -7,7 +7,7 @@ use Rattle.rhai_value.specs.declared.map.Entry.{Entry}
 use Rattle.rhai_value.proofs.KeyOrder.{below_to, below_hit, above_from}
 use Rattle.rhai_value.proofs.map.sought.place_in.Goals as goal
 
--- what is told of an entry is told of its row
+-- the comparison with an entry is that with its row
 row_told : (k : List ℕ) (es : List Entry) (m : ℕ) (x : Entry) (r s : Ordering) → m < length es → x ≡ get_or es m x → r ≡ bytes_cmp k x.key → r ≡ s → bytes_cmp k (get_or (rows es) m (row_of x)).0 ≡ s
 row_told k es m x r s lt is told same = ap (λ e. bytes_cmp k e.0) (get_or-map row_of es m x (row_of x) lt) ∙ ap (λ (e : Entry). bytes_cmp k e.key) (sym is) ∙ sym told ∙ same
 

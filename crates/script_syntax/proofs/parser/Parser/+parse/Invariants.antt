@@ -1,7 +1,8 @@
 use Rattle.std.proofs.Common.{◌+◌, ◌*◌}
 use Rattle.script_syntax.proofs.parser.Parser.+parse.Given as goal
 
--- the levels that are left, and among functions that read on one level the order in which they call each other
+-- the remaining levels, and among functions that parse on one level the order in which they call
+-- each other
 abbrev pub decreases-arguments : goal.decreases-arguments
 decreases-arguments l = 13 * l.levels + 8
 

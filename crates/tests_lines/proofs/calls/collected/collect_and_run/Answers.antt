@@ -7,7 +7,7 @@ use Rattle.rhai_run.specs.Machine.{replies}
 use Rattle.rhai_run.specs.State.{State}
 use Rattle.tests_lines.proofs.calls.collected.collect_and_run.Goals as goal
 
--- whether memory was there for the collection or not, the answers are the same
+-- whether the allocation for the collection succeeds or not, the answers are the same
 same : (w v : State) (cs : List Command) (r : Result (Unit {0}) AllocError) → OnOk r (Collects w v) → OnErr r (v ≡ w) → ((h : Collects w v) → RunAlike (kept_pairs h.cells) w v cs) → replies v cs ≡ replies w cs
 same w v cs (Ok u) h e alike = sym (alike h).answers
 same w v cs (Err f) h e alike = ap (λ x. replies x cs) e

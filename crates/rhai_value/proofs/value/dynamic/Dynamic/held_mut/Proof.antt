@@ -1,4 +1,4 @@
--- `held_mut` lends from the value or from its store; the other is settled as it was.
+-- `held_mut` borrows from the value or from its store; the other source is settled unchanged.
 use Rattle.std.proofs.Common.{◌≡◌, ◌<◌, ℕ, [], ◌∷◌, Option, option_map, IfSome, length, refl, sym, MutBor}
 use Rattle.std.proofs.raw_atomic.Walks.{proved}
 use base.Fraction.{full_share, left, right}
@@ -113,7 +113,8 @@ held_mut_spec 𝓤 𝓛 𝓜 𝓡 wired =
     peeks ! place.the_row _ (shows 𝓛 place.the_row) x (v₁ ∷ []) (λ is₁. lands_as ! refl refl ((place_laws.the_row_laws.lawful 𝓛).typed x (v₁ ∷ []) is₁).0 $
     move ! (3 ∷ []) $ pick ! (λ ws. split ! $ move ! (1 ∷ []) $ split ! $ heard ! _ (λ cell. split ! $ heard ! _ (λ d_same. heard ! _ (λ m_same.
     fsplit ! $ fsplit ! $ move ! (2 ∷ []) $ fsplit ! $ fsplit ! $
-    -- [m's last value; its borrow; nothing; d's last value; its borrow; the cell; α is over; nothing; what m's and d's holders keep]
+    -- [m's last value; its borrow; nothing; d's last value; its borrow; the cell; α has ended;
+    -- nothing; what m's and d's holders keep]
     move ! (6 ∷ []) $ use1 𝓛 (‵ (fdead (α ∷ [])) ⊛ ‵ (fdead (α ∷ []))) (𝓛.lfts.dead_dup (α ∷ [])) $ split ! $ move ! (0 ∷ 9 ∷ 2 ∷ []) $
     use3 𝓛 (later (‵ ((MutRef (named 0) κ sto).own_val (record m { now = ws.1.0 }) ms) ⊛ ‵ (flft κ (right q))))
     (comes_back 𝓛 sto (named 0) κ (α ∷ []) (right q) m.ghost_name m.ref_ptr.0 m.ref_ptr.1 ε m.now ws.1.0) $ await ! tt $ split ! $ move ! (2 ∷ 9 ∷ 5 ∷ []) $
@@ -159,7 +160,7 @@ held_mut_spec 𝓤 𝓛 𝓜 𝓡 wired =
     await ! tt $ pick ! (λ p. split ! $ split ! $ split ! $ move ! (2 ∷ []) $
     peeks ! (RefOf κ) _ (shows 𝓛 (RefOf κ)) p (v₄ ∷ []) (λ is₄. lands_as ! refl refl (((ref_of_laws κ).lawful 𝓛).typed p (v₄ ∷ []) is₄).0 $
     move ! (3 ∷ []) $ pick ! (λ ls₄. split ! $ drop ! $ heard ! _ (λ one.
-    -- [what is lent; the token; nothing; what m follows; nothing; what d follows; ..]
+    -- [the returned borrow; the token; nothing; what m follows; nothing; what d follows; ..]
     let y = option_map (λ w. w.value) o in
     returns ! (look_at ! 0 refl) $ free_all ! refl $ keep ! (0 ∷ 1 ∷ 3 ∷ 5 ∷ []) $
     suffices ! _ (ends_at 𝓛 f.ended stayed c ((κs, qs, bounds, a, (ds, (ms, tt))), tt) v₄ p (tt, (tt, tt)) (tt, (tt, tt))) $
